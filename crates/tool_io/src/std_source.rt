@@ -1,0 +1,41 @@
+// Any reader of std as an input.
+ghost use Rattle.std.specs.Prelude.{◌≡◌, None};
+
+use crate::{Failed, Source};
+use std::io::Read;
+
+/// Any reader of std as an input. It tells nothing. Each error raises the count.
+#[derive(Drop)]
+pub struct StdSource<R> {
+    inner: R,
+    faults: u64,
+}
+
+impl<R: Read> StdSource<R> {
+    /// The same reader. The count is 0.
+    pub fn new(inner: R) -> Self
+        ensures { ⟦<StdSource<R> as Source>⟧.fault_count result ≡ 0 }
+    {
+        StdSource { inner, faults: 0 }
+    }
+}
+
+impl<R: Read> Source for StdSource<R> {
+    ghost left = { λ _. None };
+
+    ghost fault_count = { λ s. s.faults };
+
+    fn read(&mut self, buf: &mut [u8]) -> Result<usize, Failed> {
+        match self.inner.read(buf) {
+            Ok(count) => Ok(count),
+            Err(_) => {
+                self.faults = self.faults.saturating_add(1);
+                Err(Failed)
+            }
+        }
+    }
+
+    fn faults(&self) -> u64 {
+        self.faults
+    }
+}
