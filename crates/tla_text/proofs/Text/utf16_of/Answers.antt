@@ -1,0 +1,6 @@
+use Rattle.std.proofs.Common.{arith}
+use Rattle.tla_text.proofs.ColumnLemmas.{units-short}
+use Rattle.tla_text.proofs.Text.utf16_of.Goals as goal
+
+pub column_after-requires : goal.column_after-requires
+column_after-requires c = omega (arith, units-short c.line_before.result.now c.line_before.utf8, c.line_before.ensures.within, c.ranges.offset.fits)

@@ -1,0 +1,214 @@
+//! The text of a module, and where things stand in it.
+//!
+//! A text is valid UTF-8. Lines end at a line feed, at a carriage return, and at both in a row.
+//! Offsets are in bytes, lines and columns count from 0. The text keeps where its lines start, so
+//! that a place is found without reading the lines before it.
+//!
+//! Knows nothing of the language that the text is written in, nor of files.
+#![tactic(auto)]
+
+mod columns;
+mod lines;
+#[cfg(test)]
+mod tests;
+
+ghost use Rattle.std.specs.Prelude.{◌≡◌, ◌+◌, ◌-◌, ◌<◌, ◌≤◌, ◌^◌, ◌∷◌, ℕ, length, slice_index, IfOk, MatchResult, OnOk, OnErr};
+ghost use Rattle.std.specs.Str.{IsCharBoundary, IsUtf8, chars};
+ghost use Rattle.tla_text.specs.Places.{place_at, offset_of_unit, spliced, IsTextError};
+ghost use Rattle.tla_text.specs.LineStarts as lines;
+ghost use Rattle.tla_text.specs.LineStarts.{starts_after, IsLineOf};
+ghost use Rattle.tla_text.specs.declared.Measure.{Measure};
+ghost use Rattle.tla_text.specs.declared.Measure.TheVariants.{Alignment, Characters, Utf16};
+
+use columns::{bytes_of_units, column_after};
+use lines::line_starts;
+use std::alloc::{AllocError, Global};
+use std::marker::Model;
+use tool_list::Memory;
+
+/// How a column counts the characters before it.
+#[derive(Clone, Copy, Debug, PartialEq, Eq)]
+pub enum Measure {
+    /// Each character is one column.
+    Characters,
+    /// Each character is one column, but a tab reaches to the next multiple of 8: the column in
+    /// which bullets are aligned (*Specifying Systems*, section 15.2.2).
+    Alignment,
+    /// Each character is one or two units of UTF-16, as LSP counts.
+    Utf16,
+}
+
+/// Why bytes were not read as a text.
+#[derive(Clone, Copy, Debug, PartialEq, Eq)]
+pub enum TextError {
+    /// The bytes are not UTF-8. The longest prefix that is has this length.
+    NotUtf8 { at: u64 },
+    /// There was no room.
+    Memory,
+}
+
+impl From<AllocError> for TextError {
+    ghost use Rattle.tla_text.specs.declared.TextError.{TextError};
+    ghost use Rattle.std.specs.Prelude.{◌≡◌};
+
+    ghost from_gives = { λ _ e. e ≡ TextError.Memory };
+
+    fn from(_: AllocError) -> Self {
+        TextError::Memory
+    }
+}
+
+/// The text of a module: valid UTF-8 of fewer than 2^31 bytes, which contracts see as its bytes.
+#[derive(Drop)]
+pub struct Text {
+    text: String,
+    starts: Vec<u32>,
+}
+
+impl Model for Text {
+    ghost use Rattle.std.specs.Prelude.{List, string_bytes, ℕ, length, ◌≡◌, ◌<◌, ◌^◌};
+    ghost use Rattle.tla_text.specs.LineStarts.{starts_after};
+
+    ghost Value = { List ℕ };
+
+    ghost view = { λ t. string_bytes t.text };
+
+    ghost invariant = { λ t. (length (string_bytes t.text) < 2 ^ 31) × (t.starts.items ≡ starts_after 0 (string_bytes t.text)) };
+}
+
+impl Text {
+    /// The text that these bytes are. `NotUtf8` comes exactly where they are not UTF-8.
+    pub fn read(alloc: Global, bytes: &[u8]) -> Result<Text, TextError>
+        requires { length bytes.now < 2 ^ 31 }
+        ensures { MatchResult result (λ text. (text ≡ bytes.now) × IsUtf8 bytes.now) (IsTextError bytes.now) }
+    {
+        match std::str::from_utf8(bytes) {
+            Ok(text) => Ok(Text::from_str(alloc, text)?),
+            Err(error) => Err(TextError::NotUtf8 {
+                at: error.valid_up_to() as u64,
+            }),
+        }
+    }
+
+    fn from_str(alloc: Global, text: &str) -> Result<Text, AllocError>
+        requires { length text.now < 2 ^ 31 }
+        ensures { IfOk result (λ made. made ≡ text.now) }
+    {
+        let text = String::from_str(alloc, text)?;
+        let starts = line_starts(alloc, text.as_bytes())?;
+        Ok(Text { text, starts })
+    }
+
+    /// The bytes of the text.
+    pub fn bytes(&self) -> &[u8]
+        ensures value { result.now ≡ self.now }
+        ensures utf8 { IsUtf8 self.now }
+    {
+        self.text.as_bytes()
+    }
+
+    /// The line of an offset, and the number of characters before it in the line, both from 0. A tab
+    /// is one character. The offset is at most the length and stands at a character.
+    pub fn line_col(&self, offset: u32) -> (u32, u32)
+        requires { IsCharBoundary self.now offset }
+        ensures line { result.0 ≡ (place_at Characters self.now offset).line }
+        ensures column { result.1 ≡ (place_at Characters self.now offset).column }
+    {
+        let line = self.line_of(offset);
+        (
+            line as u32,
+            column_after(Measure::Characters, self.line_before(line, offset)),
+        )
+    }
+
+    /// The alignment column of an offset, from 0: a tab reaches to the next multiple of 8 (*Specifying
+    /// Systems*, section 15.2.2). The offset is at most the length and stands at a character.
+    pub fn align_col(&self, offset: u32) -> u32
+        requires at_char { IsCharBoundary self.now offset }
+        requires low { offset ≤ 2 ^ 27 }
+        ensures { result ≡ (place_at Alignment self.now offset).column }
+    {
+        let line = self.line_of(offset);
+        column_after(Measure::Alignment, self.line_before(line, offset))
+    }
+
+    /// The line of an offset and the number of UTF-16 units before it in the line, both from 0, as LSP
+    /// counts them (LSP 3.17, Position). The offset is at most the length and stands at a character.
+    pub fn utf16_of(&self, offset: u32) -> (u32, u32)
+        requires { IsCharBoundary self.now offset }
+        ensures line { result.0 ≡ (place_at Utf16 self.now offset).line }
+        ensures unit { result.1 ≡ (place_at Utf16 self.now offset).column }
+    {
+        let line = self.line_of(offset);
+        (
+            line as u32,
+            column_after(Measure::Utf16, self.line_before(line, offset)),
+        )
+    }
+
+    /// The offset of a line and a number of UTF-16 units in it. A unit past the line's end means the
+    /// line's end, before the characters that end it. A line past the last means the text's end. A
+    /// place inside a surrogate pair means the pair's start.
+    pub fn offset_utf16(&self, line: u32, unit: u32) -> u32
+        ensures { result ≡ offset_of_unit self.now line unit }
+    {
+        if line as usize > self.starts.as_slice().len() {
+            return self.bytes().len() as u32;
+        }
+        let start = self.start_of(line);
+        let rest = &self.text.as_str()[start as usize..];
+        start + bytes_of_units(unit, rest) as u32
+    }
+
+    /// Puts a piece in place of the bytes from `start` to `end`, which stand at characters. The text
+    /// that this makes has fewer than 2^31 bytes. After `Memory` the text is as before.
+    pub fn splice(&mut self, alloc: Global, start: u32, end: u32, piece: &str) -> Result<(), Memory>
+        requires start_at_char { IsCharBoundary self.old start }
+        requires end_at_char { IsCharBoundary self.old end }
+        requires in_order { start ≤ end }
+        requires room { length self.old - (end - start) + length piece.now < 2 ^ 31 }
+        ensures ok { OnOk result (self.new ≡ spliced self.old start end piece.now) }
+        ensures err { OnErr result (self.new ≡ self.old) }
+    {
+        let mut text = String::from_str(alloc, &self.text.as_str()[..start as usize])?;
+        text.push_str(piece)?;
+        text.push_str(&self.text.as_str()[end as usize..])?;
+        *self = Text::from_str(alloc, text.as_str())?;
+        Ok(())
+    }
+
+    /// How many lines start behind the text's start and up to an offset.
+    fn line_of(&self, offset: u32) -> u32
+        ensures bound { result ≤ length (starts_after 0 self.now) }
+        ensures point { IsLineOf result offset (starts_after 0 self.now) }
+    {
+        let line = self
+            .starts
+            .as_slice()
+            .partition_point(|start| *start <= offset);
+        line as u32
+    }
+
+    /// Where a line starts that the text has.
+    fn start_of(&self, line: u32) -> u32
+        requires { line ≤ length (starts_after 0 self.now) }
+        ensures { result ≡ slice_index (0 ∷ starts_after 0 self.now) line }
+    {
+        if line == 0 {
+            0
+        } else {
+            self.starts[line as usize - 1]
+        }
+    }
+
+    /// What stands before an offset in its line.
+    fn line_before(&self, line: u32, offset: u32) -> &str
+        requires at_char { IsCharBoundary self.now offset }
+        requires of_line { IsLineOf line offset (starts_after 0 self.now) }
+        ensures within { length result.now ≤ offset }
+        ensures place { (measure : Measure) → place_at measure self.now offset ≡ record { line = line; column = lines.column_after measure 0 (chars result.now) } }
+    {
+        let start = self.start_of(line);
+        &self.text.as_str()[start as usize..offset as usize]
+    }
+}
