@@ -35,7 +35,7 @@ utf16_len-le c =
     (cases_lt c 0x1_0000)
 
 -- a character has at least as many bytes as it has units, and is at most eight columns wide
-next_column-wide : (m : Measure) (column c : ℕ) → next_column m column c ≤ column + 8 * len_utf8 c
+pub next_column-wide : (m : Measure) (column c : ℕ) → next_column m column c ≤ column + 8 * len_utf8 c
 next_column-wide Characters column c = omega (arith, len-one c)
 next_column-wide Alignment column c = stop (eqb c 9)
   where

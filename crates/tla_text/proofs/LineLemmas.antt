@@ -47,7 +47,7 @@ first-byte d rest =
     (λ (high : 128 ≤ d). ne_eqb (get_or (encode d ++ rest) 0 0) 10 (λ e. let same = inside_one d rest (encode d ++ rest) 0 refl (omega (arith, length-encode d, (len_utf8_bounds d).0)) (omega (arith, e)) in omega (arith, same, e)) ∙ sym (ne_eqb d 10 (λ e. omega (arith, e))))
     (cases_lt d 128)
 
-begins-same : (cs : List ℕ) → begins_with_line_feed (encodes cs) ≡ begins_with_line_feed cs
+pub begins-same : (cs : List ℕ) → begins_with_line_feed (encodes cs) ≡ begins_with_line_feed cs
 begins-same [] = refl
 begins-same (d ∷ ds) = first-is (encode d ++ encodes ds) ∙ first-byte d (encodes ds)
 

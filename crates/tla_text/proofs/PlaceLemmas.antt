@@ -7,7 +7,8 @@ use Rattle.std.proofs.lemmas.Str.{length-encode, encodes-append, encodes-chars, 
 use Rattle.std.specs.Str.{chars, IsUtf8, IsCharBoundary, IsValidUpTo}
 use Rattle.std.specs.List.Sorted.{IsPartitionPoint}
 use Rattle.std.specs.Char.{len_utf8}
-use Rattle.tla_text.specs.Places.{Place, ends_line, place_after, place_at, next_column, bytes_before, bytes_of_units, offset_of_unit, IsLongestUtf8}
+use Rattle.tla_text.specs.declared.Place.{Place}
+use Rattle.tla_text.specs.Places.{ends_line, place_after, place_at, next_column, bytes_before, bytes_of_units, offset_of_unit, IsLongestUtf8}
 use Rattle.tla_text.specs.LineStarts.{starts_after, column_after, IsLineOf}
 use Rattle.tla_text.specs.declared.Measure.{Measure}
 use Rattle.tla_text.specs.declared.Measure.TheVariants.{Characters}

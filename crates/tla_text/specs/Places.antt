@@ -2,6 +2,7 @@
 use Rattle.std.specs.Prelude.{ℕ, ◌+◌, ◌-◌, ◌*◌, ◌/◌, ◌≤◌, suc, zero, List, [], ◌∷◌, ◌++◌, Bool, false, not, ◌&&◌, ◌||◌, ◌==◌, nat_lt, if◌then◌else◌, length, take, drop}
 use Rattle.std.specs.Char.{len_utf8}
 use Rattle.std.specs.Str.{chars, IsUtf8}
+use Rattle.tla_text.specs.declared.Place.{Place}
 use Rattle.tla_text.specs.declared.TextError.{TextError}
 use Rattle.tla_text.specs.declared.TextError.TheVariants.{NotUtf8, Memory}
 use Rattle.tla_text.specs.declared.Measure.{Measure}
@@ -30,15 +31,13 @@ next_column Characters column c = column + 1
 next_column Alignment column c = if c == 9 then next_stop column else column + 1
 next_column Utf16 column c = column + utf16_len c
 
--- a line and a column in it, both from 0
-pub record Place : Type 0 where
-  pub line : ℕ
-  pub column : ℕ
+-- the place behind a character that ends a line or does not
+abbrev pub behind : Measure → Place → ℕ → Bool → Place
+behind m p c ends = if ends then record { line = p.line + 1; column = 0 } else record { line = p.line; column = next_column m p.column c }
 
--- the place after a character, before these others
+-- the place behind a character, before these others
 abbrev pub next_place : Measure → Place → ℕ → List ℕ → Place
-next_place m p c after =
-    if ends_line c after then record { line = p.line + 1; column = 0 } else record { line = p.line; column = next_column m p.column c }
+next_place m p c after = behind m p c (ends_line c after)
 
 -- the place after some characters that begin at a place, before these others
 abbrev pub place_after : Measure → Place → List ℕ → List ℕ → Place

@@ -1,10 +1,13 @@
 //! Columns and offsets within one line.
-ghost use Rattle.std.specs.Prelude.{◌≡◌, ◌++◌, ◌≤◌, ◌<◌, ◌^◌, [], length, MatchOption, encode_utf8};
+ghost use Rattle.std.specs.Prelude.{◌≡◌, ◌+◌, ◌*◌, ◌++◌, ◌≤◌, ◌<◌, ◌^◌, [], length, MatchOption, encode_utf8};
 ghost use Rattle.std.specs.Str.{chars, IsUtf8};
-ghost use Rattle.tla_text.specs.Places.{next_column, bytes_of_units, stops_before, utf16_len};
+ghost use Rattle.tla_text.specs.Places.{next_column, bytes_of_units, stops_before, utf16_len, ends_line, begins_with_line_feed, place_after};
+ghost use Rattle.tla_text.specs.Places as places;
 ghost use Rattle.tla_text.specs.LineStarts as lines;
+ghost use Rattle.tla_text.specs.declared.Measure.TheVariants.{Alignment};
 
-use crate::Measure;
+use crate::lines::begins_with_line_feed as begins_with;
+use crate::{Measure, Place};
 
 const TAB: u32 = 8;
 
@@ -55,6 +58,55 @@ pub(crate) fn column_after(measure: Measure, piece: &str) -> u32
         rest = more;
     }
     column
+}
+
+/// Whether a character ends a line, before the rest of a piece and what follows the piece.
+fn ends_line(c: char, more: &str, after: &str) -> bool
+    ensures { result ≡ ends_line c (chars more.now ++ chars after.now) }
+{
+    c == '\n' || (c == '\r' && !line_feed_comes(more, after))
+}
+
+fn line_feed_comes(more: &str, after: &str) -> bool
+    ensures { result ≡ begins_with_line_feed (chars more.now ++ chars after.now) }
+{
+    if more.is_empty() {
+        return begins_with(after.as_bytes());
+    }
+    begins_with(more.as_bytes())
+}
+
+/// The place behind a character.
+fn behind(place: Place, c: char, ends: bool) -> Place
+    requires line { place.line + 1 < 2 ^ 32 }
+    requires column { place.column + 8 < 2 ^ 32 }
+    ensures { result ≡ places.behind Alignment place c ends }
+{
+    if ends {
+        return Place {
+            line: place.line + 1,
+            column: 0,
+        };
+    }
+    Place {
+        line: place.line,
+        column: Measure::Alignment.after(place.column, c),
+    }
+}
+
+/// The place behind a piece of text, by the place before it and what follows the piece.
+pub(crate) fn place_behind(place: Place, piece: &str, after: &str) -> Place
+    requires line { place.line + length piece.now < 2 ^ 32 }
+    requires column { place.column + 8 * length piece.now < 2 ^ 32 }
+    ensures { result ≡ place_after Alignment place (chars piece.now) (chars after.now) }
+{
+    let mut rest = piece;
+    let mut place = place;
+    while let Some((c, more)) = first_char(rest) {
+        place = behind(place, c, ends_line(c, more, after));
+        rest = more;
+    }
+    place
 }
 
 /// Whether so many units, counted from the start of a line, end before a character.

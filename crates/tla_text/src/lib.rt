@@ -20,7 +20,7 @@ ghost use Rattle.tla_text.specs.LineStarts.{starts_after, IsLineOf};
 ghost use Rattle.tla_text.specs.declared.Measure.{Measure};
 ghost use Rattle.tla_text.specs.declared.Measure.TheVariants.{Alignment, Characters, Utf16};
 
-use columns::{bytes_of_units, column_after};
+use columns::{bytes_of_units, column_after, place_behind};
 use lines::line_starts;
 use std::alloc::{AllocError, Global};
 use std::marker::Model;
@@ -36,6 +36,13 @@ pub enum Measure {
     Alignment,
     /// Each character is one or two units of UTF-16, as LSP counts.
     Utf16,
+}
+
+/// A line, and a column in it, both from 0.
+#[derive(Clone, Copy, Debug, PartialEq, Eq)]
+pub struct Place {
+    pub line: u32,
+    pub column: u32,
 }
 
 /// Why bytes were not read as a text.
@@ -128,8 +135,33 @@ impl Text {
         requires low { offset ≤ 2 ^ 27 }
         ensures { result ≡ (place_at Alignment self.now offset).column }
     {
+        self.align_place(offset).column
+    }
+
+    /// The line and the alignment column of an offset, as `line_col` and `align_col` give them.
+    pub fn align_place(&self, offset: u32) -> Place
+        requires at_char { IsCharBoundary self.now offset }
+        requires low { offset ≤ 2 ^ 27 }
+        ensures { result ≡ place_at Alignment self.now offset }
+    {
         let line = self.line_of(offset);
-        column_after(Measure::Alignment, self.line_before(line, offset))
+        let column = column_after(Measure::Alignment, self.line_before(line, offset));
+        Place { line, column }
+    }
+
+    /// The line and the alignment column of an offset, by those of an offset before it. Only what stands
+    /// between the two is read, so many places in a row cost no more than one walk over the text.
+    pub fn align_further(&self, from: u32, place: Place, to: u32) -> Place
+        requires from_at_char { IsCharBoundary self.now from }
+        requires to_at_char { IsCharBoundary self.now to }
+        requires in_order { from ≤ to }
+        requires low { to ≤ 2 ^ 27 }
+        requires known { place ≡ place_at Alignment self.now from }
+        ensures { result ≡ place_at Alignment self.now to }
+    {
+        let text = self.text.as_str();
+        let between = &text[from as usize..to as usize];
+        place_behind(place, between, &text[to as usize..])
     }
 
     /// The line of an offset and the number of UTF-16 units before it in the line, both from 0, as LSP

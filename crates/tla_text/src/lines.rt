@@ -13,7 +13,7 @@ fn ends_line(byte: u8, after: &[u8]) -> bool
     byte == b'\n' || (byte == b'\r' && !begins_with_line_feed(after))
 }
 
-fn begins_with_line_feed(text: &[u8]) -> bool
+pub(crate) fn begins_with_line_feed(text: &[u8]) -> bool
     ensures { result ≡ places.begins_with_line_feed text.now }
 {
     match text {
