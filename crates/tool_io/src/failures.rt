@@ -15,7 +15,7 @@ pub struct Failures {
 
 impl Failures {
     pub fn new(fails: List<u32>) -> Failures
-        ensures { result.faults ≡ 0 }
+        ensures { result ≡ record { fails = fails; calls = 0; faults = 0 } }
     {
         Failures {
             fails,
@@ -37,7 +37,9 @@ impl Failures {
 
     /// Counts a failure.
     pub fn raise(&mut self)
-        ensures { Rose self.old.faults self.new.faults }
+        ensures rose { Rose self.old.faults self.new.faults }
+        ensures calls { self.new.calls ≡ self.old.calls }
+        ensures list { self.new.fails ≡ self.old.fails }
     {
         self.faults = self.faults.saturating_add(1);
     }

@@ -1,5 +1,5 @@
 // An output in memory.
-ghost use Rattle.std.specs.Prelude.{◌≡◌, ◌<◌, ◌≤◌, [], IfOk, OnErr, Err, Some, length, vec_len, vec_capacity};
+ghost use Rattle.std.specs.Prelude.{◌≡◌, ◌<◌, ◌≤◌, ◌↔◌, [], IfOk, IsErr, IsTrue, OnErr, Err, Some, length, min, vec_len, vec_capacity};
 ghost use Rattle.std.specs.Io.KnownBytes.{WriteAppends};
 ghost use Rattle.tool_io.specs.Causes.{HasOneCause};
 
@@ -22,12 +22,14 @@ pub struct MemorySink {
 }
 
 impl MemorySink {
-    ghost use Rattle.tool_io.specs.MemorySink.{sink_bytes};
+    ghost use Rattle.tool_io.specs.MemorySink.{sink_bytes, sink_room, sink_most};
 
     /// An empty output, with its room in bytes reserved.
     pub fn new(alloc: Global, room: u32, most: u32, fails: List<u32>) -> Result<Self, Memory>
         requires { 0 < most }
         ensures bytes { IfOk result (λ sink. sink_bytes sink ≡ []) }
+        ensures room { IfOk result (λ sink. sink_room sink ≡ room) }
+        ensures most { IfOk result (λ sink. sink_most sink ≡ most) }
         ensures count { IfOk result (λ sink. ⟦<MemorySink as Sink>⟧.fault_count sink ≡ 0) }
     {
         let room = room as usize;
@@ -49,6 +51,8 @@ impl MemorySink {
 }
 
 impl Sink for MemorySink {
+    ghost use Rattle.tool_io.specs.MemorySink.{refuses, sink_room, sink_most};
+
     ghost taken = { λ s. Some s.bytes.items };
 
     ghost fault_count = { λ s. s.failures.faults };
@@ -60,6 +64,9 @@ impl Sink for MemorySink {
         ensures bytes { WriteAppends (Some self.old.bytes.items) (Some self.new.bytes.items) result piece.now }
         ensures cause { HasOneCause self.old.failures.faults self.new.failures.faults result }
         ensures fault { OnErr result (result ≡ Err IoFault.Failed) }
+        ensures refused { IsErr result ↔ IsTrue (refuses self.old piece.now) }
+        ensures room { sink_room self.new ≡ sink_room self.old }
+        ensures most { sink_most self.new ≡ sink_most self.old }
     {
         let left = self.room - self.bytes.len();
         if self.failures.is_due() || (left == 0 && !piece.is_empty()) {
