@@ -1,0 +1,70 @@
+//! The program: reads a folder of modules and reports on them.
+//!
+//! `run` does all that the program does, over any folder, input and output. `main` makes the
+//! adapters over std and nothing else.
+#![tactic(auto)]
+
+mod bytes;
+mod check;
+mod declarations;
+mod diagnostic;
+mod files;
+mod form;
+mod lexer;
+mod output;
+mod report;
+mod run;
+mod slices;
+#[cfg(test)]
+mod tests;
+mod words;
+
+use std::alloc::Global;
+use std::process::ExitCode;
+use std::rt::Env;
+use std::{env, io};
+use step_count::Steps;
+use tool_io::{StdFolder, StdSink, StdSource};
+
+// The words of the command line, without the program's name.
+fn words_of(rt: &(impl Env + AllocGlobal), alloc: Global) -> io::Result<Vec<String>> {
+    let mut words = Vec::new(alloc);
+    for word in env::args(rt)?.skip(1) {
+        words.push(word)?;
+    }
+    Ok(words)
+}
+
+// The line for a status that is no verdict.
+fn line_of(status: u8) -> Option<&'static str> {
+    match status {
+        2 => Some("sany: usage: check FOLDER [--facts] | serve | gen N"),
+        3 => Some("sany: folder fault"),
+        4 => Some("sany: input fault"),
+        5 => Some("sany: output fault"),
+        6 => Some("sany: no memory"),
+        7 => Some("sany: limit"),
+        8 => Some("sany: bad header"),
+        9 => Some("sany: form not built"),
+        _ => None,
+    }
+}
+
+fn main(rt: HostRuntime) -> ExitCode {
+    let alloc = rt.alloc();
+    let status = match words_of(&rt, alloc) {
+        Ok(words) => {
+            let mut input = StdSource::new(rt.stdin());
+            let mut output = StdSink::new(rt.stdout());
+            let mut steps = Steps::new(());
+            let folder = StdFolder::new(&rt);
+            let (status, _) = run::run(alloc, &words, folder, &mut input, &mut output, &mut steps);
+            status
+        }
+        Err(_) => 2,
+    };
+    if let Some(line) = line_of(status) {
+        let _ = eprintln!(rt; "{line}");
+    }
+    ExitCode::from(status)
+}
