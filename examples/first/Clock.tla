@@ -1,0 +1,4 @@
+---- MODULE Clock ----
+CONSTANTS Hours, Minutes
+VARIABLES hour, minute
+====
