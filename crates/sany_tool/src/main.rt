@@ -20,6 +20,7 @@ mod tests;
 mod words;
 
 use std::alloc::Global;
+use std::io::ErrorKind;
 use std::process::ExitCode;
 use std::rt::Env;
 use std::{env, io};
@@ -33,6 +34,15 @@ fn words_of(rt: &(impl Env + AllocGlobal), alloc: Global) -> io::Result<Vec<Stri
         words.push(word)?;
     }
     Ok(words)
+}
+
+// Words that were not read are no request, unless it was for want of memory.
+fn status_without_words(error: &io::Error) -> u8 {
+    if error.kind() == ErrorKind::OutOfMemory {
+        6
+    } else {
+        2
+    }
 }
 
 // The line for a status that is no verdict.
@@ -61,7 +71,7 @@ fn main(rt: HostRuntime) -> ExitCode {
             let (status, _) = run::run(alloc, &words, folder, &mut input, &mut output, &mut steps);
             status
         }
-        Err(_) => 2,
+        Err(error) => status_without_words(&error),
     };
     if let Some(line) = line_of(status) {
         let _ = eprintln!(rt; "{line}");
