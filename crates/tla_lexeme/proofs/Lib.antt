@@ -1,0 +1,12 @@
+mod LongestLemmas
+mod TableLemmas
+mod SetLemmas
+mod KindLemmas
+mod WordLemmas
+mod StringLemmas
+mod SignLemmas
+mod CommentLemmas
+mod HeaderLemmas
+mod LastLemmas
+mod StepLemmas
+mod PartLemmas

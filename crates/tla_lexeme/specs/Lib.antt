@@ -1,0 +1,4 @@
+pub mod LexemeSets
+pub mod Lexing
+pub mod ModulePart
+pub mod Lengths

@@ -1,0 +1,31 @@
+//! Parts of slices.
+ghost use Rattle.std.specs.Prelude.{◌≡◌, ◌≤◌, [], ◌∷◌, MatchOption, drop, length, nat_eq, take};
+ghost use Rattle.std.specs.List.{starts_with};
+
+/// The first item, and what follows it.
+pub fn first_of<T: Copy>(items: &[T]) -> Option<(T, &[T])>
+    ensures { MatchOption result (items.now ≡ []) (λ p. items.now ≡ p.0 ∷ p.1.now) }
+{
+    let (first, more) = items.split_first()?;
+    Some((*first, more))
+}
+
+pub fn front<T>(items: &[T], count: usize) -> &[T]
+    requires { count ≤ length items.now }
+    ensures { result.now ≡ take count items.now }
+{
+    &items[..count]
+}
+
+pub fn skip<T>(items: &[T], count: usize) -> &[T]
+    requires { count ≤ length items.now }
+    ensures { result.now ≡ drop count items.now }
+{
+    &items[count..]
+}
+
+pub fn begins(text: &[u8], front: &[u8]) -> bool
+    ensures { result ≡ starts_with nat_eq text.now front.now }
+{
+    text.starts_with(front)
+}
