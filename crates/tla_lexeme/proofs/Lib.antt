@@ -10,3 +10,4 @@ mod HeaderLemmas
 mod LastLemmas
 mod StepLemmas
 mod PartLemmas
+mod TakesLongestLemmas

@@ -2,3 +2,4 @@ pub mod LexemeSets
 pub mod Lexing
 pub mod ModulePart
 pub mod Lengths
+pub mod Longest

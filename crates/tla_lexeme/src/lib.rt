@@ -21,7 +21,8 @@ mod table;
 mod tests;
 mod word;
 
-ghost use Rattle.std.specs.Prelude.{◌≡◌, ◌≤◌, ◌^◌, Some, length, MatchResult};
+ghost use Rattle.std.specs.Prelude.{◌≡◌, ℕ, ◌≤◌, ◌^◌, List, Some, length, MatchResult};
+ghost use Rattle.tla_lexeme.specs.Longest.{TakesLongest};
 ghost use Rattle.tla_lexeme.specs.ModulePart.{module_part, IsLexError};
 
 use header::header_of;
@@ -64,3 +65,9 @@ pub fn lex(alloc: Global, text: &Text) -> Result<List<Lexeme>, LexError>
     let lexemes = part_from(alloc, text, at)?;
     Ok(lexemes)
 }
+
+/// The law that the definition of a lexeme rests on: what begins at a place is a member of the lexeme
+/// sets, and no longer front of what stands there is one. It does nothing.
+pub fn takes_longest()
+    ensures { (text : List ℕ) → TakesLongest text }
+{}
