@@ -11,3 +11,4 @@ mod LastLemmas
 mod StepLemmas
 mod PartLemmas
 mod TakesLongestLemmas
+mod ReadsLemmas

@@ -32,7 +32,7 @@ pub record IsStep (text : List ℕ) (at len : ℕ) : Type 0 where
 -- ---- a front whose last byte is ASCII
 
 -- the front of what stands at a place
-record IsLowFront (rest : List ℕ) (len : ℕ) : Type 0 where
+pub record IsLowFront (rest : List ℕ) (len : ℕ) : Type 0 where
   pub some : 0 < len
   pub fits : len ≤ length rest
   pub low : get_or rest (len - 1) 0 < 128
@@ -111,7 +111,7 @@ comment_low at depth zero (c ∷ cs) n h = by_begin (begins (c ∷ cs) (codes "(
     by_begin false true false e g more = more (depth - 1) 1 g
     by_begin false false ends e g more = more depth 0 g
 
-low_comment : (c : ℕ) (cs : List ℕ) (n : ℕ) → comment_len (c ∷ cs) ≡ Some n → IsLowFront (c ∷ cs) n
+pub low_comment : (c : ℕ) (cs : List ℕ) (n : ℕ) → comment_len (c ∷ cs) ≡ Some n → IsLowFront (c ∷ cs) n
 low_comment c cs n h =
     let is = comment_low 0 0 0 (c ∷ cs) n h in record {
       some = omega (arith, is.size);
@@ -123,7 +123,7 @@ low_comment c cs n h =
 line-stops : (b : ℕ) → is_in InLine b ≡ false → b < 128
 line-stops b h = ⊎_elim (λ (e : eqb b 10 ≡ true). omega (arith, eqb-true b 10 e)) (λ (e : eqb b 13 ≡ true). omega (arith, eqb-true b 13 e)) (or_cases (eqb b 10) (eqb b 13) (not-false (eqb b 10 || eqb b 13) h))
 
-line-some : (c : ℕ) (cs : List ℕ) → begins (c ∷ cs) (codes "\\*") ≡ true → 0 < line_len (c ∷ cs)
+pub line-some : (c : ℕ) (cs : List ℕ) → begins (c ∷ cs) (codes "\\*") ≡ true → 0 < line_len (c ∷ cs)
 line-some c cs h =
     let first : c ≡ 92 = front_byte (codes "\\*") (c ∷ cs) 0 h (omega arith) in
     let e : line_len (c ∷ cs) ≡ 1 + line_len cs = cond-true (is_in InLine c) (1 + line_len cs) 0 (subst (λ b. is_in InLine b ≡ true) (sym first) refl) in
@@ -201,13 +201,13 @@ sound text at b u l e = subst (λ x. IsSound text at x) e (sound_rest text (drop
 -- ---- all lexemes
 
 -- what follows a place, by what begins there
-abbrev go_on : List ℕ → ℕ → List ℕ → Begin → List Lexeme
+abbrev pub go_on : List ℕ → ℕ → List ℕ → Begin → List Lexeme
 go_on text at cs (Gap len) = lexemes_after text (at + 1) (len - 1) cs
 go_on text at cs (Longest m) = lexeme_of text at m.kind m.len ∷ lexemes_after text (at + 1) (m.len - 1) cs
 go_on text at cs (Nothing len) = lexeme_of text at Bad len ∷ []
 go_on text at cs TextEnd = lexeme_of text at End 0 ∷ []
 
-lexemes-begin : (text : List ℕ) (at c : ℕ) (cs : List ℕ) (b : Begin) → what_begins (c ∷ cs) ≡ b → lexemes_after text at 0 (c ∷ cs) ≡ go_on text at cs b
+pub lexemes-begin : (text : List ℕ) (at c : ℕ) (cs : List ℕ) (b : Begin) → what_begins (c ∷ cs) ≡ b → lexemes_after text at 0 (c ∷ cs) ≡ go_on text at cs b
 lexemes-begin text at c cs b e = by (what_begins (c ∷ cs)) ∙ ap (λ x. go_on text at cs x) e
   where
     by : (x : Begin) → (elim x [ Gap len ↦ lexemes_after text (at + 1) (len - 1) cs | Longest m ↦ lexeme_of text at m.kind m.len ∷ lexemes_after text (at + 1) (m.len - 1) cs | Nothing len ↦ lexeme_of text at Bad len ∷ [] | TextEnd ↦ lexeme_of text at End 0 ∷ [] ]) ≡ go_on text at cs x

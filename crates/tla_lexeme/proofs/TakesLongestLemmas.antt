@@ -1,11 +1,11 @@
 -- The longest front is the longest.
-use Rattle.std.proofs.Common.{◌≡◌, ℕ, zero, suc, ◌+◌, ◌<◌, ◌≤◌, List, Option, Some, None, length, take, refl, sym, ap, ◌∙◌, subst, ⊎_elim, arith}
+use Rattle.std.proofs.Common.{◌≡◌, ℕ, zero, suc, ◌<◌, ◌≤◌, List, Option, Some, None, length, take, refl, ap, ◌∙◌, ⊎_elim, arith}
 use Rattle.std.proofs.lemmas.Bool.{cases_lt}
 use Rattle.tla_symbols.specs.declared.lexeme.LexKind.{LexKind}
 use Rattle.tla_lexeme.specs.declared.begin.Member.{Member}
 use Rattle.tla_lexeme.specs.LexemeSets.{kind_of}
 use Rattle.tla_lexeme.specs.Lexing.{longest_of, member_or, lexeme_at}
-use Rattle.tla_lexeme.specs.Longest.{NoneLonger, IsLongestOf, TakesLongest}
+use Rattle.tla_lexeme.specs.Longest.{NoneLonger, IsLongestOf}
 
 one_more : (kind : List ℕ → Option LexKind) (most len : ℕ) (text : List ℕ) → NoneLonger kind most text len → kind (take (suc most) text) ≡ None → NoneLonger kind (suc most) text len
 one_more kind most len text none top n lt le =
@@ -26,5 +26,5 @@ is_longest kind (suc most) text = by_kind (kind (take (suc most) text)) refl (is
     by_kind None e h = shorter kind most text (longest_of kind most text) h e
     by_kind (Some k) e h = whole kind most text k e
 
-pub takes_longest : (text : List ℕ) → TakesLongest text
+pub takes_longest : (text : List ℕ) → IsLongestOf kind_of (length text) text (lexeme_at text)
 takes_longest text = is_longest kind_of (length text) text

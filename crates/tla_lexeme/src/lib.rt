@@ -22,7 +22,7 @@ mod tests;
 mod word;
 
 ghost use Rattle.std.specs.Prelude.{◌≡◌, ℕ, ◌≤◌, ◌^◌, List, Some, length, MatchResult};
-ghost use Rattle.tla_lexeme.specs.Longest.{TakesLongest};
+ghost use Rattle.tla_lexeme.specs.Longest.{ReadsLongest};
 ghost use Rattle.tla_lexeme.specs.ModulePart.{module_part, IsLexError};
 
 use header::header_of;
@@ -66,8 +66,9 @@ pub fn lex(alloc: Global, text: &Text) -> Result<List<Lexeme>, LexError>
     Ok(lexemes)
 }
 
-/// The law that the definition of a lexeme rests on: what begins at a place is a member of the lexeme
-/// sets, and no longer front of what stands there is one. It does nothing.
-pub fn takes_longest()
-    ensures { (text : List ℕ) → TakesLongest text }
+/// The law that the definition of a text's lexemes stands under: blanks and comments are passed over,
+/// each lexeme but the last is a member of the lexeme sets at its place, and no longer front of what
+/// stands there is one; the last is the text's end or what is at fault. It does nothing.
+pub fn reads_longest()
+    ensures { (text : List ℕ) (at : ℕ) → ReadsLongest text at }
 {}
