@@ -1,5 +1,5 @@
 -- The longest lexeme at a sign.
-use Rattle.std.proofs.Common.{◌≡◌, ◌≢◌, ℕ, zero, suc, ◌<◌, ◌≤◌, true, false, ◌||◌, eqb, leb, List, [], ◌∷◌, length, take, slice_index, Option, Some, None, refl, sym, ap, ◌∙◌, subst, ⊎_elim, arith}
+use Rattle.std.proofs.Common.{◌≡◌, ◌≢◌, ℕ, zero, suc, ◌<◌, ◌≤◌, true, false, ◌||◌, eqb, leb, List, [], ◌∷◌, length, take, drop, min, slice_index, ◌+◌, Option, Some, None, refl, sym, ap, ◌∙◌, subst, ⊎_elim, arith}
 use Rattle.std.proofs.lemmas.Bool.{cases_Bool, cases_lt, and_left, and_right, or_from, or_left, or_right, or_parts, eqb-true, ne_eqb, lt-leb, le-leb, cond-true, cond-false, false_from_ne_true}
 use Rattle.std.specs.List.{prefix_len}
 use Rattle.tla_symbols.specs.declared.lexeme.LexKind.TheVariants.{Name, Number, Dashes, Equals}
@@ -160,3 +160,10 @@ pub spelled_is : (text : List ℕ) (start : Member) (most : ℕ) → 0 < length 
 spelled_is [] start most filled word quote e none ismost = absurd (omega arith)
 spelled_is (c ∷ cs) start most filled word quote e none ismost =
     ap (λ n. longest_of table_kind n (c ∷ cs)) ismost ∙ sym (spelled_cons c cs start word (subst (λ o. IsOpen c cs o) (sym e) (is_open c cs word (ne_eqb c 34 quote))) (omega arith))
+
+-- of what follows the first byte, ten bytes are enough
+pub most_short : (text more few : List ℕ) (n k : ℕ) → 0 < length text → more ≡ drop 1 text → n ≡ min (length more) 10 → few ≡ take n more → k ≡ prefix_len (goes_on (slice_index text 0)) few → 1 + k ≡ most_len text
+most_short [] more few n k filled ismore isn isfew isk = absurd (omega arith)
+most_short (c ∷ cs) more few n k filled ismore isn isfew isk =
+    let size : k ≡ min n (prefix_len (goes_on c) cs) = isk ∙ ap (prefix_len (goes_on c)) (isfew ∙ ap (take n) ismore) ∙ prefix-take (goes_on c) n cs in
+    omega (arith, size, isn, ap length ismore, prefix-le (goes_on c) cs)

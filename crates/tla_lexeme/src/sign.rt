@@ -9,7 +9,7 @@ ghost use Rattle.tla_lexeme.specs.declared.class.Class.TheVariants.{WordChar};
 use crate::begin::Member;
 use crate::class::{Class, run_len};
 use crate::number::{based_len, fraction_len};
-use crate::slices::skip;
+use crate::slices::{front, skip};
 use crate::table::longest_spelled;
 use tla_symbols::LexKind;
 
@@ -74,13 +74,18 @@ fn goes_on_len(first: u8, more: &[u8]) -> usize
     more.len()
 }
 
-/// How many bytes a symbol or a mark at a text's front has at most: none has more than 11.
+/// No symbol or mark has more bytes behind its first.
+const MOST_FURTHER: usize = 10;
+
+/// How many bytes a symbol or a mark at a text's front has at most.
 fn most_len(text: &[u8]) -> usize
     requires { 0 < length text.now }
     ensures value { result ≡ lengths.most_len text.now }
     ensures within { result ≤ length text.now }
 {
-    1 + goes_on_len(text[0], skip(text, 1)).min(10)
+    let more = skip(text, 1);
+    let few = front(more, more.len().min(MOST_FURTHER));
+    1 + goes_on_len(text[0], few)
 }
 
 /// The longest lexeme at a sign, if one begins there.

@@ -12,12 +12,6 @@ use crate::slices::{begins, front, skip};
 use crate::table::table_kind;
 use tla_symbols::{LexKind, Mark};
 
-fn has_letter(run: &[u8]) -> bool
-    ensures { result ≡ lengths.has_letter run.now }
-{
-    run.iter().any(|byte| Class::Letter.has(*byte))
-}
-
 /// How many letters, digits and `_` a text begins with, where none is a letter, and else 0. Where this
 /// is known it is not counted again, so that a long run of digits and `_` is read once.
 pub fn bare_len(text: &[u8], known: usize) -> usize
@@ -27,8 +21,15 @@ pub fn bare_len(text: &[u8], known: usize) -> usize
     if known > 0 {
         return known;
     }
-    let len = run_len(Class::WordChar, text);
-    if has_letter(front(text, len)) { 0 } else { len }
+    for (i, byte) in text.iter().enumerate() {
+        if Class::Letter.has(*byte) {
+            return 0;
+        }
+        if !Class::WordChar.has(*byte) {
+            return i;
+        }
+    }
+    text.len()
 }
 
 fn is_fair(text: &[u8]) -> bool
