@@ -1,0 +1,11 @@
+pub mod Forms
+pub mod Syntax
+pub mod Arena
+pub mod Stored
+pub mod Edges
+pub mod Alignment
+pub mod Shapes
+pub mod Lexemes
+pub mod Headings
+pub mod Derivation
+pub mod FirstBad
