@@ -2,7 +2,7 @@
 --
 -- Beside a tree and its lexemes stand two things that the rules for aligned lists look at: one more than the column of
 -- the innermost list that holds the tree in an item (0 for none), and the lexeme that follows.
-use Rattle.std.specs.Prelude.{◌≡◌, ℕ, suc, ◌⊎◌, false, IsTrue, List, [], ◌∷◌, ◌++◌, Option, Some}
+use Rattle.std.specs.Prelude.{◌≤◌, ◌≡◌, ℕ, suc, ◌⊎◌, false, IsTrue, List, [], ◌∷◌, ◌++◌, Option, Some}
 use Rattle.tla_symbols.specs.declared.op.Op.{Op}
 use Rattle.tla_symbols.specs.declared.place.Fix.{Fix}
 use Rattle.tla_symbols.specs.declared.lexeme.LexKind.{LexKind}
@@ -170,9 +170,9 @@ mutual
         → IsWord w Word.Let → IsWord t Word.In
         → DerivesDefinitions xs a i (Some t) → Derives x b i o
         → Spells Form.Let (then xs x) (w ∷ (a ++ t ∷ b)) i o
-    -- an aligned list
+    -- an aligned list, inside the items of those that hold it
     junctions : {t : Lexeme} {xs : Trees} {a : List Lexeme} {i : ℕ} {o : Option Lexeme}
-        → IsBullet t → DerivesItems t xs (t ∷ a) o → MayFollow t o
+        → IsBullet t → i ≤ t.col → DerivesItems t xs (t ∷ a) o → MayFollow t o
         → Spells (Form.JunctionList t) xs (t ∷ a) i o
 
   -- one or more expressions parted by commas
@@ -272,10 +272,11 @@ mutual
         → DerivesUpdate x a i (Some t) → DerivesUpdates xs b i o
         → DerivesUpdates (Cons x xs) (a ++ t ∷ b) i o
 
+  -- the place of a step `.Id` is that of its name
   pub data DerivesStep : Tree → List Lexeme → ℕ → Type 0 where
     field_step : {t h : Lexeme} {i : ℕ}
         → IsMark t Mark.Dot → IsName h
-        → DerivesStep (built (Form.FieldStep h) Nil (t ∷ h ∷ [])) (t ∷ h ∷ []) i
+        → DerivesStep (built (Form.FieldStep h) Nil (h ∷ [])) (t ∷ h ∷ []) i
     index_step : {xs : Trees} {a : List Lexeme} {i : ℕ} (t u : Lexeme)
         → IsMark t Mark.LeftBracket → IsMark u Mark.RightBracket
         → DerivesList xs a i (Some u)

@@ -1,0 +1,28 @@
+//! The machine that reads expressions, as a function on lists over tables of moves, and its laws.
+//!
+//! Answers which trees the machine finds: every derivable list of lexemes is accepted, with its
+//! tree, and no other tree derives it. Knows nothing of how a machine is run: its state is a value
+//! of the definitions, and nothing here is code.
+#![tactic(auto)]
+
+mod wait;
+
+ghost use Rattle.std.specs.Prelude.{◌≡◌, List, Some};
+ghost use Rattle.tla_symbols.specs.declared.lexeme.Lexeme.{Lexeme};
+ghost use Rattle.tla_tree.specs.Syntax.{Tree};
+ghost use Rattle.tla_tree.specs.FirstBad.{DerivesWhole};
+ghost use Rattle.expr_grammar.specs.Machine.{parse};
+
+pub use wait::{
+    Binding, Conversion, Handed, Lead, MarkMove, Mode, PartMove, Role, Shape, Start, Wait,
+};
+
+/// The machine accepts each derivable list, with the tree that derives it.
+pub fn accepts_derivable()
+    ensures { (tree : Tree) → (lexemes : List Lexeme) → DerivesWhole tree lexemes → parse lexemes ≡ Some tree }
+{}
+
+/// No two trees derive one list.
+pub fn one_tree()
+    ensures { (tree other : Tree) → (lexemes : List Lexeme) → DerivesWhole tree lexemes → DerivesWhole other lexemes → tree ≡ other }
+{}
