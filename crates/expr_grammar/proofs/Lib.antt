@@ -3,5 +3,12 @@ mod Samples
 mod Tabled
 mod Reading
 mod Asking
+mod Starting
+mod Bounding
+mod Naming
+mod Passing
+mod Membering
+mod Defining
 mod Generating
 mod Complete
+mod Following

@@ -298,7 +298,7 @@ mutual
   tied-begun (converting flag p) = tied-begun p
   tied-begun (converted_part {b = b} t flag d r m) = snoc [] b (rest_part d) (t ∷ []) (tied-part d)
 
-plain-inside : (v : Wait) (i : ℕ) → list_of v ≡ None → inside v i ≡ i
+pub plain-inside : (v : Wait) (i : ℕ) → list_of v ≡ None → inside v i ≡ i
 plain-inside v i e = rw e
 
 -- the next lexeme after what a frame has read, at the column that it needs

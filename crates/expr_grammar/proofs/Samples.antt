@@ -1,8 +1,7 @@
 -- Sample lists: what the machine accepts, and where it refuses. Lines are parted by a bar.
-use Rattle.std.specs.Prelude.{◌≡◌, ℕ, Bool, true, is_some, is_none, List, [], ◌∷◌, refl, Some}
+use Rattle.std.specs.Prelude.{◌≡◌, ℕ, true, is_some, is_none, [], ◌∷◌, refl, Some}
 use Rattle.tla_symbols.specs.declared.op.Op.TheVariants as Op
 use Rattle.tla_symbols.specs.declared.lexeme.LexKind.{LexKind}
-use Rattle.tla_symbols.specs.declared.lexeme.LexKind.TheVariants as LexKind
 use Rattle.tla_symbols.specs.declared.lexeme.Word.TheVariants as Word
 use Rattle.tla_symbols.specs.declared.lexeme.Mark.TheVariants as Mark
 use Rattle.tla_symbols.specs.declared.lexeme.Lexeme.{Lexeme}

@@ -1,3 +1,4 @@
 pub mod Kinds
 pub mod Tables
 pub mod Machine
+pub mod Following

@@ -7,11 +7,13 @@
 
 mod wait;
 
-ghost use Rattle.std.specs.Prelude.{◌≡◌, List, Some};
+ghost use Rattle.std.specs.Prelude.{◌≡◌, ℕ, List, Option, Some, None};
 ghost use Rattle.tla_symbols.specs.declared.lexeme.Lexeme.{Lexeme};
 ghost use Rattle.tla_tree.specs.Syntax.{Tree};
-ghost use Rattle.tla_tree.specs.FirstBad.{DerivesWhole};
-ghost use Rattle.expr_grammar.specs.Machine.{parse};
+ghost use Rattle.tla_tree.specs.FirstBad.{DerivesWhole, Begins};
+ghost use Rattle.tla_tree.specs.Derivation.{Derives};
+ghost use Rattle.expr_grammar.specs.Following.{IsQuietNext};
+ghost use Rattle.expr_grammar.specs.Machine.{run, start, parse};
 
 pub use wait::{
     Binding, Conversion, Handed, Lead, MarkMove, Mode, PartMove, Role, Shape, Start, Wait,
@@ -25,4 +27,15 @@ pub fn accepts_derivable()
 /// No two trees derive one list.
 pub fn one_tree()
     ensures { (tree other : Tree) → (lexemes : List Lexeme) → DerivesWhole tree lexemes → DerivesWhole other lexemes → tree ≡ other }
+{}
+
+/// Where the machine refuses, no derivable list begins with the lexemes so far.
+pub fn refuses_no_beginning()
+    ensures { (lexemes : List Lexeme) → run (Some start) lexemes ≡ None → Begins lexemes → ⊥ }
+{}
+
+/// An expression stays one, by the same tree, before the end and before each lexeme that is no
+/// operator, no bullet and no `[]`.
+pub fn ends_before_quiet()
+    ensures { (tree : Tree) → (lexemes : List Lexeme) → (inner : ℕ) → (follows next : Option Lexeme) → Derives tree lexemes inner follows → IsQuietNext next → Derives tree lexemes inner next }
 {}
