@@ -12,3 +12,4 @@ mod Defining
 mod Generating
 mod Complete
 mod Following
+mod SampleTrees
