@@ -2,9 +2,10 @@
 //!
 //! Answers which trees the machine finds: every derivable list of lexemes is accepted, with its
 //! tree, and no other tree derives it. Knows nothing of how a machine is run: its state is a value
-//! of the definitions, and nothing here is code.
+//! of the definitions, and the code here is a few of its tables.
 #![tactic(auto)]
 
+mod tables;
 mod wait;
 
 ghost use Rattle.std.specs.Prelude.{◌≡◌, ℕ, List, Option, Some, None};
@@ -15,6 +16,7 @@ ghost use Rattle.tla_tree.specs.Derivation.{Derives};
 ghost use Rattle.expr_grammar.specs.Following.{IsQuietNext};
 ghost use Rattle.expr_grammar.specs.Machine.{run, start, parse};
 
+pub use tables::{after_brace, goes_on, is_bullet, role, starts_expression};
 pub use wait::{
     Binding, Conversion, Handed, Lead, MarkMove, Mode, PartMove, Role, Shape, Start, Wait,
 };
