@@ -1,0 +1,57 @@
+-- What holds after a text is put, or removed.
+use Rattle.std.proofs.Common.{◌≡◌, ℕ, ◌+◌, ◌≤◌, Bool, true, List, [], ◌∷◌, ◌++◌, Option, None, refl, sym, ap, ◌∙◌, subst}
+use Rattle.std.specs.Prelude.{slice_set, remove}
+use Rattle.std.specs.FinMap.{insert}
+use Rattle.std.specs.FinMap as map
+use Rattle.fact_store.specs.declared.slot.Slot.{Slot}
+use Rattle.fact_store.specs.States.{State}
+use Rattle.fact_store.specs.Values.{dirty}
+use Rattle.fact_store.specs.Slots.{texts_of, HasNoSlot, IsPlaceOf, AreSound, owed}
+use Rattle.fact_store.proofs.TextLemmas.{texts_of-set, texts_of-push, texts_of-remove}
+use Rattle.fact_store.proofs.PutLemmas.{retexted, retexted-kept, IsSound-retexted, AreSound-retext, AreSound-push, AreSound-remove, IsSound-new}
+use Rattle.fact_store.proofs.Dirt.{owed-retext, owed-push, owed-remove}
+
+module _ {Own F : Type 0} (own_of : List ℕ → List ℕ → Own) (needs_of : Own → Option (List (List ℕ))) (fact_of : List ℕ → Own → List (List ℕ × State F) → F) (same : F → F → Bool) (same_trans : (a b c : F) → same a b ≡ true → same b c ≡ true → same a c ≡ true) where
+  pub record IsPut (old new : List (Slot Own F)) (name bytes : List ℕ) : Type 0 where
+    pub sound : AreSound own_of needs_of fact_of new
+    pub texts : texts_of new ≡ insert (texts_of old) name bytes
+    pub owes : owed own_of needs_of fact_of same new ≤ owed own_of needs_of fact_of same old + dirty own_of needs_of fact_of same (texts_of old) (texts_of new)
+
+  pub put_over : (slots new : List (Slot Own F)) (place : ℕ) (name bytes text : List ℕ) (own : Own) (needs : Option (List (List ℕ))) → AreSound own_of needs_of fact_of slots → (p : IsPlaceOf slots name place) → text ≡ bytes → own ≡ own_of name bytes → needs ≡ needs_of own → new ≡ slice_set slots place (retexted p.0 text own needs) → IsPut slots new name bytes
+  put_over slots new place name bytes text own needs s p et eo en e =
+      subst (λ (ss : List (Slot Own F)). IsPut slots ss name bytes) (sym e) (record {
+        sound = AreSound-retext own_of needs_of fact_of slots place p.0 y s p.1 refl
+            (IsSound-retexted own_of needs_of fact_of p.0 text own needs (s.each place p.0 p.1) (eo ∙ ap (λ (n : List ℕ). own_of n bytes) (sym p.2) ∙ ap (own_of (p.0).name) (sym et)) en);
+        texts = texts_of-set slots place p.0 y s.distinct p.1 refl ∙ ap (λ (n : List ℕ). insert (texts_of slots) n text) p.2 ∙ ap (insert (texts_of slots) name) et;
+        owes = owed-retext own_of needs_of fact_of same same_trans slots place p.0 y s.distinct p.1 refl (λ kept k. retexted-kept p.0 text own needs kept k);
+      })
+    where
+      y : Slot Own F
+      y = retexted p.0 text own needs
+
+  pub put_new : (slots new : List (Slot Own F)) (name bytes called text : List ℕ) (own : Own) (needs : Option (List (List ℕ))) → AreSound own_of needs_of fact_of slots → HasNoSlot slots name → called ≡ name → text ≡ bytes → own ≡ own_of name bytes → needs ≡ needs_of own → new ≡ slots ++ (record { name = called; bytes = text; own = own; needs = needs; kept = None }) ∷ [] → IsPut slots new name bytes
+  put_new slots new name bytes called text own needs s h ec et eo en e =
+      subst (λ (ss : List (Slot Own F)). IsPut slots ss name bytes) (sym e) (record {
+        sound = AreSound-push own_of needs_of fact_of slots y s gone (IsSound-new own_of needs_of fact_of called text own needs (eo ∙ ap (λ (n : List ℕ). own_of n bytes) (sym ec) ∙ ap (own_of called) (sym et)) en);
+        texts = texts_of-push slots y gone ∙ ap (λ (n : List ℕ). insert (texts_of slots) n text) ec ∙ ap (insert (texts_of slots) name) et;
+        owes = owed-push own_of needs_of fact_of same same_trans slots y s.distinct gone;
+      })
+    where
+      y : Slot Own F
+      y = record { name = called; bytes = text; own = own; needs = needs; kept = None }
+
+      gone : HasNoSlot slots called
+      gone = subst (HasNoSlot slots) (sym ec) h
+
+  pub record IsTakenOut (old new : List (Slot Own F)) (name : List ℕ) : Type 0 where
+    pub sound : AreSound own_of needs_of fact_of new
+    pub texts : texts_of new ≡ map.remove (texts_of old) name
+    pub owes : owed own_of needs_of fact_of same new ≤ owed own_of needs_of fact_of same old + dirty own_of needs_of fact_of same (texts_of old) (texts_of new)
+
+  pub taken_out : (slots new : List (Slot Own F)) (place : ℕ) (name : List ℕ) → AreSound own_of needs_of fact_of slots → IsPlaceOf slots name place → new ≡ remove slots place → IsTakenOut slots new name
+  taken_out slots new place name s p e =
+      subst (λ (ss : List (Slot Own F)). IsTakenOut slots ss name) (sym e) (record {
+        sound = AreSound-remove own_of needs_of fact_of slots place s;
+        texts = texts_of-remove slots place p.0 s.distinct p.1 ∙ ap (map.remove (texts_of slots)) p.2;
+        owes = owed-remove own_of needs_of fact_of same same_trans slots place s.distinct;
+      })

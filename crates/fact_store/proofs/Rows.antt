@@ -1,0 +1,127 @@
+-- Rows of places, from names that are needed.
+use Rattle.std.proofs.Common.{◌≡◌, ℕ, zero, suc, ◌+◌, ◌<◌, Bool, true, false, List, [], ◌∷◌, ◌++◌, Option, Some, refl, sym, ap, ◌∙◌, subst, inl, inr, take, length, get_or, arith, nat_eq, Vec, Global}
+use Rattle.std.specs.Prelude.{◌⊎◌, ◌||◌, slice_get, slice_index}
+use Rattle.std.proofs.lemmas.Bool.{eq-eqb, cases_lt}
+use Rattle.std.proofs.lemmas.List.{take_more, length-append}
+use Rattle.std.proofs.lemmas.List.Folds.{list_any-append}
+use Rattle.std.proofs.lemmas.List.Elements.{All-push}
+use Rattle.std.proofs.lemmas.Option.{slice_get_within}
+use Rattle.fact_store.specs.declared.slot.Slot.{Slot}
+use Rattle.fact_store.specs.Names.{name_eq, has}
+use Rattle.fact_store.specs.Values.{needs_or_none}
+use Rattle.fact_store.specs.Slots.{AreDistinct, HasNoSlot, IsPlaceOf}
+use Rattle.fact_store.specs.Plans.{Edges, HasPlaces, IsRow, AreEdges, AreReached, IsRank}
+use Rattle.fact_store.proofs.NameLemmas.{true_or_false, same_name, name_eq-same}
+use Rattle.fact_store.proofs.Marks.{among-push, or_false, same_place}
+
+-- what stands at a place after a push stood there before, or was pushed
+pub pushed_cases : {A : Type 0} (xs : List A) (x y : A) (i : ℕ) → slice_get (xs ++ x ∷ []) i ≡ Some y → (slice_get xs i ≡ Some y) ⊎ ((i ≡ length xs) × (x ≡ y))
+pushed_cases [] x y zero e = inr (refl, cc)
+pushed_cases [] x y (suc i) e = cc
+pushed_cases (z ∷ xs) x y zero e = inl e
+pushed_cases (z ∷ xs) x y (suc i) e = elim (pushed_cases xs x y i e) as (λ _. (slice_get xs i ≡ Some y) ⊎ ((suc i ≡ length (z ∷ xs)) × (x ≡ y))) [ inl before ↦ inl before | inr last ↦ inr (ap suc last.0, last.1) ]
+
+-- tests that hold alike are equal
+pub same_test : (a b : Bool) → (a ≡ true → b ≡ true) → (b ≡ true → a ≡ true) → a ≡ b
+same_test true b f g = sym (f refl)
+same_test false true f g = g refl
+same_test false false f g = refl
+
+has-push : (names : List (List ℕ)) (n x : List ℕ) → has (names ++ n ∷ []) x ≡ (has names x || name_eq x n)
+has-push names n x = list_any-append (name_eq x) names (n ∷ []) ∙ ap (λ b. has names x || b) (or_false (name_eq x n))
+
+module _ {Own F : Type 0} where
+  pub IsRow-start : (slots : List (Slot Own F)) → IsRow slots [] []
+  IsRow-start slots = record { each = λ j slot e. refl; within = λ k d l. absurd (omega arith) }
+
+  pub IsRow-skip : (slots : List (Slot Own F)) (names : List (List ℕ)) (row : List ℕ) (n : List ℕ) → IsRow slots names row → HasNoSlot slots n → IsRow slots (names ++ n ∷ []) row
+  IsRow-skip slots names row n r h = record {
+    each = λ j slot e. r.each j slot e ∙ sym (has-push names n slot.name ∙ ap (λ b. has names slot.name || b) (other j slot e) ∙ or_false (has names slot.name));
+    within = r.within;
+  }
+    where
+      other : (j : ℕ) (slot : Slot Own F) → slice_get slots j ≡ Some slot → name_eq slot.name n ≡ false
+      other j slot e = elim (true_or_false (name_eq slot.name n)) as (λ _. name_eq slot.name n ≡ false) [
+        | inl same ↦ let k : true ≡ false = sym (name_eq-same n slot.name (sym (same_name slot.name n same))) ∙ h j slot e in cc k
+        | inr fails ↦ fails
+      ]
+
+  pub IsRow-more : (slots : List (Slot Own F)) (names : List (List ℕ)) (row : List ℕ) (n : List ℕ) (place : ℕ) → AreDistinct slots → IsRow slots names row → IsPlaceOf slots n place → IsRow slots (names ++ n ∷ []) (row ++ place ∷ [])
+  IsRow-more slots names row n place d r p = record {
+    each = λ j slot e. among-push row place j ∙ ap (λ b. b || nat_eq j place) (r.each j slot e) ∙ ap (λ b. has names slot.name || b) (here j slot e) ∙ sym (has-push names n slot.name);
+    within = All-push (λ x. x < length slots) row place r.within (slice_get_within slots place p.0 p.1);
+  }
+    where
+      here : (j : ℕ) (slot : Slot Own F) → slice_get slots j ≡ Some slot → nat_eq j place ≡ name_eq slot.name n
+      here j slot e = same_test (nat_eq j place) (name_eq slot.name n)
+          (λ m. let k : ◌≡◌ {A = Option (Slot Own F)} (Some slot) (Some p.0) = sym e ∙ ap (slice_get slots) (same_place j place m) ∙ p.1 in let s : slot ≡ p.0 = cc in name_eq-same slot.name n (ap (λ (x : Slot Own F). x.name) s ∙ p.2))
+          (λ m. eq-eqb j place (d j place slot p.0 e p.1 (same_name slot.name n m ∙ sym p.2)))
+
+  -- the next name of a list
+  pub IsRow-skip_at : (slots : List (Slot Own F)) (names : List (List ℕ)) (k : ℕ) (row row' : List ℕ) (n : List ℕ) → k < length names → n ≡ get_or names k n → IsRow slots (take k names) row → HasNoSlot slots n → row' ≡ row → IsRow slots (take (k + 1) names) row'
+  IsRow-skip_at slots names k row row' n l e r h er =
+      subst (λ (xs : List (List ℕ)). IsRow slots xs row') (ap (λ x. take k names ++ x ∷ []) e ∙ sym (take_more names k n l))
+      (subst (λ (xs : List ℕ). IsRow slots (take k names ++ n ∷ []) xs) (sym er) (IsRow-skip slots (take k names) row n r h))
+
+  pub IsRow-more_at : (slots : List (Slot Own F)) (names : List (List ℕ)) (k : ℕ) (row row' : List ℕ) (n : List ℕ) (place : ℕ) → AreDistinct slots → k < length names → n ≡ get_or names k n → IsRow slots (take k names) row → IsPlaceOf slots n place → row' ≡ row ++ place ∷ [] → IsRow slots (take (k + 1) names) row'
+  IsRow-more_at slots names k row row' n place d l e r h er =
+      subst (λ (xs : List (List ℕ)). IsRow slots xs row') (ap (λ x. take k names ++ x ∷ []) e ∙ sym (take_more names k n l))
+      (subst (λ (xs : List ℕ). IsRow slots (take k names ++ n ∷ []) xs) (sym er) (IsRow-more slots (take k names) row n place d r h))
+
+  -- the rows of the slots before n
+  pub record AreEdgesUpto (slots : List (Slot Own F)) (edges : Edges) (n : ℕ) : Type 0 where
+    pub long : length edges ≡ n
+    pub rows : (i : ℕ) (row : Vec ℕ Global) (slot : Slot Own F) → slice_get edges i ≡ Some row → slice_get slots i ≡ Some slot → IsRow slots (needs_or_none slot.needs) row.items
+
+  pub AreEdgesUpto-more : (slots : List (Slot Own F)) (edges new : Edges) (n : ℕ) (row : Vec ℕ Global) (slot : Slot Own F) → AreEdgesUpto slots edges n → slice_get slots n ≡ Some slot → IsRow slots (needs_or_none slot.needs) row.items → new ≡ edges ++ row ∷ [] → AreEdgesUpto slots new (n + 1)
+  AreEdgesUpto-more slots edges new n row slot u es r en = record {
+    long = omega (arith, ap length en, length-append edges (row ∷ []), u.long);
+    rows = λ i row' slot' e f. elim (pushed_cases edges row row' i (ap (λ (xs : Edges). slice_get xs i) (sym en) ∙ e)) as (λ _. IsRow slots (needs_or_none slot'.needs) row'.items) [
+      | inl before ↦ u.rows i row' slot' before f
+      | inr last ↦
+          let k : ◌≡◌ {A = Option (Slot Own F)} (Some slot) (Some slot') = sym es ∙ ap (slice_get slots) (sym (last.0 ∙ u.long)) ∙ f in let s : slot ≡ slot' = cc in
+          subst (λ (x : Vec ℕ Global). IsRow slots (needs_or_none slot'.needs) x.items) last.1 (subst (λ (x : Slot Own F). IsRow slots (needs_or_none x.needs) row.items) s r)
+    ];
+  }
+
+  pub slot_at : (slots : List (Slot Own F)) (i : ℕ) → i < length slots → (slot : Slot Own F) × (slice_get slots i ≡ Some slot)
+  slot_at [] i l = absurd (omega arith)
+  slot_at (x ∷ slots) zero l = (x, refl)
+  slot_at (x ∷ slots) (suc i) l = slot_at slots i (omega arith)
+
+  -- edges lead to places
+  pub HasPlaces-edges : (slots : List (Slot Own F)) (edges : Edges) → AreEdges slots edges → HasPlaces edges
+  HasPlaces-edges slots edges a i row e =
+      let s = slot_at slots i (omega (arith, slice_get_within edges i row e, a.long)) in
+      λ k d l. omega (arith, (a.rows i row s.0 e s.1).within k d l, a.long)
+
+slice_index-push_before : (xs : List ℕ) (x i : ℕ) → i < length xs → slice_index (xs ++ x ∷ []) i ≡ slice_index xs i
+slice_index-push_before [] x i l = absurd (omega arith)
+slice_index-push_before (y ∷ xs) x zero l = refl
+slice_index-push_before (y ∷ xs) x (suc i) l = slice_index-push_before xs x i (omega arith)
+
+slice_index-push_last : (xs : List ℕ) (x : ℕ) → slice_index (xs ++ x ∷ []) (length xs) ≡ x
+slice_index-push_last [] x = refl
+slice_index-push_last (y ∷ xs) x = slice_index-push_last xs x
+
+-- one rank more
+pub ranks-more : (edges : Edges) (ranks new : List ℕ) (place rank : ℕ) (places : List ℕ) → length ranks ≡ place → ((i : ℕ) → i < length ranks → IsRank edges i (slice_index ranks i)) → AreReached edges place places → rank ≡ length places → new ≡ ranks ++ rank ∷ [] → (length new ≡ place + 1) × ((i : ℕ) → i < length new → IsRank edges i (slice_index new i))
+ranks-more edges ranks new place rank places long each r e en = (
+  omega (arith, ap length en, length-append ranks (rank ∷ []), long),
+  λ i l. subst (λ (xs : List ℕ). IsRank edges i (slice_index xs i)) (sym en) (choice i (omega (arith, ap length en, length-append ranks (rank ∷ []))) (true_or_false (nat_eq i (length ranks)))),
+)
+  where
+    choice : (i : ℕ) → i < length ranks + 1 → (nat_eq i (length ranks) ≡ true) ⊎ (nat_eq i (length ranks) ≡ false) → IsRank edges i (slice_index (ranks ++ rank ∷ []) i)
+    choice i l (inl last) =
+        let k = same_place i (length ranks) last in
+        subst (λ (j : ℕ). IsRank edges j (slice_index (ranks ++ rank ∷ []) j)) (sym k)
+        (places, subst (λ (j : ℕ). AreReached edges j places) (sym long) r, slice_index-push_last ranks rank ∙ e)
+    choice i l (inr other) =
+        let k : i < length ranks = lt_of_ne i (length ranks) l other in
+        let h = each i k in (h.0, h.1, slice_index-push_before ranks rank i k ∙ h.2)
+      where
+        lt_of_ne : (a b : ℕ) → a < b + 1 → nat_eq a b ≡ false → a < b
+        lt_of_ne a b l n = elim (cases_lt a b) as (λ _. a < b) [
+          | inl less ↦ less
+          | inr more ↦ let e : a ≡ b = omega arith in let k : true ≡ false = sym (eq-eqb a b e) ∙ n in cc k
+        ]

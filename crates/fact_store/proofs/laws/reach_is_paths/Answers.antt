@@ -1,0 +1,12 @@
+use Rattle.std.specs.FinMap.{keys}
+use Rattle.fact_store.specs.Values.{needs_in}
+use Rattle.fact_store.proofs.ReachLemmas.{reaches_from-leads, leads_from-path}
+use Rattle.fact_store.proofs.ValueLemmas.{needs_in-none}
+use Rattle.fact_store.proofs.laws.reach_is_paths.Goals as goal
+
+pub returns-clause-path : goal.returns-clause-path
+returns-clause-path g c texts a b l = reaches_from-leads (needs_in g.D.Derive.own_of g.D.Derive.needs_of g.D.Derive.fact_of texts) (keys texts) a b l
+
+pub returns-clause-found : goal.returns-clause-found
+returns-clause-found g c texts a b p =
+    leads_from-path (needs_in g.D.Derive.own_of g.D.Derive.needs_of g.D.Derive.fact_of texts) (keys texts) (needs_in-none g.D.Derive.own_of g.D.Derive.needs_of g.D.Derive.fact_of texts) p.0 a b p.1

@@ -1,0 +1,10 @@
+use Rattle.std.proofs.Common.{◌≡◌, ℕ, ◌<◌, length}
+use Rattle.std.specs.Prelude.{slice_index}
+use Rattle.fact_store.specs.Plans.{IsRank}
+use Rattle.fact_store.proofs.plan.ranks_of.Given as goal
+
+abbrev pub invariant-loop-place : goal.invariant-loop-place
+invariant-loop-place l = record {
+  long : length l.ranks.items ≡ l.place;
+  each : (i : ℕ) → i < length l.ranks.items → IsRank l.edges i (slice_index l.ranks.items i);
+}

@@ -1,0 +1,24 @@
+-- What was given, and what is answered, as states.
+use Rattle.std.specs.Prelude.{ℕ, List, map}
+use Rattle.std.specs.Arc.{arc_value}
+use Rattle.fact_store.specs.declared.given.Gave.{Gave}
+use Rattle.fact_store.specs.declared.given.Gave.TheVariants as gave
+use Rattle.fact_store.specs.declared.given.Answer.{Answer}
+use Rattle.fact_store.specs.declared.given.Answer.TheVariants as answer
+use Rattle.fact_store.specs.States.{State, no_text, cyclic, broken, fact}
+
+module _ {F : Type 0} where
+  abbrev pub gave_state : Gave F → State F
+  gave_state gave.NoText = no_text
+  gave_state gave.Cyclic = cyclic
+  gave_state gave.Broken = broken
+  gave_state (gave.Fact shared) = fact (arc_value shared)
+
+  abbrev pub answer_state : Answer F → State F
+  answer_state answer.NoText = no_text
+  answer_state answer.Broken = broken
+  answer_state (answer.Fact shared) = fact (arc_value shared)
+
+  -- each name with what it gave
+  abbrev pub states : List (List ℕ × Gave F) → List (List ℕ × State F)
+  states given = map (λ g. (g.0, gave_state g.1)) given

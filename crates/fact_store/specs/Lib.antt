@@ -1,0 +1,9 @@
+pub mod Names
+pub mod Reach
+pub mod States
+pub mod Values
+pub mod Given
+pub mod Slots
+pub mod Plans
+pub mod Right
+pub mod Holding

@@ -1,0 +1,83 @@
+-- What is found of the present texts: who needs whom, in which order facts are made, and which stand.
+use Rattle.std.specs.Prelude.{◌≡◌, ℕ, ◌<◌, ◌+◌, ◌||◌, Bool, true, false, not, List, Option, Some, None, All, Contains, length, take, count_by, slice_get, slice_index, nat_eq, Vec}
+use Rattle.std.specs.List.{list_any}
+use Rattle.std.specs.List.Sorted.{IsNonDecreasingBy}
+use Rattle.std.specs.declared.alloc.Global.{Global}
+use Rattle.fact_store.specs.declared.slot.Slot.{Slot}
+use Rattle.fact_store.specs.Names.{has}
+use Rattle.fact_store.specs.Values.{needs_or_none}
+
+-- whether a place is among these
+abbrev pub among : List ℕ → ℕ → Bool
+among places place = list_any (nat_eq place) places
+
+-- the places that each place needs
+abbrev pub Edges : Type 0
+Edges = List (Vec ℕ Global)
+
+abbrev pub AreClosed : Edges → (ℕ → Bool) → Type 0
+AreClosed edges marked = (i j : ℕ) (row : Vec ℕ Global) → marked i ≡ true → slice_get edges i ≡ Some row → among row.items j ≡ true → marked j ≡ true
+
+abbrev pub is_marked : List Bool → ℕ → Bool
+is_marked marks i = got (slice_get marks i)
+  where
+    got : Option Bool → Bool
+    got None = false
+    got (Some mark) = mark
+
+-- the marks are the least set with the start that is closed under needs
+pub record IsReach (edges : Edges) (start : ℕ) (marks : List Bool) : Type 0 where
+  pub long : length marks ≡ length edges
+  pub first : is_marked marks start ≡ true
+  pub closed : AreClosed edges (is_marked marks)
+  pub least : (p : ℕ → Bool) → p start ≡ true → AreClosed edges p → (i : ℕ) → is_marked marks i ≡ true → p i ≡ true
+
+-- these places are those that are reached from the start, each once
+pub record AreReached (edges : Edges) (start : ℕ) (places : List ℕ) : Type 0 where
+  pub marks : List Bool
+  pub reach : IsReach edges start marks
+  pub all : (i : ℕ) → is_marked marks i ≡ true → among places i ≡ true
+  pub only : (i : ℕ) → among places i ≡ true → is_marked marks i ≡ true
+  pub counted : count_by (λ mark. mark) marks ≡ length places
+  pub within : All (λ place. place < length edges) places
+
+-- each place that is needed is one of the places
+abbrev pub HasPlaces : Edges → Type 0
+HasPlaces edges = (i : ℕ) (row : Vec ℕ Global) → slice_get edges i ≡ Some row → All (λ place. place < length edges) row.items
+
+-- the marks after a row was marked, and the queue with what was not marked before at its end
+pub record MarksRow (row : List ℕ) (old new : List Bool) (queue longer : List ℕ) : Type 0 where
+  pub long : length new ≡ length old
+  pub kept : (i : ℕ) → is_marked old i ≡ true → is_marked new i ≡ true
+  pub all : (i : ℕ) → among row i ≡ true → is_marked new i ≡ true
+  pub only : (i : ℕ) → is_marked new i ≡ true → (is_marked old i || among row i) ≡ true
+  pub queued : ((i : ℕ) → is_marked old i ≡ true → among queue i ≡ true) → (i : ℕ) → is_marked new i ≡ true → among longer i ≡ true
+  pub marked : ((i : ℕ) → among queue i ≡ true → is_marked old i ≡ true) → (i : ℕ) → among longer i ≡ true → is_marked new i ≡ true
+  pub front : take (length queue) longer ≡ queue
+  pub counted : count_by not new + length longer ≡ count_by not old + length queue
+  pub within : All (λ place. place < length old) queue → All (λ place. place < length new) longer
+
+module _ {Own F : Type 0} where
+  -- the places of the slots that these names name
+  pub record IsRow (slots : List (Slot Own F)) (names : List (List ℕ)) (row : List ℕ) : Type 0 where
+    pub each : (j : ℕ) (slot : Slot Own F) → slice_get slots j ≡ Some slot → among row j ≡ has names slot.name
+    pub within : All (λ place. place < length slots) row
+
+  -- for each slot the places of those that it needs
+  pub record AreEdges (slots : List (Slot Own F)) (edges : Edges) : Type 0 where
+    pub long : length edges ≡ length slots
+    pub rows : (i : ℕ) (row : Vec ℕ Global) (slot : Slot Own F) → slice_get edges i ≡ Some row → slice_get slots i ≡ Some slot → IsRow slots (needs_or_none slot.needs) row.items
+
+-- how many places each place reaches
+abbrev pub IsRank : Edges → ℕ → ℕ → Type 0
+IsRank edges place rank = (places : List ℕ) × AreReached edges place places × (rank ≡ length places)
+
+pub record AreRanks (edges : Edges) (ranks : List ℕ) : Type 0 where
+  pub long : length ranks ≡ length edges
+  pub each : (i : ℕ) → i < length ranks → IsRank edges i (slice_index ranks i)
+
+-- these places behind their ranks, the lowest rank first
+pub record IsOrder (ranks places : List ℕ) (order : List (ℕ × ℕ)) : Type 0 where
+  pub each : All (λ entry. (entry.0 ≡ slice_index ranks entry.1) × (among places entry.1 ≡ true)) order
+  pub all : (place : ℕ) → among places place ≡ true → Contains order (slice_index ranks place, place)
+  pub sorted : IsNonDecreasingBy (λ entry. entry.0) order

@@ -1,0 +1,62 @@
+-- What a store keeps true.
+use Rattle.std.specs.Prelude.{◌≡◌, ℕ, ◌≤◌, ◌⊎◌, Bool, true, false, ◌&&◌, List, Option, Some, None, length, map, slice_get, slice_index, nat_eq, is_none}
+use Rattle.fact_store.specs.declared.slot.Slot.{Slot}
+use Rattle.fact_store.specs.declared.slot.Kept.{Kept}
+use Rattle.fact_store.specs.declared.given.Gave.{Gave}
+use Rattle.fact_store.specs.declared.plan.Plan.{Plan}
+use Rattle.fact_store.specs.Names.{has}
+use Rattle.fact_store.specs.States.{State, same_given}
+use Rattle.fact_store.specs.Values.{needs_or_none}
+use Rattle.fact_store.specs.Given.{states}
+use Rattle.fact_store.specs.Slots.{texts_of, AreSound, is_settled}
+use Rattle.fact_store.specs.Plans.{is_marked, AreEdges, AreRanks}
+
+-- whether a fact was made from the present text, and what was given then is like this
+abbrev pub is_fresh : {F : Type 0} → (F → F → Bool) → Option (Kept F) → List (List ℕ × State F) → Bool
+is_fresh same None given = false
+is_fresh same (Some kept) given = is_none kept.from && same_given same (states kept.given) given
+
+-- a fact with this in place of what was given when it was made
+abbrev pub with_given : {F : Type 0} → Option (Kept F) → List (List ℕ × Gave F) → Option (Kept F)
+with_given None given = None
+with_given (Some kept) given = Some (record kept { given = given })
+
+module _ {Own F : Type 0} where
+  -- a slot but for its fact
+  abbrev pub outline : Slot Own F → List ℕ × List ℕ × Own × Option (List (List ℕ))
+  outline slot = (slot.name, slot.bytes, slot.own, slot.needs)
+
+  abbrev pub outlines : List (Slot Own F) → List (List ℕ × List ℕ × Own × Option (List (List ℕ)))
+  outlines slots = map outline slots
+
+  -- the plan is that of these slots
+  pub record IsPlan (slots : List (Slot Own F)) (plan : Plan) : Type 0 where
+    pub edges : AreEdges slots plan.edges.items
+    pub ranks : AreRanks plan.edges.items plan.ranks.items
+
+  abbrev pub HoldsPlan : List (Slot Own F) → Option Plan → Type 0
+  HoldsPlan slots None = Unit {0}
+  HoldsPlan slots (Some plan) = IsPlan slots plan
+
+  -- nothing is to be made of this slot: it is broken, or its fact stands
+  abbrev pub IsDone : List Bool → ℕ → Slot Own F → Type 0
+  IsDone current place slot = (slot.needs ≡ None) ⊎ (is_marked current place ≡ true)
+
+  -- each need of this place that does not lead back is done
+  abbrev pub IsReady : List (Slot Own F) → List ℕ → List Bool → ℕ → Type 0
+  IsReady slots ranks current place =
+      (slot : Slot Own F) → slice_get slots place ≡ Some slot →
+      (j : ℕ) (other : Slot Own F) → slice_get slots j ≡ Some other → has (needs_or_none slot.needs) other.name ≡ true →
+      nat_eq (slice_index ranks j) (slice_index ranks place) ≡ false → IsDone current j other
+
+  module _ (own_of : List ℕ → List ℕ → Own) (needs_of : Own → Option (List (List ℕ))) (fact_of : List ℕ → Own → List (List ℕ × State F) → F) (same : F → F → Bool) where
+    -- the slots are sound, and the facts that stand are those of the present texts
+    pub record IsRight (slots : List (Slot Own F)) (current : List Bool) : Type 0 where
+      pub sound : AreSound own_of needs_of fact_of slots
+      pub settled : (i : ℕ) (slot : Slot Own F) → slice_get slots i ≡ Some slot → is_marked current i ≡ true → is_settled own_of needs_of fact_of same (texts_of slots) slot ≡ true
+
+    -- what a store keeps true of its slots, its plan and its marks
+    pub record IsStore (slots : List (Slot Own F)) (plan : Option Plan) (current : List Bool) : Type 0 where
+      pub right : IsRight slots current
+      pub planned : HoldsPlan slots plan
+      pub marks : length current ≤ length slots

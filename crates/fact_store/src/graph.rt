@@ -1,0 +1,52 @@
+// Which places lead where, by lists of the places that each needs.
+ghost use Rattle.std.specs.Prelude.{◌≡◌, ℕ, ◌+◌, ◌<◌, ◌≤◌, Bool, true, false, not, Option, Some, List, ◌++◌, IfOk, All, count_by, length, slice_get, vec_len};
+ghost use Rattle.std.specs.List.{list_any};
+ghost use Rattle.fact_store.specs.Plans.{among, is_marked, Edges, AreReached, MarksRow, HasPlaces};
+
+use std::alloc::Global;
+use tool_list::Memory;
+
+/// The places that are reached from one, itself among them, each once.
+pub fn reached(alloc: Global, edges: &[Vec<usize>], start: usize) -> Result<Vec<usize>, Memory>
+    requires start { start < length edges.now }
+    requires places { HasPlaces edges.now }
+    ensures { IfOk result (λ places. AreReached edges.now start places.items) }
+{
+    let mut marks = unmarked(alloc, edges.len())?;
+    let mut queue = Vec::new(alloc);
+    queue.push(start)?;
+    marks[start] = true;
+    let mut next = 0;
+    while next < queue.len() {
+        let place = queue[next];
+        mark_row(&edges[place], &mut marks, &mut queue)?;
+        next += 1;
+    }
+    Ok(queue)
+}
+
+/// No place marked.
+fn unmarked(alloc: Global, len: usize) -> Result<Vec<bool>, Memory>
+    ensures long { IfOk result (λ marks. vec_len marks ≡ len) }
+    ensures none { IfOk result (λ marks. (i : ℕ) → is_marked marks.items i ≡ false) }
+{
+    let mut marks = Vec::with_capacity(alloc, len)?;
+    for _ in 0..len {
+        marks.push(false)?;
+    }
+    Ok(marks)
+}
+
+/// Marks the places of a row, and queues those that were not marked.
+fn mark_row(row: &[usize], marks: &mut Vec<bool>, queue: &mut Vec<usize>) -> Result<(), Memory>
+    requires { All (λ place. place < vec_len marks.old) row.now }
+    ensures { IfOk result (λ _. MarksRow row.now marks.old.items marks.new.items queue.old.items queue.new.items) }
+{
+    for &place in row {
+        if !marks[place] {
+            marks[place] = true;
+            queue.push(place)?;
+        }
+    }
+    Ok(())
+}

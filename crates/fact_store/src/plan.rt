@@ -1,0 +1,105 @@
+// What is found of the present texts.
+ghost use Rattle.std.specs.Prelude.{◌≡◌, MatchOption, IfOk};
+ghost use Rattle.fact_store.specs.Names.{name_eq};
+ghost use Rattle.fact_store.specs.Slots.{AreDistinct, HasNoSlot, IsPlaceOf};
+ghost use Rattle.fact_store.specs.Values.{needs_or_none};
+ghost use Rattle.fact_store.specs.Plans.{IsRow, AreEdges, AreRanks, HasPlaces};
+ghost use Rattle.fact_store.specs.Right.{IsPlan};
+
+use crate::graph::reached;
+use crate::slot::Slot;
+use std::alloc::Global;
+use tool_list::{Chars, List, Memory};
+
+/// What is found of the present texts, by the places of their slots.
+#[derive(Drop)]
+pub struct Plan {
+    /// The places that each place needs.
+    pub edges: Vec<Vec<usize>>,
+    /// How many places each place reaches.
+    pub ranks: Vec<usize>,
+}
+
+/// Whether two names, or two texts, are the same.
+pub fn same_bytes(a: &[u8], b: &[u8]) -> bool
+    ensures { result ≡ name_eq a.now b.now }
+{
+    a == b
+}
+
+/// The place of the slot with this name.
+pub fn place_of<O: Drop, F: Drop>(slots: &[Slot<O, F>], name: &str) -> Option<usize>
+    ensures { MatchOption result (HasNoSlot slots.now name.now) (IsPlaceOf slots.now name.now) }
+{
+    for (place, slot) in slots.iter().enumerate() {
+        if same_bytes(name.as_bytes(), slot.name.as_str().as_bytes()) {
+            return Some(place);
+        }
+    }
+    None
+}
+
+/// The places of the slots that these names name.
+fn row_of<O: Drop, F: Drop>(
+    alloc: Global,
+    slots: &[Slot<O, F>],
+    names: &[Chars],
+) -> Result<Vec<usize>, Memory>
+    requires { AreDistinct slots.now }
+    ensures { IfOk result (λ row. IsRow slots.now names.now row.items) }
+{
+    let mut row = Vec::new(alloc);
+    for name in names {
+        if let Some(place) = place_of(slots, name.as_str()) {
+            row.push(place)?;
+        }
+    }
+    Ok(row)
+}
+
+/// The names that a slot needs.
+pub fn needed<O: Drop, F: Drop>(slot: &Slot<O, F>) -> &[Chars]
+    ensures { result.now ≡ needs_or_none slot.now.needs }
+{
+    match &slot.needs {
+        Some(names) => names.as_slice(),
+        None => &[],
+    }
+}
+
+/// For each slot the places of those that it needs.
+fn edges_of<O: Drop, F: Drop>(
+    alloc: Global,
+    slots: &[Slot<O, F>],
+) -> Result<Vec<Vec<usize>>, Memory>
+    requires { AreDistinct slots.now }
+    ensures { IfOk result (λ edges. AreEdges slots.now edges.items) }
+{
+    let mut edges = Vec::new(alloc);
+    for slot in slots {
+        edges.push(row_of(alloc, slots, needed(slot))?)?;
+    }
+    Ok(edges)
+}
+
+/// How many places each place reaches.
+fn ranks_of(alloc: Global, edges: &[Vec<usize>]) -> Result<Vec<usize>, Memory>
+    requires { HasPlaces edges.now }
+    ensures { IfOk result (λ ranks. AreRanks edges.now ranks.items) }
+{
+    let mut ranks = Vec::new(alloc);
+    for place in 0..edges.len() {
+        ranks.push(reached(alloc, edges, place)?.len())?;
+    }
+    Ok(ranks)
+}
+
+/// What is found of these texts.
+pub fn plan_of<O: Drop, F: Drop>(alloc: Global, slots: &[Slot<O, F>]) -> Result<Plan, Memory>
+    requires { AreDistinct slots.now }
+    ensures { IfOk result (λ plan. IsPlan slots.now plan) }
+{
+    let edges = edges_of(alloc, slots)?;
+    let ranks = ranks_of(alloc, &edges)?;
+    Ok(Plan { edges, ranks })
+}
