@@ -1,6 +1,6 @@
 -- What stands on what is brought up first.
 use Rattle.std.proofs.Common.{◌≡◌, ℕ, suc, ◌+◌, ◌<◌, ◌≤◌, Bool, true, false, List, [], ◌∷◌, Option, Some, refl, sym, ap, ◌∙◌, subst, inl, inr, map, length, get_or, nat_eq, arith}
-use Rattle.std.specs.Prelude.{◌⊎◌, slice_get, slice_index, All, Contains}
+use Rattle.std.specs.Prelude.{not, ◌⊎◌, slice_get, slice_index, All, Contains}
 use Rattle.std.specs.List.Sorted.{IsPermutation, IsNonDecreasingBy}
 use Rattle.std.proofs.lemmas.Bool.{eq-eqb, cases_lt}
 use Rattle.std.proofs.lemmas.List.Elements.{All-nil, All-cons}
@@ -14,7 +14,7 @@ use Rattle.fact_store.specs.Values.{needs_or_none}
 use Rattle.fact_store.specs.Slots.{AreSound}
 use Rattle.fact_store.specs.Plans.{among, is_marked, AreReached, IsRow, IsOrder}
 use Rattle.fact_store.specs.Right.{outlines, IsPlan, IsDone, IsReady}
-use Rattle.fact_store.proofs.NameLemmas.{or_left, or_right, or_cases}
+use Rattle.fact_store.proofs.NameLemmas.{or_left, or_right, or_cases, and_both}
 use Rattle.fact_store.proofs.Marks.{same_place}
 use Rattle.fact_store.proofs.Search.{among-within}
 use Rattle.fact_store.proofs.Ranks.{rank_falls, row_at}
@@ -65,6 +65,7 @@ module _ {Own F : Type 0} where
           subst (λ (o : Option (List (List ℕ))). IsRow a (needs_or_none o) row.items) (ap (λ (o : List ℕ × List ℕ × Own × Option (List (List ℕ))). o.3) w.2) (IsRow-same a b (needs_or_none (w.0).needs) row.items e (p.edges.rows i row w.0 er w.1));
     };
     ranks = p.ranks;
+    grounds = p.grounds;
   }
 
   -- what is done stays done where marks stay
@@ -80,7 +81,7 @@ module _ {Own F : Type 0} where
   abbrev pub DoneBefore : List (Slot Own F) → List Bool → List (ℕ × ℕ) → ℕ → Type 0
   DoneBefore slots current order n = (k : ℕ) (e : ℕ × ℕ) → k < n → slice_get order k ≡ Some e → (slot : Slot Own F) → slice_get slots e.1 ≡ Some slot → IsDone current e.1 slot
 
-  module _ (own_of : List ℕ → List ℕ → Own) (needs_of : Own → Option (List (List ℕ))) (fact_of : List ℕ → Own → List (List ℕ × State F) → F) (slots : List (Slot Own F)) (sound : AreSound own_of needs_of fact_of slots) (current : List Bool) (plan : Plan) (is : IsPlan slots plan) (start : ℕ) (places : List ℕ) (reach : AreReached plan.edges.items start places) (order : List (ℕ × ℕ)) (sorted : IsOrder plan.ranks.items places order) where
+  module _ (own_of : List ℕ → List ℕ → Own) (needs_of : Own → Option (List (List ℕ))) (fact_of : List ℕ → Own → List (List ℕ × State F) → F) (slots : List (Slot Own F)) (sound : AreSound own_of needs_of fact_of slots) (current : List Bool) (plan : Plan) (is : IsPlan slots plan) (start : ℕ) (places : List ℕ) (reach : AreReached plan.grounds.items start places) (order : List (ℕ × ℕ)) (sorted : IsOrder plan.ranks.items places order) where
     -- the next entry is ready
     pub IsReady-next : (n : ℕ) (entry : ℕ × ℕ) → n < length order → entry ≡ get_or order n entry → DoneBefore slots current order n → IsReady slots plan.ranks.items current entry.1
     IsReady-next n entry l read done slot at j other there need apart =
@@ -91,8 +92,12 @@ module _ {Own F : Type 0} where
 
         marked : is_marked reach.marks j ≡ true
         marked =
-            let row = row_at plan.edges.items entry.1 (omega (arith, slice_get_within slots entry.1 slot at, is.edges.long)) in
-            reach.reach.closed entry.1 j row.0 (reach.only entry.1 here.1) row.1 ((is.edges.rows entry.1 row.0 slot row.1 at).each j other there ∙ need)
+            let l = slice_get_within slots entry.1 slot at in
+            let row = row_at plan.edges.items entry.1 (omega (arith, l, is.edges.long)) in
+            let ground = row_at plan.grounds.items entry.1 (omega (arith, l, is.edges.long, is.grounds.long)) in
+            let in_row = (is.edges.rows entry.1 row.0 slot row.1 at).each j other there ∙ need in
+            reach.reach.closed entry.1 j ground.0 (reach.only entry.1 here.1) ground.1
+            ((is.grounds.rows entry.1 row.0 ground.0 row.1 ground.1).each j ∙ and_both _ _ in_row (ap not apart))
 
         at_j : Contains {X = ℕ × ℕ} order (slice_index plan.ranks.items j, j)
         at_j = sorted.all j (reach.all j marked)
@@ -118,12 +123,12 @@ module _ {Own F : Type 0} where
 
     -- places that are reached have ranks, and slots
     pub ranked-places : All (λ place. place < length plan.ranks.items) places
-    ranked-places = λ k d l. omega (arith, reach.within k d l, is.ranks.long)
+    ranked-places = λ k d l. omega (arith, reach.within k d l, is.ranks.long, is.grounds.long)
 
     pub entry-within : (n : ℕ) (entry : ℕ × ℕ) → n < length order → entry ≡ get_or order n entry → entry.1 < length slots
     entry-within n entry l read =
         let h : (entry.0 ≡ slice_index plan.ranks.items entry.1) × (among places entry.1 ≡ true) = subst (λ (x : ℕ × ℕ). (x.0 ≡ slice_index plan.ranks.items x.1) × (among places x.1 ≡ true)) (sym read) (sorted.each n entry l) in
-        omega (arith, among-within places (length plan.edges.items) entry.1 reach.within h.1, is.edges.long)
+        omega (arith, among-within places (length plan.grounds.items) entry.1 reach.within h.1, is.edges.long, is.grounds.long)
 
   -- one entry more is done
   pub DoneBefore-more : (a b : List (Slot Own F)) (old new : List Bool) (order : List (ℕ × ℕ)) (n : ℕ) (entry : ℕ × ℕ) → outlines a ≡ outlines b → ((i : ℕ) → is_marked old i ≡ true → is_marked new i ≡ true) → DoneBefore b old order n → n < length order → entry ≡ get_or order n entry → ((slot : Slot Own F) → slice_get a entry.1 ≡ Some slot → IsDone new entry.1 slot) → DoneBefore a new order (n + 1)

@@ -72,6 +72,7 @@ module _ {Own F : Type 0} where
       ];
     };
     ranks = p.ranks;
+    grounds = p.grounds;
   }
     where
       still : (names : List (List ℕ)) (row : List ℕ) → IsRow slots names row → IsRow (slice_set slots i y) names row

@@ -1,7 +1,7 @@
 -- Rows of places, from names that are needed.
-use Rattle.std.proofs.Common.{◌≡◌, ℕ, zero, suc, ◌+◌, ◌<◌, Bool, true, false, List, [], ◌∷◌, ◌++◌, Option, Some, refl, sym, ap, ◌∙◌, subst, inl, inr, take, length, get_or, arith, nat_eq, Vec, Global}
-use Rattle.std.specs.Prelude.{◌⊎◌, ◌||◌, slice_get, slice_index}
-use Rattle.std.proofs.lemmas.Bool.{eq-eqb, cases_lt}
+use Rattle.std.proofs.Common.{◌≡◌, ◌≢◌, ℕ, zero, suc, ◌+◌, ◌<◌, Bool, true, false, List, [], ◌∷◌, ◌++◌, Option, Some, refl, sym, ap, ◌∙◌, subst, inl, inr, take, length, get_or, arith, nat_eq, Vec, Global}
+use Rattle.std.specs.Prelude.{not, ◌⊎◌, ◌||◌, ◌&&◌, slice_get, slice_index}
+use Rattle.std.proofs.lemmas.Bool.{eqb-true, eq-eqb, cases_lt}
 use Rattle.std.proofs.lemmas.List.{take_more, length-append}
 use Rattle.std.proofs.lemmas.List.Folds.{list_any-append}
 use Rattle.std.proofs.lemmas.List.Elements.{All-push}
@@ -10,8 +10,8 @@ use Rattle.fact_store.specs.declared.slot.Slot.{Slot}
 use Rattle.fact_store.specs.Names.{name_eq, has}
 use Rattle.fact_store.specs.Values.{needs_or_none}
 use Rattle.fact_store.specs.Slots.{AreDistinct, HasNoSlot, IsPlaceOf}
-use Rattle.fact_store.specs.Plans.{Edges, HasPlaces, IsRow, AreEdges, AreReached, IsRank}
-use Rattle.fact_store.proofs.NameLemmas.{true_or_false, same_name, name_eq-same}
+use Rattle.fact_store.specs.Plans.{among, Edges, HasPlaces, IsRow, AreEdges, AreReached, IsRank, IsGround, AreGrounds}
+use Rattle.fact_store.proofs.NameLemmas.{true_or_false, same_name, name_eq-same, or_left, or_right, or_cases, and_both, and_left, and_right}
 use Rattle.fact_store.proofs.Marks.{among-push, or_false, same_place}
 
 -- what stands at a place after a push stood there before, or was pushed
@@ -125,3 +125,82 @@ ranks-more edges ranks new place rank places long each r e en = (
           | inl less ↦ less
           | inr more ↦ let e : a ≡ b = omega arith in let k : true ≡ false = sym (eq-eqb a b e) ∙ n in cc k
         ]
+
+-- the next place of a row is of the rank
+IsGround-skip : (ranks : List ℕ) (rank : ℕ) (row ground : List ℕ) (p : ℕ) → IsGround ranks rank row ground → slice_index ranks p ≡ rank → IsGround ranks rank (row ++ p ∷ []) ground
+IsGround-skip ranks rank row ground p g e = record {
+  each = λ j. g.each j ∙ same_test _ _
+      (λ m. and_both _ _ (among-push row p j ∙ or_left (among row j) (nat_eq j p) (and_left (among row j) _ m)) (and_right (among row j) _ m))
+      (λ m. let n = and_right (among (row ++ p ∷ []) j) _ m in
+      elim (or_cases (among row j) (nat_eq j p) (sym (among-push row p j) ∙ and_left (among (row ++ p ∷ []) j) _ m)) as (λ _. (among row j && not (nat_eq (slice_index ranks j) rank)) ≡ true) [
+        | inl before ↦ and_both _ _ before n
+        | inr this ↦ let h : not true ≡ true = sym (ap not (eq-eqb (slice_index ranks j) rank (ap (slice_index ranks) (same_place j p this) ∙ e))) ∙ n in cc h
+      ]);
+  within = g.within;
+}
+
+-- the next place of a row is of another rank
+IsGround-more : (ranks : List ℕ) (rank : ℕ) (row ground : List ℕ) (p : ℕ) → IsGround ranks rank row ground → nat_eq (slice_index ranks p) rank ≡ false → p < length ranks → IsGround ranks rank (row ++ p ∷ []) (ground ++ p ∷ [])
+IsGround-more ranks rank row ground p g ne l = record {
+  each = λ j. same_test _ _
+      (λ m. elim (or_cases (among ground j) (nat_eq j p) (sym (among-push ground p j) ∙ m)) as (λ _. (among (row ++ p ∷ []) j && not (nat_eq (slice_index ranks j) rank)) ≡ true) [
+        | inl before ↦ let k = sym (g.each j) ∙ before in and_both _ _ (among-push row p j ∙ or_left (among row j) (nat_eq j p) (and_left (among row j) _ k)) (and_right (among row j) _ k)
+        | inr this ↦ and_both _ _ (among-push row p j ∙ or_right (among row j) (nat_eq j p) this) (ap (λ (q : ℕ). not (nat_eq (slice_index ranks q) rank)) (same_place j p this) ∙ ap not ne)
+      ])
+      (λ m. let n = and_right (among (row ++ p ∷ []) j) _ m in
+      elim (or_cases (among row j) (nat_eq j p) (sym (among-push row p j) ∙ and_left (among (row ++ p ∷ []) j) _ m)) as (λ _. among (ground ++ p ∷ []) j ≡ true) [
+        | inl before ↦ among-push ground p j ∙ or_left (among ground j) (nat_eq j p) (g.each j ∙ and_both _ _ before n)
+        | inr this ↦ among-push ground p j ∙ or_right (among ground j) (nat_eq j p) this
+      ]);
+  within = All-push (λ x. x < length ranks) ground p g.within l;
+}
+
+pub IsGround-start : (ranks : List ℕ) (rank : ℕ) → IsGround ranks rank [] []
+IsGround-start ranks rank = record { each = λ j. refl; within = λ k d l. absurd (omega arith) }
+
+-- the place at k of a row, with its rank that was read
+pub IsGround-skip_at : (ranks : List ℕ) (rank : ℕ) (row ground ground' : List ℕ) (k : ℕ) → k < length row → IsGround ranks rank (take k row) ground → slice_index ranks (get_or row k 0) ≡ rank → ground' ≡ ground → IsGround ranks rank (take (k + 1) row) ground'
+IsGround-skip_at ranks rank row ground ground' k l g e eg =
+    subst (λ (xs : List ℕ). IsGround ranks rank xs ground') (sym (take_more row k 0 l))
+    (subst (λ (xs : List ℕ). IsGround ranks rank (take k row ++ get_or row k 0 ∷ []) xs) (sym eg)
+    (IsGround-skip ranks rank (take k row) ground (get_or row k 0) g e))
+
+pub IsGround-more_at : (ranks : List ℕ) (rank : ℕ) (row ground ground' : List ℕ) (k : ℕ) → k < length row → IsGround ranks rank (take k row) ground → get_or row k 0 < length ranks → slice_index ranks (get_or row k 0) ≢ rank → ground' ≡ ground ++ get_or row k 0 ∷ [] → IsGround ranks rank (take (k + 1) row) ground'
+IsGround-more_at ranks rank row ground ground' k l g lp ne eg =
+    subst (λ (xs : List ℕ). IsGround ranks rank xs ground') (sym (take_more row k 0 l))
+    (subst (λ (xs : List ℕ). IsGround ranks rank (take k row ++ get_or row k 0 ∷ []) xs) (sym eg)
+    (IsGround-more ranks rank (take k row) ground (get_or row k 0) g apart lp))
+  where
+    apart : nat_eq (slice_index ranks (get_or row k 0)) rank ≡ false
+    apart = elim (true_or_false (nat_eq (slice_index ranks (get_or row k 0)) rank)) as (λ _. nat_eq (slice_index ranks (get_or row k 0)) rank ≡ false) [
+      | inl same ↦ absurd (ne (eqb-true _ _ same))
+      | inr other ↦ other
+    ]
+
+-- the grounds of the places before n
+pub record AreGroundsUpto (edges : Edges) (ranks : List ℕ) (grounds : Edges) (n : ℕ) : Type 0 where
+  pub long : length grounds ≡ n
+  pub rows : (i : ℕ) (row ground : Vec ℕ Global) → slice_get edges i ≡ Some row → slice_get grounds i ≡ Some ground → IsGround ranks (slice_index ranks i) row.items ground.items
+
+pub AreGroundsUpto-more : (edges : Edges) (ranks : List ℕ) (grounds new : Edges) (n : ℕ) (row ground : Vec ℕ Global) → AreGroundsUpto edges ranks grounds n → slice_get edges n ≡ Some row → IsGround ranks (slice_index ranks n) row.items ground.items → new ≡ grounds ++ ground ∷ [] → AreGroundsUpto edges ranks new (n + 1)
+AreGroundsUpto-more edges ranks grounds new n row ground u er g en = record {
+  long = omega (arith, ap length en, length-append grounds (ground ∷ []), u.long);
+  rows = λ i row' ground' e f. elim (pushed_cases grounds ground ground' i (ap (λ (xs : Edges). slice_get xs i) (sym en) ∙ f)) as (λ _. IsGround ranks (slice_index ranks i) row'.items ground'.items) [
+    | inl before ↦ u.rows i row' ground' e before
+    | inr last ↦
+        let k : ◌≡◌ {A = Option (Vec ℕ Global)} (Some row) (Some row') = sym er ∙ ap (slice_get edges) (sym (last.0 ∙ u.long)) ∙ e in let s : row ≡ row' = cc in
+        subst (λ (x : Vec ℕ Global). IsGround ranks (slice_index ranks i) row'.items x.items) last.1
+        (subst (λ (x : Vec ℕ Global). IsGround ranks (slice_index ranks i) x.items ground.items) s
+        (subst (λ (x : ℕ). IsGround ranks (slice_index ranks x) row.items ground.items) (sym (last.0 ∙ u.long)) g))
+  ];
+}
+
+edge_at : (edges : Edges) (i : ℕ) → i < length edges → (row : Vec ℕ Global) × (slice_get edges i ≡ Some row)
+edge_at [] i l = absurd (omega arith)
+edge_at (x ∷ edges) zero l = (x, refl)
+edge_at (x ∷ edges) (suc i) l = edge_at edges i (omega arith)
+
+pub HasPlaces-grounds : (edges : Edges) (ranks : List ℕ) (grounds : Edges) → length ranks ≡ length edges → AreGrounds edges ranks grounds → HasPlaces grounds
+HasPlaces-grounds edges ranks grounds long g i ground e =
+    let row = edge_at edges i (omega (arith, slice_get_within grounds i ground e, g.long)) in
+    λ k d l. omega (arith, (g.rows i row.0 ground row.1 e).within k d l, long, g.long)

@@ -1,5 +1,5 @@
 -- What is found of the present texts: who needs whom, in which order facts are made, and which stand.
-use Rattle.std.specs.Prelude.{◌≡◌, ℕ, ◌<◌, ◌+◌, ◌||◌, Bool, true, false, not, List, Option, Some, None, All, Contains, length, take, count_by, slice_get, slice_index, nat_eq, Vec}
+use Rattle.std.specs.Prelude.{◌≡◌, ℕ, ◌<◌, ◌+◌, ◌||◌, ◌&&◌, Bool, true, false, not, List, Option, Some, None, All, Contains, length, take, count_by, slice_get, slice_index, nat_eq, Vec}
 use Rattle.std.specs.List.{list_any}
 use Rattle.std.specs.List.Sorted.{IsNonDecreasingBy}
 use Rattle.std.specs.declared.alloc.Global.{Global}
@@ -81,3 +81,13 @@ pub record IsOrder (ranks places : List ℕ) (order : List (ℕ × ℕ)) : Type 
   pub each : All (λ entry. (entry.0 ≡ slice_index ranks entry.1) × (among places entry.1 ≡ true)) order
   pub all : (place : ℕ) → among places place ≡ true → Contains order (slice_index ranks place, place)
   pub sorted : IsNonDecreasingBy (λ entry. entry.0) order
+
+-- of the places in a row, those of another rank: what a place of this rank stands on
+pub record IsGround (ranks : List ℕ) (rank : ℕ) (row ground : List ℕ) : Type 0 where
+  pub each : (j : ℕ) → among ground j ≡ (among row j && not (nat_eq (slice_index ranks j) rank))
+  pub within : All (λ place. place < length ranks) ground
+
+-- for each place those that it needs and that do not lead back
+pub record AreGrounds (edges : Edges) (ranks : List ℕ) (grounds : Edges) : Type 0 where
+  pub long : length grounds ≡ length edges
+  pub rows : (i : ℕ) (row ground : Vec ℕ Global) → slice_get edges i ≡ Some row → slice_get grounds i ≡ Some ground → IsGround ranks (slice_index ranks i) row.items ground.items

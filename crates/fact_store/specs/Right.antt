@@ -9,7 +9,7 @@ use Rattle.fact_store.specs.States.{State, same_given}
 use Rattle.fact_store.specs.Values.{needs_or_none}
 use Rattle.fact_store.specs.Given.{states}
 use Rattle.fact_store.specs.Slots.{texts_of, AreSound, is_settled}
-use Rattle.fact_store.specs.Plans.{is_marked, AreEdges, AreRanks}
+use Rattle.fact_store.specs.Plans.{is_marked, AreEdges, AreRanks, AreGrounds}
 
 -- whether a fact was made from the present text, and what was given then is like this
 abbrev pub is_fresh : {F : Type 0} → (F → F → Bool) → Option (Kept F) → List (List ℕ × State F) → Bool
@@ -33,6 +33,7 @@ module _ {Own F : Type 0} where
   pub record IsPlan (slots : List (Slot Own F)) (plan : Plan) : Type 0 where
     pub edges : AreEdges slots plan.edges.items
     pub ranks : AreRanks plan.edges.items plan.ranks.items
+    pub grounds : AreGrounds plan.edges.items plan.ranks.items plan.grounds.items
 
   abbrev pub HoldsPlan : List (Slot Own F) → Option Plan → Type 0
   HoldsPlan slots None = Unit {0}

@@ -58,7 +58,7 @@ pub fn bring_all<D: Derive, L>(
     ensures rises { steps.old ≤ steps.new }
     ensures counted { OnOk result (steps.new + owed D.own_of D.needs_of D.fact_of D.same slots.new.items ≤ steps.old + owed D.own_of D.needs_of D.fact_of D.same slots.old.items) }
 {
-    let places = reached(alloc, &plan.edges, place)?;
+    let places = reached(alloc, &plan.grounds, place)?;
     let order = order_of(alloc, &plan.ranks, &places)?;
     for i in 0..order.len() {
         let (_, next) = order[i];

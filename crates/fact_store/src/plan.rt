@@ -1,9 +1,9 @@
 // What is found of the present texts.
-ghost use Rattle.std.specs.Prelude.{◌≡◌, MatchOption, IfOk};
+ghost use Rattle.std.specs.Prelude.{◌≡◌, ◌<◌, MatchOption, All, IfOk, length};
 ghost use Rattle.fact_store.specs.Names.{name_eq};
 ghost use Rattle.fact_store.specs.Slots.{AreDistinct, HasNoSlot, IsPlaceOf};
 ghost use Rattle.fact_store.specs.Values.{needs_or_none};
-ghost use Rattle.fact_store.specs.Plans.{IsRow, AreEdges, AreRanks, HasPlaces};
+ghost use Rattle.fact_store.specs.Plans.{IsRow, AreEdges, AreRanks, AreGrounds, IsGround, HasPlaces};
 ghost use Rattle.fact_store.specs.Right.{IsPlan};
 
 use crate::graph::reached;
@@ -18,6 +18,8 @@ pub struct Plan {
     pub edges: Vec<Vec<usize>>,
     /// How many places each place reaches.
     pub ranks: Vec<usize>,
+    /// The places that each place needs and that do not lead back to it.
+    pub grounds: Vec<Vec<usize>>,
 }
 
 /// Whether two names, or two texts, are the same.
@@ -94,6 +96,43 @@ fn ranks_of(alloc: Global, edges: &[Vec<usize>]) -> Result<Vec<usize>, Memory>
     Ok(ranks)
 }
 
+/// Of the places in a row, those of another rank.
+fn ground_of(
+    alloc: Global,
+    ranks: &[usize],
+    rank: usize,
+    row: &[usize],
+) -> Result<Vec<usize>, Memory>
+    requires { All (λ place. place < length ranks.now) row.now }
+    ensures { IfOk result (λ ground. IsGround ranks.now rank row.now ground.items) }
+{
+    let mut ground = Vec::new(alloc);
+    for &place in row {
+        if ranks[place] != rank {
+            ground.push(place)?;
+        }
+    }
+    Ok(ground)
+}
+
+/// For each place those that it needs and that do not lead back: they reach fewer places.
+fn grounds_of(
+    alloc: Global,
+    edges: &[Vec<usize>],
+    ranks: &[usize],
+) -> Result<Vec<Vec<usize>>, Memory>
+    requires places { HasPlaces edges.now }
+    requires long { length ranks.now ≡ length edges.now }
+    ensures { IfOk result (λ grounds. AreGrounds edges.now ranks.now grounds.items) }
+{
+    let mut grounds = Vec::new(alloc);
+    for place in 0..edges.len() {
+        let ground = ground_of(alloc, ranks, ranks[place], &edges[place])?;
+        grounds.push(ground)?;
+    }
+    Ok(grounds)
+}
+
 /// What is found of these texts.
 pub fn plan_of<O: Drop, F: Drop>(alloc: Global, slots: &[Slot<O, F>]) -> Result<Plan, Memory>
     requires { AreDistinct slots.now }
@@ -101,5 +140,10 @@ pub fn plan_of<O: Drop, F: Drop>(alloc: Global, slots: &[Slot<O, F>]) -> Result<
 {
     let edges = edges_of(alloc, slots)?;
     let ranks = ranks_of(alloc, &edges)?;
-    Ok(Plan { edges, ranks })
+    let grounds = grounds_of(alloc, &edges, &ranks)?;
+    Ok(Plan {
+        edges,
+        ranks,
+        grounds,
+    })
 }

@@ -1,11 +1,11 @@
 use Rattle.std.proofs.Common.{ℕ, ◌<◌, ◌≤◌, List, Vec, Global, length, subst, refl, sym, ◌∙◌, arith}
 use Rattle.fact_store.specs.Plans.{HasPlaces, AreReached, IsOrder}
-use Rattle.fact_store.proofs.Rows.{HasPlaces-edges}
+use Rattle.fact_store.proofs.Rows.{HasPlaces-grounds}
 use Rattle.fact_store.proofs.Orders.{IsPlan-same, IsReady-next, done-start, entry-within, DoneBefore-more}
 use Rattle.fact_store.proofs.order.bring_all.Goals as goal
 
 pub reached-requires-clause-places : goal.reached-requires-clause-places
-reached-requires-clause-places g c = subst (λ (es : List (Vec ℕ Global)). HasPlaces es) (sym c.deref.ensures.value) (HasPlaces-edges c.args.slots.now.items c.args.plan.now.edges.items c.requires.plan.edges)
+reached-requires-clause-places g c = subst (λ (es : List (Vec ℕ Global)). HasPlaces es) (sym c.deref.ensures.value) (HasPlaces-grounds c.args.plan.now.edges.items c.args.plan.now.ranks.items c.args.plan.now.grounds.items c.requires.plan.ranks.long c.requires.plan.grounds)
 
 pub loop-i-init : goal.loop-i-init
 loop-i-init g c = record { outlines = refl; right = c.requires.right; marks = refl; done = λ k e l. absurd (omega arith); rises = omega arith; counted = omega arith }

@@ -1,0 +1,13 @@
+use Rattle.std.proofs.Common.{ℕ, List, refl, subst}
+use Rattle.std.specs.Prelude.{slice_index}
+use Rattle.std.proofs.lemmas.Option.{slice_get_read}
+use Rattle.fact_store.specs.Plans.{IsGround}
+use Rattle.fact_store.proofs.Rows.{AreGroundsUpto-more}
+use Rattle.fact_store.proofs.plan.grounds_of.Goals as goal
+
+pub loop-place-preserved : goal.loop-place-preserved
+loop-place-preserved c =
+    let edges = c.args.edges.now in let ranks = c.args.ranks.now in let place = c.loop-place.place in let row = c.index-edges-place.result in let ground = c.in_ok-ground.ground in
+    let e = slice_get_read edges _ place row refl c.loop-place-test.true c.index-edges-place.is in
+    AreGroundsUpto-more edges ranks c.loop-place.grounds.items c.push.new.self.items place row ground c.loop-place.invariant e
+    (subst (λ (xs : List ℕ). IsGround ranks (slice_index ranks place) xs ground.items) c.deref.ensures.value c.in_ok-ground.ensures) c.in_ok-push.ensures.items
