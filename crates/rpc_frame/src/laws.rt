@@ -1,0 +1,52 @@
+//! What holds of frames and of what a framer gives, for every stream and however it is cut. The
+//! functions do nothing: their clauses are the theorems.
+
+ghost use Rattle.std.specs.Prelude.{◌≡◌, ℕ, ◌+◌, ◌^◌, ◌<◌, ◌⊎◌, List, [], ◌∷◌, ◌++◌, length};
+ghost use Rattle.rpc_frame.specs.declared.framer.FrameNext.{FrameNext};
+ghost use Rattle.rpc_frame.specs.declared.framer.FrameNext.TheVariants.{Message};
+ghost use Rattle.rpc_frame.specs.Frames.{IsUnfinished, IsTooLong, IsBad, HasFrames, HasNoFrame};
+ghost use Rattle.rpc_frame.specs.Framing.{Held, IsNext, HasGiven};
+
+/// What waits in a framer has one answer. So each answer comes exactly where its meaning holds.
+pub fn one_answer()
+    ensures { (old : Held) (a b : FrameNext) (x y : Held) → IsNext old a x → IsNext old b y
+        → (a ≡ b) × (x ≡ y) }
+{}
+
+/// A stream has one list of frames, with one rest that begins with none.
+pub fn one_stream()
+    ensures { (stream rest rest' : List ℕ) (contents contents' : List (List ℕ))
+        → HasFrames stream contents rest → HasNoFrame rest
+        → HasFrames stream contents' rest' → HasNoFrame rest'
+        → (contents ≡ contents') × (rest ≡ rest') }
+{}
+
+/// Whatever the order in which a framer is fed and asked, the contents that it gave are those of
+/// the frames of the whole stream that was fed, up to what waits.
+pub fn given_however_cut()
+    ensures new { HasGiven [] [] (record { taken = 0; content = []; waiting = [] }) }
+    ensures fed { (stream piece : List ℕ) (contents : List (List ℕ)) (old : Held)
+        → HasGiven stream contents old
+        → HasGiven (stream ++ piece) contents (record old { waiting = old.waiting ++ piece }) }
+    ensures taken { (stream : List ℕ) (contents : List (List ℕ)) (old new : Held)
+        → HasGiven stream contents old → IsNext old Message new
+        → HasGiven stream (contents ++ new.content ∷ []) new }
+
+    // Any other answer says that what waits begins with no frame: these are all the frames.
+    ensures all { (old new : Held) (a : FrameNext) → IsNext old a new
+        → (a ≡ Message) ⊎ HasNoFrame old.waiting }
+{}
+
+/// What is bad or too long stays so, however the stream goes on.
+pub fn refused_for_good()
+    ensures bad { (bytes more : List ℕ) (k : ℕ) → IsBad bytes k → IsBad (bytes ++ more) k }
+    ensures long { (bytes more : List ℕ) (said : ℕ) → IsTooLong bytes said
+        → IsTooLong (bytes ++ more) said }
+{}
+
+/// How many bytes wait: asking takes none but a frame's, and less than a frame is not long.
+pub fn waiting_is_bounded()
+    ensures counted { (old : Held) (a : FrameNext) (new : Held) → IsNext old a new
+        → new.taken + length new.waiting ≡ old.taken + length old.waiting }
+    ensures short { (bytes : List ℕ) → IsUnfinished bytes → length bytes < 2 ^ 24 + 2 ^ 12 }
+{}
