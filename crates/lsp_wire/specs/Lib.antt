@@ -1,0 +1,8 @@
+pub mod Errors
+pub mod Frame
+pub mod Messages
+pub mod Methods
+pub mod Notes
+pub mod Params
+pub mod Replies
+pub mod Written
