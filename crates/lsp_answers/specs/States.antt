@@ -1,0 +1,158 @@
+-- What whoever answers holds, and what its calls make of it.
+use Rattle.std.specs.Prelude.{◌≡◌, ℕ, ◌^◌, ◌==◌, nat_lt, Bool, true, false, ◌&&◌, if◌then◌else◌, List, [], ◌∷◌, ◌++◌, length, map, Option, Some, None, Result, Ok, Err, ⊤}
+use Rattle.std.specs.List.{sum_by}
+use Rattle.std.specs.Ordering.{nat_cmp, match_ordering}
+use Rattle.std.specs.Cmp.Lexicographic.{slice_cmp}
+use Rattle.tool_io.specs.Folder.{Told}
+use Rattle.tool_io.specs.Causes.{Rose}
+use Rattle.lsp_wire.specs.declared.types.Area.{Area}
+use Rattle.lsp_wire.specs.declared.types.Position.{Position}
+use Rattle.lsp_wire.specs.declared.types.Note.{Note}
+use Rattle.lsp_wire.specs.declared.types.Change.{Change}
+use Rattle.lsp_wire.specs.declared.types.FileEvent.{FileEvent}
+use Rattle.lsp_wire.specs.declared.types.Reply.{Reply}
+use Rattle.lsp_wire.specs.declared.types.Call.{Call}
+use Rattle.lsp_wire.specs.declared.types.Call.TheVariants.{Initialize, Shutdown, Definition, References, Symbols, BadParams, Unknown}
+use Rattle.lsp_answers.specs.declared.Due.{Due}
+use Rattle.lsp_answers.specs.declared.AnswerFault.{AnswerFault}
+use Rattle.lsp_answers.specs.declared.AnswerFault.TheVariants.{Folder, Limit, Memory}
+
+-- a root module's text
+pub record ModuleText : Type 0 where
+  pub name : List ℕ
+  pub bytes : List ℕ
+
+-- an open document: its module, its URI as it was spelled, and the notes last sent for it
+pub record Opened : Type 0 where
+  pub name : List ℕ
+  pub uri : List ℕ
+  pub sent : Option (List Note)
+
+-- a document that the last notification opened, changed or closed
+pub record Named : Type 0 where
+  pub name : List ℕ
+  pub uri : List ℕ
+
+-- nothing that is derived from texts is held
+pub record State : Type 0 where
+  -- the root's text, and whether its folder was read
+  pub root : Option (List ℕ)
+  pub listed : Bool
+  -- in byte order of names
+  pub texts : List ModuleText
+  pub opened : List Opened
+  -- whose notice is still to be sent
+  pub due : Option Named
+  -- what the folder holds, where it tells
+  pub folder : Option Told
+
+-- the most modules, and the most bytes of their texts
+abbrev pub most_modules : ℕ
+most_modules = 1024
+
+abbrev pub most_bytes : ℕ
+most_bytes = 2 ^ 25
+
+abbrev pub bytes_of : List ModuleText → ℕ
+bytes_of texts = sum_by (λ text. length text.bytes) texts
+
+-- the limit that a state passes: its modules, or else its bytes
+abbrev pub limit_of : State → Option ℕ
+limit_of s =
+    if nat_lt most_modules (length s.texts) then Some (length s.texts) else (if nat_lt most_bytes (bytes_of s.texts) then Some (bytes_of s.texts) else None)
+
+-- the state after a call, and the limit that the call meets
+pub record After : Type 0 where
+  pub state : State
+  pub limit : Option ℕ
+
+-- a limit is judged when the call is done
+abbrev pub judged : State → After
+judged s = record { state = s; limit = limit_of s }
+
+-- what calls mean
+pub record Meaning : Type 0 where
+  pub after_root : State → Option (List ℕ) → After
+  pub after_open : State → List ℕ → List ℕ → State
+  pub after_change : State → List ℕ → List Change → After
+  pub after_close : State → List ℕ → State
+  pub after_files : State → List FileEvent → State
+  pub notes_of : State → List ℕ → List Note
+  pub reply_to : State → Call → Reply
+
+-- the answer to a call, and the state that it leaves where it is not refused
+abbrev pub IsAfter : After → Result ⊤ AnswerFault → State → Type 0
+IsAfter after (Ok _) new = (after.limit ≡ None) × (new ≡ after.state)
+IsAfter after (Err Folder) new = ⊤
+IsAfter after (Err (Limit said)) new = after.limit ≡ Some said
+IsAfter after (Err Memory) new = ⊤
+
+-- a fault of the folder comes where its count rose; any other answer leaves the count
+abbrev pub HasAnswerCause : {T : Type 0} → ℕ → ℕ → Result T AnswerFault → Type 0
+HasAnswerCause before now (Ok _) = now ≡ before
+HasAnswerCause before now (Err Folder) = Rose before now
+HasAnswerCause before now (Err (Limit said)) = now ≡ before
+HasAnswerCause before now (Err Memory) = now ≡ before
+
+-- what is asked of the texts
+abbrev pub IsQuestion : Call → Type 0
+IsQuestion (Initialize root) = ⊥
+IsQuestion Shutdown = ⊥
+IsQuestion (Definition uri at) = ⊤
+IsQuestion (References uri at declared) = ⊤
+IsQuestion (Symbols uri) = ⊤
+IsQuestion BadParams = ⊥
+IsQuestion Unknown = ⊥
+
+abbrev pub same_position : Position → Position → Bool
+same_position a b = (a.line == b.line) && (a.unit == b.unit)
+
+abbrev pub same_area : Area → Area → Bool
+same_area a b = same_position a.start b.start && same_position a.end b.end
+
+-- notes are compared by their numbers and areas
+abbrev pub same_notes : List Note → List Note → Bool
+same_notes [] [] = true
+same_notes [] (b ∷ bs) = false
+same_notes (a ∷ rest) [] = false
+same_notes (a ∷ rest) (b ∷ bs) = (a.code == b.code) && same_area a.area b.area && same_notes rest bs
+
+abbrev pub was_sent : Option (List Note) → List Note → Bool
+was_sent None notes = false
+was_sent (Some sent) notes = same_notes sent notes
+
+abbrev pub notice : (List ℕ → List Note) → Opened → Due
+notice notes o = record { uri = o.uri; notes = notes o.name }
+
+-- a closed document's notes are taken back
+abbrev pub closing : Named → Due
+closing d = record { uri = d.uri; notes = [] }
+
+-- another document gets a notice where its notes differ from those last sent
+abbrev pub others_notice : (List ℕ → List Note) → Opened → List Due
+others_notice notes o = if was_sent o.sent (notes o.name) then [] else notice notes o ∷ []
+
+abbrev pub others_notices : (List ℕ → List Note) → List Opened → List Due
+others_notices notes [] = []
+others_notices notes (o ∷ os) = others_notice notes o ++ others_notices notes os
+
+abbrev pub all_notices : (List ℕ → List Note) → Named → List Opened → List Due
+all_notices notes d [] = closing d ∷ []
+all_notices notes d (o ∷ os) =
+    match_ordering (slice_cmp nat_cmp d.name o.name) (closing d ∷ (others_notice notes o ++ others_notices notes os)) (notice notes o ∷ others_notices notes os) (others_notice notes o ++ all_notices notes d os)
+
+abbrev pub notices : (List ℕ → List Note) → Option Named → List Opened → List Due
+notices notes None os = others_notices notes os
+notices notes (Some d) os = all_notices notes d os
+
+-- the notices to send, in byte order of names
+abbrev pub dues_of : (State → List ℕ → List Note) → State → List Due
+dues_of notes_of s = notices (notes_of s) s.due s.opened
+
+-- and the state once they are sent
+abbrev pub after_dues : (State → List ℕ → List Note) → State → State
+after_dues notes_of s =
+    record s {
+      opened = map (λ o. record { name = o.name; uri = o.uri; sent = Some (notes_of s o.name) }) s.opened;
+      due = None;
+    }
