@@ -64,7 +64,7 @@ pub trait Answers {
     ) -> Result<(), AnswerFault>
         ensures goes { IsSome (state self.old).folder
             → IsAfter (meaning.after_root (state self.old) (option_map (λ uri. uri.now) root.entry))
-                result (state self.new) }
+            result (state self.new) }
         ensures cause { HasAnswerCause (fault_count self.old) (fault_count self.new) result };
 
     /// Opens a document, or replaces its text.
@@ -103,7 +103,7 @@ pub trait Answers {
     ) -> Result<(), AnswerFault>
         ensures goes { IsSome (state self.old).folder
             → IsAfter (judged (meaning.after_close (state self.old) uri.now))
-                result (state self.new) }
+            result (state self.new) }
         ensures cause { HasAnswerCause (fault_count self.old) (fault_count self.new) result };
 
     /// Takes note of files that were made, changed or deleted.
@@ -115,7 +115,7 @@ pub trait Answers {
     ) -> Result<(), AnswerFault>
         ensures goes { IsSome (state self.old).folder
             → IsAfter (judged (meaning.after_files (state self.old) events.now))
-                result (state self.new) }
+            result (state self.new) }
         ensures cause { HasAnswerCause (fault_count self.old) (fault_count self.new) result };
 
     /// The notices to send, in byte order of the modules' names, which then count as sent.

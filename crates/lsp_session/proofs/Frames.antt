@@ -1,0 +1,10 @@
+-- Frames of notices, one behind another.
+use Rattle.std.proofs.Common.{◌≡◌, ℕ, ◌+◌, ◌<◌, List, [], ◌∷◌, ◌++◌, length, take, get_or, sym, ap, ◌∙◌}
+use Rattle.std.proofs.lemmas.List.{flat_map_more, take_more}
+use Rattle.lsp_answers.specs.declared.Due.{Due}
+use Rattle.lsp_session.specs.SessionOutput.{notice_frame, notice_frames}
+
+-- one more notice
+pub frames_pushed : (start mid new : List ℕ) (dues : List Due) (i : ℕ) (due : Due) → i < length dues → due ≡ get_or dues i due → mid ≡ start ++ notice_frames (take i dues) → new ≡ mid ++ notice_frame due → new ≡ start ++ notice_frames (take (i + 1) dues)
+frames_pushed start mid new dues i due within is before after =
+    after ∙ ap (λ l. l ++ notice_frame due) before ∙ flat_map_more notice_frame start (take i dues) due ∙ ap (λ d. start ++ notice_frames (take i dues ++ d ∷ [])) is ∙ ap (λ l. start ++ notice_frames l) (sym (take_more dues i due within))

@@ -1,0 +1,2 @@
+pub mod SessionOutput
+pub mod Silent

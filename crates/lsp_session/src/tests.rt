@@ -1,0 +1,231 @@
+//! Sessions over a stand-in that has no notes, and replies with null to every question.
+
+ghost use Rattle.lsp_session.specs.Silent.{silent_state, silent_meaning};
+
+use crate::{Session, SessionFault, Turn};
+use lsp_answers::{AnswerFault, Answers, Due};
+use lsp_wire::{Call, Change, FileEvent, Reply, Uri};
+use std::alloc::Global;
+use std::test::Fail;
+use step_count::Steps;
+use tool_list::{Chars, List, Memory};
+
+/// Asks for a notice for each document that is opened. A root is a fault of its folder, and changes
+/// meet the limit that their number is.
+#[derive(Drop)]
+struct Silent {
+    due: Option<Chars>,
+    faults: u64,
+}
+
+impl Answers for Silent {
+    ghost state = { λ s. silent_state s.due };
+
+    ghost fault_count = { λ s. s.faults };
+
+    ghost meaning = { silent_meaning };
+
+    fn root<L>(
+        &mut self,
+        _alloc: Global,
+        root: Option<&Uri>,
+        _steps: &mut Steps<L>,
+    ) -> Result<(), AnswerFault> {
+        match root {
+            Some(_) => {
+                self.faults = self.faults.saturating_add(1);
+                Err(AnswerFault::Folder)
+            }
+            None => Ok(()),
+        }
+    }
+
+    fn open<L>(
+        &mut self,
+        alloc: Global,
+        uri: &Uri,
+        _text: &Chars,
+        _steps: &mut Steps<L>,
+    ) -> Result<(), AnswerFault> {
+        match Chars::from_str(alloc, uri.as_str()) {
+            Ok(due) => {
+                self.due = Some(due);
+                Ok(())
+            }
+            Err(_) => Err(AnswerFault::Memory),
+        }
+    }
+
+    fn change<L>(
+        &mut self,
+        _alloc: Global,
+        _uri: &Uri,
+        changes: &List<Change>,
+        _steps: &mut Steps<L>,
+    ) -> Result<(), AnswerFault> {
+        Err(AnswerFault::Limit {
+            said: changes.len() as u64,
+        })
+    }
+
+    fn close<L>(
+        &mut self,
+        _alloc: Global,
+        _uri: &Uri,
+        _steps: &mut Steps<L>,
+    ) -> Result<(), AnswerFault> {
+        Ok(())
+    }
+
+    fn files<L>(
+        &mut self,
+        _alloc: Global,
+        _events: &List<FileEvent>,
+        _steps: &mut Steps<L>,
+    ) -> Result<(), AnswerFault> {
+        Ok(())
+    }
+
+    fn due<L>(&mut self, alloc: Global, _steps: &mut Steps<L>) -> Result<List<Due>, Memory> {
+        let mut dues = List::new(alloc);
+        match self.due.take() {
+            Some(uri) => {
+                dues.push(Due {
+                    uri,
+                    notes: List::new(alloc),
+                })?;
+                Ok(dues)
+            }
+            None => Ok(dues),
+        }
+    }
+
+    fn ask<L>(
+        &mut self,
+        _alloc: Global,
+        _call: &Call,
+        _steps: &mut Steps<L>,
+    ) -> Result<Reply, Memory> {
+        Ok(Reply::Null)
+    }
+
+    fn faults(&self) -> u64 {
+        self.faults
+    }
+}
+
+fn new_session() -> Session<Silent> {
+    Session::new(Silent {
+        due: None,
+        faults: 0,
+    })
+}
+
+#[test]
+fn answers_in_order(rt: HostRuntime) -> Result<(), Fail> {
+    let alloc = rt.alloc();
+    let mut session = new_session();
+    let mut steps = Steps::new(());
+    for (content, want) in [
+        (
+            r#"{"id":1,"method":"shutdown"}"#,
+            r#"Content-Length: 83|{"error":{"code":-32002,"message":"server not initialized"},"id":1,"jsonrpc":"2.0"}"#,
+        ),
+        (
+            r#"{"method":"textDocument/didOpen","params":{"textDocument":{"uri":"u","text":"t"}}}"#,
+            "",
+        ),
+        (
+            r#"{"jsonrpc":"2.0","id":1,"method":"initialize","params":{"rootUri":null}}"#,
+            r#"Content-Length: 217|{"id":1,"jsonrpc":"2.0","result":{"capabilities":{"definitionProvider":true,"documentSymbolProvider":true,"referencesProvider":true,"textDocumentSync":{"change":2,"openClose":true}},"serverInfo":{"name":"sany_tool"}}}"#,
+        ),
+        (
+            r#"{"id":"b","method":"initialize"}"#,
+            r#"Content-Length: 78|{"error":{"code":-32600,"message":"invalid request"},"id":"b","jsonrpc":"2.0"}"#,
+        ),
+        (
+            r#"{"id":2,"method":"exit"}"#,
+            r#"Content-Length: 77|{"error":{"code":-32601,"message":"method not found"},"id":2,"jsonrpc":"2.0"}"#,
+        ),
+        (
+            r#"{"id":2,"method":"textDocument/definition","params":{"textDocument":{"uri":"u"}}}"#,
+            r#"Content-Length: 75|{"error":{"code":-32602,"message":"invalid params"},"id":2,"jsonrpc":"2.0"}"#,
+        ),
+        (
+            r#"{"id":2,"method":"textDocument/documentSymbol","params":{"textDocument":{"uri":"u"}}}"#,
+            r#"Content-Length: 38|{"id":2,"jsonrpc":"2.0","result":null}"#,
+        ),
+        (
+            r#"{"method":"textDocument/didOpen","params":{"textDocument":{"uri":"u","text":"t"}}}"#,
+            r#"Content-Length: 98|{"jsonrpc":"2.0","method":"textDocument/publishDiagnostics","params":{"diagnostics":[],"uri":"u"}}"#,
+        ),
+        (r#"{"id":7,"result":null}"#, ""),
+        (
+            "{",
+            r#"Content-Length: 75|{"error":{"code":-32700,"message":"parse error"},"id":null,"jsonrpc":"2.0"}"#,
+        ),
+        (
+            r#"{"id":2,"method":"shutdown"}"#,
+            r#"Content-Length: 38|{"id":2,"jsonrpc":"2.0","result":null}"#,
+        ),
+        (
+            r#"{"id":3,"method":"x"}"#,
+            r#"Content-Length: 76|{"error":{"code":-32600,"message":"invalid request"},"id":3,"jsonrpc":"2.0"}"#,
+        ),
+    ] {
+        let mut out = List::new(alloc);
+        let turn = session
+            .message(alloc, content.as_bytes(), &mut out, &mut steps)
+            .ok();
+        assert_eq!(rt; turn, Some(Turn::On), "{content}");
+        let mut bytes = String::new(alloc);
+        for c in want.chars() {
+            match c {
+                '|' => bytes.push_str("\r\n\r\n")?,
+                _ => bytes.push(c)?,
+            }
+        }
+        assert_eq!(rt; out.as_slice(), bytes.as_bytes(), "{content}");
+    }
+    assert!(rt; session.shut());
+    let mut out = List::new(alloc);
+    let exit = br#"{"method":"exit"}"#;
+    let ended = session.message(alloc, exit, &mut out, &mut steps).ok();
+    assert_eq!(rt; ended, Some(Turn::Ended { status: 0 }));
+    let spent = session.message(alloc, exit, &mut out, &mut steps).err();
+    assert_eq!(rt; spent, Some(SessionFault::Spent));
+    assert_eq!(rt; session.into_answers().faults(), 0);
+    Ok(())
+}
+
+#[test]
+fn is_spent_by_faults(rt: HostRuntime) -> Result<(), Fail> {
+    let alloc = rt.alloc();
+    let root = r#"{"id":1,"method":"initialize","params":{"rootUri":"u"}}"#;
+    let none = r#"{"id":1,"method":"initialize"}"#;
+    let change =
+        r#"{"method":"textDocument/didChange","params":{"textDocument":{"uri":"u"},"contentChanges":[{"text":"a"},{"text":"b"}]}}"#;
+    for (first, second, want) in [
+        (root, none, SessionFault::Folder),
+        (none, change, SessionFault::Limit { said: 2 }),
+    ] {
+        let mut session = new_session();
+        let mut steps = Steps::new(());
+        let mut out = List::new(alloc);
+        let begun = session.message(alloc, first.as_bytes(), &mut out, &mut steps);
+        let written = out.len();
+        let fault = match begun {
+            Ok(_) => session
+                .message(alloc, second.as_bytes(), &mut out, &mut steps)
+                .err(),
+            Err(fault) => Some(fault),
+        };
+        assert_eq!(rt; fault, Some(want));
+        assert_eq!(rt; out.len(), written);
+        let spent = session
+            .message(alloc, none.as_bytes(), &mut out, &mut steps)
+            .err();
+        assert_eq!(rt; spent, Some(SessionFault::Spent));
+    }
+    Ok(())
+}
