@@ -9,6 +9,7 @@ mod CommentLemmas
 mod HeaderLemmas
 mod LastLemmas
 mod StepLemmas
+mod CutLemmas
 mod PartLemmas
 mod TakesLongestLemmas
 mod ReadsLemmas

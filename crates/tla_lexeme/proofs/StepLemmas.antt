@@ -37,7 +37,7 @@ pub record IsLowFront (rest : List ℕ) (len : ℕ) : Type 0 where
   pub fits : len ≤ length rest
   pub low : get_or rest (len - 1) 0 < 128
 
-step_from : (text : List ℕ) (at len : ℕ) → IsUtf8 text → at ≤ length text → IsLowFront (drop at text) len → IsStep text at len
+pub step_from : (text : List ℕ) (at len : ℕ) → IsUtf8 text → at ≤ length text → IsLowFront (drop at text) len → IsStep text at len
 step_from text at len u l h =
     let place : at + (len - 1) + 1 ≡ at + len = omega (arith, h.some) in
     let inside : at + len ≤ length text = omega (arith, h.fits, length-drop at text) in record {
@@ -82,7 +82,7 @@ lexeme_low c cs m h = let is = longest_is kind_of (length (c ∷ cs)) (c ∷ cs)
 
 -- ---- comments
 
-front_byte : (f xs : List ℕ) (i : ℕ) → begins xs f ≡ true → i < length f → get_or xs i 0 ≡ get_or f i 0
+pub front_byte : (f xs : List ℕ) (i : ℕ) → begins xs f ≡ true → i < length f → get_or xs i 0 ≡ get_or f i 0
 front_byte f xs i h l = let e : f ≡ take (length f) xs = (bytes_eq-Decides f (take (length f) xs)).0 h in sym (get_or-take (length f) xs i 0 l) ∙ sym (ap (λ k. get_or k i 0) e)
 
 -- where a comment ends, its last byte is a parenthesis

@@ -3,3 +3,4 @@ pub mod Lexing
 pub mod ModulePart
 pub mod Lengths
 pub mod Longest
+pub mod Spans

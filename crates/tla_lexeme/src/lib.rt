@@ -21,8 +21,10 @@ mod table;
 mod tests;
 mod word;
 
-ghost use Rattle.std.specs.Prelude.{◌≡◌, ℕ, ◌≤◌, ◌^◌, List, Some, length, MatchResult};
+ghost use Rattle.std.specs.Prelude.{◌≡◌, ℕ, ◌≤◌, ◌^◌, List, Some, length, IfOk, MatchResult};
+ghost use Rattle.std.specs.List.{All};
 ghost use Rattle.tla_lexeme.specs.Longest.{ReadsLongest};
+ghost use Rattle.tla_lexeme.specs.Spans.{IsPlaced};
 ghost use Rattle.tla_lexeme.specs.ModulePart.{module_part, IsLexError};
 
 use header::header_of;
@@ -57,7 +59,8 @@ impl From<Memory> for LexError {
 /// begins. `NoHeader` comes exactly where the text has no header.
 pub fn lex(alloc: Global, text: &Text) -> Result<List<Lexeme>, LexError>
     requires { length text.now ≤ 2 ^ 27 }
-    ensures { MatchResult result (λ lexemes. module_part text.now ≡ Some lexemes) (IsLexError text.now) }
+    ensures part { MatchResult result (λ lexemes. module_part text.now ≡ Some lexemes) (IsLexError text.now) }
+    ensures placed { IfOk result (λ lexemes. All (λ l. IsPlaced text.now l.span) lexemes) }
 {
     let Some(at) = header_of(text.bytes()) else {
         return Err(LexError::NoHeader);

@@ -1,10 +1,12 @@
 //! The lexemes from the header on.
 ghost use Rattle.std.specs.Prelude.{◌≡◌, ◌==◌, ◌&&◌, ◌+◌, ◌≤◌, ◌<◌, ◌^◌, ◌∷◌, false, drop, length, IfOk, if◌then◌else◌};
 ghost use Rattle.std.specs.Bool.{OnFalse};
+ghost use Rattle.std.specs.List.{All};
 ghost use Rattle.std.specs.Str.{IsCharBoundary, IsUtf8};
 ghost use Rattle.tla_lexeme.specs.Lengths as lengths;
 ghost use Rattle.tla_lexeme.specs.Lexing as lexing;
 ghost use Rattle.tla_lexeme.specs.ModulePart as module_part;
+ghost use Rattle.tla_lexeme.specs.Spans.{IsPlaced};
 ghost use Rattle.tla_symbols.specs.declared.lexeme.LexKind.{LexKind};
 
 use crate::begin::{Begin, Member, what_begins};
@@ -141,6 +143,7 @@ fn next_lexeme(text: &[u8], start: usize, known: usize) -> Next
     ensures further { start ≤ result.at }
     ensures short { result.at + result.member.len ≤ length text.now + 4 }
     ensures behind { OnFalse result.is_last (lengths.IsBehind text.now result.at (result.at + result.member.len) result.bare) }
+    ensures end_at_char { IsCharBoundary text.now (result.at + result.member.len) }
 {
     let Behind { at, bare, begin } = behind_gap(text, start, known);
     match begin {
@@ -175,7 +178,8 @@ fn next_lexeme(text: &[u8], start: usize, known: usize) -> Next
 pub fn part_from(alloc: Global, text: &Text, start: usize) -> Result<List<Lexeme>, Memory>
     requires at_char { IsCharBoundary text.now start }
     requires low { length text.now ≤ 2 ^ 27 }
-    ensures { IfOk result (λ found. found ≡ module_part.part_from text.now start) }
+    ensures part { IfOk result (λ found. found ≡ module_part.part_from text.now start) }
+    ensures placed { IfOk result (λ found. All (λ l. IsPlaced text.now l.span) found) }
 {
     let bytes = text.bytes();
     let mut found = List::new(alloc);

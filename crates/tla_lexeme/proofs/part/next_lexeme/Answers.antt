@@ -2,6 +2,7 @@ use Rattle.std.proofs.Common.{◌≡◌, drop, arith, sym, ◌∙◌}
 use Rattle.tla_lexeme.specs.declared.begin.Begin.TheVariants.{Longest, Nothing}
 use Rattle.tla_lexeme.specs.Lexing.{what_begins}
 use Rattle.tla_lexeme.proofs.StepLemmas.{longest_sound, nothing_sound, longest_turn, bare_drop_at}
+use Rattle.tla_lexeme.proofs.CutLemmas.{nothing_step}
 use Rattle.tla_lexeme.proofs.part.next_lexeme.Goals as goal
 
 pub returns-in-Longest-clause-lexemes : goal.returns-in-Longest-clause-lexemes
@@ -32,3 +33,13 @@ pub returns-in-Nothing-clause-short : goal.returns-in-Nothing-clause-short
 returns-in-Nothing-clause-short c =
     let begins : what_begins (drop c.behind_gap-at.result.at c.args.text.now) ≡ Nothing c.in-Nothing.len = sym c.behind_gap-at.ensures.begin ∙ c.in-Nothing.is in
     omega (arith, nothing_sound c.args.text.now c.behind_gap-at.result.at c.in-Nothing.len c.requires.utf8 begins, c.behind_gap-at.ensures.at_char.0)
+
+pub returns-in-Longest-clause-end_at_char : goal.returns-in-Longest-clause-end_at_char
+returns-in-Longest-clause-end_at_char c =
+    let begins : what_begins (drop c.behind_gap-at.result.at c.args.text.now) ≡ Longest c.in-Longest.member = sym c.behind_gap-at.ensures.begin ∙ c.in-Longest.is in
+    (longest_sound c.args.text.now c.behind_gap-at.result.at c.in-Longest.member c.requires.utf8 begins).cut
+
+pub returns-in-Nothing-clause-end_at_char : goal.returns-in-Nothing-clause-end_at_char
+returns-in-Nothing-clause-end_at_char c =
+    let begins : what_begins (drop c.behind_gap-at.result.at c.args.text.now) ≡ Nothing c.in-Nothing.len = sym c.behind_gap-at.ensures.begin ∙ c.in-Nothing.is in
+    (nothing_step c.args.text.now c.behind_gap-at.result.at c.in-Nothing.len c.requires.utf8 c.behind_gap-at.ensures.at_char begins).cut
