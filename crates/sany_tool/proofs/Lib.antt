@@ -1,6 +1,6 @@
 pub mod FormLemmas
-pub mod LexingLemmas
-pub mod LongestLemmas
-pub mod PlaceLemmas
+pub mod ReadingLemmas
 pub mod RunLemmas
 pub mod SeenLemmas
+pub mod TextLemmas
+pub mod VerdictLemmas

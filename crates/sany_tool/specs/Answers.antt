@@ -1,13 +1,17 @@
 -- How a run answers.
-use Rattle.std.specs.Prelude.{◌+◌, ◌-◌, ◌^◌, min, nat_le, if◌then◌else◌, ◌≡◌, ◌≢◌, ℕ, List, ◌++◌, Bool, ◌||◌, ◌==◌, Option}
+use Rattle.std.specs.Prelude.{zero, suc, ◌+◌, ◌-◌, ◌^◌, min, ◌≡◌, ◌≢◌, ℕ, List, ◌++◌, Bool, ◌||◌, ◌==◌, Option}
 use Rattle.std.specs.Bool.{OnFalse}
 use Rattle.std.specs.Io.KnownBytes.{Appends}
 use Rattle.tool_io.specs.Causes.{Rose}
 use Rattle.sany_tool.specs.declared.check.Outcome.{Outcome}
 
 -- a fault of the folder, a fault of the output, or want of memory
+abbrev pub is_fault : ℕ → Bool
+is_fault status = status == 3 || status == 5 || status == 6
+
+-- the same, or a limit that is passed
 abbrev pub is_cut_short : ℕ → Bool
-is_cut_short status = status == 3 || status == 5 || status == 6
+is_cut_short status = is_fault status || status == 7
 
 -- a report was written, or the form is not built
 abbrev pub is_done : ℕ → Bool
@@ -30,6 +34,11 @@ pub record TellsFault (fault status before now : ℕ) : Type 0 where
   pub rose : status ≡ fault → Rose before now
   pub stays : status ≢ fault → now ≡ before
 
--- A report costs one check of a module.
-abbrev pub ticked : ℕ → ℕ → ℕ
-ticked status steps = if nat_le status 1 then min (steps + 1) (2 ^ 64 - 1) else steps
+-- the count after one check
+abbrev pub ticked : ℕ → ℕ
+ticked steps = min (steps + 1) (2 ^ 64 - 1)
+
+-- the count after so many checks
+abbrev pub after_ticks : ℕ → ℕ → ℕ
+after_ticks zero steps = steps
+after_ticks (suc n) steps = after_ticks n (ticked steps)

@@ -1,12 +1,12 @@
 -- Modules of lists of constants and variables.
-use Rattle.std.specs.Prelude.{List, [], ◌∷◌, Bool, true, false, ◌&&◌, ◌==◌, Option, Some, None, if◌then◌else◌}
-use Rattle.std.specs.Option.{option_map}
+use Rattle.std.specs.Prelude.{List, [], ◌∷◌, Bool, true, false, if◌then◌else◌}
 use Rattle.tla_symbols.specs.declared.lexeme.Word.TheVariants as Word
 use Rattle.tla_symbols.specs.declared.lexeme.Mark.TheVariants as Mark
 use Rattle.tla_symbols.specs.declared.lexeme.Lexeme.{Lexeme}
 use Rattle.tla_symbols.specs.declared.lexeme.LexKind.{LexKind}
 use Rattle.sany_tool.specs.declared.form.Due.{Due}
-use Rattle.sany_tool.specs.declared.form.Listed.{Listed}
+use Rattle.sany_tool.specs.declared.form.Units.{Units}
+use Rattle.sany_tool.specs.declared.form.Form.{Form}
 
 abbrev pub is_name : LexKind → Bool
 is_name LexKind.Name = true
@@ -36,27 +36,55 @@ begins_list (LexKind.Word Word.Variable) = true
 begins_list (LexKind.Word Word.Variables) = true
 begins_list _ = false
 
+-- the text ends, or no lexeme begins
+abbrev pub is_cut : LexKind → Bool
+is_cut LexKind.End = true
+is_cut LexKind.Bad = true
+is_cut _ = false
+
+-- a lexeme that is not due: where the list is cut there, those before it begin a module of this form
+abbrev pub not_due : Lexeme → Units
+not_due l = if is_cut l.kind then Units.Cut l else Units.Other
+
+-- a name, and then what follows it
+abbrev pub and_then : Lexeme → Units → Units
+and_then l (Units.Declares names) = Units.Declares (l ∷ names)
+and_then l (Units.Cut last) = Units.Cut last
+and_then l Units.Other = Units.Other
+
 -- a unit, or the end of the module
-abbrev pub after_list : LexKind → Option (List Lexeme) → Option (List Lexeme)
-after_list kind names = if is_close kind then Some [] else (if begins_list kind then names else None)
+abbrev pub unit_due : Lexeme → Units → Units
+unit_due l more = if is_close l.kind then Units.Declares [] else (if begins_list l.kind then more else not_due l)
 
--- The names that units declare, in order, where a unit, a name, or what follows a name is due; none where
--- the lexemes are no such units up to the end of the module.
-abbrev pub names_due : Due → List Lexeme → Option (List Lexeme)
-names_due due [] = None
-names_due Due.Unit (l ∷ ls) = after_list l.kind (names_due Due.Name ls)
-names_due Due.Name (l ∷ ls) = if is_name l.kind then option_map (λ names. l ∷ names) (names_due Due.AfterName ls) else None
-names_due Due.AfterName (l ∷ ls) = if is_comma l.kind then names_due Due.Name ls else after_list l.kind (names_due Due.Name ls)
+-- The names that units declare, in order, where a unit, a name, or what follows a name is due.
+abbrev pub names_due : Due → List Lexeme → Units
+names_due due [] = Units.Other
+names_due Due.Unit (l ∷ ls) = unit_due l (names_due Due.Name ls)
+names_due Due.Name (l ∷ ls) = if is_name l.kind then and_then l (names_due Due.AfterName ls) else not_due l
+names_due Due.AfterName (l ∷ ls) = if is_comma l.kind then names_due Due.Name ls else unit_due l (names_due Due.Name ls)
 
--- the line that begins a module, at the text's first byte
-abbrev pub is_header : Lexeme → Lexeme → Lexeme → Lexeme → Bool
-is_header dashes word name closing =
-    is_dashes dashes.kind && dashes.span.start == 0 && is_module_word word.kind && word.line == 0 && is_name name.kind && is_dashes closing.kind
+abbrev pub cut_form : Lexeme → Form
+cut_form l = if is_cut l.kind then Form.Cut l else Form.Other
 
-abbrev pub with_name : Lexeme → Option (List Lexeme) → Option Listed
-with_name name names = option_map (λ declared. record { name = name; declared = declared }) names
+abbrev pub form_of_units : Lexeme → Units → Form
+form_of_units name (Units.Declares declared) = Form.Lists (record { name = name; declared = declared })
+form_of_units name (Units.Cut last) = Form.Cut last
+form_of_units name Units.Other = Form.Other
 
--- the name of the module and the names that it declares, if the lexemes are of this form
-abbrev pub listed : List Lexeme → Option Listed
-listed (dashes ∷ word ∷ name ∷ closing ∷ ls) = if is_header dashes word name closing then with_name name (names_due Due.Unit ls) else None
-listed ls = None
+-- the line that begins a module, and then its units
+abbrev pub after_name : Lexeme → List Lexeme → Form
+after_name name [] = Form.Other
+after_name name (closing ∷ ls) = if is_dashes closing.kind then form_of_units name (names_due Due.Unit ls) else cut_form closing
+
+abbrev pub after_word : List Lexeme → Form
+after_word [] = Form.Other
+after_word (name ∷ ls) = if is_name name.kind then after_name name ls else cut_form name
+
+abbrev pub after_dashes : List Lexeme → Form
+after_dashes [] = Form.Other
+after_dashes (word ∷ ls) = if is_module_word word.kind then after_word ls else cut_form word
+
+-- what the lexemes are: lists of names, a beginning of such a module that is cut, or something else
+abbrev pub form_of : List Lexeme → Form
+form_of [] = Form.Other
+form_of (dashes ∷ ls) = if is_dashes dashes.kind then after_dashes ls else cut_form dashes

@@ -1,11 +1,10 @@
 pub mod Answers
 pub mod Declarations
 pub mod FirstForm
-pub mod Lexing
 pub mod Output
 pub mod Program
+pub mod Reading
 pub mod Report
-pub mod Runs
 pub mod Seen
 pub mod Spans
 pub mod Texts

@@ -2,12 +2,10 @@
 ghost use Rattle.std.specs.Prelude.{◌≡◌};
 ghost use Rattle.std.specs.List.{list_all, list_any};
 ghost use Rattle.std.specs.Char.{is_ascii_alphabetic};
-ghost use Rattle.sany_tool.specs.Lexing as lexing;
 ghost use Rattle.sany_tool.specs.Program as program;
 
-/// Whether a byte is a letter, a digit or `_`.
-pub fn is_word_byte(c: u8) -> bool
-    ensures { result ≡ lexing.is_word_byte c }
+fn is_word_byte(c: u8) -> bool
+    ensures { result ≡ program.is_word_byte c }
 {
     c.is_ascii_alphanumeric() || c == b'_'
 }
@@ -19,20 +17,9 @@ pub fn begins_path(c: u8) -> bool
     c.is_ascii_alphanumeric() || c == b'.' || c == b'/' || c == b'_'
 }
 
-fn is_plain_byte(c: u8) -> bool
-    ensures { result ≡ program.is_plain_byte c }
-{
-    is_word_byte(c) || c == b',' || c == b'-' || c == b'=' || c == b' ' || c == b'\n'
-}
-
-pub fn all_plain_bytes(text: &[u8]) -> bool
-    ensures { result ≡ list_all program.is_plain_byte text.now }
-{
-    text.iter().all(|c| is_plain_byte(*c))
-}
-
+/// Whether all bytes are letters, digits or `_`.
 pub fn all_word_bytes(run: &[u8]) -> bool
-    ensures { result ≡ list_all lexing.is_word_byte run.now }
+    ensures { result ≡ list_all program.is_word_byte run.now }
 {
     run.iter().all(|c| is_word_byte(*c))
 }
@@ -45,7 +32,7 @@ pub fn has_letter(run: &[u8]) -> bool
 
 /// Whether a run is `WF_` or `SF_`, or goes on with it.
 pub fn is_fair(run: &[u8]) -> bool
-    ensures { result ≡ lexing.is_fair run.now }
+    ensures { result ≡ program.is_fair run.now }
 {
     run.starts_with(b"WF_") || run.starts_with(b"SF_")
 }

@@ -1,6 +1,8 @@
 // Modules of lists of constants and variables.
 ghost use Rattle.std.specs.Prelude.{◌≡◌, IfOk};
+ghost use Rattle.std.specs.List.{All};
 ghost use Rattle.sany_tool.specs.FirstForm as form;
+ghost use Rattle.sany_tool.specs.Spans.{LexemesPlaced, FormPlaced, UnitsPlaced};
 
 use crate::slices::first_of;
 use std::alloc::Global;
@@ -15,6 +17,16 @@ pub enum Due {
     AfterName,
 }
 
+/// What the units of a module are.
+#[derive(Drop)]
+pub enum Units {
+    /// Lists of these names, in order, up to the end of the module.
+    Declares(List<Lexeme>),
+    /// The beginning of such units, up to this lexeme, at which the list is cut.
+    Cut(Lexeme),
+    Other,
+}
+
 /// The name of a module and the names that it declares, in order.
 #[derive(Drop)]
 pub struct Listed {
@@ -22,7 +34,18 @@ pub struct Listed {
     pub declared: List<Lexeme>,
 }
 
-pub fn is_name(kind: LexKind) -> bool
+/// What the lexemes of a module are.
+#[derive(Drop)]
+pub enum Form {
+    /// Lists of constants and variables.
+    Lists(Listed),
+    /// The beginning of such a module, up to this lexeme, at which the list is cut: the text ends,
+    /// or no lexeme begins.
+    Cut(Lexeme),
+    Other,
+}
+
+fn is_name(kind: LexKind) -> bool
     ensures { result ≡ form.is_name kind }
 {
     matches!(kind, LexKind::Name)
@@ -61,9 +84,35 @@ fn begins_list(kind: LexKind) -> bool
     )
 }
 
-// The names that units declare, if the lexemes are lists of names up to the end of the module.
-fn names_of(alloc: Global, lexemes: &[Lexeme]) -> Result<Option<List<Lexeme>>, Memory>
-    ensures { IfOk result (λ names. names ≡ form.names_due Due.Unit lexemes.now) }
+fn is_cut(kind: LexKind) -> bool
+    ensures { result ≡ form.is_cut kind }
+{
+    matches!(kind, LexKind::End | LexKind::Bad)
+}
+
+fn not_due(lexeme: Lexeme) -> Units
+    ensures { result ≡ form.not_due lexeme }
+{
+    if is_cut(lexeme.kind) {
+        Units::Cut(lexeme)
+    } else {
+        Units::Other
+    }
+}
+
+fn cut_form(lexeme: Lexeme) -> Form
+    ensures { result ≡ form.cut_form lexeme }
+{
+    if is_cut(lexeme.kind) {
+        Form::Cut(lexeme)
+    } else {
+        Form::Other
+    }
+}
+
+// The names that units declare, where the lexemes are lists of names up to the end of the module.
+fn units_of(alloc: Global, lexemes: &[Lexeme]) -> Result<Units, Memory>
+    ensures { IfOk result (λ units. units ≡ form.names_due Due.Unit lexemes.now) }
 {
     let mut names = List::new(alloc);
     let mut due = Due::Unit;
@@ -72,7 +121,7 @@ fn names_of(alloc: Global, lexemes: &[Lexeme]) -> Result<Option<List<Lexeme>>, M
         match due {
             Due::Name => {
                 if !is_name(kind) {
-                    return Ok(None);
+                    return Ok(not_due(*lexeme));
                 }
                 names.push(*lexeme)?;
                 due = Due::AfterName;
@@ -80,50 +129,73 @@ fn names_of(alloc: Global, lexemes: &[Lexeme]) -> Result<Option<List<Lexeme>>, M
             Due::AfterName if is_comma(kind) => due = Due::Name,
             _ => {
                 if is_close(kind) {
-                    return Ok(Some(names));
+                    return Ok(Units::Declares(names));
                 }
                 if !begins_list(kind) {
-                    return Ok(None);
+                    return Ok(not_due(*lexeme));
                 }
                 due = Due::Name;
             }
         }
     }
-    Ok(None)
+    Ok(Units::Other)
 }
 
-fn is_header(dashes: Lexeme, word: Lexeme, name: Lexeme, closing: Lexeme) -> bool
-    ensures { result ≡ form.is_header dashes word name closing }
+fn form_of_units(name: Lexeme, units: Units) -> Form
+    ensures { result ≡ form.form_of_units name units }
 {
-    is_dashes(dashes.kind)
-        && dashes.span.start == 0
-        && is_module_word(word.kind)
-        && word.line == 0
-        && is_name(name.kind)
-        && is_dashes(closing.kind)
+    match units {
+        Units::Declares(declared) => Form::Lists(Listed { name, declared }),
+        Units::Cut(last) => Form::Cut(last),
+        Units::Other => Form::Other,
+    }
 }
 
-/// The name of a module and the names that it declares, if the lexemes are of this form.
-pub fn read_lists(alloc: Global, lexemes: &[Lexeme]) -> Result<Option<Listed>, Memory>
-    ensures { IfOk result (λ found. found ≡ form.listed lexemes.now) }
+fn after_name(alloc: Global, name: Lexeme, lexemes: &[Lexeme]) -> Result<Form, Memory>
+    ensures { IfOk result (λ found. found ≡ form.after_name name lexemes.now) }
+{
+    let Some((closing, units)) = first_of(lexemes) else {
+        return Ok(Form::Other);
+    };
+    if !is_dashes(closing.kind) {
+        return Ok(cut_form(closing));
+    }
+    Ok(form_of_units(name, units_of(alloc, units)?))
+}
+
+fn after_word(alloc: Global, lexemes: &[Lexeme]) -> Result<Form, Memory>
+    ensures { IfOk result (λ found. found ≡ form.after_word lexemes.now) }
+{
+    let Some((name, rest)) = first_of(lexemes) else {
+        return Ok(Form::Other);
+    };
+    if !is_name(name.kind) {
+        return Ok(cut_form(name));
+    }
+    after_name(alloc, name, rest)
+}
+
+fn after_dashes(alloc: Global, lexemes: &[Lexeme]) -> Result<Form, Memory>
+    ensures { IfOk result (λ found. found ≡ form.after_dashes lexemes.now) }
+{
+    let Some((word, rest)) = first_of(lexemes) else {
+        return Ok(Form::Other);
+    };
+    if !is_module_word(word.kind) {
+        return Ok(cut_form(word));
+    }
+    after_word(alloc, rest)
+}
+
+/// What the lexemes of a module are.
+pub fn form_of(alloc: Global, lexemes: &[Lexeme]) -> Result<Form, Memory>
+    ensures { IfOk result (λ found. found ≡ form.form_of lexemes.now) }
 {
     let Some((dashes, rest)) = first_of(lexemes) else {
-        return Ok(None);
+        return Ok(Form::Other);
     };
-    let Some((word, rest)) = first_of(rest) else {
-        return Ok(None);
-    };
-    let Some((name, rest)) = first_of(rest) else {
-        return Ok(None);
-    };
-    let Some((closing, units)) = first_of(rest) else {
-        return Ok(None);
-    };
-    if !is_header(dashes, word, name, closing) {
-        return Ok(None);
+    if !is_dashes(dashes.kind) {
+        return Ok(cut_form(dashes));
     }
-    match names_of(alloc, units)? {
-        Some(declared) => Ok(Some(Listed { name, declared })),
-        None => Ok(None),
-    }
+    after_dashes(alloc, rest)
 }

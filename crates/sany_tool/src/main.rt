@@ -10,7 +10,7 @@ mod declarations;
 mod diagnostic;
 mod files;
 mod form;
-mod lexer;
+mod front;
 mod output;
 mod report;
 mod run;

@@ -1,7 +1,8 @@
 // The report on some modules.
 ghost use Rattle.std.specs.Prelude.{◌≡◌, ◌++◌, ◌∷◌, [], IfOk, string_bytes, true, nat_le, count_by};
 ghost use Rattle.sany_tool.specs.Report as report;
-ghost use Rattle.sany_tool.specs.Spans.{FaultsPlaced, IsPlaced, VerdictsPlaced};
+ghost use Rattle.sany_tool.specs.Spans.{FaultsPlaced, VerdictsPlaced};
+ghost use Rattle.tla_lexeme.specs.Spans.{IsPlaced};
 
 use crate::diagnostic::Diagnostic;
 use std::alloc::{AllocError, Global};

@@ -1,10 +1,10 @@
 // All that the program does.
-ghost use Rattle.std.specs.Prelude.{◌≡◌, ◌↔◌, ◌||◌, ◌==◌, IfSome, None, true, []};
+ghost use Rattle.std.specs.Prelude.{◌≡◌, ◌↔◌, ◌||◌, ◌==◌, IfSome, None, true, nat_le, []};
 ghost use Rattle.std.specs.Io.KnownBytes.{Appends};
-ghost use Rattle.std.specs.Bool.{OnFalse};
+ghost use Rattle.std.specs.Bool.{OnFalse, OnTrue};
 ghost use Rattle.std.specs.Option.{option_map};
-ghost use Rattle.sany_tool.specs.Answers.{Answers, TellsFault, is_cut_short, is_status, ticked};
-ghost use Rattle.sany_tool.specs.Program.{program, folder_of as folder_in, is_not_built, told_after};
+ghost use Rattle.sany_tool.specs.Answers.{Answers, TellsFault, after_ticks, is_cut_short, is_fault, is_status};
+ghost use Rattle.sany_tool.specs.Program.{program, checks, folder_of as folder_in, is_not_built, is_over, told_after};
 ghost use Rattle.sany_tool.specs.Texts.{texts};
 
 use crate::check::outcome_of_folder;
@@ -26,6 +26,9 @@ const OUTPUT_FAULT: u8 = 5;
 /// There was no room.
 const NO_MEMORY: u8 = 6;
 
+/// A limit was passed.
+const LIMIT: u8 = 7;
+
 fn status_of_run<F: Folder, K: Sink, L>(
     alloc: Global,
     words: &[String],
@@ -38,15 +41,17 @@ fn status_of_run<F: Folder, K: Sink, L>(
     ensures usage { (result ≡ 2) ↔ (folder_in (texts words.now) ≡ None) }
     ensures folder_fault { TellsFault 3 result (F.fault_count folder.old) (F.fault_count folder.new) }
     ensures output_fault { TellsFault 5 result (K.fault_count output.old) (K.fault_count output.new) }
-    ensures silent { result ≡ 3 → Appends (K.taken output.old) (K.taken output.new) [] }
-    ensures ticks { OnFalse (is_cut_short result) (steps.new ≡ ticked result steps.old) }
-    ensures told { OnFalse (result == 3 || result == 6) (F.told folder.new ≡ option_map (told_after (texts words.now)) (F.told folder.old)) }
+    ensures limit { IfSome (F.told folder.old) (λ t. OnFalse (is_fault result) ((result ≡ 7) ↔ (is_over (texts words.now) t ≡ true))) }
+    ensures silent { OnTrue (result == 3 || result == 7) (Appends (K.taken output.old) (K.taken output.new) []) }
+    ensures ticks { IfSome (F.told folder.old) (λ t. OnTrue (nat_le result 1) (steps.new ≡ after_ticks (checks (texts words.now) t) steps.old)) }
+    ensures told { OnFalse (result == 3 || result == 6 || result == 7) (F.told folder.new ≡ option_map (told_after (texts words.now)) (F.told folder.old)) }
 {
     let Some(path) = folder_of(words) else {
         return USAGE;
     };
     let outcome = match outcome_of_folder(alloc, folder, path, steps) {
-        Ok(outcome) => outcome,
+        Ok(Some(outcome)) => outcome,
+        Ok(None) => return LIMIT,
         Err(IoFault::Failed) => return FOLDER_FAULT,
         Err(IoFault::Memory) => return NO_MEMORY,
     };
@@ -59,8 +64,8 @@ fn status_of_run<F: Folder, K: Sink, L>(
 
 /// Does all that the program does, and hands the folder back. Its first answer is the status: 0
 /// where each module is accepted, 1 where some module is refused, 2 where the words ask for
-/// nothing, 3 and 5 where the folder and the output failed, 6 where there was no room, 9 where the
-/// form of the modules is not built. The input is not read.
+/// nothing, 3 and 5 where the folder and the output failed, 6 where there was no room, 7 where a
+/// limit is passed, 9 where the form of some module is not built. The input is not read.
 pub fn run<F: Folder, S: Source, K: Sink, L>(
     alloc: Global,
     words: &[String],
@@ -78,12 +83,13 @@ pub fn run<F: Folder, S: Source, K: Sink, L>(
     ensures usage { (result.0 ≡ 2) ↔ (folder_in (texts words.now) ≡ None) }
     ensures folder_fault { TellsFault 3 result.0 (F.fault_count folder) (F.fault_count result.1) }
     ensures output_fault { TellsFault 5 result.0 (K.fault_count output.old) (K.fault_count output.new) }
+    ensures limit { IfSome (F.told folder) (λ t. OnFalse (is_fault result.0) ((result.0 ≡ 7) ↔ (is_over (texts words.now) t ≡ true))) }
     ensures not_built { IfSome (F.told folder) (λ t. OnFalse (is_cut_short result.0) ((result.0 ≡ 9) ↔ (is_not_built (texts words.now) t ≡ true))) }
 
     // What it leaves.
-    ensures folder_after { OnFalse (result.0 == 3 || result.0 == 6) (F.told result.1 ≡ option_map (told_after (texts words.now)) (F.told folder)) }
-    ensures silent { result.0 ≡ 3 → Appends (K.taken output.old) (K.taken output.new) [] }
-    ensures ticks { OnFalse (is_cut_short result.0) (steps.new ≡ ticked result.0 steps.old) }
+    ensures folder_after { OnFalse (result.0 == 3 || result.0 == 6 || result.0 == 7) (F.told result.1 ≡ option_map (told_after (texts words.now)) (F.told folder)) }
+    ensures silent { OnTrue (result.0 == 3 || result.0 == 7) (Appends (K.taken output.old) (K.taken output.new) []) }
+    ensures ticks { IfSome (F.told folder) (λ t. OnTrue (nat_le result.0 1) (steps.new ≡ after_ticks (checks (texts words.now) t) steps.old)) }
     ensures input_after { input.new ≡ input.old }
 {
     let _ = &*input;

@@ -19,12 +19,12 @@ fn numbers(alloc: Global, items: &[u32]) -> Result<List<u32>, Fail> {
 }
 
 // The folder `w` with these files.
-fn files_of(alloc: Global, texts: &[(&str, &str)]) -> Result<FileMap, Fail> {
+fn files_of(alloc: Global, texts: &[(&str, &[u8])]) -> Result<FileMap, Fail> {
     let mut files = List::new(alloc);
     for (name, text) in texts {
         files.push(FileBytes {
             name: Chars::from_str(alloc, *name)?,
-            bytes: List::from_vec(Vec::from_slice(alloc, text.as_bytes())?),
+            bytes: List::from_vec(Vec::from_slice(alloc, *text)?),
         })?;
     }
     let mut map = List::new(alloc);
@@ -60,9 +60,9 @@ fn run_over(
     })
 }
 
-fn check(alloc: Global, texts: &[(&str, &str)]) -> Result<Ran, Fail> {
+fn check(alloc: Global, texts: &[(&str, &[u8])]) -> Result<Ran, Fail> {
     let folder = MemoryFolder::new(files_of(alloc, texts)?, List::new(alloc));
-    let output = MemorySink::new(alloc, 200, 7, List::new(alloc))?;
+    let output = MemorySink::new(alloc, 400, 7, List::new(alloc))?;
     run_over(alloc, &["check", "w"], folder, output)
 }
 
@@ -78,16 +78,72 @@ fn reports_on_one_module(rt: HostRuntime) -> Result<(), Fail> {
             1,
             "A refused\n  2:11-2:17 E402\n  3:11-3:12 E402\n  4:3-4:4 E402\n",
         ),
+        (
+            "(* é *)\tVARIABLE ab \\* a, b\n , ab",
+            1,
+            "A refused\n  3:4-3:6 E402\n",
+        ),
         ("", 0, "A accepted\n"),
+        ("CONSTANT\n;", 1, "A refused\n  3:1-3:2 E201\n"),
+        ("CONSTANT c, (* *\n", 1, "A refused\n  2:13-2:15 E201\n"),
     ];
     for (units, status, lines) in rows {
         let text = format!(in alloc; "---- MODULE A ----\n{units}\n====\n")?;
         let report = format!(in alloc; "{lines}modules=1 refused={status}\n")?;
-        let ran = check(alloc, &[("A.tla", text.as_str()), ("A.txt", "")])?;
+        let ran = check(alloc, &[("A.tla", text.as_bytes()), ("A.txt", b"")])?;
         assert_eq!(rt; ran.status, status, "{units}");
         assert_eq!(rt; ran.output.bytes(), report.as_bytes(), "{units}");
-        assert_eq!(rt; ran.ticks, 1, "{units}");
     }
+    Ok(())
+}
+
+#[test]
+fn reports_front_faults(rt: HostRuntime) -> Result<(), Fail> {
+    let alloc = rt.alloc();
+    let rows: [(&[u8], &str); 9] = [
+        (b"", "  1:1-1:1 E102\n"),
+        (b"MODULE A", "  1:1-1:1 E102\n"),
+        (b"---- MODULE B ----\n====\n", "  1:13-1:14 E103\n"),
+        (b"---- MODULE A ----\n\xff", "  2:1-2:1 E101\n"),
+        (b"\xc3\xa9\xc3", "  1:2-1:2 E101\n"),
+        (b"---- MODULE A ----\nCONSTANT c", "  2:11-2:11 E202\n"),
+        (b"---- MODULE", "  1:12-1:12 E202\n"),
+        (b"---- MODULE A ?", "  1:15-1:16 E201\n"),
+        (
+            b"? \xc3\xa9\n-----MODULE A----\nVARIABLE x====\n? \xc3",
+            "  4:3-4:3 E101\n",
+        ),
+    ];
+    for (text, line) in rows {
+        let report = format!(in alloc; "A refused\n{line}modules=1 refused=1\n")?;
+        let ran = check(alloc, &[("A.tla", text)])?;
+        assert_eq!(rt; ran.status, 1, "{line}");
+        assert_eq!(rt; ran.output.bytes(), report.as_bytes(), "{line}");
+        assert_eq!(rt; ran.ticks, 0, "{line}");
+    }
+    let around: &[u8] = b"? \xc3\xa9\n---- MODULE A ----\nCONSTANT N\n====\n? \xc3\xa9\n";
+    assert_eq!(rt; check(alloc, &[("A.tla", around)])?.status, 0);
+    Ok(())
+}
+
+#[test]
+fn reports_in_order_of_names(rt: HostRuntime) -> Result<(), Fail> {
+    let alloc = rt.alloc();
+    let texts: [(&str, &[u8]); 5] = [
+        ("b.tla", b"---- MODULE b ----\n====\n"),
+        ("A.tla", b"---- MODULE A ----\nVARIABLE v, v\n====\n"),
+        ("UNION.tla", b"---- MODULE UNION ----\n====\n"),
+        ("WF_x.tla", b""),
+        ("B.tla", b""),
+    ];
+    let ran = check(alloc, &texts)?;
+    let report =
+        "A refused\n  2:13-2:14 E402\nB refused\n  1:1-1:1 E102\nb accepted\nmodules=3 refused=2\n";
+    assert_eq!(rt; ran.output.bytes(), report.as_bytes());
+    assert!(rt; ran.status == 1 && ran.ticks == 2);
+    let ran = check(alloc, &[])?;
+    assert_eq!(rt; ran.output.bytes(), b"modules=0 refused=0\n".as_slice());
+    assert_eq!(rt; ran.status, 0);
     Ok(())
 }
 
@@ -95,30 +151,71 @@ fn reports_on_one_module(rt: HostRuntime) -> Result<(), Fail> {
 fn leaves_other_forms_alone(rt: HostRuntime) -> Result<(), Fail> {
     let alloc = rt.alloc();
     let rows = [
-        ("A.tla", "---- MODULE A ----\nF == 1\n====\n"),
-        ("A.tla", "---- MODULE B ----\n====\n"),
-        ("A.txt", "---- MODULE A ----\n====\n"),
-        ("A.tla", "----\nMODULE A ----\n====\n"),
-        ("A.tla", "\n---- MODULE A ----\n====\n"),
-        ("A.tla", "---- MODULE A ----\nCONSTANT WF_x\n====\n"),
-        ("A.tla", "---- MODULE A ----\nCONSTANT c,\n====\n"),
-        ("A.tla", "---- MODULE A ----\nCONSTANT 12\n====\n"),
-        ("A.tla", "---- MODULE A ----\nCONSTANT c\n"),
-        ("A.tla", "---- MODULE A ----\n\\* c\n====\n"),
-        ("A.tla", ""),
-        ("UNION.tla", "---- MODULE UNION ----\n====\n"),
+        "---- MODULE A ----\nF == 1\n====\n",
+        "---- MODULE A ----\nCONSTANT WF_x\n====\n",
+        "---- MODULE A ----\nCONSTANT c,\n====\n",
+        "---- MODULE A ----\nCONSTANT 12\n====\n",
+        "---- MODULE A ----\nCONSTANT G(_)\n====\n",
+        "---- MODULE A\n====\n",
+        "---- MODULE A ----\n----\n====\n",
     ];
-    for (name, text) in rows {
-        let ran = check(alloc, &[(name, text)])?;
+    for text in rows {
+        let ran = check(alloc, &[("A.tla", text.as_bytes()), ("B.tla", b"")])?;
         assert_eq!(rt; ran.status, 9, "{text}");
-        assert!(rt; ran.output.bytes().is_empty() && ran.ticks == 0, "{text}");
+        assert!(rt; ran.output.bytes().is_empty(), "{text}");
     }
-    let two = [
-        ("A.tla", "---- MODULE A ----\n====\n"),
-        ("B.tla", "---- MODULE B ----\n====\n"),
-    ];
-    assert_eq!(rt; check(alloc, &two)?.status, 9);
-    assert_eq!(rt; check(alloc, &[])?.status, 9);
+    Ok(())
+}
+
+// One module with so many bytes, all but the first lines spaces.
+fn large_module(alloc: Global, size: usize) -> Result<Vec<u8>, Fail> {
+    let mut text = Vec::from_slice(alloc, b"---- MODULE A ----\nCONSTANT N\n====\n")?;
+    for _ in text.len()..size {
+        text.push(b' ')?;
+    }
+    Ok(text)
+}
+
+#[test]
+fn keeps_to_the_limits_of_bytes(rt: HostRuntime) -> Result<(), Fail> {
+    let alloc = rt.alloc();
+    for (size, status) in [(1 << 20, 0), ((1 << 20) + 1, 1), ((1 << 25) + 1, 7)] {
+        let text = large_module(alloc, size)?;
+        let ran = check(alloc, &[("A.tla", text.as_slice())])?;
+        assert_eq!(rt; ran.status, status, "{size}");
+        let report: &[u8] = match status {
+            0 => b"A accepted\nmodules=1 refused=0\n",
+            1 => b"A refused\n  1:1-1:1 E104\nmodules=1 refused=1\n",
+            _ => b"",
+        };
+        assert_eq!(rt; ran.output.bytes(), report, "{size}");
+    }
+    Ok(())
+}
+
+#[test]
+fn keeps_to_the_limit_of_modules(rt: HostRuntime) -> Result<(), Fail> {
+    let alloc = rt.alloc();
+    for (count, status) in [(1024u32, 1), (1025, 7)] {
+        let mut files = List::new(alloc);
+        for number in 0..count {
+            let name = format!(in alloc; "M{number}.tla")?;
+            files.push(FileBytes {
+                name: Chars::from_str(alloc, name.as_str())?,
+                bytes: List::new(alloc),
+            })?;
+        }
+        let mut map = List::new(alloc);
+        map.push(FolderFiles {
+            path: Chars::from_str(alloc, "w")?,
+            files,
+        })?;
+        let folder = MemoryFolder::new(map, List::new(alloc));
+        let output = MemorySink::new(alloc, 1 << 16, 1 << 16, List::new(alloc))?;
+        let ran = run_over(alloc, &["check", "w"], folder, output)?;
+        assert_eq!(rt; ran.status, status, "{count}");
+        assert_eq!(rt; ran.output.bytes().is_empty(), status == 7, "{count}");
+    }
     Ok(())
 }
 
@@ -147,7 +244,7 @@ const REPORT: &str = "A refused\n  2:13-2:14 E402\nmodules=1 refused=1\n";
 
 // Runs with the folder's and the output's calls of these numbers failing, where 0 is none.
 fn run_failing(alloc: Global, of_folder: u32, of_output: u32) -> Result<Ran, Fail> {
-    let files = files_of(alloc, &[("A.tla", TEXT)])?;
+    let files = files_of(alloc, &[("A.tla", TEXT.as_bytes())])?;
     let folder = MemoryFolder::new(files, numbers(alloc, &[of_folder])?);
     let output = MemorySink::new(alloc, 100, 10, numbers(alloc, &[of_output])?)?;
     run_over(alloc, &["check", "w"], folder, output)
@@ -189,7 +286,10 @@ fn ends_at_the_first_failure_of_the_output(rt: HostRuntime) -> Result<(), Fail> 
 #[test]
 fn ends_where_the_output_is_full(rt: HostRuntime) -> Result<(), Fail> {
     let alloc = rt.alloc();
-    let folder = MemoryFolder::new(files_of(alloc, &[("A.tla", TEXT)])?, List::new(alloc));
+    let folder = MemoryFolder::new(
+        files_of(alloc, &[("A.tla", TEXT.as_bytes())])?,
+        List::new(alloc),
+    );
     let output = MemorySink::new(alloc, 12, 5, List::new(alloc))?;
     let ran = run_over(alloc, &["check", "w"], folder, output)?;
     assert_eq!(rt; ran.status, 5);
