@@ -13,3 +13,11 @@ mod Generating
 mod Complete
 mod Following
 mod SampleTrees
+mod Views
+mod Viewing
+mod Marking
+mod Converting
+mod Parting
+mod Ending
+mod Joining
+mod Sounding

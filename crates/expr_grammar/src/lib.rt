@@ -1,8 +1,8 @@
 //! The machine that reads expressions, as a function on lists over tables of moves, and its laws.
 //!
 //! Answers which trees the machine finds: every derivable list of lexemes is accepted, with its
-//! tree, and no other tree derives it. Knows nothing of how a machine is run: its state is a value
-//! of the definitions, and the code here is a few of its tables.
+//! tree, no other tree derives it, and nothing else is accepted. Knows nothing of how a machine is
+//! run: its state is a value of the definitions, and the code here is a few of its tables.
 #![tactic(auto)]
 
 mod tables;
@@ -24,6 +24,11 @@ pub use wait::{
 /// The machine accepts each derivable list, with the tree that derives it.
 pub fn accepts_derivable()
     ensures { (tree : Tree) → (lexemes : List Lexeme) → DerivesWhole tree lexemes → parse lexemes ≡ Some tree }
+{}
+
+/// What the machine accepts is derivable, by the tree that it answers.
+pub fn accepted_derives()
+    ensures { (tree : Tree) → (lexemes : List Lexeme) → parse lexemes ≡ Some tree → DerivesWhole tree lexemes }
 {}
 
 /// No two trees derive one list.
