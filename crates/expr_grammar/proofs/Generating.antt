@@ -620,7 +620,7 @@ mutual
       (gen-items rest w (Wait.ListItem first) (ps ++ x ∷ []) (c ++ (t ∷ a)) i refl refl (λ sh n. refl) (λ z. refl) refl deep f m refl
       (λ u' rest' e'. (let z : u ≡ u' = cc in subst (λ y. Begun w (Wait.ListItem first) (ps ++ x ∷ []) ((c ++ (t ∷ a)) ++ y ∷ []) i) z (subst (λ y. Begun w (Wait.ListItem first) (ps ++ x ∷ []) y i) (item-spelled c t a u) q))))
 
-  gen-bound : {y : Tree} {a : List Lexeme} {i : ℕ} {o : Option Lexeme} → DerivesBound y a i o → (w : Wait) (b : Binding) → child w ≡ Some (fresh (Wait.BindingStart b)) → takes_set b ≡ true → (takes_more b ≡ true) ⊎ BindsOne y → Ended i o → Part w y a i o
+  pub gen-bound : {y : Tree} {a : List Lexeme} {i : ℕ} {o : Option Lexeme} → DerivesBound y a i o → (w : Wait) (b : Binding) → child w ≡ Some (fresh (Wait.BindingStart b)) → takes_set b ≡ true → (takes_more b ≡ true) ⊎ BindsOne y → Ended i o → Part w y a i o
   gen-bound (bound {xs = xs} {x = x} {a = a} {b = c} {i = i} {o = o} m k j d d') w b h s one f =
       let r : NamesRead w (Wait.BindingRead b) [] xs [] a i = bound-names d x (a ++ m ∷ c) w b i h one in
       renamed _ _ _ _ _ (trees-then r.qs x xs r.is) (append_assoc a (m ∷ []) c)

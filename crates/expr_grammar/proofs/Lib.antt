@@ -21,3 +21,4 @@ mod Parting
 mod Ending
 mod Joining
 mod Sounding
+mod Heading

@@ -299,10 +299,10 @@ names-moves w i v ps a (choose_first m k) β x b t e n =
     only (PartOk w i ps a x b t) (is_colon t.kind) _ tt (λ c. (choose_body t m k (subst (λ z. NamesFor z x b) f n) (colon-is t.kind c), refl))
 names-moves w i v ps a _ β x b t e n = tt
 
-bounds-mark : (i : ℕ) (ps : List Tree) (c : List Lexeme) (x : Tree) (b : List Lexeme) (t : Lexeme) → Bounds i ps c → IsMark t Mark.Comma → DerivesBound x b i (Some t) → Bounds i (ps ++ x ∷ []) (c ++ (b ++ t ∷ []))
+pub bounds-mark : (i : ℕ) (ps : List Tree) (c : List Lexeme) (x : Tree) (b : List Lexeme) (t : Lexeme) → Bounds i ps c → IsMark t Mark.Comma → DerivesBound x b i (Some t) → Bounds i (ps ++ x ∷ []) (c ++ (b ++ t ∷ []))
 bounds-mark i ps c x b t h k d = λ o. adds-mark (λ xs z. DerivesBounds xs z i o) ps c x b t (h o) (λ xs z r. more_bounds t k d r)
 
-bounds-close : (i : ℕ) (ps : List Tree) (c : List Lexeme) (x : Tree) (b : List Lexeme) (o : Option Lexeme) → Bounds i ps c → DerivesBound x b i o → DerivesBounds (trees (ps ++ x ∷ [])) (c ++ b) i o
+pub bounds-close : (i : ℕ) (ps : List Tree) (c : List Lexeme) (x : Tree) (b : List Lexeme) (o : Option Lexeme) → Bounds i ps c → DerivesBound x b i o → DerivesBounds (trees (ps ++ x ∷ [])) (c ++ b) i o
 bounds-close i ps c x b o h d = adds-close (λ xs z. DerivesBounds xs z i o) ps c x b (h o) (last_bound d)
 
 bound-moves : (w : Wait) (i : ℕ) (v : Wait) (ps : List Tree) (a : List Lexeme) → HasRead w i v ps a → (β : Binding) (x : Tree) (b : List Lexeme) (t : Lexeme) → binding v ≡ Some β → BoundFor β x b (inside v i) (Some t) → PartOk w i ps a x b t (after_part v Shape.Bound t)

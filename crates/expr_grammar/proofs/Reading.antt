@@ -258,7 +258,7 @@ none-after r ps e = rw e (append-nil r)
 
 -- a part's list is what was handed to it, and the rest
 mutual
-  tied-part : {w : Wait} {x : Tree} {a : List Lexeme} {i : ℕ} {o : Option Lexeme} (d : Part w x a i o) → a ≡ promised w ++ rest_part d
+  pub tied-part : {w : Wait} {x : Tree} {a : List Lexeme} {i : ℕ} {o : Option Lexeme} (d : Part w x a i o) → a ≡ promised w ++ rest_part d
   tied-part (closed k) = tied-closed k
   tied-part {w = w} (headed {v = v} {a = a} form p (head_at_end f)) = tied-begun p ∙ ap (λ z. promised w ++ z) (sym (none-after (rest_begun p) (promised v) (promised-ends v _ form f)))
   tied-part {w = w} (headed {v = v} {a = a} form p (head_by_column f l)) = tied-begun p ∙ ap (λ z. promised w ++ z) (sym (none-after (rest_begun p) (promised v) (promised-ends v _ form f)))
@@ -308,7 +308,7 @@ next-col v i xs ys t rest e f =
     rw (plain-inside v i e) k.0
 
 -- a part and the mark after it
-marked-part : {v : Wait} {x : Tree} {b : List Lexeme} {j : ℕ} {o : Option Lexeme} (d : Part v x b j o) (ps : List Tree) (a : List Lexeme) (fs : List Frame) (t : Lexeme) (rest : List Lexeme) → j ≡ inner (frame v ps a ∷ fs) → o ≡ Some t → absorbs v ≡ None → is_operator (role t.kind) ≡ false → inner (frame v ps a ∷ fs) ≤ t.col → run (Some (ready (frame v ps a ∷ fs))) (rest_part d ++ t ∷ rest) ≡ run (Some (opened d (frame v ps a ∷ fs))) (t ∷ rest) → run (Some (ready (frame v ps a ∷ fs))) (rest_part d ++ t ∷ rest) ≡ run (moved (at_part v (shape x) t) (frame v ps a) fs x b t (λ form. part_step fs (node_with form (frame v ps a) x b) (a ++ b) t)) rest
+pub marked-part : {v : Wait} {x : Tree} {b : List Lexeme} {j : ℕ} {o : Option Lexeme} (d : Part v x b j o) (ps : List Tree) (a : List Lexeme) (fs : List Frame) (t : Lexeme) (rest : List Lexeme) → j ≡ inner (frame v ps a ∷ fs) → o ≡ Some t → absorbs v ≡ None → is_operator (role t.kind) ≡ false → inner (frame v ps a ∷ fs) ≤ t.col → run (Some (ready (frame v ps a ∷ fs))) (rest_part d ++ t ∷ rest) ≡ run (Some (opened d (frame v ps a ∷ fs))) (t ∷ rest) → run (Some (ready (frame v ps a ∷ fs))) (rest_part d ++ t ∷ rest) ≡ run (moved (at_part v (shape x) t) (frame v ps a) fs x b t (λ form. part_step fs (node_with form (frame v ps a) x b) (a ++ b) t)) rest
 marked-part {v = v} {x = x} {b = b} d ps a fs t rest j q u r l h =
     let p : within (frame v ps a ∷ fs) x b t ≡ moved (at_part v (shape x) t) (frame v ps a) fs x b t (λ form. part_step fs (node_with form (frame v ps a) x b) (a ++ b) t) = rw r in
     h ∙ onward rest (settles d ps a fs t j q u ∙ (have-within (frame v ps a ∷ fs) x b t l ∙ p))
@@ -331,7 +331,7 @@ InItem-rest (Some t) i xs ys h = (h.0, From-back (suc t.col) xs ys h.1)
 item-by : (l : Option Lexeme) (first : Lexeme) (i : ℕ) (xs : List Lexeme) → l ≡ Some first → i ≤ first.col → From (suc first.col) xs → InItem l i xs
 item-by l first i xs e k f = rw e (k, f)
 
-complete-have : (w : Wait) (qs : List Tree) (c : List Lexeme) (fs : List Frame) (e : Tree) (b : List Lexeme) → absorbs w ≡ None → complete (frame w qs c ∷ fs) e b ≡ Have (frame w qs c ∷ fs) e b
+pub complete-have : (w : Wait) (qs : List Tree) (c : List Lexeme) (fs : List Frame) (e : Tree) (b : List Lexeme) → absorbs w ≡ None → complete (frame w qs c ∷ fs) e b ≡ Have (frame w qs c ∷ fs) e b
 complete-have w qs c fs e b h = rw h
 
 absorbs-own : (v u : Wait) → absorbs v ≡ Some u → promised u ≡ []
@@ -550,7 +550,7 @@ opened-finish {w = w} {i = i} (finished {v = v} {x = x} {ps = ps} {a = a} {b = b
     opened-finish d ps a (frame w qs c ∷ fs) q u'
     ∙ finishes-round v ps a x b w qs c fs form i (subst (λ z. Ends v x i form z) q e)
 
-From-zero : (a : List Lexeme) → From 0 a
+pub From-zero : (a : List Lexeme) → From 0 a
 From-zero [] = tt
 From-zero (t ∷ a) = (omega arith, From-zero a)
 

@@ -4,13 +4,13 @@ use Rattle.std.specs.Prelude.{cond, nat_lt}
 use Rattle.std.proofs.lemmas.Bool.Decides.{nat_tests}
 use Rattle.tla_symbols.specs.declared.lexeme.Lexeme.{Lexeme}
 use Rattle.tla_tree.specs.declared.form.Form.{Form}
-use Rattle.tla_tree.specs.Syntax.{Tree, Nil, Cons, trees}
+use Rattle.tla_tree.specs.Syntax.{Tree, Trees, Nil, Cons, trees}
 use Rattle.tla_tree.specs.Edges.{AllJoin, right_mark, beside, right_edge, right_edge_of_last, left_edge}
 use Rattle.tla_tree.specs.Alignment.{GoesOn, From}
 use Rattle.tla_tree.specs.Shapes.{IsSubscript}
 use Rattle.tla_tree.specs.Lexemes.{built, joined}
 use Rattle.tla_tree.specs.FirstBad.{DerivesWhole}
-use Rattle.tla_tree.specs.Derivation.{Derives, DerivesSteps, last_step, more_steps, DerivesStep, DerivesItems, more_items}
+use Rattle.tla_tree.specs.Derivation.{Derives, DerivesBound, DerivesBounds, DerivesSteps, last_step, more_steps, DerivesStep, DerivesItems, more_items}
 use Rattle.precedence.specs.declared.Choice.{Choice}
 use Rattle.expr_grammar.specs.declared.wait.Handed.{Handed}
 use Rattle.expr_grammar.specs.declared.wait.Wait.{Wait}
@@ -20,25 +20,27 @@ use Rattle.expr_grammar.specs.declared.wait.MarkMove.{MarkMove}
 use Rattle.expr_grammar.specs.declared.wait.PartMove.{PartMove}
 use Rattle.expr_grammar.specs.declared.wait.Lead.{Lead}
 use Rattle.expr_grammar.specs.declared.wait.Shape.{Shape}
-use Rattle.expr_grammar.specs.Kinds.{is_name}
-use Rattle.expr_grammar.specs.Tables.{mode, Child, child, list_of, goes_on, begins, at_mark, endable, absorbs, role, edge_of, lead, takes, choice, shape, is_expression, ends_with, ends_with_part, finishes, after_expression, after_part, or_finish, at_part}
-use Rattle.expr_grammar.specs.Machine.{Frame, frame, State, At, Have, inside, inside_list, inner, entry, with_child, ready, node_with, on_tree, absorbed, complete, led, on_form, act, operator_step, moved, part_step, is_operator, within, on_bullet, leave, have, ended, marked, begun, due, step, run, start, close_all, finish_due, finish, parse}
+use Rattle.expr_grammar.specs.Kinds.{is_name, is_comma}
+use Rattle.expr_grammar.specs.Tables.{if_goes, keeps, mode, Child, child, list_of, goes_on, begins, at_mark, endable, absorbs, role, edge_of, lead, takes, choice, shape, is_expression, ends_with, ends_with_part, finishes, after_expression, after_part, or_finish, at_part}
+use Rattle.expr_grammar.specs.Machine.{start_bounds, whole_bounds, on_bounds, close_bounds, finish_due_bounds, finish_bounds, parse_bounds, Frame, frame, State, At, Have, inside, inside_list, inner, entry, with_child, ready, node_with, on_tree, absorbed, complete, led, on_form, act, operator_step, moved, part_step, is_operator, within, on_bullet, leave, have, ended, marked, begun, due, step, run, start, close_all, finish_due, finish, parse}
+use Rattle.expr_grammar.proofs.KindTests.{comma-is}
 use Rattle.expr_grammar.proofs.Tabled.{promised, IsNoBullet}
 use Rattle.expr_grammar.proofs.Asking.{AllFit}
 use Rattle.expr_grammar.proofs.Reading.{outside}
 use Rattle.expr_grammar.proofs.Naming.{true-goes-on}
-use Rattle.expr_grammar.proofs.Starting.{joined-snoc}
-use Rattle.expr_grammar.proofs.Views.{Sort, sort, binding, Stands, expression, symbol, instance, names, bound, arm, other_arm, segment, definition, parameter, replacement, update, step as of_step, Shut, HasRead, list_first, list_item, handing_segment, segment_name, binding_start, quantifier_first, quantifier_next, temporal_first, choose_first, image_bounds, square_first, function_names, function_bounds, except_updates, update_bang, step_first, step_next, case_arms, arm_guard, handing_definition, definition_name, prefix_name, definition_parameters, function_head_bounds, replacements, replacement_start, parameter_start, ItemsRead}
+use Rattle.expr_grammar.proofs.Starting.{derives-shape, joined-snoc}
+use Rattle.expr_grammar.proofs.Views.{Bounds, Sort, sort, binding, Stands, expression, symbol, instance, names, bound, arm, other_arm, segment, definition, parameter, replacement, update, step as of_step, Shut, HasRead, list_first, list_item, handing_segment, segment_name, binding_start, quantifier_first, quantifier_next, temporal_first, choose_first, image_bounds, square_first, function_names, function_bounds, except_updates, update_bang, step_first, step_next, case_arms, arm_guard, handing_definition, definition_name, prefix_name, definition_parameters, function_head_bounds, replacements, replacement_start, parameter_start, ItemsRead}
 use Rattle.expr_grammar.proofs.Viewing.{adds-close, adds-part}
 use Rattle.expr_grammar.proofs.Marking.{MarkOk, mark-sound, HeadOk, head-sound, BeginOk, begin-sound}
 use Rattle.expr_grammar.proofs.Converting.{}
-use Rattle.expr_grammar.proofs.Parting.{PartOk, operand-moves, other-moves, names-shape, bound-of, instance-shape, derives-bound-shape, segment-shape, definition-shape, parameter-shape, replacement-shape, update-shape, step-shape, arm-shape}
+use Rattle.expr_grammar.proofs.Parting.{bounds-mark, bounds-close, PartOk, operand-moves, other-moves, names-shape, bound-of, instance-shape, derives-bound-shape, segment-shape, definition-shape, parameter-shape, replacement-shape, update-shape, step-shape, arm-shape}
 use Rattle.expr_grammar.proofs.Ending.{item-at, after, at_end, by_column, by_mark, by_operator, EndOk, ends-sound}
 use Rattle.expr_grammar.proofs.Joining.{last-edge, EdgeOk, ends-edges, Shuts, list-shuts, list-part, LeadOk, lead-sound, factor-sound}
 
 -- each frame has read what its wait says, under the wait of the frame below it
 pub data Chain : List Frame → Type 0 where
   bottom : Chain (frame Wait.Whole [] [] ∷ [])
+  bottom_bounds : {ps : List Tree} {a : List Lexeme} → Bounds 0 ps a → Chain (frame Wait.WholeBounds ps a ∷ [])
   link : {f g : Frame} {fs : List Frame} → Chain (g ∷ fs) → HasRead g.wait (inner (g ∷ fs)) f.wait f.parts f.read → From (inner (g ∷ fs)) f.read → Chain (f ∷ g ∷ fs)
 
 -- the lexemes of the frames, from the bottom one
@@ -156,6 +158,7 @@ absorb-sound w i v u ps a _ x b s e = cc
 
 complete-sound : (g : Frame) (gs : List Frame) → Chain (g ∷ gs) → (x : Tree) (b : List Lexeme) → Shut g.wait x b (inner (g ∷ gs)) → From (inner (g ∷ gs)) b → Sound (spelled (g ∷ gs) ++ b) (complete (g ∷ gs) x b)
 complete-sound g gs bottom x b s f = (bottom, s, f, refl)
+complete-sound g gs (bottom_bounds h) x b s f = (bottom_bounds h, s, f, refl)
 complete-sound g gs (link {g = e} {fs = fs} c h k) x b s f = by (absorbs g.wait) refl
   where
     by : (o : Option Wait) → absorbs g.wait ≡ o → Sound (spelled (g ∷ e ∷ fs) ++ b) (absorbed o g (e ∷ fs) x b)
@@ -267,6 +270,7 @@ leads f fs e b t c s j k l w =
 
 operator-sound : (f : Frame) (fs : List Frame) → Chain (f ∷ fs) → (e : Tree) (b : List Lexeme) (t : Lexeme) → Stands f.wait e b (inner (f ∷ fs)) (Some t) → AllJoin (edge_of (role t.kind)) (right_edge e) → From (inner (f ∷ fs)) b → inner (f ∷ fs) ≤ t.col → Going (spelled (f ∷ fs) ++ (b ++ t ∷ [])) (operator_step (f ∷ fs) e b t)
 operator-sound f fs bottom e b t s j k l = leads f fs e b t bottom s j k l refl
+operator-sound f fs (bottom_bounds h) e b t s j k l = tt
 operator-sound f fs (link {g = g} {fs = gs} c h r) e b t s j k l =
     going-if _ (takes f.wait (role t.kind)) _ _
     (λ x. going-if _ (is_expression (shape e)) _ _
@@ -322,8 +326,33 @@ moved-sound f g fs e b t m o go c h r k l q = by m h q
     by (PartMove.Convert flag) h q = (link (link c h.1 r) h.0 (From-both (inner (g ∷ fs)) b (t ∷ []) k (l, tt)), refl)
     by PartMove.Refused h q = finished o (q refl)
 
+-- a bound where bounds alone are due
+bound-at : (x : Tree) (b : List Lexeme) (i : ℕ) (o : Option Lexeme) → Stands Wait.WholeBounds x b i o → shape x ≡ Shape.Bound → DerivesBound x b i o
+bound-at x b i o (expression d f p s) e = let q : is_expression (shape x) ≡ true = derives-shape d in let r : is_expression (shape x) ≡ false = ap is_expression e in cc
+bound-at x b i o (symbol m k p) e = cc
+bound-at x b i o (instance so d) e = cc
+bound-at x b i o (names β k d) e = let q : shape x ≡ Shape.Names = names-shape β x b d in cc
+bound-at x b i o (bound β k d) e = bound-of β x b i o d
+bound-at x b i o (arm so d) e = cc
+bound-at x b i o (other_arm so k l d) e = cc
+bound-at x b i o (segment so d) e = cc
+bound-at x b i o (definition k d) e = cc
+bound-at x b i o (parameter so d) e = cc
+bound-at x b i o (replacement so d) e = cc
+bound-at x b i o (update so d) e = cc
+bound-at x b i o (of_step so d) e = cc
+
 part-sound : (f : Frame) (fs : List Frame) → Chain (f ∷ fs) → (e : Tree) (b : List Lexeme) (t : Lexeme) → Stands f.wait e b (inner (f ∷ fs)) (Some t) → From (inner (f ∷ fs)) b → inner (f ∷ fs) ≤ t.col → is_operator (role t.kind) ≡ false → Going (spelled (f ∷ fs) ++ (b ++ t ∷ [])) (part_step (f ∷ fs) e b t)
 part-sound f fs bottom e b t s k l n = subst (λ z. Going (spelled (f ∷ fs) ++ (b ++ t ∷ [])) (moved z f fs e b t (λ form. part_step fs (node_with form f e b) (f.read ++ b) t))) (sym (whole-part (shape e) t)) tt
+part-sound f fs (bottom_bounds {ps = ps} {a = a} h) e b t s k l n = by (shape e) refl
+  where
+    by : (sh : Shape) → shape e ≡ sh → Going (spelled (f ∷ fs) ++ (b ++ t ∷ [])) (moved (at_part Wait.WholeBounds sh t) f fs e b t (λ form. part_step fs (node_with form f e b) (f.read ++ b) t))
+    by Shape.Bound q = move-if (is_comma t.kind) refl
+      where
+        move-if : (c : Bool) → is_comma t.kind ≡ c → Going (spelled (f ∷ fs) ++ (b ++ t ∷ [])) (moved (or_finish (if_goes c (keeps Wait.WholeBounds)) None) f fs e b t (λ form. part_step fs (node_with form f e b) (f.read ++ b) t))
+        move-if true z = (link (bottom_bounds (bounds-mark 0 ps a e b t h (comma-is t.kind z) (bound-at e b 0 (Some t) s q))) (binding_start refl) tt, append-nil (a ++ (b ++ t ∷ [])))
+        move-if false z = tt
+    by _ q = tt
 part-sound f fs (link {g = g} {fs = gs} c h r) e b t s k l n =
     moved-sound f g gs e b t (after f.wait e t) (finishes f.wait (shape e)) _ c (part-moves g.wait (inner (g ∷ gs)) f.wait f.parts f.read h e b t close s) r near close
     (λ m. ends-going f.wait g.wait (inner (g ∷ gs)) f.parts f.read e b t _ (finishes f.wait (shape e)) _
@@ -412,6 +441,7 @@ leave-link f g gs c h r e b t s k l go =
 
 leave-sound : (f : Frame) (fs : List Frame) → Chain (f ∷ fs) → (e : Tree) (b : List Lexeme) (t : Lexeme) → Stands f.wait e b (inner (f ∷ fs)) (Some t) → From (inner (f ∷ fs)) b → t.col < inner (f ∷ fs) → Going (spelled (f ∷ fs) ++ (b ++ t ∷ [])) (leave (f ∷ fs) e b t)
 leave-sound f fs bottom e b t s k l = absurd (omega (arith, l))
+leave-sound f fs (bottom_bounds h) e b t s k l = absurd (omega (arith, l))
 leave-sound f fs (link {g = g} {fs = gs} c h r) e b t s k l = leave-link f g gs c h r e b t s k l (λ e' n x y. leave-sound g gs c e' (f.read ++ b) t n x y)
 
 have-sound : (f : Frame) (fs : List Frame) → Chain (f ∷ fs) → (e : Tree) (b : List Lexeme) (t : Lexeme) → Stands f.wait e b (inner (f ∷ fs)) (Some t) → right_edge e ≡ [] → From (inner (f ∷ fs)) b → Going (spelled (f ∷ fs) ++ (b ++ t ∷ [])) (have (f ∷ fs) e b t)
@@ -424,6 +454,7 @@ due-sound : (f : Frame) (fs : List Frame) → Chain (f ∷ fs) → (t : Lexeme) 
 due-sound f fs bottom t =
     going-if _ (nat_lt t.col 0) _ _ (λ x. tt)
     (λ x. begun-sound f fs t (begins Mode.Operand t) bottom (begin-sound Wait.Whole 0 t (omega arith)) (omega arith) tt)
+due-sound f fs (bottom_bounds h) t = going-if _ (nat_lt t.col 0) _ _ (λ x. tt) (λ x. tt)
 due-sound f fs (link {g = g} {fs = gs} c h r) t =
     going-if _ (nat_lt t.col (inner (f ∷ g ∷ gs))) _ _ (λ x. ending)
     (λ x. let l : inner (f ∷ g ∷ gs) ≤ t.col = grind (arith, nat_tests) in
@@ -468,6 +499,7 @@ tree-going w i ps a e b ts (Some form) go h k = k form h
 close-sound : (f : Frame) (fs : List Frame) → Chain (f ∷ fs) → (e : Tree) (b : List Lexeme) → Stands f.wait e b (inner (f ∷ fs)) None → From (inner (f ∷ fs)) b → Closing (spelled (f ∷ fs) ++ b) (close_all (f ∷ fs) e b)
 close-sound f fs bottom e b s k =
     closing-if _ (is_expression (shape e)) _ _ (λ x. let o : Operand Wait.Whole e b 0 None = operand-of Wait.Whole e b 0 None s x in o.derives) (λ x. tt)
+close-sound f fs (bottom_bounds h) e b s k = tt
 close-sound f fs (link {g = g} {fs = gs} c h r) e b s k =
     tree-going g.wait (inner (g ∷ gs)) f.parts f.read e b _ (finishes f.wait (shape e)) _ (ends-sound g.wait (inner (g ∷ gs)) f.wait f.parts f.read h e b None k at_end refl s)
     (λ form q. subst (λ z. Closing z (close_all (g ∷ gs) (node_with form f e b) (f.read ++ b))) (sym (append_assoc (spelled (g ∷ gs)) f.read b))
@@ -484,6 +516,7 @@ finish-sound ts (Some (At (f ∷ fs))) g = subst (λ z. Closing z (finish_due (f
   where
     by : (f : Frame) (fs : List Frame) → Chain (f ∷ fs) → Closing (spelled (f ∷ fs)) (finish_due (f ∷ fs))
     by f fs bottom = tt
+    by f fs (bottom_bounds h) = tt
     by f fs (link {g = h} {fs = hs} c r k) = head-closes f h hs (endable f.wait None) c (head-sound h.wait (inner (h ∷ hs)) f.wait f.parts f.read r None None) k
 finish-sound ts (Some (Have [] e b)) g = absurd g
 finish-sound ts (Some (Have (f ∷ fs) e b)) g = subst (λ z. Closing z (close_all (f ∷ fs) e b)) g.3 (close-sound f fs g.0 e b (g.1.0 None) g.2)
@@ -491,3 +524,45 @@ finish-sound ts (Some (Have (f ∷ fs) e b)) g = subst (λ z. Closing z (close_a
 -- what the machine accepts is derivable, by the tree that it answers
 pub accepted-derives : (ts : List Lexeme) (tree : Tree) → parse ts ≡ Some tree → DerivesWhole tree ts
 accepted-derives ts tree e = subst (λ z. Closing ts z) e (finish-sound ts (run (Some start) ts) (start-sound ts))
+
+-- the same for bounds alone
+abbrev ClosingBounds : List Lexeme → Option Trees → Type 0
+ClosingBounds ts None = Unit {0}
+ClosingBounds ts (Some bounds) = DerivesBounds bounds ts 0 None
+
+bounds-going : (w : Wait) (i : ℕ) (ps : List Tree) (a : List Lexeme) (e : Tree) (b : List Lexeme) (ts : List Lexeme) (o : Option Form) (go : Form → Option Trees) → EndOk w i ps a e b None o → ((form : Form) → Stands w (built form (trees (ps ++ e ∷ [])) (a ++ b)) (a ++ b) i None → ClosingBounds ts (go form)) → ClosingBounds ts (on_bounds o go)
+bounds-going w i ps a e b ts None go h k = tt
+bounds-going w i ps a e b ts (Some form) go h k = k form h
+
+close-bounds-sound : (f : Frame) (fs : List Frame) → Chain (f ∷ fs) → (e : Tree) (b : List Lexeme) → Stands f.wait e b (inner (f ∷ fs)) None → From (inner (f ∷ fs)) b → ClosingBounds (spelled (f ∷ fs) ++ b) (close_bounds (f ∷ fs) e b)
+close-bounds-sound f fs bottom e b s k = tt
+close-bounds-sound f fs (bottom_bounds {ps = ps} {a = a} h) e b s k = by (shape e) refl
+  where
+    by : (sh : Shape) → shape e ≡ sh → ClosingBounds (a ++ b) (whole_bounds Wait.WholeBounds sh (trees (ps ++ e ∷ [])))
+    by Shape.Bound q = bounds-close 0 ps a e b None h (bound-at e b 0 None s q)
+    by _ q = tt
+close-bounds-sound f fs (link {g = g} {fs = gs} c h r) e b s k =
+    bounds-going g.wait (inner (g ∷ gs)) f.parts f.read e b _ (finishes f.wait (shape e)) _ (ends-sound g.wait (inner (g ∷ gs)) f.wait f.parts f.read h e b None k at_end refl s)
+    (λ form q. subst (λ z. ClosingBounds z (close_bounds (g ∷ gs) (node_with form f e b) (f.read ++ b))) (sym (append_assoc (spelled (g ∷ gs)) f.read b))
+    (close-bounds-sound g gs c (node_with form f e b) (f.read ++ b) q (From-both (inner (g ∷ gs)) f.read b r (From-less (inner (g ∷ gs)) (inner (f ∷ g ∷ gs)) b (outside (list_of f.wait) (inner (g ∷ gs))) k))))
+
+head-closes-bounds : (f g : Frame) (gs : List Frame) (o : Option Form) → Chain (g ∷ gs) → HeadOk g.wait (inner (g ∷ gs)) f.parts f.read None o → From (inner (g ∷ gs)) f.read → ClosingBounds (spelled (f ∷ g ∷ gs)) (on_bounds o (λ form. close_bounds (g ∷ gs) (built form (trees f.parts) f.read) f.read))
+head-closes-bounds f g gs None c h r = tt
+head-closes-bounds f g gs (Some form) c h r = close-bounds-sound g gs c _ f.read h.0 r
+
+finish-bounds-sound : (ts : List Lexeme) (o : Option State) → Going ts o → ClosingBounds ts (finish_bounds o)
+finish-bounds-sound ts None g = tt
+finish-bounds-sound ts (Some (At [])) g = tt
+finish-bounds-sound ts (Some (At (f ∷ fs))) g = subst (λ z. ClosingBounds z (finish_due_bounds (f ∷ fs))) g.1 (by f fs g.0)
+  where
+    by : (f : Frame) (fs : List Frame) → Chain (f ∷ fs) → ClosingBounds (spelled (f ∷ fs)) (finish_due_bounds (f ∷ fs))
+    by f fs bottom = tt
+    by f fs (bottom_bounds h) = tt
+    by f fs (link {g = h} {fs = hs} c r k) = head-closes-bounds f h hs (endable f.wait None) c (head-sound h.wait (inner (h ∷ hs)) f.wait f.parts f.read r None None) k
+finish-bounds-sound ts (Some (Have [] e b)) g = absurd g
+finish-bounds-sound ts (Some (Have (f ∷ fs) e b)) g = subst (λ z. ClosingBounds z (close_bounds (f ∷ fs) e b)) g.3 (close-bounds-sound f fs g.0 e b (g.1.0 None) g.2)
+
+pub accepted-bounds : (ts : List Lexeme) (bounds : Trees) → parse_bounds ts ≡ Some bounds → DerivesBounds bounds ts 0 None
+accepted-bounds ts bounds e =
+    subst (λ z. ClosingBounds ts z) e
+    (finish-bounds-sound ts (run (Some start_bounds) ts) (run-sound ts [] (Some start_bounds) (link (bottom_bounds (λ o xs c r. r)) (binding_start refl) tt, refl)))

@@ -2,7 +2,7 @@
 use Rattle.std.specs.Prelude.{ℕ, suc, max, nat_lt, Bool, true, false, cond, List, [], ◌∷◌, ◌++◌, Option, Some, None}
 use Rattle.tla_symbols.specs.declared.lexeme.Lexeme.{Lexeme}
 use Rattle.tla_tree.specs.declared.form.Form.{Form}
-use Rattle.tla_tree.specs.Syntax.{Tree, Nil, trees}
+use Rattle.tla_tree.specs.Syntax.{Tree, Trees, Nil, trees}
 use Rattle.tla_tree.specs.Lexemes.{built, one}
 use Rattle.precedence.specs.declared.Choice.{Choice}
 use Rattle.precedence.specs.declared.Choice.TheVariants.{Ends, Waits, Clashes}
@@ -13,6 +13,7 @@ use Rattle.expr_grammar.specs.declared.wait.MarkMove.{MarkMove}
 use Rattle.expr_grammar.specs.declared.wait.PartMove.{PartMove}
 use Rattle.expr_grammar.specs.declared.wait.Role.{Role}
 use Rattle.expr_grammar.specs.declared.wait.Lead.{Lead}
+use Rattle.expr_grammar.specs.declared.wait.Shape.{Shape}
 use Rattle.expr_grammar.specs.Tables.{mode, Child, child, list_of, goes_on, begins, at_mark, endable, absorbs, role, edge_of, lead, takes, choice, shape, is_expression, name_of, converted, finishes, at_part}
 
 pub record Frame : Type 0 where
@@ -177,10 +178,14 @@ run (Some st) (t ∷ ts) = run (step st t) ts
 abbrev pub start : State
 start = At (frame Wait.Whole [] [] ∷ [])
 
--- at the end all frames end but the bottom one
+-- at the end all frames end but the bottom one, whose part is the answer
+abbrev pub whole : Wait → Tree → Option Tree
+whole Wait.Whole e = cond (is_expression (shape e)) (Some e) None
+whole _ e = None
+
 abbrev pub close_all : List Frame → Tree → List Lexeme → Option Tree
 close_all [] e b = None
-close_all (f ∷ []) e b = cond (is_expression (shape e)) (Some e) None
+close_all (f ∷ []) e b = whole f.wait e
 close_all (f ∷ g ∷ fs) e b = on_tree (finishes f.wait (shape e)) (λ form. close_all (g ∷ fs) (node_with form f e b) (f.read ++ b))
 
 abbrev pub finish_due : List Frame → Option Tree
@@ -194,3 +199,32 @@ finish (Some (Have fs e b)) = close_all fs e b
 
 abbrev pub parse : List Lexeme → Option Tree
 parse ts = finish (run (Some start) ts)
+
+-- the other goal: the bounds in the head of a function's definition
+abbrev pub start_bounds : State
+start_bounds = ready (frame Wait.WholeBounds [] [] ∷ [])
+
+abbrev pub whole_bounds : Wait → Shape → Trees → Option Trees
+whole_bounds Wait.WholeBounds Shape.Bound bounds = Some bounds
+whole_bounds _ _ bounds = None
+
+abbrev pub on_bounds : Option Form → (Form → Option Trees) → Option Trees
+on_bounds None go = None
+on_bounds (Some form) go = go form
+
+abbrev pub close_bounds : List Frame → Tree → List Lexeme → Option Trees
+close_bounds [] e b = None
+close_bounds (f ∷ []) e b = whole_bounds f.wait (shape e) (trees (f.parts ++ e ∷ []))
+close_bounds (f ∷ g ∷ fs) e b = on_bounds (finishes f.wait (shape e)) (λ form. close_bounds (g ∷ fs) (node_with form f e b) (f.read ++ b))
+
+abbrev pub finish_due_bounds : List Frame → Option Trees
+finish_due_bounds [] = None
+finish_due_bounds (f ∷ fs) = on_bounds (endable f.wait None) (λ form. close_bounds fs (node form f) f.read)
+
+abbrev pub finish_bounds : Option State → Option Trees
+finish_bounds None = None
+finish_bounds (Some (At fs)) = finish_due_bounds fs
+finish_bounds (Some (Have fs e b)) = close_bounds fs e b
+
+abbrev pub parse_bounds : List Lexeme → Option Trees
+parse_bounds ts = finish_bounds (run (Some start_bounds) ts)

@@ -10,11 +10,11 @@ mod wait;
 
 ghost use Rattle.std.specs.Prelude.{◌≡◌, ℕ, List, Option, Some, None};
 ghost use Rattle.tla_symbols.specs.declared.lexeme.Lexeme.{Lexeme};
-ghost use Rattle.tla_tree.specs.Syntax.{Tree};
+ghost use Rattle.tla_tree.specs.Syntax.{Tree, Trees};
 ghost use Rattle.tla_tree.specs.FirstBad.{DerivesWhole, Begins};
-ghost use Rattle.tla_tree.specs.Derivation.{Derives};
+ghost use Rattle.tla_tree.specs.Derivation.{Derives, DerivesBounds};
 ghost use Rattle.expr_grammar.specs.Following.{IsQuietNext};
-ghost use Rattle.expr_grammar.specs.Machine.{run, start, parse};
+ghost use Rattle.expr_grammar.specs.Machine.{run, start, parse, parse_bounds};
 
 pub use tables::{after_brace, goes_on, is_bullet, role, starts_expression};
 pub use wait::{
@@ -29,6 +29,16 @@ pub fn accepts_derivable()
 /// What the machine accepts is derivable, by the tree that it answers.
 pub fn accepted_derives()
     ensures { (tree : Tree) → (lexemes : List Lexeme) → parse lexemes ≡ Some tree → DerivesWhole tree lexemes }
+{}
+
+/// Bounds alone, as in the head of a function's definition, are accepted where they are derivable.
+pub fn accepts_bounds()
+    ensures { (bounds : Trees) → (lexemes : List Lexeme) → DerivesBounds bounds lexemes 0 None → parse_bounds lexemes ≡ Some bounds }
+{}
+
+/// And what is accepted as bounds alone is derivable so.
+pub fn accepted_bounds_derive()
+    ensures { (bounds : Trees) → (lexemes : List Lexeme) → parse_bounds lexemes ≡ Some bounds → DerivesBounds bounds lexemes 0 None }
 {}
 
 /// No two trees derive one list.
