@@ -13,3 +13,6 @@ mod Generating
 mod Complete
 mod Following
 mod SampleTrees
+mod CompletingKinds
+mod CompletingTables
+mod CompletingStates
