@@ -62,7 +62,7 @@ meets-bound j Kind.One h s = by-one j h
     by-one _ h = cc
 meets-bound j _ h s = cc
 
-grown : (fs : List Frame) {k l : Kind} → Grows k l → Under fs k → Under fs l
+pub grown : (fs : List Frame) {k l : Kind} → Grows k l → Under fs k → Under fs l
 grown fs same u = u
 grown [] (to_bound s) u = let z : takes_sets Kind.Whole ≡ true = subst (λ k. takes_sets k ≡ true) u s in cc
 grown (f ∷ fs) (to_bound {k = k} s) u = (meets-bound (wanted f.wait) k u.0 s, u.1)

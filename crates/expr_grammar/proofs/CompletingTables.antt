@@ -177,11 +177,11 @@ begins-kept Mode.Operand t = start-kept t.kind t
 begins-kept Mode.Subscript t = subscript-kept t.kind t
 begins-kept _ t = tt
 
-operand-wanted : (w : Wait) → mode w ≡ Mode.Operand → meets (wanted w) Kind.Expression ≡ true
+pub operand-wanted : (w : Wait) → mode w ≡ Mode.Operand → meets (wanted w) Kind.Expression ≡ true
 operand-wanted Wait.Whole h = refl
 operand-wanted _ h = first_of (cc, search)
 
-subscript-wanted : (w : Wait) → mode w ≡ Mode.Subscript → meets (wanted w) Kind.Expression ≡ true
+pub subscript-wanted : (w : Wait) → mode w ≡ Mode.Subscript → meets (wanted w) Kind.Expression ≡ true
 subscript-wanted Wait.SquareSubscript h = refl
 subscript-wanted _ h = first_of (cc, search)
 

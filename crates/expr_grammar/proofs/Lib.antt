@@ -16,3 +16,6 @@ mod SampleTrees
 mod CompletingKinds
 mod CompletingTables
 mod CompletingStates
+mod CompletingParts
+mod CompletingFrames
+mod CompletingMarks
