@@ -143,14 +143,16 @@ goes-on (Wait.Handing Handed.Segment t) {e = e} r i q s n =
 goes-on (Wait.Handing Handed.Definition t) {e = e} r i q s n = goes_with_mark (LexKind.Word Word.In) Wait.LetBody Conversion.Keep i refl (rw (helper-is (shape e) s)) (ends_with_body Form.Let r i refl refl)
 goes-on (Wait.QuantifierFirst t) {e = e} r i q s n =
     elim (binding-is (shape e) s) [
-      inl z ↦ goes_with_mark (LexKind.Mark Mark.Colon) (Wait.QuantifierBody t) Conversion.Keep i refl (rw z) (ends_with_body (Form.Quantifier t) r i refl refl)
-    | inr z ↦ goes_with_mark (LexKind.Mark Mark.Colon) (Wait.BoundedBody t) Conversion.Keep i refl (rw z) (ends_with_body (Form.BoundedQuantifier t) r i refl refl) ]
+      | inl z ↦ goes_with_mark (LexKind.Mark Mark.Colon) (Wait.QuantifierBody t) Conversion.Keep i refl (rw z) (ends_with_body (Form.Quantifier t) r i refl refl)
+      | inr z ↦ goes_with_mark (LexKind.Mark Mark.Colon) (Wait.BoundedBody t) Conversion.Keep i refl (rw z) (ends_with_body (Form.BoundedQuantifier t) r i refl refl)
+    ]
 goes-on (Wait.QuantifierNext t) {e = e} r i q s n = goes_with_mark (LexKind.Mark Mark.Colon) (Wait.BoundedBody t) Conversion.Keep i refl (rw (bound-is (shape e) s)) (ends_with_body (Form.BoundedQuantifier t) r i refl refl)
 goes-on (Wait.TemporalFirst t) {e = e} r i q s n = goes_with_mark (LexKind.Mark Mark.Colon) (Wait.TemporalBody t) Conversion.Keep i refl (rw (names-is (shape e) s)) (ends_with_body (Form.TemporalQuantifier t) r i refl refl)
 goes-on Wait.ChooseFirst {e = e} r i q s n =
     elim (binding-is (shape e) s) [
-      inl z ↦ goes_with_mark (LexKind.Mark Mark.Colon) Wait.ChooseBody Conversion.Keep i refl (rw z) (ends_with_body Form.Choose r i refl refl)
-    | inr z ↦ goes_with_mark (LexKind.Mark Mark.Colon) Wait.BoundedChooseBody Conversion.Keep i refl (rw z) (ends_with_body Form.BoundedChoose r i refl refl) ]
+      | inl z ↦ goes_with_mark (LexKind.Mark Mark.Colon) Wait.ChooseBody Conversion.Keep i refl (rw z) (ends_with_body Form.Choose r i refl refl)
+      | inr z ↦ goes_with_mark (LexKind.Mark Mark.Colon) Wait.BoundedChooseBody Conversion.Keep i refl (rw z) (ends_with_body Form.BoundedChoose r i refl refl)
+    ]
 goes-on Wait.ImageBounds {e = e} r i q s n = ends_with_mark (LexKind.Mark Mark.RightBrace) Form.SetImage Conversion.Keep r i refl (rw (bound-is (shape e) s)) refl
 goes-on (Wait.FunctionNames flag) {e = e} r i q s n = goes_with_mark (LexKind.Mark Mark.MapsTo) Wait.FunctionBody Conversion.Keep i refl (rw (bound-is (shape e) s)) (closes_with_mark (LexKind.Mark Mark.RightBracket) Form.FunctionConstructor Conversion.Keep r i refl refl (λ sh h. rw h) refl)
 goes-on Wait.FunctionBounds {e = e} r i q s n = goes_with_mark (LexKind.Mark Mark.MapsTo) Wait.FunctionBody Conversion.Keep i refl (rw (bound-is (shape e) s)) (closes_with_mark (LexKind.Mark Mark.RightBracket) Form.FunctionConstructor Conversion.Keep r i refl refl (λ sh h. rw h) refl)
@@ -159,8 +161,9 @@ goes-on Wait.StepFirst r i q s n = cc
 goes-on Wait.StepNext r i q s n = cc
 goes-on Wait.CaseArms {e = e} r i q s n =
     elim (arm-is (shape e) s) [
-      inl z ↦ ends_alone Form.Case r i refl refl (rw z) (λ u h. rw (z, closes-no_arm u.kind h))
-    | inr z ↦ ends_alone Form.Case r i refl refl (rw z) (λ u h. rw z) ]
+      | inl z ↦ ends_alone Form.Case r i refl refl (rw z) (λ u h. rw (z, closes-no_arm u.kind h))
+      | inr z ↦ ends_alone Form.Case r i refl refl (rw z) (λ u h. rw z)
+    ]
 goes-on (Wait.DefinitionParameters d) {e = e} r i q s n = goes_with_mark (LexKind.Mark Mark.RightParen) (Wait.DefinitionDefine d) Conversion.Keep i refl (rw (helper-is (shape e) s)) (marks (LexKind.Mark Mark.Define) i refl (ends_with_body (Form.OperatorDefinition d) r i refl refl))
 goes-on (Wait.FunctionHeadBounds d) {e = e} r i q s n = goes_with_mark (LexKind.Mark Mark.RightBracket) (Wait.FunctionHeadDefine d) Conversion.Keep i refl (rw (bound-is (shape e) s)) (marks (LexKind.Mark Mark.Define) i refl (ends_with_body (Form.FunctionDefinition d) r i refl refl))
 goes-on (Wait.Replacements m) {e = e} r i q s n =

@@ -225,3 +225,8 @@ meets-shows Definition Definition sh h j = j
 meets-shows Replacement Replacement sh h j = j
 meets-shows Parameter Parameter sh h j = j
 meets-shows _ _ sh h j = cc
+
+-- what takes another kind takes no step
+pub meets-no_step : (j k : Kind) → meets j k ≡ true → meets Kind.Step k ≡ false → meets j Kind.Step ≡ false
+meets-no_step Kind.Step k h n = cc
+meets-no_step _ k h n = refl

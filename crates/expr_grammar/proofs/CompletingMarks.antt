@@ -22,14 +22,14 @@ use Rattle.expr_grammar.specs.Machine.{Frame, frame, State, At, Have, inner, com
 use Rattle.expr_grammar.proofs.Tabled.{head_by_mark}
 use Rattle.expr_grammar.proofs.Reading.{left-false, outside, ends-head}
 use Rattle.expr_grammar.proofs.CompletingKinds as Kind
-use Rattle.expr_grammar.proofs.CompletingKinds.{Kind, binds, makes, wanted, meets, shows, rough, shows-form, meets-shows}
+use Rattle.expr_grammar.proofs.CompletingKinds.{Kind, binds, makes, wanted, meets, shows, rough, shows-form, meets-shows, meets-no_step}
 use Rattle.expr_grammar.proofs.CompletingTables.{to_bound, operand-wanted, subscript-wanted}
 use Rattle.expr_grammar.proofs.CompletingStates.{Under, Fits, is_due, grown}
 use Rattle.expr_grammar.proofs.CompletingParts.{lexeme, Completion, closes, BeginsClosing, Closing, Lands, Room, is_usual, usual-lands, closed, first, marks, operand}
 use Rattle.expr_grammar.proofs.CompletingFrames.{ends-round-expression, ends-round-instance, ends_with_body, closes_with_mark, goes-on, closes-no_bang}
 
 -- a frame round a part that it takes
-part-closes : {c : ℕ} (w : Wait) {ps : List Tree} {a : List Lexeme} {fs : List Frame} (e : Tree) {b : List Lexeme} → Room c fs (makes w) → inner (frame w ps a ∷ fs) ≤ c → shows (wanted w) (shape e) ≡ true → meets (wanted w) Kind.Step ≡ false → Closing c (Have (frame w ps a ∷ fs) e b)
+pub part-closes : {c : ℕ} (w : Wait) {ps : List Tree} {a : List Lexeme} {fs : List Frame} (e : Tree) {b : List Lexeme} → Room c fs (makes w) → inner (frame w ps a ∷ fs) ≤ c → shows (wanted w) (shape e) ≡ true → meets (wanted w) Kind.Step ≡ false → Closing c (Have (frame w ps a ∷ fs) e b)
 part-closes {c} w {ps} {a} {fs} e {b} r i s n = by-form (ends_with w) refl
   where
     by-expression : (form : Form) → ends_with w ≡ Some form → (x : Bool) → is_expression (shape e) ≡ x → Closing c (Have (frame w ps a ∷ fs) e b)
@@ -47,12 +47,8 @@ step-taken (Wait.Handing Handed.Segment t) ps a e b r i m = cc
 step-taken (Wait.Handing Handed.Definition t) ps a e b r i m = cc
 step-taken _ ps a e b r i m = cc
 
-meets-no_step : (j k : Kind) → meets j k ≡ true → meets Kind.Step k ≡ false → meets j Kind.Step ≡ false
-meets-no_step Kind.Step k h n = cc
-meets-no_step _ k h n = refl
-
 -- a frame on frames that take what it makes takes what it wants
-above : {c : ℕ} {w : Wait} {ps : List Tree} {a : List Lexeme} {fs : List Frame} (k : Kind) → Room c fs (makes w) → inner (frame w ps a ∷ fs) ≤ c → meets (wanted w) k ≡ true → Room c (frame w ps a ∷ fs) k
+pub above : {c : ℕ} {w : Wait} {ps : List Tree} {a : List Lexeme} {fs : List Frame} (k : Kind) → Room c fs (makes w) → inner (frame w ps a ∷ fs) ≤ c → meets (wanted w) k ≡ true → Room c (frame w ps a ∷ fs) k
 above {c} {w} {ps} {a} {fs} k r i m = record { low = i; under = (m, r.under); takes = λ e b s. by-kind k e b m s }
   where
     by-kind : (k : Kind) (e : Tree) (b : List Lexeme) → meets (wanted w) k ≡ true → shows k (shape e) ≡ true → Lands k c (frame w ps a ∷ fs) e b
@@ -116,8 +112,8 @@ instance-due : {c : ℕ} (m : Lexeme) {ps : List Tree} {a : List Lexeme} {fs : L
 instance-due m r i = ends_before (Form.Instance m) r i refl refl refl (λ t h. rw (closes-no_with t.kind h)) (λ k. refl)
 
 -- a mark closes the form
-closes-due : {c : ℕ} {w : Wait} {ps : List Tree} {a : List Lexeme} {fs : List Frame} (kind : LexKind) (form : Form) → Room c fs (makes w) → inner (frame w ps a ∷ fs) ≤ c → begins (mode w) (lexeme kind c) ≡ Start.NoStart → at_mark w (lexeme kind c) ≡ MarkMove.Close form → shows (makes w) (rough form) ≡ true → Completion (At (frame w ps a ∷ fs))
-closes-due {c} {w} {ps} {a} {fs} kind form r i b m s = marks {st = complete fs (built form (trees ps) (a ++ lexeme kind c ∷ []))  (a ++ lexeme kind c ∷ [])} kind i (rw (b, m)) (closed form (trees ps) (a ++ lexeme kind c ∷ []) r s)
+pub closes-due : {c : ℕ} {w : Wait} {ps : List Tree} {a : List Lexeme} {fs : List Frame} (kind : LexKind) (form : Form) → Room c fs (makes w) → inner (frame w ps a ∷ fs) ≤ c → begins (mode w) (lexeme kind c) ≡ Start.NoStart → at_mark w (lexeme kind c) ≡ MarkMove.Close form → shows (makes w) (rough form) ≡ true → Completion (At (frame w ps a ∷ fs))
+closes-due {c} {w} {ps} {a} {fs} kind form r i b m s = marks {st = complete fs (built form (trees ps) (a ++ lexeme kind c ∷ [])) (a ++ lexeme kind c ∷ [])} kind i (rw (b, m)) (closed form (trees ps) (a ++ lexeme kind c ∷ []) r s)
 
 record-due : {c : ℕ} (n : Lexeme) {ps : List Tree} {a : List Lexeme} {fs : List Frame} → Room c fs Kind.Expression → inner fs ≤ c → Completion (At (frame (Wait.RecordNamed n) ps a ∷ fs))
 record-due {c} n r i = marks (LexKind.Mark Mark.MapsTo) i refl (closes_with_mark (LexKind.Mark Mark.RightBracket) Form.Record (Conversion.AsField n (lexeme (LexKind.Mark Mark.MapsTo) c)) r i refl refl (λ sh h. rw h) refl)
@@ -138,7 +134,7 @@ parameter-due : {c : ℕ} (n : Lexeme) {ps : List Tree} {a : List Lexeme} {fs : 
 parameter-due n r i = marks (LexKind.Mark Mark.LeftParen) i refl (places-due n 0 r i)
 
 -- a frame that waits for a mark of its own
-mark-due : {c : ℕ} (w : Wait) (ps : List Tree) (a : List Lexeme) {fs : List Frame} → Room c fs (makes w) → inner (frame w ps a ∷ fs) ≤ c → is_due w ≡ true → mode w ≡ Mode.Marks → Completion (At (frame w ps a ∷ fs))
+pub mark-due : {c : ℕ} (w : Wait) (ps : List Tree) (a : List Lexeme) {fs : List Frame} → Room c fs (makes w) → inner (frame w ps a ∷ fs) ≤ c → is_due w ≡ true → mode w ≡ Mode.Marks → Completion (At (frame w ps a ∷ fs))
 mark-due (Wait.SegmentName n) ps a r i d m = segment-due n r i
 mark-due Wait.IdentifierBang ps a r i d m = marks LexKind.Name i refl (segment-due _ (above Kind.Segment r i refl) i)
 mark-due (Wait.ArgumentSymbol n) ps a r i d m = closes-due (LexKind.Mark Mark.RightParen) (Form.Segment n) r i refl refl refl

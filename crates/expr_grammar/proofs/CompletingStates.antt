@@ -17,8 +17,8 @@ use Rattle.expr_grammar.specs.Kinds.{is_name}
 use Rattle.expr_grammar.specs.Tables.{mode, child, list_of, goes_on, begins, at_mark, endable, absorbs, role, edge_of, lead, takes, choice, shape, is_expression, converted, finishes, at_part}
 use Rattle.expr_grammar.specs.Machine.{Frame, frame, State, At, Have, inner, ready, complete, absorbed, node, node_with, led, on_form, act, operator_step, moved, part_step, is_operator, within, on_bullet, leave, have, ended, marked, begun, due, step, run, start}
 use Rattle.expr_grammar.proofs.CompletingKinds as Kind
-use Rattle.expr_grammar.proofs.CompletingKinds.{Kind, makes, wanted, meets, shows, rough, shows-form, meets-shows}
-use Rattle.expr_grammar.proofs.CompletingTables.{takes_sets, Grows, same, to_bound, KeepsMark, mark-kept, KeepsPart, part-kept, BeginsExpression, begins-kept, begins_something, begins-wanted, waits-wanted, LeadsExpression, leads-kept, takes-factor, absorbs-step}
+use Rattle.expr_grammar.proofs.CompletingKinds.{Kind, makes, wanted, meets, shows, rough, shows-form, meets-shows, meets-no_step}
+use Rattle.expr_grammar.proofs.CompletingTables.{takes_sets, Grows, same, to_bound, KeepsMark, mark-kept, KeepsPart, part-kept, BeginsExpression, begins-kept, begins_something, begins-wanted, waits-wanted, LeadsExpression, leads-kept, takes-factor, absorbs-step, absorbs-no_step}
 
 -- a part of the kind may stand on these frames
 abbrev pub Under : List Frame → Kind → Type 0
@@ -34,11 +34,15 @@ abbrev pub is_due : Wait → Bool
 is_due (Wait.FunctionNames b) = false
 is_due w = is_none (child w)
 
+-- a part that a frame takes, and does not absorb
+abbrev pub IsTaken : Wait → Tree → Type 0
+IsTaken w e = (shows (wanted w) (shape e) ≡ true) × (meets (wanted w) Kind.Step ≡ false)
+
 abbrev pub Fits : State → Type 0
 Fits (At []) = ⊥
 Fits (At (f ∷ fs)) = (is_due f.wait ≡ true) × Under fs (makes f.wait)
 Fits (Have [] e b) = ⊥
-Fits (Have (f ∷ fs) e b) = (shows (wanted f.wait) (shape e) ≡ true) × Under fs (makes f.wait)
+Fits (Have (f ∷ fs) e b) = IsTaken f.wait e × Under fs (makes f.wait)
 
 abbrev pub FitsNext : Option State → Type 0
 FitsNext None = Unit {0}
@@ -93,7 +97,7 @@ complete-fits [] k e b u s = let z : shows Kind.Whole (shape e) ≡ true = subst
 complete-fits (f ∷ fs) k e b u s = by-absorbed (absorbs f.wait) refl
   where
     by-absorbed : (o : Option Wait) → absorbs f.wait ≡ o → Fits (absorbed o f fs e b)
-    by-absorbed None q = (meets-shows (wanted f.wait) k (shape e) u.0 s, u.1)
+    by-absorbed None q = ((meets-shows (wanted f.wait) k (shape e) u.0 s, absorbs-no_step f.wait q), u.1)
     by-absorbed (Some w) q =
         let z : (w ≡ Wait.StepNext) × (makes f.wait ≡ Kind.Update) = absorbs-step f.wait w q in
         (ap is_due z.0, subst (λ l. Under fs l) (z.1 ∙ sym (ap makes z.0)) u.1)
@@ -101,9 +105,12 @@ complete-fits (f ∷ fs) k e b u s = by-absorbed (absorbs f.wait) refl
 form-shows : (k : Kind) (form : Form) (ps : Trees) (a : List Lexeme) → shows k (rough form) ≡ true → shows k (shape (built form ps a)) ≡ true
 form-shows k form ps a h = shows-form k form (place a) ps ∙ h
 
+expression-taken : (w : Wait) (form : Form) (ps : Trees) (a : List Lexeme) → shows Kind.Expression (rough form) ≡ true → meets (wanted w) Kind.Expression ≡ true → IsTaken w (built form ps a)
+expression-taken w form ps a h m = (meets-shows (wanted w) Kind.Expression _ m (form-shows Kind.Expression form ps a h), meets-no_step (wanted w) Kind.Expression m refl)
+
 led-fits : (l : Lead) (f : Frame) (fs : List Frame) (e : Tree) (b : List Lexeme) (t : Lexeme) → LeadsExpression l → meets (wanted f.wait) Kind.Expression ≡ true → Under fs (makes f.wait) → FitsNext (led l f fs e b t)
 led-fits (Lead.Push w) f fs e b t h m u = ready-fits w (e ∷ []) (b ++ t ∷ []) (f ∷ fs) (subst (λ k. Under (f ∷ fs) k) (sym h) (m, u))
-led-fits (Lead.Node form) f fs e b t h m u = (meets-shows (wanted f.wait) Kind.Expression _ m (form-shows Kind.Expression form (one e) (b ++ t ∷ []) h), u)
+led-fits (Lead.Node form) f fs e b t h m u = (expression-taken f.wait form (one e) (b ++ t ∷ []) h m, u)
 led-fits Lead.NoLead f fs e b t h m u = tt
 
 on-form-fits : (o : Option Form) (go : Form → Option State) → ((form : Form) → FitsNext (go form)) → FitsNext (on_form o go)
@@ -174,7 +181,7 @@ marked-fits (MarkMove.Close form) f fs t k u = complete-fits fs (makes f.wait) _
 marked-fits MarkMove.Refused f fs t k u = ended-fits (endable f.wait (Some t.kind)) f fs t u
 
 begun-fits : (s : Start) (f : Frame) (fs : List Frame) (t : Lexeme) → BeginsExpression s → (begins_something s ≡ true → meets (wanted f.wait) Kind.Expression ≡ true) → Under fs (makes f.wait) → FitsNext (begun s f fs t)
-begun-fits (Start.Leaf form) f fs t k m u = (meets-shows (wanted f.wait) Kind.Expression _ (m refl) (form-shows Kind.Expression form Nil (t ∷ []) k), u)
+begun-fits (Start.Leaf form) f fs t k m u = (expression-taken f.wait form Nil (t ∷ []) k (m refl), u)
 begun-fits (Start.Push w) f fs t k m u = ready-fits w [] (t ∷ []) (f ∷ fs) (subst (λ l. Under (f ∷ fs) l) (sym k) (m refl, u))
 begun-fits (Start.PushLeaf form w) f fs t k m u = ready-fits w (built form Nil (t ∷ []) ∷ []) (t ∷ []) (f ∷ fs) (subst (λ l. Under (f ∷ fs) l) (sym k) (m refl, u))
 begun-fits (Start.Hand h) f fs t k m u = ready-fits (Wait.Handing h t) [] [] (f ∷ fs) (m refl, u)

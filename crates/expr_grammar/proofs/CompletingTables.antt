@@ -233,3 +233,10 @@ pub absorbs-step : (w u : Wait) → absorbs w ≡ Some u → (u ≡ Wait.StepNex
 absorbs-step Wait.StepFirst u h = (cc, refl)
 absorbs-step Wait.StepNext u h = (cc, refl)
 absorbs-step _ u h = cc
+
+pub absorbs-no_step : (w : Wait) → absorbs w ≡ None → meets (wanted w) Kind.Step ≡ false
+absorbs-no_step Wait.StepFirst h = cc
+absorbs-no_step Wait.StepNext h = cc
+absorbs-no_step (Wait.Handing Handed.Segment t) h = refl
+absorbs-no_step (Wait.Handing Handed.Definition t) h = refl
+absorbs-no_step _ h = refl

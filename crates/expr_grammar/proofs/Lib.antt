@@ -19,3 +19,4 @@ mod CompletingStates
 mod CompletingParts
 mod CompletingFrames
 mod CompletingMarks
+mod Completing

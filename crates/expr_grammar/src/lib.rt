@@ -8,13 +8,13 @@
 mod tables;
 mod wait;
 
-ghost use Rattle.std.specs.Prelude.{◌≡◌, ℕ, List, Option, Some, None};
+ghost use Rattle.std.specs.Prelude.{◌≡◌, ℕ, List, ◌++◌, Option, Some, None};
 ghost use Rattle.tla_symbols.specs.declared.lexeme.Lexeme.{Lexeme};
 ghost use Rattle.tla_tree.specs.Syntax.{Tree};
 ghost use Rattle.tla_tree.specs.FirstBad.{DerivesWhole, Begins};
 ghost use Rattle.tla_tree.specs.Derivation.{Derives};
 ghost use Rattle.expr_grammar.specs.Following.{IsQuietNext};
-ghost use Rattle.expr_grammar.specs.Machine.{run, start, parse};
+ghost use Rattle.expr_grammar.specs.Machine.{State, run, start, parse};
 
 pub use tables::{after_brace, goes_on, is_bullet, role, starts_expression};
 pub use wait::{
@@ -34,6 +34,11 @@ pub fn one_tree()
 /// Where the machine refuses, no derivable list begins with the lexemes so far.
 pub fn refuses_no_beginning()
     ensures { (lexemes : List Lexeme) → run (Some start) lexemes ≡ None → Begins lexemes → ⊥ }
+{}
+
+/// Where the machine has not refused, some lexemes complete those so far to a list that it accepts.
+pub fn unrefused_completes()
+    ensures { (lexemes : List Lexeme) → (state : State) → run (Some start) lexemes ≡ Some state → (rest : List Lexeme) × (tree : Tree) × (parse (lexemes ++ rest) ≡ Some tree) }
 {}
 
 /// An expression stays one, by the same tree, before the end and before each lexeme that is no
