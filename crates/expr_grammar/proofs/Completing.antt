@@ -1,5 +1,5 @@
 -- Where the machine has not refused, some lexemes complete what it has read.
-use Rattle.std.proofs.Common.{◌≡◌, ℕ, ◌≤◌, Bool, true, false, List, [], ◌∷◌, ◌++◌, Option, Some, None, refl, ap, sym, subst, ◌∙◌, arith}
+use Rattle.std.proofs.Common.{◌≡◌, ℕ, ◌≤◌, true, List, [], ◌∷◌, ◌++◌, Some, refl, ap, subst, ◌∙◌, arith}
 use Rattle.tla_symbols.specs.declared.lexeme.LexKind.{LexKind}
 use Rattle.tla_symbols.specs.declared.lexeme.Mark.TheVariants as Mark
 use Rattle.tla_symbols.specs.declared.lexeme.Lexeme.{Lexeme}
@@ -14,7 +14,7 @@ use Rattle.expr_grammar.proofs.Complete.{run-append}
 use Rattle.expr_grammar.proofs.CompletingKinds as Kind
 use Rattle.expr_grammar.proofs.CompletingKinds.{makes, wanted, meets-shows, meets-no_step}
 use Rattle.expr_grammar.proofs.CompletingTables.{operand-wanted, subscript-wanted}
-use Rattle.expr_grammar.proofs.CompletingStates.{Under, IsTaken, is_due, Fits, FitsNext, run-fits, start-fits}
+use Rattle.expr_grammar.proofs.CompletingStates.{Under, is_due, Fits, FitsNext, run-fits, start-fits}
 use Rattle.expr_grammar.proofs.CompletingParts.{lexeme, Completion, first, operand}
 use Rattle.expr_grammar.proofs.CompletingMarks.{part-closes, above, room, closes-due, mark-due}
 

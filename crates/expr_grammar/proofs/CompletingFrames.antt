@@ -1,13 +1,11 @@
 -- Each frame has a completion round a part that it takes.
-use Rattle.std.proofs.Common.{◌≡◌, ℕ, ◌≤◌, ◌⊎◌, inl, inr, Bool, true, false, List, [], ◌∷◌, ◌++◌, Option, Some, None, refl, ap, sym, subst, ◌∙◌, arith}
-use Rattle.std.specs.Prelude.{cond, nat_lt}
+use Rattle.std.proofs.Common.{◌≡◌, ℕ, ◌≤◌, ◌⊎◌, inl, inr, Bool, true, false, List, [], ◌∷◌, Some, None, refl}
 use Rattle.tla_symbols.specs.declared.lexeme.LexKind.{LexKind}
 use Rattle.tla_symbols.specs.declared.lexeme.Word.TheVariants as Word
 use Rattle.tla_symbols.specs.declared.lexeme.Mark.TheVariants as Mark
-use Rattle.tla_symbols.specs.declared.op.Op.TheVariants as Op
 use Rattle.tla_symbols.specs.declared.lexeme.Lexeme.{Lexeme}
 use Rattle.tla_tree.specs.declared.form.Form.{Form}
-use Rattle.tla_tree.specs.Syntax.{Tree, Trees, Nil, trees}
+use Rattle.tla_tree.specs.Syntax.{Tree}
 use Rattle.expr_grammar.specs.declared.wait.Handed.TheVariants as Handed
 use Rattle.expr_grammar.specs.declared.wait.Wait.{Wait}
 use Rattle.expr_grammar.specs.declared.wait.PartMove.{PartMove}
@@ -15,12 +13,11 @@ use Rattle.expr_grammar.specs.declared.wait.Mode.TheVariants as Mode
 use Rattle.expr_grammar.specs.declared.wait.Conversion.{Conversion}
 use Rattle.expr_grammar.specs.declared.wait.Shape.{Shape}
 use Rattle.expr_grammar.specs.Kinds.{is_bang, is_always, is_comma}
-use Rattle.expr_grammar.specs.Tables.{mode, shape, is_expression, ends_with, finishes, after_expression, at_part}
-use Rattle.expr_grammar.specs.Machine.{Frame, frame, State, At, Have, inner, complete, step, finish, run}
-use Rattle.expr_grammar.proofs.CompletingKinds as Kind
-use Rattle.expr_grammar.proofs.CompletingKinds.{Kind, makes, wanted, meets, shows, rough, meets-shows}
+use Rattle.expr_grammar.specs.Tables.{mode, shape, is_expression, ends_with, after_expression, at_part}
+use Rattle.expr_grammar.specs.Machine.{Frame, frame, At, Have, inner}
+use Rattle.expr_grammar.proofs.CompletingKinds.{Kind, makes, wanted, meets, shows, rough}
 use Rattle.expr_grammar.proofs.CompletingStates.{Under}
-use Rattle.expr_grammar.proofs.CompletingParts.{lexeme, Completion, closes, Closing, Lands, Room, is_usual, lands-complete, first, ends_with_mark, goes_with_mark, marks, operand, ends_alone}
+use Rattle.expr_grammar.proofs.CompletingParts.{lexeme, Completion, closes, Closing, Room, is_usual, ends_with_mark, goes_with_mark, marks, operand, ends_alone}
 
 -- what may end with an expression asks for nothing else after it
 ends-refuses : (w : Wait) (form : Form) (sh : Shape) (t : Lexeme) → ends_with w ≡ Some form → after_expression w sh t ≡ PartMove.Refused

@@ -1,15 +1,14 @@
 -- Kinds of parts: which kind each frame makes, and which it takes.
-use Rattle.std.proofs.Common.{◌≡◌, Bool, true, false, List, [], ◌∷◌, refl}
+use Rattle.std.proofs.Common.{◌≡◌, Bool, true, false, refl}
 use Rattle.tla_tree.specs.declared.form.Form.{Form}
 use Rattle.tla_tree.specs.Forms.{helps}
-use Rattle.tla_tree.specs.Syntax.{Tree, Trees, Node, Nil, Cons}
+use Rattle.tla_tree.specs.Syntax.{Trees, Node, Nil, Cons}
 use Rattle.expr_grammar.specs.declared.wait.Binding.{Binding}
 use Rattle.expr_grammar.specs.declared.wait.Handed.TheVariants as Handed
 use Rattle.expr_grammar.specs.declared.wait.Mode.{Mode}
 use Rattle.expr_grammar.specs.declared.wait.Shape.{Shape}
 use Rattle.expr_grammar.specs.declared.wait.Wait.{Wait}
 use Rattle.expr_grammar.specs.Tables.{mode, plain_shape, infix_shape, shape_by, shape, is_expression}
-use Rattle.expr_grammar.specs.Machine.{Frame}
 use Rattle.expr_grammar.proofs.Starting.{plain-expression, member-expression}
 
 pub data Kind : Type 0 where

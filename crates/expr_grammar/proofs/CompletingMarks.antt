@@ -1,6 +1,5 @@
 -- Each frame that is due itself has a completion.
-use Rattle.std.proofs.Common.{◌≡◌, ℕ, ◌+◌, ◌≤◌, Bool, true, false, List, [], ◌∷◌, ◌++◌, Option, Some, None, refl, ap, sym, subst, ◌∙◌, arith}
-use Rattle.std.specs.Prelude.{cond}
+use Rattle.std.proofs.Common.{◌≡◌, ℕ, ◌+◌, ◌≤◌, Bool, true, false, List, [], ◌∷◌, ◌++◌, Option, Some, None, refl, ap, subst, ◌∙◌, arith}
 use Rattle.tla_symbols.specs.declared.lexeme.LexKind.{LexKind}
 use Rattle.tla_symbols.specs.declared.lexeme.Word.TheVariants as Word
 use Rattle.tla_symbols.specs.declared.lexeme.Mark.TheVariants as Mark
@@ -16,16 +15,15 @@ use Rattle.expr_grammar.specs.declared.wait.Mode.{Mode}
 use Rattle.expr_grammar.specs.declared.wait.Start.{Start}
 use Rattle.expr_grammar.specs.declared.wait.MarkMove.{MarkMove}
 use Rattle.expr_grammar.specs.declared.wait.Conversion.{Conversion}
-use Rattle.expr_grammar.specs.Kinds.{is_bang, is_with}
-use Rattle.expr_grammar.specs.Tables.{mode, child, list_of, begins, at_mark, endable, shape, is_expression, ends_with, at_part}
-use Rattle.expr_grammar.specs.Machine.{Frame, frame, State, At, Have, inner, complete, node, step, finish, finish_due, run}
+use Rattle.expr_grammar.specs.Kinds.{is_with}
+use Rattle.expr_grammar.specs.Tables.{mode, list_of, begins, at_mark, endable, shape, is_expression, ends_with}
+use Rattle.expr_grammar.specs.Machine.{Frame, frame, State, At, Have, inner, complete, node, step, finish, run}
 use Rattle.expr_grammar.proofs.Tabled.{head_by_mark}
 use Rattle.expr_grammar.proofs.Reading.{left-false, outside, ends-head}
-use Rattle.expr_grammar.proofs.CompletingKinds as Kind
 use Rattle.expr_grammar.proofs.CompletingKinds.{Kind, binds, makes, wanted, meets, shows, rough, shows-form, meets-shows, meets-no_step}
-use Rattle.expr_grammar.proofs.CompletingTables.{to_bound, operand-wanted, subscript-wanted}
-use Rattle.expr_grammar.proofs.CompletingStates.{Under, Fits, is_due, grown}
-use Rattle.expr_grammar.proofs.CompletingParts.{lexeme, Completion, closes, BeginsClosing, Closing, Lands, Room, is_usual, usual-lands, closed, first, marks, operand}
+use Rattle.expr_grammar.proofs.CompletingTables.{to_bound}
+use Rattle.expr_grammar.proofs.CompletingStates.{Under, is_due, grown}
+use Rattle.expr_grammar.proofs.CompletingParts.{lexeme, Completion, closes, BeginsClosing, Closing, Lands, Room, is_usual, usual-lands, closed, first, marks}
 use Rattle.expr_grammar.proofs.CompletingFrames.{ends-round-expression, ends-round-instance, ends_with_body, closes_with_mark, goes-on, closes-no_bang}
 
 -- a frame round a part that it takes

@@ -1,29 +1,23 @@
 -- Lexemes that complete the frames round a part.
 --
 -- All of them stand right of each list's bullet. Numbers are the operands, since they end at once.
-use Rattle.std.proofs.Common.{◌≡◌, ℕ, ◌≤◌, ◌⊎◌, inl, inr, Bool, true, false, List, [], ◌∷◌, ◌++◌, Option, Some, None, refl, ap, sym, subst, ◌∙◌, arith}
-use Rattle.std.specs.Prelude.{cond, nat_lt}
+use Rattle.std.proofs.Common.{◌≡◌, ℕ, ◌≤◌, Bool, true, false, List, [], ◌∷◌, ◌++◌, Some, None, refl, ap, sym, ◌∙◌, arith}
 use Rattle.tla_symbols.specs.declared.lexeme.LexKind.{LexKind}
 use Rattle.tla_symbols.specs.declared.lexeme.Word.{Word}
 use Rattle.tla_symbols.specs.declared.lexeme.Mark.{Mark}
-use Rattle.tla_symbols.specs.declared.op.Op.TheVariants as Op
 use Rattle.tla_symbols.specs.declared.lexeme.Lexeme.{Lexeme}
 use Rattle.tla_tree.specs.declared.form.Form.{Form}
 use Rattle.tla_tree.specs.Syntax.{Tree, Trees, Nil, trees}
 use Rattle.tla_tree.specs.Lexemes.{place, built}
-use Rattle.expr_grammar.specs.declared.wait.Handed.TheVariants as Handed
 use Rattle.expr_grammar.specs.declared.wait.Mode.TheVariants as Mode
 use Rattle.expr_grammar.specs.declared.wait.Wait.{Wait}
-use Rattle.expr_grammar.specs.declared.wait.Start.{Start}
 use Rattle.expr_grammar.specs.declared.wait.PartMove.{PartMove}
 use Rattle.expr_grammar.specs.declared.wait.Conversion.{Conversion}
-use Rattle.expr_grammar.specs.declared.wait.Shape.{Shape}
-use Rattle.expr_grammar.specs.Tables.{mode, list_of, begins, absorbs, role, shape, is_expression, converted, ends_with, finishes, after_expression, at_part}
-use Rattle.expr_grammar.specs.Machine.{Frame, frame, State, At, Have, inside, inner, ready, complete, absorbed, node_with, moved, part_step, is_operator, within, have, begun, step, run, finish}
+use Rattle.expr_grammar.specs.Tables.{mode, begins, absorbs, role, shape, is_expression, converted, finishes, at_part}
+use Rattle.expr_grammar.specs.Machine.{Frame, frame, State, At, Have, inner, ready, complete, absorbed, node_with, moved, part_step, is_operator, begun, step, run, finish}
 use Rattle.expr_grammar.proofs.Tabled.{by_mark, at_end}
-use Rattle.expr_grammar.proofs.Reading.{left-false, outside, have-within, ends-round, finishes-round}
-use Rattle.expr_grammar.proofs.CompletingKinds as Kind
-use Rattle.expr_grammar.proofs.CompletingKinds.{Kind, makes, wanted, meets, shows, rough, shows-form, meets-shows}
+use Rattle.expr_grammar.proofs.Reading.{left-false, have-within, ends-round, finishes-round}
+use Rattle.expr_grammar.proofs.CompletingKinds.{Kind, makes, wanted, meets, shows, rough, shows-form}
 use Rattle.expr_grammar.proofs.CompletingStates.{Under}
 
 -- a lexeme of a completion

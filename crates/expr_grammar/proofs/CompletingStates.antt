@@ -1,8 +1,7 @@
 -- Each state that the machine reaches fits: each frame makes a part that the frame below it takes.
-use Rattle.std.proofs.Common.{◌≡◌, ℕ, Bool, true, false, List, [], ◌∷◌, ◌++◌, Option, Some, None, refl, ap, sym, subst, ◌∙◌}
+use Rattle.std.proofs.Common.{◌≡◌, Bool, true, false, List, [], ◌∷◌, ◌++◌, Option, Some, None, refl, ap, sym, subst, ◌∙◌}
 use Rattle.std.specs.Prelude.{cond, is_none, nat_lt}
 use Rattle.tla_symbols.specs.declared.lexeme.Lexeme.{Lexeme}
-use Rattle.tla_symbols.specs.declared.lexeme.LexKind.{LexKind}
 use Rattle.tla_tree.specs.declared.form.Form.{Form}
 use Rattle.tla_tree.specs.Syntax.{Tree, Trees, Nil, trees}
 use Rattle.tla_tree.specs.Lexemes.{place, built, one}
@@ -15,8 +14,7 @@ use Rattle.expr_grammar.specs.declared.wait.PartMove.{PartMove}
 use Rattle.expr_grammar.specs.declared.wait.Lead.{Lead}
 use Rattle.expr_grammar.specs.Kinds.{is_name}
 use Rattle.expr_grammar.specs.Tables.{mode, child, list_of, goes_on, begins, at_mark, endable, absorbs, role, edge_of, lead, takes, choice, shape, is_expression, converted, finishes, at_part}
-use Rattle.expr_grammar.specs.Machine.{Frame, frame, State, At, Have, inner, ready, complete, absorbed, node, node_with, led, on_form, act, operator_step, moved, part_step, is_operator, within, on_bullet, leave, have, ended, marked, begun, due, step, run, start}
-use Rattle.expr_grammar.proofs.CompletingKinds as Kind
+use Rattle.expr_grammar.specs.Machine.{Frame, frame, State, At, Have, inner, ready, complete, absorbed, node, node_with, led, on_form, act, operator_step, moved, part_step, is_operator, within, on_bullet, leave, have, ended, marked, begun, step, run, start}
 use Rattle.expr_grammar.proofs.CompletingKinds.{Kind, makes, wanted, meets, shows, rough, shows-form, meets-shows, meets-no_step}
 use Rattle.expr_grammar.proofs.CompletingTables.{takes_sets, Grows, same, to_bound, KeepsMark, mark-kept, KeepsPart, part-kept, BeginsExpression, begins-kept, begins_something, begins-wanted, waits-wanted, LeadsExpression, leads-kept, takes-factor, absorbs-step, absorbs-no_step}
 

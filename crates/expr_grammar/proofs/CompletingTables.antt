@@ -1,13 +1,12 @@
 -- The tables keep the kinds: what a frame becomes makes the same kind, or a bound where names with a set are taken too.
-use Rattle.std.proofs.Common.{◌≡◌, Bool, true, false, Option, Some, None, refl, ap, ◌∙◌}
-use Rattle.std.specs.Prelude.{cond, is_some}
+use Rattle.std.proofs.Common.{◌≡◌, Bool, true, false, Option, Some, None, refl}
+use Rattle.std.specs.Prelude.{cond}
 use Rattle.tla_symbols.specs.declared.op.Op.{Op}
 use Rattle.tla_symbols.specs.declared.place.Fix.TheVariants as Fix
 use Rattle.tla_symbols.specs.declared.lexeme.LexKind.{LexKind}
 use Rattle.tla_symbols.specs.declared.lexeme.Word.{Word}
 use Rattle.tla_symbols.specs.declared.lexeme.Mark.{Mark}
 use Rattle.tla_symbols.specs.declared.lexeme.Lexeme.{Lexeme}
-use Rattle.tla_symbols.specs.Symbols.{range_of}
 use Rattle.tla_tree.specs.declared.form.Form.{Form}
 use Rattle.expr_grammar.specs.declared.wait.Binding.TheVariants as Binding
 use Rattle.expr_grammar.specs.declared.wait.Handed.TheVariants as Handed
@@ -16,15 +15,12 @@ use Rattle.expr_grammar.specs.declared.wait.Mode.{Mode}
 use Rattle.expr_grammar.specs.declared.wait.Start.{Start}
 use Rattle.expr_grammar.specs.declared.wait.MarkMove.{MarkMove}
 use Rattle.expr_grammar.specs.declared.wait.PartMove.{PartMove}
-use Rattle.expr_grammar.specs.declared.wait.Conversion.{Conversion}
 use Rattle.expr_grammar.specs.declared.wait.Role.{Role}
 use Rattle.expr_grammar.specs.declared.wait.Lead.{Lead}
 use Rattle.expr_grammar.specs.declared.wait.Shape.{Shape}
-use Rattle.expr_grammar.specs.Kinds.{is_name, is_define, is_arrow, is_left_arrow, is_maps_to, is_comma, is_colon, is_bang, is_left_paren, is_right_paren, is_left_bracket, is_right_bracket, is_right_bracket_subscript, is_right_brace, is_left_angle, is_right_angle, is_right_angle_subscript, is_underscore, is_dot, is_except, is_in_word, is_then, is_else, is_other, is_instance, is_with, is_member, is_always, is_equal, is_negative}
 use Rattle.expr_grammar.specs.Tables.{mode, start_kind, subscript_kind, begins, if_move, at_mark, is_expression, finishes, if_goes, in_square, after_expression, after_part, or_finish, at_part, choice, lead_infix, lead, takes, absorbs}
 use Rattle.tla_tree.specs.Edges.{Edge}
 use Rattle.precedence.specs.declared.Choice.TheVariants as Choice
-use Rattle.expr_grammar.proofs.CompletingKinds as Kind
 use Rattle.expr_grammar.proofs.CompletingKinds.{Kind, makes, wanted, meets, shows, rough}
 
 abbrev pub takes_sets : Kind → Bool
