@@ -20,3 +20,4 @@ mod CompletingParts
 mod CompletingFrames
 mod CompletingMarks
 mod Completing
+mod Counting

@@ -8,12 +8,13 @@
 mod tables;
 mod wait;
 
-ghost use Rattle.std.specs.Prelude.{◌≡◌, ℕ, List, ◌++◌, Option, Some, None};
+ghost use Rattle.std.specs.Prelude.{◌≡◌, ℕ, ◌*◌, ◌≤◌, List, ◌++◌, length, Option, Some, None};
 ghost use Rattle.tla_symbols.specs.declared.lexeme.Lexeme.{Lexeme};
 ghost use Rattle.tla_tree.specs.Syntax.{Tree};
 ghost use Rattle.tla_tree.specs.FirstBad.{DerivesWhole, Begins};
 ghost use Rattle.tla_tree.specs.Derivation.{Derives};
 ghost use Rattle.expr_grammar.specs.Following.{IsQuietNext};
+ghost use Rattle.expr_grammar.specs.Counting.{nodes};
 ghost use Rattle.expr_grammar.specs.Machine.{State, run, start, parse};
 
 pub use tables::{after_brace, goes_on, is_bullet, role, starts_expression};
@@ -45,4 +46,9 @@ pub fn unrefused_completes()
 /// operator, no bullet and no `[]`.
 pub fn ends_before_quiet()
     ensures { (tree : Tree) → (lexemes : List Lexeme) → (inner : ℕ) → (follows next : Option Lexeme) → Derives tree lexemes inner follows → IsQuietNext next → Derives tree lexemes inner next }
+{}
+
+/// A tree has at most two nodes for each of its lexemes.
+pub fn few_nodes()
+    ensures { (tree : Tree) → (lexemes : List Lexeme) → DerivesWhole tree lexemes → nodes tree ≤ 2 * length lexemes }
 {}
