@@ -1,10 +1,10 @@
 -- A tree has at most two nodes for each of its lexemes.
-use Rattle.std.proofs.Common.{◌≡◌, ℕ, suc, ◌+◌, ◌*◌, ◌≤◌, List, [], ◌∷◌, ◌++◌, Option, length, refl, arith, length-append}
+use Rattle.std.proofs.Common.{◌≡◌, ℕ, suc, ◌+◌, ◌*◌, ◌≤◌, List, [], ◌∷◌, ◌++◌, Option, length, arith, length-append}
 use Rattle.tla_symbols.specs.declared.lexeme.Lexeme.{Lexeme}
 use Rattle.tla_symbols.specs.declared.lexeme.Mark.{Mark}
 use Rattle.tla_tree.specs.declared.form.Form.{Form}
 use Rattle.tla_tree.specs.Syntax.{Tree, Trees, Nil, Cons}
-use Rattle.tla_tree.specs.Lexemes.{one, then}
+use Rattle.tla_tree.specs.Lexemes.{then}
 use Rattle.tla_tree.specs.Headings.{DerivesNameList, last_name, more_names, DerivesNames, names, DerivesTupleNames, tuple_names, DerivesBinder, binder_name, binder_tuple, DerivesParameter, plain, of_places, prefix_symbol, infix_symbol, postfix_symbol, DerivesParameters, last_parameter, more_parameters, DerivesHead, constant, with_parameters}
 use Rattle.tla_tree.specs.Derivation.{Derives, node, Spells, identifier, number, text, at, prefixed, infixed, postfixed, products, parentheses, quantifier, bounded_quantifier, temporal_quantifier, choose, bounded_choose, empty_set, set, set_filter, set_image, application, function, function_set, record_of, record_set, field, except, empty_tuple, tuple, square, angle, fairness, if_then_else, case, let_in, junctions, DerivesList, last, more, DerivesFactors, last_factor, more_factors, DerivesSegments, last_segment, more_segments, DerivesSegment, bare, applied, DerivesArguments, last_argument, more_arguments, DerivesArgument, expression, passed, DerivesBound, bound, tuple_bound, DerivesBounds, last_bound, more_bounds, DerivesField, named, DerivesFields, last_field, more_fields, DerivesUpdate, update, DerivesUpdates, last_update, more_updates, DerivesStep, field_step, index_step, DerivesSteps, last_step, more_steps, DerivesArms, last_arm, other_arm, more_arms, DerivesArm, arm, DerivesItems, last_item, more_items, DerivesDefinitions, last_definition, more_definitions, DerivesDefinition, operator, prefix_operator, infix_operator, postfix_operator, function_of, module_of, DerivesInstance, without, with_replacements, DerivesReplacements, last_replacement, more_replacements, DerivesReplacement, replaced, replaced_by_symbol}
 use Rattle.expr_grammar.specs.Counting.{nodes, all_nodes}
