@@ -21,3 +21,4 @@ mod CompletingFrames
 mod CompletingMarks
 mod Completing
 mod Counting
+mod Making
