@@ -9,7 +9,7 @@ use Rattle.tla_tree.specs.Headings.{DerivesNameList, last_name, more_names, Deri
 use Rattle.tla_tree.specs.Derivation.{Derives, node, Spells, identifier, number, text, at, prefixed, infixed, postfixed, products, parentheses, quantifier, bounded_quantifier, temporal_quantifier, choose, bounded_choose, empty_set, set, set_filter, set_image, application, function, function_set, record_of, record_set, field, except, empty_tuple, tuple, square, angle, fairness, if_then_else, case, let_in, junctions, DerivesList, last, more, DerivesFactors, last_factor, more_factors, DerivesSegments, last_segment, more_segments, DerivesSegment, bare, applied, DerivesArguments, last_argument, more_arguments, DerivesArgument, expression, passed, DerivesBound, bound, tuple_bound, DerivesBounds, last_bound, more_bounds, DerivesField, named, DerivesFields, last_field, more_fields, DerivesUpdate, update, DerivesUpdates, last_update, more_updates, DerivesStep, field_step, index_step, DerivesSteps, last_step, more_steps, DerivesArms, last_arm, other_arm, more_arms, DerivesArm, arm, DerivesItems, last_item, more_items, DerivesDefinitions, last_definition, more_definitions, DerivesDefinition, operator, prefix_operator, infix_operator, postfix_operator, function_of, module_of, DerivesInstance, without, with_replacements, DerivesReplacements, last_replacement, more_replacements, DerivesReplacement, replaced, replaced_by_symbol}
 use Rattle.expr_grammar.specs.Counting.{nodes, all_nodes}
 
-nodes-then : (xs : Trees) (x : Tree) → all_nodes (then xs x) ≡ all_nodes xs + nodes x
+pub nodes-then : (xs : Trees) (x : Tree) → all_nodes (then xs x) ≡ all_nodes xs + nodes x
 nodes-then Nil x = omega arith
 nodes-then (Cons y xs) x = omega (arith, nodes-then xs x)
 

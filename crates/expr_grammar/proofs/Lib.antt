@@ -21,4 +21,7 @@ mod CompletingFrames
 mod CompletingMarks
 mod Completing
 mod Counting
-mod Making
+mod CountingMade
+mod CountingHeld
+mod CountingSamples
+mod CompletingFirst

@@ -14,7 +14,7 @@ ghost use Rattle.tla_tree.specs.Syntax.{Tree};
 ghost use Rattle.tla_tree.specs.FirstBad.{DerivesWhole, Begins};
 ghost use Rattle.tla_tree.specs.Derivation.{Derives};
 ghost use Rattle.expr_grammar.specs.Following.{IsQuietNext};
-ghost use Rattle.expr_grammar.specs.Counting.{nodes};
+ghost use Rattle.expr_grammar.specs.Counting.{nodes, made};
 ghost use Rattle.expr_grammar.specs.Machine.{State, run, start, parse};
 
 pub use tables::{after_brace, goes_on, is_bullet, role, starts_expression};
@@ -51,4 +51,11 @@ pub fn ends_before_quiet()
 /// A tree has at most two nodes for each of its lexemes.
 pub fn few_nodes()
     ensures { (tree : Tree) → (lexemes : List Lexeme) → DerivesWhole tree lexemes → nodes tree ≤ 2 * length lexemes }
+{}
+
+/// The machine makes at most eight nodes for each lexeme, those that it drops included, whether it
+/// refuses or not. The nodes of a tree that it finds are among them.
+pub fn few_made()
+    ensures few { (lexemes : List Lexeme) → made lexemes ≤ 8 * length lexemes }
+    ensures counted { (tree : Tree) → (lexemes : List Lexeme) → parse lexemes ≡ Some tree → nodes tree ≤ made lexemes }
 {}
