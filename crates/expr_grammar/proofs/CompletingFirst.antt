@@ -1,5 +1,5 @@
 -- The machine refuses exactly at the first bad lexeme, where what it accepts is derivable.
-use Rattle.std.proofs.Common.{◌≡◌, ℕ, ◌+◌, List, ◌++◌, take, drop, Option, Some, None, sym, ap, subst, ◌∙◌}
+use Rattle.std.proofs.Common.{◌≡◌, ℕ, ◌+◌, List, ◌++◌, take, drop, Some, None, sym, subst}
 use Rattle.std.proofs.lemmas.List.{take-append-drop}
 use Rattle.tla_symbols.specs.declared.lexeme.Lexeme.{Lexeme}
 use Rattle.tla_tree.specs.Syntax.{Tree}

@@ -1,10 +1,10 @@
 -- The nodes of the tree that the machine finds are among those that it made.
-use Rattle.std.proofs.Common.{◌≡◌, ℕ, suc, ◌+◌, ◌≤◌, Bool, true, false, List, [], ◌∷◌, ◌++◌, Option, Some, None, refl, ap, sym, ◌∙◌, arith}
+use Rattle.std.proofs.Common.{◌≡◌, ℕ, suc, ◌+◌, ◌≤◌, Bool, true, false, List, [], ◌∷◌, ◌++◌, Option, Some, None, refl, ap, arith}
 use Rattle.std.specs.Prelude.{cond, nat_lt}
 use Rattle.tla_symbols.specs.declared.lexeme.Lexeme.{Lexeme}
 use Rattle.tla_tree.specs.declared.form.Form.{Form}
 use Rattle.tla_tree.specs.Syntax.{Tree, Trees, Node, Nil, Cons, trees}
-use Rattle.tla_tree.specs.Lexemes.{built, one, then}
+use Rattle.tla_tree.specs.Lexemes.{built}
 use Rattle.precedence.specs.declared.Choice.{Choice}
 use Rattle.expr_grammar.specs.declared.wait.Conversion.{Conversion}
 use Rattle.expr_grammar.specs.declared.wait.Lead.{Lead}
@@ -13,7 +13,7 @@ use Rattle.expr_grammar.specs.declared.wait.PartMove.{PartMove}
 use Rattle.expr_grammar.specs.declared.wait.Start.{Start}
 use Rattle.expr_grammar.specs.declared.wait.Wait.{Wait}
 use Rattle.expr_grammar.specs.Tables.{mode, Child, child, list_of, goes_on, begins, at_mark, endable, absorbs, role, edge_of, lead, takes, choice, shape, is_expression, name_of, names_of, bound_of, converted, finishes, at_part}
-use Rattle.expr_grammar.specs.Machine.{Frame, frame, State, At, Have, inner, with_child, entry, ready, node, node_with, absorbed, complete, led, on_form, on_tree, act, operator_step, moved, part_step, is_operator, within, on_bullet, leave, have, ended, marked, begun, step, run, start, close_all, finish_due, finish, parse}
+use Rattle.expr_grammar.specs.Machine.{Frame, frame, State, At, Have, inner, with_child, entry, ready, node, node_with, absorbed, complete, led, on_form, on_tree, act, operator_step, moved, part_step, is_operator, within, on_bullet, leave, have, ended, marked, begun, step, run, start, close_all, finish, parse}
 use Rattle.expr_grammar.specs.Counting.{nodes, all_nodes, made_name, made_names, made_bound, made_converted, made_led, made_ending, made_choice, made_operator, made_move, made_part, made_within, made_bullet, made_leave, made_have, made_ended, made_mark, made_begun, made_step, made_run, made_close, made_finish, made}
 use Rattle.expr_grammar.proofs.Counting.{nodes-then}
 
