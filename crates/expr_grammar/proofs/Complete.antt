@@ -20,11 +20,11 @@ one-tree tree other lexemes d e =
     let b : parse lexemes ≡ Some other = derives-parses other lexemes e in
     cc
 
-run-none : (lexemes : List Lexeme) → run None lexemes ≡ None
+pub run-none : (lexemes : List Lexeme) → run None lexemes ≡ None
 run-none [] = refl
 run-none (t ∷ lexemes) = refl
 
-run-append : (lexemes rest : List Lexeme) (o : Option State) → run o (lexemes ++ rest) ≡ run (run o lexemes) rest
+pub run-append : (lexemes rest : List Lexeme) (o : Option State) → run o (lexemes ++ rest) ≡ run (run o lexemes) rest
 run-append [] rest o = refl
 run-append (t ∷ lexemes) rest None = sym (run-none rest)
 run-append (t ∷ lexemes) rest (Some st) = run-append lexemes rest (step st t)

@@ -22,3 +22,15 @@ mod Ending
 mod Joining
 mod Sounding
 mod Heading
+mod CompletingKinds
+mod CompletingTables
+mod CompletingStates
+mod CompletingParts
+mod CompletingFrames
+mod CompletingMarks
+mod Completing
+mod Counting
+mod CountingMade
+mod CountingHeld
+mod CountingSamples
+mod CompletingFirst

@@ -117,7 +117,7 @@ opened (headed {v = v} {ps = ps} {a = a} form p e) fs = At (frame v ps a ∷ fs)
 opened (finished {v = v} {ps = ps} {a = a} form p d k n e) fs = opened d (frame v ps a ∷ fs)
 
 -- a frame ends round its last part
-ends-round : (v : Wait) (ps : List Tree) (a : List Lexeme) (x : Tree) (b : List Lexeme) (form : Form) (fs : List Frame) (n : Lexeme) → Ends v x (inner fs) form (Some n) → have (frame v ps a ∷ fs) x b n ≡ have fs (built form (trees (ps ++ x ∷ [])) (a ++ b)) (a ++ b) n
+pub ends-round : (v : Wait) (ps : List Tree) (a : List Lexeme) (x : Tree) (b : List Lexeme) (form : Form) (fs : List Frame) (n : Lexeme) → Ends v x (inner fs) form (Some n) → have (frame v ps a ∷ fs) x b n ≡ have fs (built form (trees (ps ++ x ∷ [])) (a ++ b)) (a ++ b) n
 ends-round v ps a x b form fs n (by_column f l k) =
     let s : on_bullet (cond (is_expression (shape x)) (list_of v) None) (frame v ps a) fs x b n (have fs (built form (trees (ps ++ x ∷ [])) (a ++ b)) (a ++ b) n) ≡ have fs (built form (trees (ps ++ x ∷ [])) (a ++ b)) (a ++ b) n =
     no-bullet (is_expression (shape x)) (list_of v) (frame v ps a) fs x b n _ k
@@ -141,7 +141,7 @@ ends-round v ps a x b form fs n (by_operator l r k c f) =
     let q : within fs e (a ++ b) n ≡ operator_step fs e (a ++ b) n = rw r in
     have-within (frame v ps a ∷ fs) x b n l ∙ (p ∙ sym (have-within fs e (a ++ b) n i ∙ q))
 
-ends-head : (v : Wait) (ps : List Tree) (a : List Lexeme) (form : Form) (fs : List Frame) (n : Lexeme) → EndsHead v (inner fs) form (Some n) → step (At (frame v ps a ∷ fs)) n ≡ have fs (built form (trees ps) a) a n
+pub ends-head : (v : Wait) (ps : List Tree) (a : List Lexeme) (form : Form) (fs : List Frame) (n : Lexeme) → EndsHead v (inner fs) form (Some n) → step (At (frame v ps a ∷ fs)) n ≡ have fs (built form (trees ps) a) a n
 ends-head v ps a form fs n (head_by_column f l) = rw (left-true n.col (inner (frame v ps a ∷ fs)) l, f)
 ends-head v ps a form fs n (head_by_mark l h m f) = rw (left-false n.col (inner (frame v ps a ∷ fs)) l, h, m, f)
 
@@ -537,7 +537,7 @@ mutual
       ∙ onward rest (ap (λ z. moved z (frame (Wait.SquareFirst flag) qs c) fs x b t (λ g. part_step fs (node_with g (frame (Wait.SquareFirst flag) qs c) x b) (c ++ b) t)) m))
 
 -- at the end
-finishes-round : (v : Wait) (ps : List Tree) (a : List Lexeme) (x : Tree) (b : List Lexeme) (w : Wait) (qs : List Tree) (c : List Lexeme) (fs : List Frame) (form : Form) (i : ℕ) → Ends v x i form None → close_all (frame v ps a ∷ frame w qs c ∷ fs) x b ≡ close_all (frame w qs c ∷ fs) (built form (trees (ps ++ x ∷ [])) (a ++ b)) (a ++ b)
+pub finishes-round : (v : Wait) (ps : List Tree) (a : List Lexeme) (x : Tree) (b : List Lexeme) (w : Wait) (qs : List Tree) (c : List Lexeme) (fs : List Frame) (form : Form) (i : ℕ) → Ends v x i form None → close_all (frame v ps a ∷ frame w qs c ∷ fs) x b ≡ close_all (frame w qs c ∷ fs) (built form (trees (ps ++ x ∷ [])) (a ++ b)) (a ++ b)
 finishes-round v ps a x b w qs c fs form i (at_end f) = rw f
 
 opened-finish : {w : Wait} {x : Tree} {a : List Lexeme} {i : ℕ} {o : Option Lexeme} (d : Part w x a i o) (qs : List Tree) (c : List Lexeme) (fs : List Frame) → o ≡ None → absorbs w ≡ None → finish (Some (opened d (frame w qs c ∷ fs))) ≡ close_all (frame w qs c ∷ fs) x a

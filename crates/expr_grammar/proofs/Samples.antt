@@ -8,7 +8,7 @@ use Rattle.tla_symbols.specs.declared.lexeme.Lexeme.{Lexeme}
 use Rattle.precedence.specs.Choices.{meets, joins, same_edge, same_op, op_number, fix_number, choose}
 use Rattle.expr_grammar.specs.Machine.{run, start, parse}
 
-abbrev lexeme : LexKind → ℕ → ℕ → ℕ → Lexeme
+abbrev pub lexeme : LexKind → ℕ → ℕ → ℕ → Lexeme
 lexeme kind from to col = record { kind = kind; span = record { start = from; end = to }; line = 0; col = col }
 
 -- a + ~b = c

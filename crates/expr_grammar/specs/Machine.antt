@@ -1,5 +1,5 @@
 -- The machine: a stack of frames, each with the parts and the lexemes that it has read.
-use Rattle.std.specs.Prelude.{ℕ, suc, max, nat_lt, Bool, true, false, cond, List, [], ◌∷◌, ◌++◌, Option, Some, None}
+use Rattle.std.specs.Prelude.{◌≡◌, ℕ, suc, ◌+◌, take, max, nat_lt, Bool, true, false, cond, List, [], ◌∷◌, ◌++◌, Option, Some, None}
 use Rattle.tla_symbols.specs.declared.lexeme.Lexeme.{Lexeme}
 use Rattle.tla_tree.specs.declared.form.Form.{Form}
 use Rattle.tla_tree.specs.Syntax.{Tree, Trees, Nil, trees}
@@ -228,3 +228,9 @@ finish_bounds (Some (Have fs e b)) = close_bounds fs e b
 
 abbrev pub parse_bounds : List Lexeme → Option Trees
 parse_bounds ts = finish_bounds (run (Some start_bounds) ts)
+
+-- it reads the lexemes before this one, and not this one
+pub record RefusesAt (lexemes : List Lexeme) (index : ℕ) : Type 0 where
+  pub state : State
+  pub reads : run (Some start) (take index lexemes) ≡ Some state
+  pub refuses : run (Some start) (take (index + 1) lexemes) ≡ None

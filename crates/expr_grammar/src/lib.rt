@@ -8,13 +8,14 @@
 mod tables;
 mod wait;
 
-ghost use Rattle.std.specs.Prelude.{◌≡◌, ℕ, List, Option, Some, None};
+ghost use Rattle.std.specs.Prelude.{◌≡◌, ℕ, ◌*◌, ◌≤◌, List, ◌++◌, length, Option, Some, None};
 ghost use Rattle.tla_symbols.specs.declared.lexeme.Lexeme.{Lexeme};
 ghost use Rattle.tla_tree.specs.Syntax.{Tree, Trees};
-ghost use Rattle.tla_tree.specs.FirstBad.{DerivesWhole, Begins};
+ghost use Rattle.tla_tree.specs.FirstBad.{DerivesWhole, Begins, IsFirstBad};
 ghost use Rattle.tla_tree.specs.Derivation.{Derives, DerivesBounds};
 ghost use Rattle.expr_grammar.specs.Following.{IsQuietNext};
-ghost use Rattle.expr_grammar.specs.Machine.{run, start, parse, parse_bounds};
+ghost use Rattle.expr_grammar.specs.Counting.{nodes, made};
+ghost use Rattle.expr_grammar.specs.Machine.{State, run, start, parse, parse_bounds, RefusesAt};
 
 pub use tables::{after_brace, goes_on, is_bullet, role, starts_expression};
 pub use wait::{
@@ -51,8 +52,32 @@ pub fn refuses_no_beginning()
     ensures { (lexemes : List Lexeme) → run (Some start) lexemes ≡ None → Begins lexemes → ⊥ }
 {}
 
+/// Where the machine has not refused, some lexemes complete those so far to a list that it accepts.
+pub fn unrefused_completes()
+    ensures { (lexemes : List Lexeme) → (state : State) → run (Some start) lexemes ≡ Some state → (rest : List Lexeme) × (tree : Tree) × (parse (lexemes ++ rest) ≡ Some tree) }
+{}
+
+/// The machine refuses exactly at the first bad lexeme: the lexemes before it begin a derivable
+/// list, and those up to and with it do not.
+pub fn refuses_at_first_bad()
+    ensures refused { (lexemes : List Lexeme) → (index : ℕ) → RefusesAt lexemes index → IsFirstBad lexemes index }
+    ensures bad { (lexemes : List Lexeme) → (index : ℕ) → IsFirstBad lexemes index → RefusesAt lexemes index }
+{}
+
 /// An expression stays one, by the same tree, before the end and before each lexeme that is no
 /// operator, no bullet and no `[]`.
 pub fn ends_before_quiet()
     ensures { (tree : Tree) → (lexemes : List Lexeme) → (inner : ℕ) → (follows next : Option Lexeme) → Derives tree lexemes inner follows → IsQuietNext next → Derives tree lexemes inner next }
+{}
+
+/// A tree has at most two nodes for each of its lexemes.
+pub fn few_nodes()
+    ensures { (tree : Tree) → (lexemes : List Lexeme) → DerivesWhole tree lexemes → nodes tree ≤ 2 * length lexemes }
+{}
+
+/// The machine makes at most eight nodes for each lexeme, those that it drops included, whether it
+/// refuses or not. The nodes of a tree that it finds are among them.
+pub fn few_made()
+    ensures few { (lexemes : List Lexeme) → made lexemes ≤ 8 * length lexemes }
+    ensures counted { (tree : Tree) → (lexemes : List Lexeme) → parse lexemes ≡ Some tree → nodes tree ≤ made lexemes }
 {}
