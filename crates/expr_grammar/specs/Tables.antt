@@ -1,5 +1,5 @@
 -- The tables of moves.
-use Rattle.std.specs.Prelude.{◌+◌, nat_eq, Bool, true, false, cond, is_some, List, [], ◌∷◌, Option, Some, None}
+use Rattle.std.specs.Prelude.{ℕ, ◌+◌, nat_eq, Bool, true, false, cond, is_some, List, [], ◌∷◌, Option, Some, None}
 use Rattle.tla_symbols.specs.declared.op.Op.{Op}
 use Rattle.tla_symbols.specs.declared.place.Fix.{Fix}
 use Rattle.tla_symbols.specs.declared.lexeme.LexKind.{LexKind}
@@ -216,6 +216,11 @@ takes_none _ = true
 abbrev pub takes_lone_tuple : Binding → Bool
 takes_lone_tuple Binding.One = true
 takes_lone_tuple _ = false
+
+-- the places of an operator's parameter that were read
+abbrev pub places_of : Wait → ℕ
+places_of (Wait.Places n places) = places
+places_of _ = 0
 
 -- what a lexeme does to a frame that has no finished part beside it
 abbrev pub at_mark : Wait → Lexeme → MarkMove

@@ -2,10 +2,9 @@
 //!
 //! Answers which trees the machine finds: every derivable list of lexemes is accepted, with its
 //! tree, no other tree derives it, and nothing else is accepted. Knows nothing of how a machine is
-//! run: its state is a value of the definitions, and the code here is a few of its tables.
+//! run: its state is a value of the definitions, and its tables stand in code above.
 #![tactic(auto)]
 
-mod tables;
 mod wait;
 
 ghost use Rattle.std.specs.Prelude.{◌≡◌, ℕ, ◌*◌, ◌≤◌, List, ◌++◌, length, Option, Some, None};
@@ -17,7 +16,6 @@ ghost use Rattle.expr_grammar.specs.Following.{IsQuietNext};
 ghost use Rattle.expr_grammar.specs.Counting.{nodes, made};
 ghost use Rattle.expr_grammar.specs.Machine.{State, run, start, parse, parse_bounds, RefusesAt};
 
-pub use tables::{after_brace, goes_on, is_bullet, role, starts_expression};
 pub use wait::{
     Binding, Conversion, Handed, Lead, MarkMove, Mode, PartMove, Role, Shape, Start, Wait,
 };

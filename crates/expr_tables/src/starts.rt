@@ -2,7 +2,7 @@
 ghost use Rattle.std.specs.Prelude.{◌≡◌, ◌-◌, ◌<◌, ◌^◌};
 ghost use Rattle.expr_grammar.specs.Tables as tables;
 
-use crate::wait::{Conversion, Handed, PartMove, Role, Shape, Start, Wait};
+use expr_grammar::{Conversion, Handed, PartMove, Role, Shape, Start, Wait};
 use tla_symbols::{Fix, LexKind, Lexeme, Mark, Op, Word, range_of};
 use tla_tree::Form;
 
