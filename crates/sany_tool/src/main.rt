@@ -11,6 +11,7 @@ mod diagnostic;
 mod files;
 mod form;
 mod front;
+mod laws;
 mod output;
 mod report;
 mod run;
