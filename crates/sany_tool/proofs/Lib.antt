@@ -1,6 +1,9 @@
 pub mod FormLemmas
+pub mod NameListForms
+pub mod NameListLemmas
 pub mod ReadingLemmas
 pub mod RunLemmas
 pub mod SeenLemmas
+pub mod TextEndLemmas
 pub mod TextLemmas
 pub mod VerdictLemmas

@@ -1,4 +1,4 @@
--- Modules of lists of constants and variables.
+-- Modules of lists of constants and variables, as they are read from lexeme to lexeme. `NameLists` is their grammar.
 use Rattle.std.specs.Prelude.{List, [], ◌∷◌, Bool, true, false, if◌then◌else◌}
 use Rattle.tla_symbols.specs.declared.lexeme.Word.TheVariants as Word
 use Rattle.tla_symbols.specs.declared.lexeme.Mark.TheVariants as Mark

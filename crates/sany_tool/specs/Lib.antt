@@ -1,6 +1,7 @@
 pub mod Answers
 pub mod Declarations
 pub mod FirstForm
+pub mod NameLists
 pub mod Output
 pub mod Program
 pub mod Reading

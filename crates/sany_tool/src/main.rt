@@ -11,6 +11,7 @@ mod diagnostic;
 mod files;
 mod form;
 mod front;
+mod laws;
 mod output;
 mod report;
 mod run;
@@ -18,6 +19,8 @@ mod slices;
 #[cfg(test)]
 mod tests;
 mod words;
+
+ghost use Rattle.std.specs.Prelude.{◌↔◌, ◌≤◌, ◌||◌, ◌==◌, IsSome, IsTrue};
 
 use std::alloc::Global;
 use std::io::ErrorKind;
@@ -37,7 +40,9 @@ fn words_of(rt: &(impl Env + AllocGlobal), alloc: Global) -> io::Result<Vec<Stri
 }
 
 // Words that were not read are no request, unless it was for want of memory.
-fn status_without_words(error: &io::Error) -> u8 {
+fn status_without_words(error: &io::Error) -> u8
+    ensures { IsTrue (result == 2 || result == 6) }
+{
     if error.kind() == ErrorKind::OutOfMemory {
         6
     } else {
@@ -46,7 +51,9 @@ fn status_without_words(error: &io::Error) -> u8 {
 }
 
 // The line for a status that is no verdict.
-fn line_of(status: u8) -> Option<&'static str> {
+fn line_of(status: u8) -> Option<&'static str>
+    ensures { IsSome result ↔ (2 ≤ status × status ≤ 9) }
+{
     match status {
         2 => Some("sany: usage: check FOLDER [--facts] | serve | gen N"),
         3 => Some("sany: folder fault"),

@@ -74,6 +74,22 @@ fn reports_on_one_module(rt: HostRuntime) -> Result<(), Fail> {
         ("CONSTANT N, N", 1, "A refused\n  2:13-2:14 E402\n"),
         ("CONSTANT TRUE", 1, "A refused\n  2:10-2:14 E402\n"),
         (
+            "VARIABLES FALSE, A, BOOLEAN",
+            1,
+            "A refused\n  2:11-2:16 E402\n  2:21-2:28 E402\n",
+        ),
+        ("CONSTANT 1x, _y, x_1, true", 0, "A accepted\n"),
+        (
+            "CONSTANTS N,\r\n\tM\r\nVARIABLE n, \tM",
+            1,
+            "A refused\n  4:14-4:15 E402\n",
+        ),
+        (
+            "CONSTANT N (* a, (* N *) b *), M \\* N\nVARIABLE N, N",
+            1,
+            "A refused\n  3:10-3:11 E402\n  3:13-3:14 E402\n",
+        ),
+        (
             "CONSTANTS STRING, c\n VARIABLE c,\n  c",
             1,
             "A refused\n  2:11-2:17 E402\n  3:11-3:12 E402\n  4:3-4:4 E402\n",
@@ -86,6 +102,7 @@ fn reports_on_one_module(rt: HostRuntime) -> Result<(), Fail> {
         ("", 0, "A accepted\n"),
         ("CONSTANT\n;", 1, "A refused\n  3:1-3:2 E201\n"),
         ("CONSTANT c, (* *\n", 1, "A refused\n  2:13-2:15 E201\n"),
+        ("CONSTANT c, c\n?", 1, "A refused\n  3:1-3:2 E201\n"),
     ];
     for (units, status, lines) in rows {
         let text = format!(in alloc; "---- MODULE A ----\n{units}\n====\n")?;
@@ -100,7 +117,7 @@ fn reports_on_one_module(rt: HostRuntime) -> Result<(), Fail> {
 #[test]
 fn reports_front_faults(rt: HostRuntime) -> Result<(), Fail> {
     let alloc = rt.alloc();
-    let rows: [(&[u8], &str); 9] = [
+    let rows: [(&[u8], &str); 13] = [
         (b"", "  1:1-1:1 E102\n"),
         (b"MODULE A", "  1:1-1:1 E102\n"),
         (b"---- MODULE B ----\n====\n", "  1:13-1:14 E103\n"),
@@ -109,6 +126,13 @@ fn reports_front_faults(rt: HostRuntime) -> Result<(), Fail> {
         (b"---- MODULE A ----\nCONSTANT c", "  2:11-2:11 E202\n"),
         (b"---- MODULE", "  1:12-1:12 E202\n"),
         (b"---- MODULE A ?", "  1:15-1:16 E201\n"),
+        (b"---- MODULE B ----\nCONSTANT", "  2:9-2:9 E202\n"),
+        (b"---- MODULE B ----\nCONSTANT ?", "  2:10-2:11 E201\n"),
+        (
+            b"---- MODULE B ----\nCONSTANT c, c\n====\n",
+            "  1:13-1:14 E103\n",
+        ),
+        (b"--- MODULE A ----\n====\n", "  1:1-1:1 E102\n"),
         (
             b"? \xc3\xa9\n-----MODULE A----\nVARIABLE x====\n? \xc3",
             "  4:3-4:3 E101\n",
@@ -120,6 +144,17 @@ fn reports_front_faults(rt: HostRuntime) -> Result<(), Fail> {
         assert_eq!(rt; ran.status, 1, "{line}");
         assert_eq!(rt; ran.output.bytes(), report.as_bytes(), "{line}");
         assert_eq!(rt; ran.ticks, 0, "{line}");
+    }
+    let (large, no_text) = (
+        vec![in alloc; b' '; (1 << 20) + 1]?,
+        vec![in alloc; 0xff; (1 << 20) + 1]?,
+    );
+    for (text, line) in [(large, "  1:1-1:1 E104\n"), (no_text, "  1:1-1:1 E101\n")] {
+        let report = format!(in alloc; "A refused\n{line}modules=1 refused=1\n")?;
+        assert_eq!(rt;
+            check(alloc, &[("A.tla", text.as_slice())])?.output.bytes(),
+            report.as_bytes()
+        );
     }
     let around: &[u8] = b"? \xc3\xa9\n---- MODULE A ----\nCONSTANT N\n====\n? \xc3\xa9\n";
     assert_eq!(rt; check(alloc, &[("A.tla", around)])?.status, 0);
@@ -144,6 +179,37 @@ fn reports_in_order_of_names(rt: HostRuntime) -> Result<(), Fail> {
     let ran = check(alloc, &[])?;
     assert_eq!(rt; ran.output.bytes(), b"modules=0 refused=0\n".as_slice());
     assert_eq!(rt; ran.status, 0);
+    Ok(())
+}
+
+#[test]
+fn leaves_other_files_alone(rt: HostRuntime) -> Result<(), Fail> {
+    let alloc = rt.alloc();
+    let names = [
+        ".tla",
+        "A",
+        "A.TLA",
+        "A.tla ",
+        "A.tlaa",
+        "a b.tla",
+        "B.tla.tla",
+        "12.tla",
+        "LET.tla",
+        "SF_.tla",
+        "\u{e9}.tla",
+    ];
+    for name in names {
+        let ran = check(alloc, &[(name, b"")])?;
+        assert_eq!(rt;
+            ran.output.bytes(),
+            b"modules=0 refused=0\n".as_slice(),
+            "{name}"
+        );
+        assert_eq!(rt; ran.status, 0, "{name}");
+    }
+    for name in ["_a.tla", "1a.tla", "let.tla", "xSF_.tla"] {
+        assert_eq!(rt; check(alloc, &[(name, b"")])?.status, 1, "{name}");
+    }
     Ok(())
 }
 
@@ -222,17 +288,27 @@ fn keeps_to_the_limit_of_modules(rt: HostRuntime) -> Result<(), Fail> {
 #[test]
 fn refuses_other_words(rt: HostRuntime) -> Result<(), Fail> {
     let alloc = rt.alloc();
-    let rows = [
-        ["check", ""],
-        ["check", "-w"],
-        ["serve", "w"],
-        ["checks", "w"],
+    let rows: [(&[&str], u8); 13] = [
+        (&[], 2),
+        (&["check"], 2),
+        (&["check", "w", "w"], 2),
+        (&["check", ""], 2),
+        (&["check", "-w"], 2),
+        (&["check", "\u{e9}"], 2),
+        (&["serve", "w"], 2),
+        (&["checks", "w"], 2),
+        // These are paths, at which there is no folder.
+        (&["check", "v"], 3),
+        (&["check", "/w"], 3),
+        (&["check", "./w"], 3),
+        (&["check", "_w"], 3),
+        (&["check", "1"], 3),
     ];
-    for words in rows {
+    for (words, status) in rows {
         let folder = MemoryFolder::new(files_of(alloc, &[])?, List::new(alloc));
         let output = MemorySink::new(alloc, 9, 9, List::new(alloc))?;
-        let ran = run_over(alloc, &words, folder, output)?;
-        assert_eq!(rt; ran.status, 2, "{words:?}");
+        let ran = run_over(alloc, words, folder, output)?;
+        assert_eq!(rt; ran.status, status, "{words:?}");
         assert!(rt; ran.output.bytes().is_empty());
     }
     Ok(())

@@ -1,11 +1,13 @@
 // A folder in memory.
-ghost use Rattle.std.specs.Prelude.{◌≡◌, [], IfOk, Some, take};
+ghost use Rattle.std.specs.Prelude.{◌≡◌, ◌↔◌, [], IfOk, IsTrue, Some, take};
 ghost use Rattle.std.specs.Option.{option_copied};
 ghost use Rattle.std.specs.Ordering.{nat_cmp};
 ghost use Rattle.std.specs.Cmp.Lexicographic.{slice_cmp};
 ghost use Rattle.std.specs.List.Sorted.{IsStrictlySortedBy};
-ghost use Rattle.tool_io.specs.Folder.{files_at, bytes_of, with_names};
-ghost use Rattle.tool_io.specs.MemoryFolder.{held};
+ghost use Rattle.tool_io.specs.Causes.{HasCause};
+ghost use Rattle.tool_io.specs.Failing.{CountsCall, HasFailed};
+ghost use Rattle.tool_io.specs.Folder.{after_call, bytes_of, files_at, names_at, read_at, with_names};
+ghost use Rattle.tool_io.specs.MemoryFolder.{fails_listing, fails_next, held};
 
 use crate::failures::Failures;
 use crate::{FileBytes, FileMap, Folder, FolderFiles, IoFault};
@@ -81,7 +83,15 @@ impl Folder for MemoryFolder {
 
     ghost fault_count = { λ f. f.failures.faults };
 
-    fn names(&mut self, alloc: Global, folder: &str) -> Result<List<Chars>, IoFault> {
+    /// As the trait says; and it fails exactly where it is told to and where the path is not there.
+    fn names(&mut self, alloc: Global, folder: &str) -> Result<List<Chars>, IoFault>
+        ensures goes { held self.new ≡ after_call (held self.old) }
+        ensures order { IfOk result (λ names. IsStrictlySortedBy (slice_cmp nat_cmp) names) }
+        ensures names { IfOk result (λ names. names ≡ names_at (held self.new) folder.now) }
+        ensures cause { HasCause self.old.failures.faults self.new.failures.faults result }
+        ensures failed { HasFailed result ↔ IsTrue (fails_listing self.old folder.now) }
+        ensures counts { CountsCall self.old.failures self.new.failures }
+    {
         if self.failures.is_due() {
             self.failures.raise();
             return Err(IoFault::Failed);
@@ -96,13 +106,20 @@ impl Folder for MemoryFolder {
         }
     }
 
+    /// As the trait says; and it fails exactly where it is told to.
     fn read(
         &mut self,
         alloc: Global,
         folder: &str,
         file: &str,
         most: u64,
-    ) -> Result<Option<List<u8>>, IoFault> {
+    ) -> Result<Option<List<u8>>, IoFault>
+        ensures goes { held self.new ≡ after_call (held self.old) }
+        ensures bytes { IfOk result (λ bytes. bytes ≡ read_at (held self.new) folder.now file.now most) }
+        ensures cause { HasCause self.old.failures.faults self.new.failures.faults result }
+        ensures failed { HasFailed result ↔ IsTrue (fails_next self.old) }
+        ensures counts { CountsCall self.old.failures self.new.failures }
+    {
         if self.failures.is_due() {
             self.failures.raise();
             return Err(IoFault::Failed);

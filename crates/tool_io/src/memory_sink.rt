@@ -2,6 +2,7 @@
 ghost use Rattle.std.specs.Prelude.{◌≡◌, ◌<◌, ◌≤◌, ◌↔◌, [], IfOk, IsErr, IsTrue, OnErr, Err, Some, length, min, vec_len, vec_capacity};
 ghost use Rattle.std.specs.Io.KnownBytes.{WriteAppends};
 ghost use Rattle.tool_io.specs.Causes.{HasOneCause};
+ghost use Rattle.tool_io.specs.Failing.{CountsCall};
 
 use crate::failures::Failures;
 use crate::{IoFault, Sink};
@@ -65,6 +66,7 @@ impl Sink for MemorySink {
         ensures cause { HasOneCause self.old.failures.faults self.new.failures.faults result }
         ensures fault { OnErr result (result ≡ Err IoFault.Failed) }
         ensures refused { IsErr result ↔ IsTrue (refuses self.old piece.now) }
+        ensures counts { CountsCall self.old.failures self.new.failures }
         ensures room { sink_room self.new ≡ sink_room self.old }
         ensures most { sink_most self.new ≡ sink_most self.old }
     {

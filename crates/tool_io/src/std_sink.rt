@@ -1,5 +1,7 @@
 // Any writer of std as an output.
-ghost use Rattle.std.specs.Prelude.{◌≡◌, ◌≤◌, length, IfSome, None};
+ghost use Rattle.std.specs.Prelude.{◌≡◌, ◌<◌, ◌≤◌, length, IfOk, IfSome, OnErr, Err, None};
+ghost use Rattle.std.specs.Io.KnownBytes.{WriteAppends};
+ghost use Rattle.tool_io.specs.Causes.{HasOneCause};
 
 use crate::{IoFault, Sink};
 use std::io::Write;
@@ -38,7 +40,14 @@ impl<W: Write> Sink for StdSink<W> {
 
     ghost fault_count = { λ s. s.faults };
 
-    fn write(&mut self, piece: &[u8]) -> Result<usize, IoFault> {
+    /// As the trait says; and each refusal is a failure.
+    fn write(&mut self, piece: &[u8]) -> Result<usize, IoFault>
+        ensures bound { IfOk result (λ n. n ≤ length piece.now) }
+        ensures some { IfOk result (λ n. 0 < length piece.now → 0 < n) }
+        ensures bytes { WriteAppends None None result piece.now }
+        ensures cause { HasOneCause self.old.faults self.new.faults result }
+        ensures fault { OnErr result (result ≡ Err IoFault.Failed) }
+    {
         match self.put(piece) {
             Some(count) if count > 0 || piece.is_empty() => Ok(count),
             _ => {
