@@ -97,6 +97,27 @@ fn derives_what_changed_alone(rt: HostRuntime) -> Result<(), Fail> {
 }
 
 #[test]
+fn answers_in_the_middle_of_puts(rt: HostRuntime) -> Result<(), Fail> {
+    let alloc = rt.alloc();
+    let mut trial = Trial::new(alloc);
+    trial.put(alloc, "Dd", "d1Bb")?;
+    trial.put(alloc, "Bb", "b1AaCc")?;
+    trial.put(alloc, "Aa", "a1")?;
+    assert!(rt; trial.ask(alloc, "Dd")? == fact(b'd', b'1', 101, 3));
+    // Below "Bb" a face comes and a hidden byte changes; its own face stays, and "Dd" is not made anew.
+    trial.put(alloc, "Cc", "c1")?;
+    trial.put(alloc, "Aa", "a2")?;
+    assert!(rt; trial.ask(alloc, "Dd")? == fact(b'd', b'1', 101, 3));
+    assert!(rt; trial.ask(alloc, "Bb")? == fact(b'b', b'1', 100 * 31 + 102, 0));
+    trial.put(alloc, "Dd", "e1Bb")?;
+    trial.put(alloc, "Ee", "f1DdAa")?;
+    assert!(rt; trial.ask(alloc, "Ee")? == fact(b'f', b'1', 104 * 31 + 100, 2));
+    assert!(rt; trial.ask(alloc, "Dd")? == fact(b'e', b'1', 101, 0));
+    assert!(rt; trial.steps.count() == 8);
+    Ok(())
+}
+
+#[test]
 fn tells_cycles_and_broken_texts(rt: HostRuntime) -> Result<(), Fail> {
     let alloc = rt.alloc();
     let mut trial = Trial::new(alloc);

@@ -77,6 +77,10 @@ read_slot [] k x y e r = cc
 read_slot (z ∷ xs) zero x y e r = cc
 read_slot (z ∷ xs) (suc k) x y e r = read_slot xs k x y e r
 
+-- one item stands at a place
+pub one_at : {A : Type 0} (xs : List A) (k : ℕ) (x y : A) → slice_get xs k ≡ Some x → slice_get xs k ≡ Some y → x ≡ y
+one_at xs k x y e f = let h : ◌≡◌ {A = Option _} (Some x) (Some y) = sym e ∙ f in cc
+
 -- what is settled and not broken has its fact as its value
 module _ {Own F : Type 0} (own_of : List ℕ → List ℕ → Own) (needs_of : Own → Option (List (List ℕ))) (fact_of : List ℕ → Own → List (List ℕ × State F) → F) (same : F → F → Bool) (slots : List (Slot Own F)) (current : List Bool) (right : IsRight own_of needs_of fact_of same slots current) (i : ℕ) (x : Slot Own F) (at : slice_get slots i ≡ Some x) (ns : List (List ℕ)) (some : x.needs ≡ Some ns) (done : IsDone current i x) where
   settled-done : is_settled own_of needs_of fact_of same (texts_of slots) x ≡ true

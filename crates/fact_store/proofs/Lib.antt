@@ -12,6 +12,9 @@ pub mod Pairs
 pub mod KeepLemmas
 pub mod Orders
 pub mod TextLemmas
+pub mod Keeping
+pub mod Lookups
+pub mod ShelfLemmas
 pub mod Dirt
 pub mod PutLemmas
 pub mod PutFacts

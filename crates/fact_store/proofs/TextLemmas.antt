@@ -1,5 +1,5 @@
 -- The texts after one is put, or removed.
-use Rattle.std.proofs.Common.{◌≡◌, ℕ, zero, suc, Bool, true, false, List, [], ◌∷◌, ◌++◌, Some, None, refl, sym, ap, ◌∙◌, subst, cond, inl, inr, map}
+use Rattle.std.proofs.Common.{◌≡◌, ◌≢◌, ℕ, zero, suc, Bool, true, false, List, [], ◌∷◌, ◌++◌, Some, None, refl, sym, ap, ◌∙◌, subst, cond, inl, inr, map}
 use Rattle.std.specs.Prelude.{◌⊎◌, slice_get, slice_set, remove}
 use Rattle.std.specs.FinMap.{get, insert, find, get-from_entries, get-insert, get-remove, same_map, nat_cmp-IsAntisymmetric, slice_cmp-IsAntisymmetric}
 use Rattle.std.specs.FinMap as map_of
@@ -21,12 +21,12 @@ swapped true false u v w h = refl
 swapped false b u v w h = refl
 
 -- the place that a place has after the one at i was removed
-skip : ℕ → ℕ → ℕ
+pub skip : ℕ → ℕ → ℕ
 skip zero j = suc j
 skip (suc i) zero = zero
 skip (suc i) (suc j) = suc (skip i j)
 
-skip-injective : (i a b : ℕ) → skip i a ≡ skip i b → a ≡ b
+pub skip-injective : (i a b : ℕ) → skip i a ≡ skip i b → a ≡ b
 unfolding skip
 skip-injective zero a b e = cc
 skip-injective (suc i) zero zero e = refl
@@ -34,7 +34,14 @@ skip-injective (suc i) zero (suc b) e = cc
 skip-injective (suc i) (suc a) zero e = cc
 skip-injective (suc i) (suc a) (suc b) e = ap suc (skip-injective i a b (cc e))
 
-slice_get-remove : {A : Type 0} (xs : List A) (i j : ℕ) → slice_get (remove xs i) j ≡ slice_get xs (skip i j)
+-- it is not the one that was removed
+pub skip-other : (i j : ℕ) → skip i j ≢ i
+unfolding skip
+skip-other zero j e = cc
+skip-other (suc i) zero e = cc
+skip-other (suc i) (suc j) e = skip-other i j (cc e)
+
+pub slice_get-remove : {A : Type 0} (xs : List A) (i j : ℕ) → slice_get (remove xs i) j ≡ slice_get xs (skip i j)
 unfolding skip
 slice_get-remove [] zero j = refl
 slice_get-remove [] (suc i) zero = refl

@@ -1,5 +1,5 @@
 -- What a store keeps true.
-use Rattle.std.specs.Prelude.{◌≡◌, ℕ, ◌≤◌, ◌⊎◌, Bool, true, false, ◌&&◌, List, Option, Some, None, length, map, slice_get, slice_index, nat_eq, is_none}
+use Rattle.std.specs.Prelude.{◌≡◌, ℕ, ◌≤◌, ◌⊎◌, Bool, true, false, ◌&&◌, List, Option, Some, None, length, map, slice_get, slice_set, slice_index, nat_eq, is_none}
 use Rattle.fact_store.specs.declared.slot.Slot.{Slot}
 use Rattle.fact_store.specs.declared.slot.Kept.{Kept}
 use Rattle.fact_store.specs.declared.given.Gave.{Gave}
@@ -8,7 +8,7 @@ use Rattle.fact_store.specs.Names.{has}
 use Rattle.fact_store.specs.States.{State, same_given}
 use Rattle.fact_store.specs.Values.{needs_or_none}
 use Rattle.fact_store.specs.Given.{states}
-use Rattle.fact_store.specs.Slots.{texts_of, AreSound, is_settled}
+use Rattle.fact_store.specs.Slots.{texts_of, IsSound, AreSound, is_settled}
 use Rattle.fact_store.specs.Plans.{is_marked, AreEdges, AreRanks, AreGrounds}
 
 -- whether a fact was made from the present text, and what was given then is like this
@@ -61,3 +61,11 @@ module _ {Own F : Type 0} where
       pub right : IsRight slots current
       pub planned : HoldsPlan slots plan
       pub marks : length current ≤ length slots
+
+    -- of the slots one was brought up to what its needs give: its fact is fresh then, and all else stays
+    pub record Keeps (old new : List (Slot Own F)) (place : ℕ) (slot : Slot Own F) (given : List (List ℕ × State F)) : Type 0 where
+      pub after : Slot Own F
+      pub written : new ≡ slice_set old place after
+      pub outline_kept : outline after ≡ outline slot
+      pub sound : IsSound own_of needs_of fact_of after
+      pub fresh : is_fresh same after.kept given ≡ true

@@ -1,20 +1,22 @@
 // How a fact is brought up to the present texts.
 ghost use Rattle.std.specs.Prelude.{◌≡◌, ℕ, ◌+◌, ◌<◌, ◌≤◌, ◌||◌, true, Option, Some, None, IfOk, OnOk, OnErr, length, vec_len, map, if◌then◌else◌, option_map};
+ghost use Rattle.std.specs.Arc.{arc_value};
 ghost use Rattle.std.specs.List.{slice_get};
 ghost use Rattle.fact_store.specs.Names.{has};
 ghost use Rattle.fact_store.specs.States.{same_state, same_given};
 ghost use Rattle.fact_store.specs.Given.{gave_state, states};
 ghost use Rattle.fact_store.specs.Values.{needs_or_none, gives, value, given_in, ComesFromTexts};
 ghost use Rattle.fact_store.specs.Slots.{texts_of, IsSound, owed};
-ghost use Rattle.fact_store.specs.Right.{outline, outlines, IsPlan, IsDone, IsReady, IsRight};
+ghost use Rattle.fact_store.specs.Right.{outlines, IsPlan, IsDone, IsReady, IsRight, Keeps};
 ghost use Rattle.fact_store.specs.Plans.{is_marked};
 ghost use Rattle.fact_store.specs.Right as rules;
 ghost use Rattle.fact_store.specs.declared.slot.Slot.{Slot as SlotOf};
 
 use crate::derive::Derive;
 use crate::given::{Gave, Given};
-use crate::plan::{Plan, needed, place_of, same_bytes};
-use crate::slot::{Kept, Slot};
+use crate::plan::{Plan, needed};
+use crate::shelf::Shelf;
+use crate::slot::{Kept, Slot, same_bytes};
 use std::alloc::Global;
 use std::sync::Arc;
 use step_count::Steps;
@@ -22,7 +24,7 @@ use tool_list::{Chars, List, Memory};
 
 /// What a needed name gives to the text at a place.
 fn gave_of<D: Derive>(
-    slots: &[Slot<D::Own, D::Fact>],
+    slots: &Shelf<D::Own, D::Fact>,
     plan: &Plan,
     current: &[bool],
     place: usize,
@@ -35,13 +37,13 @@ fn gave_of<D: Derive>(
     requires need { (slot : SlotOf D.Own D.Fact) → slice_get slots.now place ≡ Some slot → has (needs_or_none slot.needs) need.now ≡ true }
     ensures { IfOk result (λ gave. (slot : SlotOf D.Own D.Fact) → slice_get slots.now place ≡ Some slot → gave_state gave ≡ gives D.own_of D.needs_of D.fact_of (texts_of slots.now) (value D.own_of D.needs_of D.fact_of (texts_of slots.now)) slot.name need.now) }
 {
-    let Some(other) = place_of(slots, need) else {
+    let Some(other) = slots.place_of(need) else {
         return Ok(Gave::NoText);
     };
     if plan.ranks[other] == plan.ranks[place] {
         return Ok(Gave::Cyclic);
     }
-    let slot = &slots[other];
+    let slot = slots.at(other);
     if slot.needs.is_none() {
         return Ok(Gave::Broken);
     }
@@ -99,7 +101,7 @@ fn is_fresh<D: Derive>(d: &D, kept: &Option<Kept<D::Fact>>, given: &Given<D::Fac
 /// What the needs of the text at a place give to it, in order.
 fn given_of<D: Derive>(
     alloc: Global,
-    slots: &[Slot<D::Own, D::Fact>],
+    slots: &Shelf<D::Own, D::Fact>,
     plan: &Plan,
     current: &[bool],
     place: usize,
@@ -111,7 +113,7 @@ fn given_of<D: Derive>(
     ensures { IfOk result (λ given. (slot : SlotOf D.Own D.Fact) → slice_get slots.now place ≡ Some slot → states given ≡ given_in D.own_of D.needs_of D.fact_of (texts_of slots.now) slot.name) }
 {
     let mut given = List::new(alloc);
-    for name in needed(&slots[place]) {
+    for name in needed(slots.at(place)) {
         let gave = gave_of::<D>(slots, plan, current, place, name.as_str())?;
         let name = Chars::from_str(alloc, name.as_str())?;
         given.push((name, gave))?;
@@ -119,75 +121,83 @@ fn given_of<D: Derive>(
     Ok(given)
 }
 
-/// Puts what the needs give now in the place of what they gave when the fact was made.
-fn regive<O: Drop, F: Drop>(slot: &mut Slot<O, F>, given: Given<F>)
-    ensures { slot.new ≡ record slot.old { kept = rules.with_given slot.old.kept given } }
+/// The fact of a slot, derived from its text and from what its needs give.
+fn derive<D: Derive, L>(
+    alloc: Global,
+    d: &mut D,
+    slot: &Slot<D::Own, D::Fact>,
+    given: Given<D::Fact>,
+    steps: &mut Steps<L>,
+) -> Result<Kept<D::Fact>, Memory>
+    requires { ComesFromTexts D.own_of D.needs_of D.fact_of D.same slot.now.name slot.now.own (states given) }
+    ensures from { IfOk result (λ kept. kept.from ≡ None) }
+    ensures given { IfOk result (λ kept. kept.given ≡ given) }
+    ensures fact { IfOk result (λ kept. arc_value kept.fact ≡ D.fact_of slot.now.name slot.now.own (states given)) }
+    ensures rises { steps.old ≤ steps.new }
+    ensures once { steps.new ≤ steps.old + 1 }
 {
-    if let Some(kept) = &mut slot.kept {
-        kept.given = given;
-    }
+    let fact = d.fact(alloc, slot.name.as_str(), &slot.own, &given, steps)?;
+    Ok(Kept {
+        from: None,
+        given,
+        fact: Arc::new(alloc, fact)?,
+    })
 }
 
-/// Keeps the fact of a slot where it is fresh, and else derives it.
+/// Keeps the fact of the slot at a place where it is fresh, and else derives it.
 fn keep<D: Derive, L>(
     alloc: Global,
     d: &mut D,
-    slot: &mut Slot<D::Own, D::Fact>,
+    slots: &mut Shelf<D::Own, D::Fact>,
+    place: usize,
     given: Given<D::Fact>,
     steps: &mut Steps<L>,
 ) -> Result<(), Memory>
-    requires sound { IsSound D.own_of D.needs_of D.fact_of slot.old }
-    requires comes { ComesFromTexts D.own_of D.needs_of D.fact_of D.same slot.old.name slot.old.own (states given) }
-    ensures outline { outline slot.new ≡ outline slot.old }
-    ensures sound { IsSound D.own_of D.needs_of D.fact_of slot.new }
-    ensures fresh { OnOk result (rules.is_fresh D.same slot.new.kept (states given) ≡ true) }
-    ensures err { OnErr result (slot.new ≡ slot.old) }
+    requires place { place < length slots.old }
+    requires sound { (slot : SlotOf D.Own D.Fact) → slice_get slots.old place ≡ Some slot → IsSound D.own_of D.needs_of D.fact_of slot }
+    requires comes { (slot : SlotOf D.Own D.Fact) → slice_get slots.old place ≡ Some slot → ComesFromTexts D.own_of D.needs_of D.fact_of D.same slot.name slot.own (states given) }
+    ensures kept { OnOk result ((slot : SlotOf D.Own D.Fact) → slice_get slots.old place ≡ Some slot → Keeps D.own_of D.needs_of D.fact_of D.same slots.old slots.new place slot (states given)) }
+    ensures err { OnErr result (slots.new ≡ slots.old) }
     ensures rises { steps.old ≤ steps.new }
-    ensures counted { OnOk result (steps.new ≤ steps.old + (if rules.is_fresh D.same slot.old.kept (states given) then 0 else 1)) }
+    ensures counted { OnOk result ((slot : SlotOf D.Own D.Fact) → slice_get slots.old place ≡ Some slot → steps.new ≤ steps.old + (if rules.is_fresh D.same slot.kept (states given) then 0 else 1)) }
 {
-    if is_fresh(d, &slot.kept, &given) {
-        regive(slot, given);
+    if is_fresh(d, &slots.at(place).kept, &given) {
+        slots.regive(place, given);
         return Ok(());
     }
-    let fact = d.fact(alloc, slot.name.as_str(), &slot.own, &given, steps)?;
-    let fact = Arc::new(alloc, fact)?;
-    slot.kept = Some(Kept {
-        from: None,
-        given,
-        fact,
-    });
+    let kept = derive(alloc, d, slots.at(place), given, steps)?;
+    slots.keep(place, kept);
     Ok(())
 }
 
 /// Brings the fact at a place up to the present texts, where those of its needs are.
 pub fn bring<D: Derive, L>(
     alloc: Global,
-    slots: &mut Vec<Slot<D::Own, D::Fact>>,
+    slots: &mut Shelf<D::Own, D::Fact>,
     plan: &Plan,
     current: &mut Vec<bool>,
     place: usize,
     d: &mut D,
     steps: &mut Steps<L>,
 ) -> Result<(), Memory>
-    requires right { IsRight D.own_of D.needs_of D.fact_of D.same slots.old.items current.old.items }
-    requires plan { IsPlan slots.old.items plan.now }
-    requires ready { IsReady slots.old.items plan.now.ranks.items current.old.items place }
-    requires place { place < vec_len slots.old }
-    requires marks { vec_len current.old ≡ vec_len slots.old }
-    ensures outlines { outlines slots.new.items ≡ outlines slots.old.items }
-    ensures right { IsRight D.own_of D.needs_of D.fact_of D.same slots.new.items current.new.items }
+    requires right { IsRight D.own_of D.needs_of D.fact_of D.same slots.old current.old.items }
+    requires plan { IsPlan slots.old plan.now }
+    requires ready { IsReady slots.old plan.now.ranks.items current.old.items place }
+    requires place { place < length slots.old }
+    requires marks { vec_len current.old ≡ length slots.old }
+    ensures outlines { outlines slots.new ≡ outlines slots.old }
+    ensures right { IsRight D.own_of D.needs_of D.fact_of D.same slots.new current.new.items }
     ensures marks { vec_len current.new ≡ vec_len current.old }
     ensures kept { (i : ℕ) → is_marked current.old.items i ≡ true → is_marked current.new.items i ≡ true }
-    ensures done { OnOk result ((slot : SlotOf D.Own D.Fact) → slice_get slots.new.items place ≡ Some slot → IsDone current.new.items place slot) }
+    ensures done { OnOk result ((slot : SlotOf D.Own D.Fact) → slice_get slots.new place ≡ Some slot → IsDone current.new.items place slot) }
     ensures rises { steps.old ≤ steps.new }
-    ensures counted { OnOk result (steps.new + owed D.own_of D.needs_of D.fact_of D.same slots.new.items ≤ steps.old + owed D.own_of D.needs_of D.fact_of D.same slots.old.items) }
+    ensures counted { OnOk result (steps.new + owed D.own_of D.needs_of D.fact_of D.same slots.new ≤ steps.old + owed D.own_of D.needs_of D.fact_of D.same slots.old) }
 {
-    if current[place] || slots[place].needs.is_none() {
+    if current[place] || slots.at(place).needs.is_none() {
         return Ok(());
     }
     let given = given_of::<D>(alloc, slots, plan, current, place)?;
-    let slot = &mut slots[place];
-    keep(alloc, d, slot, given, steps)?;
+    keep(alloc, d, slots, place, given, steps)?;
     current[place] = true;
     Ok(())
 }

@@ -17,6 +17,7 @@ mod graph;
 mod laws;
 mod order;
 mod plan;
+mod shelf;
 mod slot;
 mod store;
 mod texts;

@@ -9,7 +9,7 @@ use crate::derive::Derive;
 use crate::fresh::bring;
 use crate::graph::reached;
 use crate::plan::Plan;
-use crate::slot::Slot;
+use crate::shelf::Shelf;
 use std::alloc::Global;
 use step_count::Steps;
 use tool_list::Memory;
@@ -40,23 +40,23 @@ fn order_of(alloc: Global, ranks: &[usize], places: &[usize]) -> Result<Vec<(usi
 /// reach fewer places first.
 pub fn bring_all<D: Derive, L>(
     alloc: Global,
-    slots: &mut Vec<Slot<D::Own, D::Fact>>,
+    slots: &mut Shelf<D::Own, D::Fact>,
     plan: &Plan,
     current: &mut Vec<bool>,
     place: usize,
     d: &mut D,
     steps: &mut Steps<L>,
 ) -> Result<(), Memory>
-    requires right { IsRight D.own_of D.needs_of D.fact_of D.same slots.old.items current.old.items }
-    requires plan { IsPlan slots.old.items plan.now }
-    requires place { place < vec_len slots.old }
-    requires marks { vec_len current.old ≡ vec_len slots.old }
-    ensures outlines { outlines slots.new.items ≡ outlines slots.old.items }
-    ensures right { IsRight D.own_of D.needs_of D.fact_of D.same slots.new.items current.new.items }
+    requires right { IsRight D.own_of D.needs_of D.fact_of D.same slots.old current.old.items }
+    requires plan { IsPlan slots.old plan.now }
+    requires place { place < length slots.old }
+    requires marks { vec_len current.old ≡ length slots.old }
+    ensures outlines { outlines slots.new ≡ outlines slots.old }
+    ensures right { IsRight D.own_of D.needs_of D.fact_of D.same slots.new current.new.items }
     ensures marks { vec_len current.new ≡ vec_len current.old }
-    ensures done { OnOk result ((slot : SlotOf D.Own D.Fact) → slice_get slots.new.items place ≡ Some slot → IsDone current.new.items place slot) }
+    ensures done { OnOk result ((slot : SlotOf D.Own D.Fact) → slice_get slots.new place ≡ Some slot → IsDone current.new.items place slot) }
     ensures rises { steps.old ≤ steps.new }
-    ensures counted { OnOk result (steps.new + owed D.own_of D.needs_of D.fact_of D.same slots.new.items ≤ steps.old + owed D.own_of D.needs_of D.fact_of D.same slots.old.items) }
+    ensures counted { OnOk result (steps.new + owed D.own_of D.needs_of D.fact_of D.same slots.new ≤ steps.old + owed D.own_of D.needs_of D.fact_of D.same slots.old) }
 {
     let places = reached(alloc, &plan.grounds, place)?;
     let order = order_of(alloc, &plan.ranks, &places)?;

@@ -1,12 +1,12 @@
 // What is found of the present texts.
-ghost use Rattle.std.specs.Prelude.{◌≡◌, ◌<◌, MatchOption, All, IfOk, length};
-ghost use Rattle.fact_store.specs.Names.{name_eq};
-ghost use Rattle.fact_store.specs.Slots.{AreDistinct, HasNoSlot, IsPlaceOf};
+ghost use Rattle.std.specs.Prelude.{◌≡◌, ◌<◌, All, IfOk, length};
+ghost use Rattle.fact_store.specs.Slots.{AreDistinct};
 ghost use Rattle.fact_store.specs.Values.{needs_or_none};
 ghost use Rattle.fact_store.specs.Plans.{IsRow, AreEdges, AreRanks, AreGrounds, IsGround, HasPlaces};
 ghost use Rattle.fact_store.specs.Right.{IsPlan};
 
 use crate::graph::reached;
+use crate::shelf::Shelf;
 use crate::slot::Slot;
 use std::alloc::Global;
 use tool_list::{Chars, List, Memory};
@@ -22,29 +22,10 @@ pub struct Plan {
     pub grounds: Vec<Vec<usize>>,
 }
 
-/// Whether two names, or two texts, are the same.
-pub fn same_bytes(a: &[u8], b: &[u8]) -> bool
-    ensures { result ≡ name_eq a.now b.now }
-{
-    a == b
-}
-
-/// The place of the slot with this name.
-pub fn place_of<O: Drop, F: Drop>(slots: &[Slot<O, F>], name: &str) -> Option<usize>
-    ensures { MatchOption result (HasNoSlot slots.now name.now) (IsPlaceOf slots.now name.now) }
-{
-    for (place, slot) in slots.iter().enumerate() {
-        if same_bytes(name.as_bytes(), slot.name.as_str().as_bytes()) {
-            return Some(place);
-        }
-    }
-    None
-}
-
 /// The places of the slots that these names name.
 fn row_of<O: Drop, F: Drop>(
     alloc: Global,
-    slots: &[Slot<O, F>],
+    slots: &Shelf<O, F>,
     names: &[Chars],
 ) -> Result<Vec<usize>, Memory>
     requires { AreDistinct slots.now }
@@ -52,7 +33,7 @@ fn row_of<O: Drop, F: Drop>(
 {
     let mut row = Vec::new(alloc);
     for name in names {
-        if let Some(place) = place_of(slots, name.as_str()) {
+        if let Some(place) = slots.place_of(name.as_str()) {
             row.push(place)?;
         }
     }
@@ -70,16 +51,13 @@ pub fn needed<O: Drop, F: Drop>(slot: &Slot<O, F>) -> &[Chars]
 }
 
 /// For each slot the places of those that it needs.
-fn edges_of<O: Drop, F: Drop>(
-    alloc: Global,
-    slots: &[Slot<O, F>],
-) -> Result<Vec<Vec<usize>>, Memory>
+fn edges_of<O: Drop, F: Drop>(alloc: Global, slots: &Shelf<O, F>) -> Result<Vec<Vec<usize>>, Memory>
     requires { AreDistinct slots.now }
     ensures { IfOk result (λ edges. AreEdges slots.now edges.items) }
 {
     let mut edges = Vec::new(alloc);
-    for slot in slots {
-        edges.push(row_of(alloc, slots, needed(slot))?)?;
+    for place in 0..slots.len() {
+        edges.push(row_of(alloc, slots, needed(slots.at(place)))?)?;
     }
     Ok(edges)
 }
@@ -134,7 +112,7 @@ fn grounds_of(
 }
 
 /// What is found of these texts.
-pub fn plan_of<O: Drop, F: Drop>(alloc: Global, slots: &[Slot<O, F>]) -> Result<Plan, Memory>
+pub fn plan_of<O: Drop, F: Drop>(alloc: Global, slots: &Shelf<O, F>) -> Result<Plan, Memory>
     requires { AreDistinct slots.now }
     ensures { IfOk result (λ plan. IsPlan slots.now plan) }
 {

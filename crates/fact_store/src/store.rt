@@ -11,8 +11,8 @@ ghost use Rattle.fact_store.specs.declared.slot.Slot.{Slot as SlotOf};
 use crate::derive::Derive;
 use crate::given::Answer;
 use crate::order::bring_all;
-use crate::plan::{Plan, place_of, plan_of};
-use crate::slot::Slot;
+use crate::plan::{Plan, plan_of};
+use crate::shelf::Shelf;
 use crate::texts::{put, take_out};
 use std::alloc::Global;
 use std::marker::Model;
@@ -24,7 +24,7 @@ use tool_list::Memory;
 /// for how many names no fact that is held was made from the present texts.
 #[derive(Drop)]
 pub struct FactStore<D: Derive> {
-    slots: Vec<Slot<D::Own, D::Fact>>,
+    slots: Shelf<D::Own, D::Fact>,
     plan: Option<Plan>,
     current: Vec<bool>,
 }
@@ -38,9 +38,9 @@ impl<D: Derive> Model for FactStore<D> {
 
     ghost coded = { holding_code };
 
-    ghost view = { λ s. record { texts = texts_of s.slots.items; owed = owed D.own_of D.needs_of D.fact_of D.same s.slots.items } };
+    ghost view = { λ s. record { texts = texts_of s.slots; owed = owed D.own_of D.needs_of D.fact_of D.same s.slots } };
 
-    ghost invariant = { λ s. IsStore D.own_of D.needs_of D.fact_of D.same s.slots.items s.plan s.current.items };
+    ghost invariant = { λ s. IsStore D.own_of D.needs_of D.fact_of D.same s.slots s.plan s.current.items };
 }
 
 /// A mark for each slot, where what was marked stays so.
@@ -59,20 +59,20 @@ fn cover(current: &mut Vec<bool>, len: usize) -> Result<(), Memory>
 /// Brings the fact at a place up to the present texts.
 fn bring_up<D: Derive, L>(
     alloc: Global,
-    slots: &mut Vec<Slot<D::Own, D::Fact>>,
+    slots: &mut Shelf<D::Own, D::Fact>,
     plan: &mut Option<Plan>,
     current: &mut Vec<bool>,
     place: usize,
     d: &mut D,
     steps: &mut Steps<L>,
 ) -> Result<(), Memory>
-    requires store { IsStore D.own_of D.needs_of D.fact_of D.same slots.old.items plan.old current.old.items }
-    requires place { place < vec_len slots.old }
-    ensures outlines { outlines slots.new.items ≡ outlines slots.old.items }
-    ensures store { IsStore D.own_of D.needs_of D.fact_of D.same slots.new.items plan.new current.new.items }
-    ensures done { OnOk result ((slot : SlotOf D.Own D.Fact) → slice_get slots.new.items place ≡ Some slot → IsDone current.new.items place slot) }
+    requires store { IsStore D.own_of D.needs_of D.fact_of D.same slots.old plan.old current.old.items }
+    requires place { place < length slots.old }
+    ensures outlines { outlines slots.new ≡ outlines slots.old }
+    ensures store { IsStore D.own_of D.needs_of D.fact_of D.same slots.new plan.new current.new.items }
+    ensures done { OnOk result ((slot : SlotOf D.Own D.Fact) → slice_get slots.new place ≡ Some slot → IsDone current.new.items place slot) }
     ensures rises { steps.old ≤ steps.new }
-    ensures counted { OnOk result (steps.new + owed D.own_of D.needs_of D.fact_of D.same slots.new.items ≤ steps.old + owed D.own_of D.needs_of D.fact_of D.same slots.old.items) }
+    ensures counted { OnOk result (steps.new + owed D.own_of D.needs_of D.fact_of D.same slots.new ≤ steps.old + owed D.own_of D.needs_of D.fact_of D.same slots.old) }
 {
     cover(current, slots.len())?;
     let made = match plan.take() {
@@ -86,7 +86,7 @@ fn bring_up<D: Derive, L>(
 
 /// The fact at a place, where it stands.
 fn fact_at<D: Derive>(
-    slots: &[Slot<D::Own, D::Fact>],
+    slots: &Shelf<D::Own, D::Fact>,
     current: &[bool],
     place: usize,
 ) -> Result<Answer<D::Fact>, Memory>
@@ -95,7 +95,7 @@ fn fact_at<D: Derive>(
     requires done { (slot : SlotOf D.Own D.Fact) → slice_get slots.now place ≡ Some slot → IsDone current.now place slot }
     ensures { IfOk result (λ answer. (slot : SlotOf D.Own D.Fact) → slice_get slots.now place ≡ Some slot → answer_state answer ≡ value D.own_of D.needs_of D.fact_of (texts_of slots.now) slot.name) }
 {
-    let slot = &slots[place];
+    let slot = slots.at(place);
     if slot.needs.is_none() {
         return Ok(Answer::Broken);
     }
@@ -111,7 +111,7 @@ impl<D: Derive> FactStore<D> {
         ensures { result ≡ record { texts = map.empty; owed = 0 } }
     {
         FactStore {
-            slots: Vec::new(alloc),
+            slots: Shelf::new(alloc),
             plan: None,
             current: Vec::new(alloc),
         }
@@ -155,7 +155,7 @@ impl<D: Derive> FactStore<D> {
         ensures counted { OnOk result (steps.new + self.new.owed ≤ steps.old + self.old.owed) }
         ensures few { OnOk result (self.new.owed ≤ map.len self.new.texts) }
     {
-        let Some(place) = place_of(&self.slots, name) else {
+        let Some(place) = self.slots.place_of(name) else {
             return Ok(Answer::NoText);
         };
         bring_up(

@@ -3,7 +3,7 @@ use Rattle.fact_store.specs.declared.slot.Slot.{Slot}
 use Rattle.fact_store.specs.Names.{has}
 use Rattle.fact_store.specs.Values.{needs_or_none, gives, all_given, value}
 use Rattle.fact_store.specs.Slots.{texts_of}
-use Rattle.fact_store.proofs.GaveLemmas.{read_slot}
+use Rattle.fact_store.proofs.GaveLemmas.{one_at}
 use Rattle.fact_store.proofs.Pairs.{has-read, all_given-more}
 use Rattle.fact_store.proofs.Ranks.{needs_in-slot}
 use Rattle.fact_store.proofs.Search.{take-all}
@@ -11,7 +11,7 @@ use Rattle.fact_store.proofs.fresh.given_of.Goals as goal
 
 pub gave_of-requires-clause-need : goal.gave_of-requires-clause-need
 gave_of-requires-clause-need g c = λ slot at.
-    let s = read_slot c.args.slots.now c.args.place c.index-slots-place.result slot at c.index-slots-place.is in
+    let s = one_at c.args.slots.now c.args.place c.at.result.now slot c.at.ensures at in
     ap (has (needs_or_none slot.needs)) c.as_str.ensures
     ∙ ap (λ (ns : List (List ℕ)). has ns c.name-item.result) (sym (ap (λ (z : Slot g.row.D-Own.Denot g.row.D-Fact.Denot). needs_or_none z.needs) s) ∙ sym c.needed-name-items.ensures)
     ∙ has-read c.needed-name-items.result.now c.loop-name.name-index c.name-item.result c.loop-name-test.true c.name-item.is
@@ -25,7 +25,7 @@ loop-name-preserved g c = λ slot at. let same : c.in_ok-name.name ≡ c.name-it
 
 pub returns : goal.returns
 returns g c = λ slot at.
-    let s = read_slot c.args.slots.now c.args.place c.index-slots-place.result slot at c.index-slots-place.is in
+    let s = one_at c.args.slots.now c.args.place c.at.result.now slot c.at.ensures at in
     let over : length c.needed-name-items.result.now ≤ c.loop-name.name-index = omega arith in
     c.loop-name.invariant slot at
     ∙ ap (all_given g.D.Derive.own_of g.D.Derive.needs_of g.D.Derive.fact_of (texts_of c.args.slots.now) (value g.D.Derive.own_of g.D.Derive.needs_of g.D.Derive.fact_of (texts_of c.args.slots.now)) slot.name)

@@ -6,10 +6,10 @@ use Rattle.fact_store.proofs.order.bring_all.Given as goal
 
 abbrev pub invariant-loop-i : goal.invariant-loop-i
 invariant-loop-i g l = let D = g.D.Derive in record {
-  outlines : outlines l.slots.items ≡ outlines l.fn.slots.items;
-  right : IsRight D.own_of D.needs_of D.fact_of D.same l.slots.items l.current.items;
+  outlines : outlines l.slots ≡ outlines l.fn.slots;
+  right : IsRight D.own_of D.needs_of D.fact_of D.same l.slots l.current.items;
   marks : vec_len l.current ≡ vec_len l.fn.current;
-  done : DoneBefore l.slots.items l.current.items l.order.items l.i;
+  done : DoneBefore l.slots l.current.items l.order.items l.i;
   rises : l.fn.steps ≤ l.steps;
-  counted : l.steps + owed D.own_of D.needs_of D.fact_of D.same l.slots.items ≤ l.fn.steps + owed D.own_of D.needs_of D.fact_of D.same l.fn.slots.items;
+  counted : l.steps + owed D.own_of D.needs_of D.fact_of D.same l.slots ≤ l.fn.steps + owed D.own_of D.needs_of D.fact_of D.same l.fn.slots;
 }

@@ -12,34 +12,34 @@ use Rattle.fact_store.proofs.store.FactStore.put_text.Goals.{in-Some+in_ok-put-i
 pub invariant_of-self-2 : goal.invariant_of-self-2
 invariant_of-self-2 g c =
     let D = g.D.Derive in let inside = c.match-bytes.self-inside in
-    let sound : AreSound D.own_of D.needs_of D.fact_of inside.slots.items = elim c.match-bytes.branch [
-      | in-Some+in_ok-put-in-Some w ↦ subst (λ (ss : List (Slot g.row.D-Own.Denot g.row.D-Fact.Denot)). AreSound D.own_of D.needs_of D.fact_of ss) (sym (ap (λ z. z.slots.items) w.self-inside-is)) w.in_ok-put-in-Some.ensures.sound
-      | in-None w ↦ subst (λ (ss : List (Slot g.row.D-Own.Denot g.row.D-Fact.Denot)). AreSound D.own_of D.needs_of D.fact_of ss) (sym (ap (λ z. z.slots.items) w.self-inside-is)) w.take_out.ensures.sound
+    let sound : AreSound D.own_of D.needs_of D.fact_of inside.slots = elim c.match-bytes.branch [
+      | in-Some+in_ok-put-in-Some w ↦ subst (λ (ss : List (Slot g.row.D-Own.Denot g.row.D-Fact.Denot)). AreSound D.own_of D.needs_of D.fact_of ss) (sym (ap (λ z. z.slots) w.self-inside-is)) w.in_ok-put-in-Some.ensures.sound
+      | in-None w ↦ subst (λ (ss : List (Slot g.row.D-Own.Denot g.row.D-Fact.Denot)). AreSound D.own_of D.needs_of D.fact_of ss) (sym (ap (λ z. z.slots) w.self-inside-is)) w.take_out.ensures.sound
     ] in
-    let planned : HoldsPlan inside.slots.items inside.plan = elim c.match-bytes.branch [
+    let planned : HoldsPlan inside.slots inside.plan = elim c.match-bytes.branch [
       | in-Some+in_ok-put-in-Some w ↦
-          subst (λ (ss : List (Slot g.row.D-Own.Denot g.row.D-Fact.Denot)). HoldsPlan ss inside.plan) (sym (ap (λ z. z.slots.items) w.self-inside-is))
-          (subst (λ (p : Option Plan). HoldsPlan w.put.new.slots.items p) (sym (ap (λ z. z.plan) w.self-inside-is)) w.in_ok-put-in-Some.ensures.plan)
+          subst (λ (ss : List (Slot g.row.D-Own.Denot g.row.D-Fact.Denot)). HoldsPlan ss inside.plan) (sym (ap (λ z. z.slots) w.self-inside-is))
+          (subst (λ (p : Option Plan). HoldsPlan w.put.new.slots p) (sym (ap (λ z. z.plan) w.self-inside-is)) w.in_ok-put-in-Some.ensures.plan)
       | in-None w ↦
-          subst (λ (ss : List (Slot g.row.D-Own.Denot g.row.D-Fact.Denot)). HoldsPlan ss inside.plan) (sym (ap (λ z. z.slots.items) w.self-inside-is))
-          (subst (λ (p : Option Plan). HoldsPlan w.take_out.new.slots.items p) (sym (ap (λ z. z.plan) w.self-inside-is)) w.take_out.ensures.plan)
+          subst (λ (ss : List (Slot g.row.D-Own.Denot g.row.D-Fact.Denot)). HoldsPlan ss inside.plan) (sym (ap (λ z. z.slots) w.self-inside-is))
+          (subst (λ (p : Option Plan). HoldsPlan w.take_out.new.slots p) (sym (ap (λ z. z.plan) w.self-inside-is)) w.take_out.ensures.plan)
     ] in
-    IsStore-unmarked D.own_of D.needs_of D.fact_of D.same inside.slots.items inside.plan c.clear.new.self.items sound planned c.clear.ensures.items
+    IsStore-unmarked D.own_of D.needs_of D.fact_of D.same inside.slots inside.plan c.clear.new.self.items sound planned c.clear.ensures.items
 
 pub returns-clause-owed : goal.returns-clause-owed
 returns-clause-owed g c =
-    let D = g.D.Derive in let inside = c.match-bytes.self-inside in let old = c.self.inside.slots.items in
-    let step : owed D.own_of D.needs_of D.fact_of D.same inside.slots.items ≤ owed D.own_of D.needs_of D.fact_of D.same old + dirty D.own_of D.needs_of D.fact_of D.same (texts_of old) (texts_of inside.slots.items) = elim c.match-bytes.branch [
-      | in-Some+in_ok-put-in-Some w ↦ subst (λ (ss : List (Slot g.row.D-Own.Denot g.row.D-Fact.Denot)). owed D.own_of D.needs_of D.fact_of D.same ss ≤ owed D.own_of D.needs_of D.fact_of D.same old + dirty D.own_of D.needs_of D.fact_of D.same (texts_of old) (texts_of ss)) (sym (ap (λ z. z.slots.items) w.self-inside-is)) w.in_ok-put-in-Some.ensures.owed
-      | in-None w ↦ subst (λ (ss : List (Slot g.row.D-Own.Denot g.row.D-Fact.Denot)). owed D.own_of D.needs_of D.fact_of D.same ss ≤ owed D.own_of D.needs_of D.fact_of D.same old + dirty D.own_of D.needs_of D.fact_of D.same (texts_of old) (texts_of ss)) (sym (ap (λ z. z.slots.items) w.self-inside-is)) w.take_out.ensures.owed
+    let D = g.D.Derive in let inside = c.match-bytes.self-inside in let old = c.self.inside.slots in
+    let step : owed D.own_of D.needs_of D.fact_of D.same inside.slots ≤ owed D.own_of D.needs_of D.fact_of D.same old + dirty D.own_of D.needs_of D.fact_of D.same (texts_of old) (texts_of inside.slots) = elim c.match-bytes.branch [
+      | in-Some+in_ok-put-in-Some w ↦ subst (λ (ss : List (Slot g.row.D-Own.Denot g.row.D-Fact.Denot)). owed D.own_of D.needs_of D.fact_of D.same ss ≤ owed D.own_of D.needs_of D.fact_of D.same old + dirty D.own_of D.needs_of D.fact_of D.same (texts_of old) (texts_of ss)) (sym (ap (λ z. z.slots) w.self-inside-is)) w.in_ok-put-in-Some.ensures.owed
+      | in-None w ↦ subst (λ (ss : List (Slot g.row.D-Own.Denot g.row.D-Fact.Denot)). owed D.own_of D.needs_of D.fact_of D.same ss ≤ owed D.own_of D.needs_of D.fact_of D.same old + dirty D.own_of D.needs_of D.fact_of D.same (texts_of old) (texts_of ss)) (sym (ap (λ z. z.slots) w.self-inside-is)) w.take_out.ensures.owed
     ] in
-    owed-at D.own_of D.needs_of D.fact_of D.same old c.args.self.now.texts c.args.self.now.owed inside.slots.items (ap (λ h. h.texts) c.self.view_is) (ap (λ h. h.owed) c.self.view_is) step
+    owed-at D.own_of D.needs_of D.fact_of D.same old c.args.self.now.texts c.args.self.now.owed inside.slots (ap (λ h. h.texts) c.self.view_is) (ap (λ h. h.owed) c.self.view_is) step
 
 pub returns-clause-few : goal.returns-clause-few
 returns-clause-few g c =
     let D = g.D.Derive in let inside = c.match-bytes.self-inside in
-    let sound : AreSound D.own_of D.needs_of D.fact_of inside.slots.items = elim c.match-bytes.branch [
-      | in-Some+in_ok-put-in-Some w ↦ subst (λ (ss : List (Slot g.row.D-Own.Denot g.row.D-Fact.Denot)). AreSound D.own_of D.needs_of D.fact_of ss) (sym (ap (λ z. z.slots.items) w.self-inside-is)) w.in_ok-put-in-Some.ensures.sound
-      | in-None w ↦ subst (λ (ss : List (Slot g.row.D-Own.Denot g.row.D-Fact.Denot)). AreSound D.own_of D.needs_of D.fact_of ss) (sym (ap (λ z. z.slots.items) w.self-inside-is)) w.take_out.ensures.sound
+    let sound : AreSound D.own_of D.needs_of D.fact_of inside.slots = elim c.match-bytes.branch [
+      | in-Some+in_ok-put-in-Some w ↦ subst (λ (ss : List (Slot g.row.D-Own.Denot g.row.D-Fact.Denot)). AreSound D.own_of D.needs_of D.fact_of ss) (sym (ap (λ z. z.slots) w.self-inside-is)) w.in_ok-put-in-Some.ensures.sound
+      | in-None w ↦ subst (λ (ss : List (Slot g.row.D-Own.Denot g.row.D-Fact.Denot)). AreSound D.own_of D.needs_of D.fact_of ss) (sym (ap (λ z. z.slots) w.self-inside-is)) w.take_out.ensures.sound
     ] in
-    owed-le D.own_of D.needs_of D.fact_of D.same g.met.D.Derive.same_trans inside.slots.items sound.distinct
+    owed-le D.own_of D.needs_of D.fact_of D.same g.met.D.Derive.same_trans inside.slots sound.distinct

@@ -1,6 +1,6 @@
 use Rattle.std.proofs.Common.{◌∙◌}
 use Rattle.std.specs.Cmp.Lexicographic.{texts_ties}
-use Rattle.fact_store.proofs.plan.same_bytes.Goals as goal
+use Rattle.fact_store.proofs.slot.same_bytes.Goals as goal
 
 pub returns : goal.returns
 returns c = c.eq.ensures ∙ texts_ties c.args.a.now c.args.b.now
