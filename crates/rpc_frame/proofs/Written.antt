@@ -83,13 +83,13 @@ stream_written [] rest fit = refl
 stream_written (c ∷ contents) rest fit =
     (frame_of c, flat_map frame_of contents ++ rest, append_assoc (frame_of c) (flat_map frame_of contents) rest, frame_written c (all_head (λ content. length content ≤ 2 ^ 24) c contents fit), stream_written contents rest (all_tail (λ content. length content ≤ 2 ^ 24) c contents fit))
 
-nothing : Held
+pub nothing : Held
 nothing = record { taken = 0; content = []; waiting = [] }
 
 no_message : NotYet ≡ Message → ⊥
 no_message e = cc
 
-nothing_framed : HasNoFrame []
+pub nothing_framed : HasNoFrame []
 unfolding nothing
 nothing_framed =
     ⊎_elim (λ e. absurd (no_message e)) (λ none. none) (message_or_none nothing NotYet nothing (refl, inl refl))
