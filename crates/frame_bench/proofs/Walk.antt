@@ -8,6 +8,7 @@ use Rattle.rpc_frame.specs.declared.framer.FrameNext.TheVariants.{Message, NotYe
 use Rattle.rpc_frame.specs.Frames.{IsFrame, IsHeader, HasFields, header_of, HasFrames, HasNoFrame}
 use Rattle.rpc_frame.specs.Framing.{Held, IsNext, HasGiven}
 use Rattle.rpc_frame.proofs.OneReading.{message_or_none, given_fed, given_taken}
+use Rattle.rpc_frame.proofs.Written.{nothing_framed}
 use Rattle.lsp_wire.specs.Messages.{IsMessage}
 use Rattle.lsp_wire.specs.declared.types.Incoming.{Incoming}
 use Rattle.frame_bench.specs.declared.counts.Counts.{Counts}
@@ -75,6 +76,13 @@ counts_more task contents content old new n r number size refused c =
       size = omega (arith, size, c.size, sum_by-append (λ l. length l) contents (content ∷ []), sum_by-cons (λ l. length l) content []);
       refused = subst R (sym refused) (refused_join task contents (content ∷ []) old.refused n c.refused r);
     }
+
+-- before the first piece
+pub seen_none : (task : Task) (held : Held) (counts : Counts) → held ≡ record { taken = 0; content = []; waiting = [] } → HasCounts task [] counts → HasSeen task [] held counts × HasNoFrame held.waiting
+seen_none task held counts e c =
+    let G : Held → Type 0 = λ h. HasGiven [] [] h in
+    let N : Held → Type 0 = λ h. HasNoFrame h.waiting in
+    (record { contents = []; given = subst G (sym e) (record { frames = refl; counted = refl }); counted = c }, subst N (sym e) nothing_framed)
 
 pub seen_fed : (task : Task) (front piece : List ℕ) (old new : Held) (counts : Counts) → new ≡ record old { waiting = old.waiting ++ piece } → HasSeen task front old counts → HasSeen task (front ++ piece) new counts
 seen_fed task front piece old new counts e s =

@@ -16,7 +16,7 @@ pub fn count(alloc: Global, task: Task, stream: &[u8]) -> Result<Counts, Memory>
     ensures { IfOk result (HasFound task stream.now) }
 {
     let mut framer = Framer::new(alloc);
-    let mut counts = Counts::none(task);
+    let mut counts = Counts::none();
     let mut fed = 0;
     'pieces: while fed < stream.len() {
         let piece = next_piece(behind(stream, fed), task.piece_size());

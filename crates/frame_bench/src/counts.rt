@@ -2,6 +2,7 @@
 
 ghost use Rattle.std.specs.Prelude.{◌≤◌};
 
+use crate::refused::refused_in;
 use crate::task::Task;
 use std::alloc::Global;
 use tool_list::Memory;
@@ -20,12 +21,12 @@ pub struct Counts {
 impl Counts {
     ghost use Rattle.std.specs.Prelude.{◌≡◌, ℕ, ◌+◌, ◌^◌, ◌<◌, List, [], ◌∷◌, ◌++◌, IfOk, length};
     ghost use Rattle.frame_bench.specs.Counting.{HasCounts};
+    ghost use Rattle.frame_bench.specs.declared.task.Task.{Task};
 
     /// Those of no content.
-    pub fn none(task: Task) -> Counts
-        ensures { HasCounts task [] result }
+    pub fn none() -> Counts
+        ensures { (task : Task) → HasCounts task [] result }
     {
-        let _ = task;
         Counts {
             contents: 0,
             bytes: 0,
@@ -39,7 +40,7 @@ impl Counts {
         ensures { (contents : List (List ℕ)) → HasCounts task contents self
             → IfOk result (HasCounts task (contents ++ content.now ∷ [])) }
     {
-        let refused = crate::refused::refused_in(alloc, task, content)?;
+        let refused = refused_in(alloc, task, content)?;
         Ok(Counts {
             contents: self.contents + 1,
             bytes: self.bytes + content.len() as u64,

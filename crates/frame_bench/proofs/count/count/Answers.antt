@@ -1,6 +1,11 @@
-use Rattle.std.proofs.Common.{take, sym, ◌∙◌}
-use Rattle.frame_bench.proofs.Walk.{further, further_within, seen_front}
+use Rattle.std.proofs.Common.{take, sym, ◌∙◌, arith}
+use Rattle.frame_bench.proofs.Walk.{seen_none, further, further_within, seen_front}
 use Rattle.frame_bench.proofs.count.count.Goals as goal
+
+pub pieces-init : goal.pieces-init
+pieces-init c =
+    let none = seen_none c.args.task c.new-framer.result c.none-counts.result c.new-framer.ensures (c.none-counts.ensures c.args.task) in
+    record { within = omega arith; seen = none.0; none = none.1 }
 
 pub pieces-preserved : goal.pieces-preserved
 pieces-preserved c =
