@@ -10,7 +10,7 @@ use Rattle.lsp_wire.specs.declared.types.Incoming.{Incoming}
 use Rattle.lsp_wire.specs.declared.types.Incoming.TheVariants.{Request, Notice, Dropped, Invalid}
 use Rattle.lsp_wire.specs.declared.types.Reply.TheVariants.{Initialized, Null}
 use Rattle.lsp_wire.specs.declared.errors.TheConstants.{INVALID_REQUEST, METHOD_NOT_FOUND, INVALID_PARAMS, SERVER_NOT_INITIALIZED}
-use Rattle.lsp_wire.specs.Frame.{frame_of}
+use Rattle.rpc_frame.specs.Frames.{frame_of}
 use Rattle.lsp_wire.specs.Replies.{reply_content}
 use Rattle.lsp_wire.specs.Written.{error_content, notes_content}
 use Rattle.lsp_answers.specs.declared.AnswerFault.{AnswerFault}

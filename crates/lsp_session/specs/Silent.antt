@@ -2,7 +2,7 @@
 -- that is opened, and for changes the limit that their number is.
 use Rattle.std.specs.Prelude.{ℕ, List, [], length, false, Option, Some, None, option_map}
 use Rattle.lsp_wire.specs.declared.types.Reply.TheVariants.{Null}
-use Rattle.lsp_answers.specs.States.{State, Named, Meaning, judged}
+use Rattle.lsp_answers.specs.States.{State, Meaning, judged}
 
 -- no texts, and a folder that does not tell
 abbrev pub silent_state : Option (List ℕ) → State

@@ -4,6 +4,7 @@
 //! `exit`. Knows nothing of texts or modules, and of no input or output.
 #![tactic(auto)]
 
+pub mod laws;
 mod notices;
 mod phase;
 mod requests;

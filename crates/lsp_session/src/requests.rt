@@ -1,7 +1,7 @@
 //! Requests: refused, or answered.
 
 ghost use Rattle.std.specs.Prelude.{◌≡◌, ◌++◌, IfOk, IfErr, IsSome, OnOk, OnErr, option_map};
-ghost use Rattle.lsp_wire.specs.Frame.{frame_of};
+ghost use Rattle.rpc_frame.specs.Frames.{frame_of};
 ghost use Rattle.lsp_wire.specs.Replies.{reply_content};
 ghost use Rattle.lsp_answers.specs.States.{IsQuestion};
 ghost use Rattle.lsp_session.specs.SessionOutput.{refusal, refused, initialized, questioned, answered};

@@ -128,6 +128,14 @@ fn answers_in_order(rt: HostRuntime) -> Result<(), Fail> {
     let mut steps = Steps::new(());
     for (content, want) in [
         (
+            "[]",
+            r#"Content-Length: 79|{"error":{"code":-32600,"message":"invalid request"},"id":null,"jsonrpc":"2.0"}"#,
+        ),
+        (
+            r#"{"id":1,"method":"x"}"#,
+            r#"Content-Length: 83|{"error":{"code":-32002,"message":"server not initialized"},"id":1,"jsonrpc":"2.0"}"#,
+        ),
+        (
             r#"{"id":1,"method":"shutdown"}"#,
             r#"Content-Length: 83|{"error":{"code":-32002,"message":"server not initialized"},"id":1,"jsonrpc":"2.0"}"#,
         ),
@@ -160,6 +168,18 @@ fn answers_in_order(rt: HostRuntime) -> Result<(), Fail> {
             r#"Content-Length: 98|{"jsonrpc":"2.0","method":"textDocument/publishDiagnostics","params":{"diagnostics":[],"uri":"u"}}"#,
         ),
         (r#"{"id":7,"result":null}"#, ""),
+        (r#"{"method":"$/cancelRequest","params":{"id":2}}"#, ""),
+        (r#"{"method":"textDocument/didOpen","params":{}}"#, ""),
+        (r#"{"method":"initialize"}"#, ""),
+        (r#"{"method":"x"}"#, ""),
+        (
+            r#"{"id":1.5,"method":"shutdown"}"#,
+            r#"Content-Length: 79|{"error":{"code":-32600,"message":"invalid request"},"id":null,"jsonrpc":"2.0"}"#,
+        ),
+        (
+            r#"{"id":5,"method":7}"#,
+            r#"Content-Length: 76|{"error":{"code":-32600,"message":"invalid request"},"id":5,"jsonrpc":"2.0"}"#,
+        ),
         (
             "{",
             r#"Content-Length: 75|{"error":{"code":-32700,"message":"parse error"},"id":null,"jsonrpc":"2.0"}"#,
@@ -171,6 +191,18 @@ fn answers_in_order(rt: HostRuntime) -> Result<(), Fail> {
         (
             r#"{"id":3,"method":"x"}"#,
             r#"Content-Length: 76|{"error":{"code":-32600,"message":"invalid request"},"id":3,"jsonrpc":"2.0"}"#,
+        ),
+        (
+            r#"{"id":3,"method":"textDocument/definition"}"#,
+            r#"Content-Length: 76|{"error":{"code":-32600,"message":"invalid request"},"id":3,"jsonrpc":"2.0"}"#,
+        ),
+        (
+            "{",
+            r#"Content-Length: 75|{"error":{"code":-32700,"message":"parse error"},"id":null,"jsonrpc":"2.0"}"#,
+        ),
+        (
+            r#"{"method":"textDocument/didOpen","params":{"textDocument":{"uri":"u","text":"t"}}}"#,
+            "",
         ),
     ] {
         let mut out = List::new(alloc);
@@ -226,6 +258,35 @@ fn is_spent_by_faults(rt: HostRuntime) -> Result<(), Fail> {
             .message(alloc, none.as_bytes(), &mut out, &mut steps)
             .err();
         assert_eq!(rt; spent, Some(SessionFault::Spent));
+    }
+    Ok(())
+}
+
+#[test]
+fn ends_with_a_status(rt: HostRuntime) -> Result<(), Fail> {
+    let alloc = rt.alloc();
+    let exit = r#"{"method":"exit"}"#;
+    let start = r#"{"id":1,"method":"initialize"}"#;
+    let named = r#"{"id":null,"method":"exit"}"#;
+    for (first, want) in [
+        (start, Turn::On),
+        (named, Turn::On),
+        (exit, Turn::Ended { status: 1 }),
+    ] {
+        let mut session = new_session();
+        let mut steps = Steps::new(());
+        let mut out = List::new(alloc);
+        let begun = session
+            .message(alloc, first.as_bytes(), &mut out, &mut steps)
+            .ok();
+        assert_eq!(rt; begun, Some(want));
+        assert!(rt; !session.shut());
+        let ended = session.message(alloc, exit.as_bytes(), &mut out, &mut steps);
+        if want == Turn::On {
+            assert_eq!(rt; ended.ok(), Some(Turn::Ended { status: 1 }));
+        } else {
+            assert_eq!(rt; ended.err(), Some(SessionFault::Spent));
+        }
     }
     Ok(())
 }

@@ -1,5 +1,4 @@
 pub mod Errors
-pub mod Frame
 pub mod Messages
 pub mod Methods
 pub mod Notes

@@ -1,7 +1,7 @@
 //! A frame round a content.
 
 ghost use Rattle.std.specs.Prelude.{◌≡◌, ◌++◌, IfOk, OnOk, OnErr, codes, decimal, length, string_bytes};
-ghost use Rattle.lsp_wire.specs.Frame.{frame_of};
+ghost use Rattle.rpc_frame.specs.Frames.{frame_of};
 
 use std::alloc::{AllocError, Global};
 use std::mem;

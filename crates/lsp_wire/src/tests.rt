@@ -1,9 +1,10 @@
 //! Messages as clients send them, and the bytes of what is written.
 
 use crate::{
-    Area, Call, Id, Incoming, Location, Note, Notice, Position, Reply, Symbol, read_message,
-    write_error, write_notes, write_reply,
+    Area, Call, Change, FileEvent, Id, Incoming, Location, Note, Notice, Position, Reply, Symbol,
+    read_message, write_error, write_notes, write_reply,
 };
+use rpc_frame::{FrameNext, Framer};
 use std::alloc::{AllocError, Global};
 use std::test::Fail;
 use tool_list::{Chars, List};
@@ -43,6 +44,35 @@ fn shown_call(alloc: Global, call: &Call) -> Result<String, AllocError> {
     }
 }
 
+fn shown_change(alloc: Global, change: &Change) -> Result<String, AllocError> {
+    match change.area {
+        Some(area) => {
+            let start = shown_place(alloc, area.start)?;
+            let end = shown_place(alloc, area.end)?;
+            format!(in alloc; " {start}-{end} {}", change.text.as_str())
+        }
+        None => format!(in alloc; " all {}", change.text.as_str()),
+    }
+}
+
+fn shown_changes(alloc: Global, changes: &[Change]) -> Result<String, AllocError> {
+    let mut text = String::new(alloc);
+    for change in changes {
+        let shown = shown_change(alloc, change)?;
+        text.push_str(shown.as_str())?;
+    }
+    Ok(text)
+}
+
+fn shown_events(alloc: Global, events: &[FileEvent]) -> Result<String, AllocError> {
+    let mut text = String::new(alloc);
+    for event in events {
+        let shown = format!(in alloc; " {} {}", event.uri.as_str(), event.gone)?;
+        text.push_str(shown.as_str())?;
+    }
+    Ok(text)
+}
+
 fn shown_notice(alloc: Global, notice: &Notice) -> Result<String, AllocError> {
     match notice {
         Notice::Exit => format!(in alloc; "exit"),
@@ -50,10 +80,14 @@ fn shown_notice(alloc: Global, notice: &Notice) -> Result<String, AllocError> {
             format!(in alloc; "open {} {}", uri.as_str(), text.as_str())
         }
         Notice::Change { uri, changes } => {
-            format!(in alloc; "change {} {}", uri.as_str(), changes.len())
+            let changes = shown_changes(alloc, changes.as_slice())?;
+            format!(in alloc; "change {}{}", uri.as_str(), changes.as_str())
         }
         Notice::Close { uri } => format!(in alloc; "close {}", uri.as_str()),
-        Notice::Files { events } => format!(in alloc; "files {}", events.len()),
+        Notice::Files { events } => {
+            let events = shown_events(alloc, events.as_slice())?;
+            format!(in alloc; "files{}", events.as_str())
+        }
         Notice::Other => format!(in alloc; "other"),
     }
 }
@@ -94,6 +128,14 @@ fn reads_messages(rt: HostRuntime) -> Result<(), Fail> {
             r#"{"id":1,"method":"initialize","params":{"workspaceFolders":[],"rootUri":"file:///r"}}"#,
             "1 initialize file:///r",
         ),
+        (
+            r#"{"id":1,"method":"initialize","params":{"workspaceFolders":[{"name":"w"}],"rootUri":"file:///r"}}"#,
+            "1 initialize file:///r",
+        ),
+        (
+            r#"{"id":1,"method":"initialize","params":{"rootUri":7}}"#,
+            "1 initialize",
+        ),
         (r#"{"id":1,"method":"initialize"}"#, "1 initialize"),
         (r#"{"id":"a","method":"shutdown"}"#, "'a' shutdown"),
         (r#"{"id":-3,"method":"shutdown"}"#, "-3 shutdown"),
@@ -105,7 +147,25 @@ fn reads_messages(rt: HostRuntime) -> Result<(), Fail> {
             r#"{"id":18446744073709551616,"method":"shutdown"}"#,
             "-32600 null",
         ),
+        (
+            r#"{"id":-9223372036854775808,"method":"shutdown"}"#,
+            "-9223372036854775808 shutdown",
+        ),
+        (
+            r#"{"id":-9223372036854775809,"method":"shutdown"}"#,
+            "-32600 null",
+        ),
+        (r#"{"id":"","method":"shutdown"}"#, "'' shutdown"),
+        (
+            r#"{"id":"\u0061\ud83d\ude00","method":"shutdown"}"#,
+            "'a😀' shutdown",
+        ),
         (r#"{"id":1.5,"method":"shutdown"}"#, "-32600 null"),
+        (r#"{"id":1e2,"method":"shutdown"}"#, "-32600 null"),
+        (r#"{"id":-0,"method":"shutdown"}"#, "-32600 null"),
+        (r#"{"id":1e999,"method":"shutdown"}"#, "-32700 null"),
+        (r#"{"id":true,"method":"shutdown"}"#, "-32600 null"),
+        (r#"{"id":1.5,"method":7}"#, "-32600 null"),
         (r#"{"id":null,"method":"exit"}"#, "-32600 null"),
         (r#"{"id":[],"method":"exit"}"#, "-32600 null"),
         (r#"{"method":"exit"}"#, "exit"),
@@ -119,6 +179,13 @@ fn reads_messages(rt: HostRuntime) -> Result<(), Fail> {
         (r#"{"method":null}"#, "-32600 null"),
         (r#"{"id":1,"result":null}"#, "dropped"),
         (r#"{"id":null,"error":{}}"#, "dropped"),
+        (r#"{"id":1.5,"result":1}"#, "dropped"),
+        (r#"{"error":{}}"#, "dropped"),
+        (r#"{"id":1,"method":"$/cancelRequest"}"#, "1 unknown"),
+        (
+            r#"{"id":1,"method":"textDocument/didOpen","params":{"textDocument":{"uri":"u","text":"t"}}}"#,
+            "1 unknown",
+        ),
         (r#"{"id":1}"#, "-32600 1"),
         (r#"{}"#, "-32600 null"),
         ("[]", "-32600 null"),
@@ -127,6 +194,13 @@ fn reads_messages(rt: HostRuntime) -> Result<(), Fail> {
         ("", "-32700 null"),
         (r#"{"id":1,"method":"shutdown"} x"#, "-32700 null"),
         (r#"{"id":"\ud800","method":"shutdown"}"#, "-32700 null"),
+        (r#"{"id":"\udc00","method":"shutdown"}"#, "-32700 null"),
+        (
+            r#"{"id":"\ud800\u0061","method":"shutdown"}"#,
+            "-32700 null",
+        ),
+        ("\u{feff}{}", "-32700 null"),
+        (r#"{"method":"exit","method":"x"}"#, "other"),
         (r#"{"id":1,"id":2,"method":"shutdown"}"#, "2 shutdown"),
         (
             r#"{"id":1,"method":"textDocument/definition","params":{"textDocument":{"uri":"u"},"position":{"line":2,"character":13}}}"#,
@@ -149,7 +223,23 @@ fn reads_messages(rt: HostRuntime) -> Result<(), Fail> {
             "1 bad",
         ),
         (
-            r#"{"id":1,"method":"textDocument/references","params":{"textDocument":{"uri":"u"},"position":{"line":2147483647,"character":0}}}"#,
+            r#"{"id":1,"method":"textDocument/definition","params":{"textDocument":{"uri":"u"},"position":{"line":2147483647,"character":2147483647}}}"#,
+            "1 definition u 2147483647:2147483647",
+        ),
+        (
+            r#"{"id":1,"method":"textDocument/definition","params":{"textDocument":{"uri":"u"},"position":{"line":"1","character":0}}}"#,
+            "1 bad",
+        ),
+        (
+            r#"{"id":1,"method":"textDocument/definition","params":[]}"#,
+            "1 bad",
+        ),
+        (
+            r#"{"id":1,"method":"textDocument/references","params":{"textDocument":{"uri":"u"},"position":{"line":0,"character":0}}}"#,
+            "1 bad",
+        ),
+        (
+            r#"{"id":1,"method":"textDocument/references","params":{"textDocument":{"uri":"u"},"position":{"line":0,"character":0},"context":{"includeDeclaration":1}}}"#,
             "1 bad",
         ),
         (
@@ -174,7 +264,7 @@ fn reads_messages(rt: HostRuntime) -> Result<(), Fail> {
         ),
         (
             r#"{"method":"textDocument/didChange","params":{"textDocument":{"uri":"u"},"contentChanges":[{"text":"a"},{"range":null,"text":"b"}]}}"#,
-            "change u 2",
+            "change u all a all b",
         ),
         (
             r#"{"method":"textDocument/didChange","params":{"textDocument":{"uri":"u"},"contentChanges":[{"range":1,"text":"b"}]}}"#,
@@ -182,7 +272,15 @@ fn reads_messages(rt: HostRuntime) -> Result<(), Fail> {
         ),
         (
             r#"{"method":"textDocument/didChange","params":{"textDocument":{"uri":"u"},"contentChanges":[]}}"#,
-            "change u 0",
+            "change u",
+        ),
+        (
+            r#"{"method":"textDocument/didChange","params":{"textDocument":{"uri":"u"},"contentChanges":[{"range":{"start":{"line":2,"character":13},"end":{"line":2,"character":14}},"text":"x'"}]}}"#,
+            "change u 2:13-2:14 x'",
+        ),
+        (
+            r#"{"method":"textDocument/didChange","params":{"textDocument":{"uri":"u"},"contentChanges":[{"text":"a"},{"range":{"start":{"line":0,"character":0},"end":{"line":0,"character":2147483648}},"text":"b"}]}}"#,
+            "other",
         ),
         (
             r#"{"method":"textDocument/didClose","params":{"textDocument":{"uri":"u"}}}"#,
@@ -190,7 +288,7 @@ fn reads_messages(rt: HostRuntime) -> Result<(), Fail> {
         ),
         (
             r#"{"method":"workspace/didChangeWatchedFiles","params":{"changes":[{"uri":"u","type":1},{"uri":"v","type":3}]}}"#,
-            "files 2",
+            "files u false v true",
         ),
         (
             r#"{"method":"workspace/didChangeWatchedFiles","params":{"changes":[{"uri":"u","type":4}]}}"#,
@@ -201,6 +299,15 @@ fn reads_messages(rt: HostRuntime) -> Result<(), Fail> {
         let shown = shown(alloc, &message)?;
         assert_eq!(rt; shown.as_str(), want, "{content}");
     }
+    Ok(())
+}
+
+#[test]
+fn refuses_what_is_no_text(rt: HostRuntime) -> Result<(), Fail> {
+    let alloc = rt.alloc();
+    let message = read_message(alloc, b"{\"id\":\"\xff\",\"method\":\"shutdown\"}")?;
+    let shown = shown(alloc, &message)?;
+    assert_eq!(rt; shown.as_str(), "-32700 null");
     Ok(())
 }
 
@@ -285,5 +392,13 @@ fn writes_frames(rt: HostRuntime) -> Result<(), Fail> {
         }
     }
     assert_eq!(rt; out.as_slice(), want.as_bytes());
+    assert!(rt; out.len() < 4000);
+    let mut framer = Framer::new(alloc);
+    framer.feed(out.as_slice())?;
+    for _ in 0..8 {
+        assert_eq!(rt; framer.next(), FrameNext::Message);
+    }
+    assert_eq!(rt; framer.next(), FrameNext::NotYet);
+    assert!(rt; !framer.inside());
     Ok(())
 }

@@ -3,7 +3,7 @@
 ghost use Rattle.std.specs.Prelude.{◌≡◌, ◌++◌, IfOk, OnOk, OnErr, codes, flat_map};
 ghost use Rattle.std.specs.Fmt.{signed_decimal};
 ghost use Rattle.serde_json.specs.Written.{compact_text};
-ghost use Rattle.lsp_wire.specs.Frame.{frame_of};
+ghost use Rattle.rpc_frame.specs.Frames.{frame_of};
 ghost use Rattle.lsp_wire.specs.Replies.{reply_content};
 ghost use Rattle.lsp_wire.specs.Written.{id_data, error_data, notes_data, error_content, notes_content};
 

@@ -6,17 +6,17 @@ use Rattle.std.proofs.lemmas.List.{length-map}
 use Rattle.rpc_frame.specs.Frames.{number_from, IsLengthLine, IsTypeLine, HasFields, IsHeader}
 use Rattle.rpc_frame.proofs.Acceptor.{Texts, Lines, Forks, Ends, ReadsName, ReadsByte, ReadsSpaces, ReadsDigits, ReadsValue, ReadsLength, ReadsType, BehindBoth, BehindLength, BehindType}
 
-all_cons : {X : Type 0} (P : X → Type 0) (x : X) (xs : List X) → P x → All P xs → All P (x ∷ xs)
+pub all_cons : {X : Type 0} (P : X → Type 0) (x : X) (xs : List X) → P x → All P xs → All P (x ∷ xs)
 all_cons P x xs p h zero d l = p
 all_cons P x xs p h (suc k) d l = h k d (omega arith)
 
-all_none : {X : Type 0} (P : X → Type 0) → All P []
+pub all_none : {X : Type 0} (P : X → Type 0) → All P []
 all_none P k d l = absurd (omega arith)
 
-all_head : {X : Type 0} (P : X → Type 0) (x : X) (xs : List X) → All P (x ∷ xs) → P x
+pub all_head : {X : Type 0} (P : X → Type 0) (x : X) (xs : List X) → All P (x ∷ xs) → P x
 all_head P x xs h = h 0 x (omega arith)
 
-all_tail : {X : Type 0} (P : X → Type 0) (x : X) (xs : List X) → All P (x ∷ xs) → All P xs
+pub all_tail : {X : Type 0} (P : X → Type 0) (x : X) (xs : List X) → All P (x ∷ xs) → All P xs
 all_tail P x xs h k d l = h (suc k) d (omega arith)
 
 byte_out : (c : ℕ) (K : Texts) (bs : List ℕ) → ReadsByte c K bs → (rest : List ℕ) × (bs ≡ c ∷ rest) × K rest

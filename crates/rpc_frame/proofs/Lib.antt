@@ -6,3 +6,4 @@ pub mod Headers
 pub mod Numbers
 pub mod OneReading
 pub mod Runs
+pub mod Written

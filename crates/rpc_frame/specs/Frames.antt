@@ -1,5 +1,5 @@
 -- The frames of a stream: header lines, an empty line and content, as in the base protocol of LSP.
-use Rattle.std.specs.Prelude.{◌≡◌, ◌≢◌, ℕ, ◌+◌, ◌-◌, ◌*◌, ◌^◌, ◌<◌, ◌≤◌, ◌⊎◌, List, [], ◌∷◌, ◌++◌, All, length, map, take, codes}
+use Rattle.std.specs.Prelude.{◌≡◌, ◌≢◌, ℕ, ◌+◌, ◌-◌, ◌*◌, ◌^◌, ◌<◌, ◌≤◌, ◌⊎◌, List, [], ◌∷◌, ◌++◌, All, length, map, take, codes, decimal}
 use Rattle.std.specs.Char.{IsAsciiDigit, to_ascii_lowercase}
 
 -- the name of a field, written without regard to the case of its letters
@@ -58,6 +58,10 @@ pub record IsFrame (frame content : List ℕ) : Type 0 where
   pub written : frame ≡ header ++ content
   pub says : IsHeader header (length content)
   pub fits : length content ≤ 2 ^ 24
+
+-- the frame of a content as it is written: a header that says the content's length in bytes, and the content
+abbrev pub frame_of : List ℕ → List ℕ
+frame_of content = (codes "Content-Length: " ++ (decimal (length content) ++ codes "\r\n\r\n")) ++ content
 
 -- some bytes of a header, which is not whole
 pub record IsPartOfHeader (bytes : List ℕ) : Type 0 where

@@ -1,10 +1,10 @@
 //! What holds of frames and of what a framer gives, for every stream and however it is cut. The
 //! functions do nothing: their clauses are the theorems.
 
-ghost use Rattle.std.specs.Prelude.{◌≡◌, ℕ, ◌+◌, ◌^◌, ◌<◌, ◌⊎◌, List, [], ◌∷◌, ◌++◌, length};
+ghost use Rattle.std.specs.Prelude.{◌≡◌, ℕ, ◌+◌, ◌^◌, ◌<◌, ◌≤◌, ◌⊎◌, List, [], ◌∷◌, ◌++◌, All, length, flat_map};
 ghost use Rattle.rpc_frame.specs.declared.framer.FrameNext.{FrameNext};
-ghost use Rattle.rpc_frame.specs.declared.framer.FrameNext.TheVariants.{Message};
-ghost use Rattle.rpc_frame.specs.Frames.{IsUnfinished, IsTooLong, IsBad, HasFrames, HasNoFrame};
+ghost use Rattle.rpc_frame.specs.declared.framer.FrameNext.TheVariants.{Message, NotYet};
+ghost use Rattle.rpc_frame.specs.Frames.{IsFrame, IsUnfinished, IsTooLong, IsBad, HasFrames, HasNoFrame, frame_of};
 ghost use Rattle.rpc_frame.specs.Framing.{Held, IsNext, HasGiven};
 
 /// What waits in a framer has one answer. So each answer comes exactly where its meaning holds.
@@ -49,4 +49,24 @@ pub fn waiting_is_bounded()
     ensures counted { (old : Held) (a : FrameNext) (new : Held) → IsNext old a new
         → new.taken + length new.waiting ≡ old.taken + length old.waiting }
     ensures short { (bytes : List ℕ) → IsUnfinished bytes → length bytes < 2 ^ 24 + 2 ^ 12 }
+{}
+
+/// What is written as the frame of a content is a frame of it. So a stream of such frames, however
+/// it is cut, is read back as their contents in order, and then nothing waits.
+pub fn written_is_read()
+    ensures frame { (content : List ℕ) → length content ≤ 2 ^ 24
+        → IsFrame (frame_of content) content }
+    ensures stream { (contents : List (List ℕ)) (rest : List ℕ)
+        → All (λ content. length content ≤ 2 ^ 24) contents
+        → HasFrames (flat_map frame_of contents ++ rest) contents rest }
+
+    // Any answer but a message says that all of them were given.
+    ensures given { (contents given : List (List ℕ)) (old : Held) (a : FrameNext) (new : Held)
+        → All (λ content. length content ≤ 2 ^ 24) contents
+        → HasGiven (flat_map frame_of contents) given old → IsNext old a new
+        → (a ≡ Message) ⊎ ((given ≡ contents) × (old.waiting ≡ []) × (a ≡ NotYet)) }
+
+    // A content that is larger than a frame may hold is not taken for another.
+    ensures long { (content more : List ℕ) → 2 ^ 24 < length content → length content < 10 ^ 15
+        → IsTooLong (frame_of content ++ more) (length content) }
 {}

@@ -71,6 +71,46 @@ fn gives_the_contents_of_frames(rt: HostRuntime) -> Result<(), Fail> {
 }
 
 #[test]
+fn gives_the_messages_of_a_session(rt: HostRuntime) -> Result<(), Fail> {
+    let alloc = rt.alloc();
+    let stream =
+        b"Content-Length: 72\r\n\r\n{\"jsonrpc\":\"2.0\",\"id\":1,\"method\":\"initialize\",\"params\":{\"rootUri\":null}}Content-Length: 44\r\n\r\n{\"jsonrpc\":\"2.0\",\"id\":2,\"method\":\"shutdown\"}Content-Length: 33\r\n\r\n{\"jsonrpc\":\"2.0\",\"method\":\"exit\"}";
+    let contents = [
+        r#"{"jsonrpc":"2.0","id":1,"method":"initialize","params":{"rootUri":null}}"#,
+        r#"{"jsonrpc":"2.0","id":2,"method":"shutdown"}"#,
+        r#"{"jsonrpc":"2.0","method":"exit"}"#,
+    ];
+    let mut framer = Framer::new(alloc);
+    framer.feed(stream)?;
+    let mut joined = String::new(alloc);
+    for content in contents {
+        assert_eq!(rt; framer.next(), FrameNext::Message);
+        assert_eq!(rt; framer.content(), content.as_bytes());
+        joined.push_str(content)?;
+        joined.push('|')?;
+    }
+    assert_eq!(rt; framer.next(), FrameNext::NotYet);
+    assert!(rt; !framer.inside());
+    let by_byte = read_by_byte(alloc, stream)?;
+    assert_eq!(rt; by_byte.contents.as_slice(), joined.as_bytes());
+    assert!(rt; !by_byte.inside);
+    Ok(())
+}
+
+#[test]
+fn places_from_the_start_of_the_stream(rt: HostRuntime) -> Result<(), Fail> {
+    let alloc = rt.alloc();
+    let mut framer = Framer::new(alloc);
+    framer.feed(b"Content-Length: 2\r\n\r\n{}Content-Length: x")?;
+    assert!(rt; !framer.inside());
+    assert_eq!(rt; framer.next(), FrameNext::Message);
+    assert_eq!(rt; framer.next(), FrameNext::BadHeader { at: 39 });
+    assert_eq!(rt; framer.content(), b"{}".as_slice());
+    assert!(rt; !framer.inside());
+    Ok(())
+}
+
+#[test]
 fn places_what_no_header_has(rt: HostRuntime) -> Result<(), Fail> {
     let alloc = rt.alloc();
     for (text, at) in [
@@ -86,6 +126,8 @@ fn places_what_no_header_has(rt: HostRuntime) -> Result<(), Fail> {
         ("Content-Length: -2", 16),
         ("Content-Length: 1234567890123456", 31),
         ("Content-Length: 2\r\nContent-Length: 2", 27),
+        ("Content-Length: 5\r\nContent-Length: 5\r\n\r\n", 27),
+        ("\r\n\r\n", 0),
         ("Content-Type: a\r\nContent-Type: b", 25),
         ("Content-Type: a\r\n\r\n", 17),
         ("Content-Type: a\nb", 15),
