@@ -1,19 +1,23 @@
-//! Sessions over a stand-in that has no notes, and replies with null to every question.
+//! Sessions over a stand-in that keeps texts in a map, has no notes, and replies with null to every
+//! question.
 
+ghost use Rattle.std.specs.Prelude.{◌≡◌};
 ghost use Rattle.lsp_session.specs.Silent.{silent_state, silent_meaning};
 
 use crate::{Session, SessionFault, Turn};
 use lsp_answers::{AnswerFault, Answers, Due};
 use lsp_wire::{Call, Change, FileEvent, Reply, Uri};
 use std::alloc::Global;
+use std::collections::BTreeMap;
 use std::test::Fail;
 use step_count::Steps;
 use tool_list::{Chars, List, Memory};
 
-/// Asks for a notice for each document that is opened. A root is a fault of its folder, and changes
-/// meet the limit that their number is.
+/// Keeps the text of each document that is open, and asks for a notice for each that is opened. A root
+/// is a fault of its folder, and changes meet the limit that their number is.
 #[derive(Drop)]
 struct Silent {
+    texts: BTreeMap<String, String>,
     due: Option<Chars>,
     faults: u64,
 }
@@ -44,9 +48,12 @@ impl Answers for Silent {
         &mut self,
         alloc: Global,
         uri: &Uri,
-        _text: &Chars,
+        text: &Chars,
         _steps: &mut Steps<L>,
     ) -> Result<(), AnswerFault> {
+        if self.keep(alloc, uri, text).is_err() {
+            return Err(AnswerFault::Memory);
+        }
         match Chars::from_str(alloc, uri.as_str()) {
             Ok(due) => {
                 self.due = Some(due);
@@ -71,9 +78,10 @@ impl Answers for Silent {
     fn close<L>(
         &mut self,
         _alloc: Global,
-        _uri: &Uri,
+        uri: &Uri,
         _steps: &mut Steps<L>,
     ) -> Result<(), AnswerFault> {
+        let _ = self.texts.remove(uri.as_str());
         Ok(())
     }
 
@@ -114,8 +122,22 @@ impl Answers for Silent {
     }
 }
 
-fn new_session() -> Session<Silent> {
+impl Silent {
+    /// Puts the text under its name.
+    fn keep(&mut self, alloc: Global, uri: &Uri, text: &Chars) -> Result<(), Memory>
+        ensures due { self.new.due ≡ self.old.due }
+        ensures faults { self.new.faults ≡ self.old.faults }
+    {
+        let name = String::from_str(alloc, uri.as_str())?;
+        let text = String::from_str(alloc, text.as_str())?;
+        self.texts.insert(name, text)?;
+        Ok(())
+    }
+}
+
+fn new_session(alloc: Global) -> Session<Silent> {
     Session::new(Silent {
+        texts: BTreeMap::new(alloc),
         due: None,
         faults: 0,
     })
@@ -124,7 +146,7 @@ fn new_session() -> Session<Silent> {
 #[test]
 fn answers_in_order(rt: HostRuntime) -> Result<(), Fail> {
     let alloc = rt.alloc();
-    let mut session = new_session();
+    let mut session = new_session(alloc);
     let mut steps = Steps::new(());
     for (content, want) in [
         (
@@ -241,7 +263,7 @@ fn is_spent_by_faults(rt: HostRuntime) -> Result<(), Fail> {
         (root, none, SessionFault::Folder),
         (none, change, SessionFault::Limit { said: 2 }),
     ] {
-        let mut session = new_session();
+        let mut session = new_session(alloc);
         let mut steps = Steps::new(());
         let mut out = List::new(alloc);
         let begun = session.message(alloc, first.as_bytes(), &mut out, &mut steps);
@@ -273,7 +295,7 @@ fn ends_with_a_status(rt: HostRuntime) -> Result<(), Fail> {
         (named, Turn::On),
         (exit, Turn::Ended { status: 1 }),
     ] {
-        let mut session = new_session();
+        let mut session = new_session(alloc);
         let mut steps = Steps::new(());
         let mut out = List::new(alloc);
         let begun = session
@@ -288,5 +310,27 @@ fn ends_with_a_status(rt: HostRuntime) -> Result<(), Fail> {
             assert_eq!(rt; ended.err(), Some(SessionFault::Spent));
         }
     }
+    Ok(())
+}
+
+#[test]
+fn keeps_texts_while_they_are_open(rt: HostRuntime) -> Result<(), Fail> {
+    let alloc = rt.alloc();
+    let mut session = new_session(alloc);
+    let mut steps = Steps::new(());
+    for content in [
+        r#"{"id":1,"method":"initialize"}"#,
+        r#"{"method":"textDocument/didOpen","params":{"textDocument":{"uri":"u","text":"t"}}}"#,
+        r#"{"method":"textDocument/didOpen","params":{"textDocument":{"uri":"v","text":"w"}}}"#,
+        r#"{"method":"textDocument/didClose","params":{"textDocument":{"uri":"v"}}}"#,
+        r#"{"method":"textDocument/didOpen","params":{"textDocument":{"uri":"x"}}}"#,
+    ] {
+        let mut out = List::new(alloc);
+        let turn = session.message(alloc, content.as_bytes(), &mut out, &mut steps);
+        assert_eq!(rt; turn.ok(), Some(Turn::On), "{content}");
+    }
+    let texts = session.into_answers().texts;
+    assert_eq!(rt; texts.len(), 1);
+    assert_eq!(rt; texts.get("u").map(|text| text.as_str()), Some("t"));
     Ok(())
 }
