@@ -7,12 +7,12 @@ use Rattle.tla_tree.specs.FirstBad.{IsDerivable, Begins, IsFirstBad}
 use Rattle.expr_grammar.specs.Machine.{State, run, start, parse, RefusesAt}
 use Rattle.expr_grammar.proofs.Complete.{refused-ends}
 use Rattle.expr_grammar.proofs.Sounding.{accepted-derives}
-use Rattle.expr_grammar.proofs.Completing.{completes}
+use Rattle.expr_grammar.proofs.Completing.{completes-expression}
 
 -- what the machine has not refused begins a derivable list
 pub unrefused-begins : (lexemes : List Lexeme) (st : State) → run (Some start) lexemes ≡ Some st → Begins lexemes
 unrefused-begins lexemes st e =
-    let k : (rest : List Lexeme) × (tree : Tree) × (parse (lexemes ++ rest) ≡ Some tree) = completes lexemes st e in
+    let k : (rest : List Lexeme) × (tree : Tree) × (parse (lexemes ++ rest) ≡ Some tree) = completes-expression lexemes st e in
     (k.0, (k.1, accepted-derives (lexemes ++ k.0) k.1 k.2))
 
 pub refused-first : (lexemes : List Lexeme) (index : ℕ) → RefusesAt lexemes index → IsFirstBad lexemes index
