@@ -34,4 +34,3 @@ mod CountingMade
 mod CountingHeld
 mod CountingSamples
 mod CompletingFirst
-mod CompletingBounds
