@@ -1,11 +1,11 @@
 -- Each frame has a completion round a part that it takes.
-use Rattle.std.proofs.Common.{◌≡◌, ℕ, ◌≤◌, ◌⊎◌, inl, inr, Bool, true, false, List, [], ◌∷◌, Some, None, refl}
+use Rattle.std.proofs.Common.{◌≡◌, ℕ, ◌≤◌, ◌⊎◌, inl, inr, Bool, true, false, List, [], ◌∷◌, ◌++◌, Some, None, refl}
 use Rattle.tla_symbols.specs.declared.lexeme.LexKind.{LexKind}
 use Rattle.tla_symbols.specs.declared.lexeme.Word.TheVariants as Word
 use Rattle.tla_symbols.specs.declared.lexeme.Mark.TheVariants as Mark
 use Rattle.tla_symbols.specs.declared.lexeme.Lexeme.{Lexeme}
 use Rattle.tla_tree.specs.declared.form.Form.{Form}
-use Rattle.tla_tree.specs.Syntax.{Tree}
+use Rattle.tla_tree.specs.Syntax.{Tree, trees}
 use Rattle.expr_grammar.specs.declared.wait.Handed.TheVariants as Handed
 use Rattle.expr_grammar.specs.declared.wait.Wait.{Wait}
 use Rattle.expr_grammar.specs.declared.wait.PartMove.{PartMove}
@@ -15,7 +15,7 @@ use Rattle.expr_grammar.specs.declared.wait.Shape.{Shape}
 use Rattle.expr_grammar.specs.Kinds.{is_bang, is_always, is_comma}
 use Rattle.expr_grammar.specs.Tables.{mode, shape, is_expression, ends_with, after_expression, at_part}
 use Rattle.expr_grammar.specs.Machine.{Frame, frame, At, Have, inner}
-use Rattle.expr_grammar.proofs.CompletingKinds.{Kind, makes, wanted, meets, shows, rough}
+use Rattle.expr_grammar.proofs.CompletingKinds.{Kind, Goal, bottom, makes, wanted, meets, shows, rough, meets-bottom}
 use Rattle.expr_grammar.proofs.CompletingStates.{Under}
 use Rattle.expr_grammar.proofs.CompletingParts.{lexeme, Completion, closes, Closing, Room, is_usual, ends_with_mark, goes_with_mark, marks, operand, ends_alone}
 
@@ -33,7 +33,7 @@ ends-made (Wait.PrefixOperand s) form h = cc
 ends-made _ form h = cc
 
 -- a frame that may end round its expression
-pub ends-round-expression : {c : ℕ} {w : Wait} {ps : List Tree} {a : List Lexeme} {fs : List Frame} {e : Tree} {b : List Lexeme} (form : Form) → Room c fs (makes w) → inner (frame w ps a ∷ fs) ≤ c → ends_with w ≡ Some form → is_expression (shape e) ≡ true → Closing c (Have (frame w ps a ∷ fs) e b)
+pub ends-round-expression : {goal : Goal} {c : ℕ} {w : Wait} {ps : List Tree} {a : List Lexeme} {fs : List Frame} {e : Tree} {b : List Lexeme} (form : Form) → Room goal c fs (makes w) → inner (frame w ps a ∷ fs) ≤ c → ends_with w ≡ Some form → is_expression (shape e) ≡ true → Closing goal c (Have (frame w ps a ∷ fs) e b)
 ends-round-expression {w = w} {e = e} form r i q s = ends_alone form r i (ends-usual w form q) (ends-made w form q) (rw (s, q)) (λ t h. rw (s, ends-refuses w form (shape e) t q, q))
 
 body-instance : (sh : Shape) → shows Kind.Body sh ≡ true → is_expression sh ≡ false → sh ≡ Shape.Instance
@@ -81,40 +81,39 @@ closes-no_comma (LexKind.Mark Mark.Comma) h = cc
 closes-no_comma _ h = refl
 
 -- an instance ends a definition
-pub ends-round-instance : {c : ℕ} {w : Wait} {ps : List Tree} {a : List Lexeme} {fs : List Frame} {e : Tree} {b : List Lexeme} → Room c fs (makes w) → inner (frame w ps a ∷ fs) ≤ c → (form : Form) → ends_with w ≡ Some form → shows (wanted w) (shape e) ≡ true → is_expression (shape e) ≡ false → Closing c (Have (frame w ps a ∷ fs) e b)
+pub ends-round-instance : {goal : Goal} {c : ℕ} {w : Wait} {ps : List Tree} {a : List Lexeme} {fs : List Frame} {e : Tree} {b : List Lexeme} → Room goal c fs (makes w) → inner (frame w ps a ∷ fs) ≤ c → (form : Form) → ends_with w ≡ Some form → shows (wanted w) (shape e) ≡ true → is_expression (shape e) ≡ false → Closing goal c (Have (frame w ps a ∷ fs) e b)
 ends-round-instance {w = Wait.DefinitionBody n} {e = e} r i form q s x =
     let z : shape e ≡ Shape.Instance = body-instance (shape e) s x in
     ends_alone (Form.ModuleDefinition n) r i refl refl (rw z) (λ t h. rw z)
 ends-round-instance {w = _} r i form q s x = cc
 
 -- a body is due, and then the form ends
-pub ends_with_body : {c : ℕ} {w : Wait} {ps : List Tree} {a : List Lexeme} {fs : List Frame} (form : Form) → Room c fs (makes w) → inner (frame w ps a ∷ fs) ≤ c → mode w ≡ Mode.Operand → ends_with w ≡ Some form → Completion (At (frame w ps a ∷ fs))
+pub ends_with_body : {goal : Goal} {c : ℕ} {w : Wait} {ps : List Tree} {a : List Lexeme} {fs : List Frame} (form : Form) → Room goal c fs (makes w) → inner (frame w ps a ∷ fs) ≤ c → mode w ≡ Mode.Operand → ends_with w ≡ Some form → Completion goal (At (frame w ps a ∷ fs))
 ends_with_body form r i m q = operand m i (λ e b s. ends-round-expression form r i q s)
 
 -- a part is due, and then a mark closes the form
-pub closes_with_mark : {c : ℕ} {w : Wait} {ps : List Tree} {a : List Lexeme} {fs : List Frame} (kind : LexKind) (form : Form) (cv : Conversion) → Room c fs (makes w) → inner (frame w ps a ∷ fs) ≤ c → closes kind ≡ true → mode w ≡ Mode.Operand → ((sh : Shape) → is_expression sh ≡ true → at_part w sh (lexeme kind c) ≡ PartMove.Done form cv) → shows (makes w) (rough form) ≡ true → Completion (At (frame w ps a ∷ fs))
+pub closes_with_mark : {goal : Goal} {c : ℕ} {w : Wait} {ps : List Tree} {a : List Lexeme} {fs : List Frame} (kind : LexKind) (form : Form) (cv : Conversion) → Room goal c fs (makes w) → inner (frame w ps a ∷ fs) ≤ c → closes kind ≡ true → mode w ≡ Mode.Operand → ((sh : Shape) → is_expression sh ≡ true → at_part w sh (lexeme kind c) ≡ PartMove.Done form cv) → shows (makes w) (rough form) ≡ true → Completion goal (At (frame w ps a ∷ fs))
 closes_with_mark kind form cv r i h m q z = operand m i (λ e b s. ends_with_mark kind form cv r i h (q (shape e) s) z)
 
-meets-whole : (k : Kind) → meets k Kind.Whole ≡ false
-meets-whole Kind.Whole = refl
-meets-whole _ = refl
+-- nothing stands below the bottom frame
+alone : (goal : Goal) (w : Wait) → meets (wanted w) (bottom goal) ≡ true → ⊥
+alone goal w m = let z : meets (wanted w) (bottom goal) ≡ false = meets-bottom goal (wanted w) in cc
 
-meets-never : (k : Kind) → meets k Kind.Never ≡ false
-meets-never Kind.Whole = refl
-meets-never _ = refl
+whole-ends : {goal : Goal} {c : ℕ} {ps : List Tree} {a : List Lexeme} (fs : List Frame) (e : Tree) (b : List Lexeme) → Under goal fs Kind.Whole → is_expression (shape e) ≡ true → Closing goal c (Have (frame Wait.Whole ps a ∷ fs) e b)
+whole-ends {goal = Goal.ForExpression} [] e b u s = record { all = record { rest = []; answers = (e, rw s) }; first = tt }
+whole-ends {goal = Goal.ForBounds} [] e b u s = cc
+whole-ends (f ∷ fs) e b u s = absurd (alone Goal.ForExpression f.wait u.0)
 
-never-under : (fs : List Frame) → Under fs Kind.Never → ⊥
-never-under [] u = cc
-never-under (f ∷ fs) u = let z : meets (wanted f.wait) Kind.Never ≡ false = meets-never (wanted f.wait) in let y : meets (wanted f.wait) Kind.Never ≡ true = u.0 in cc
-
-whole-ends : {c : ℕ} {ps : List Tree} {a : List Lexeme} (fs : List Frame) (e : Tree) (b : List Lexeme) → Under fs Kind.Whole → is_expression (shape e) ≡ true → Closing c (Have (frame Wait.Whole ps a ∷ fs) e b)
-whole-ends [] e b u s = record { all = record { rest = []; tree = e; parses = rw s }; first = tt }
-whole-ends (f ∷ fs) e b u s = let z : meets (wanted f.wait) Kind.Whole ≡ false = meets-whole (wanted f.wait) in let y : meets (wanted f.wait) Kind.Whole ≡ true = u.0 in cc
+-- a bound is enough of bounds alone
+bounds-end : {goal : Goal} {c : ℕ} {ps : List Tree} {a : List Lexeme} (fs : List Frame) (e : Tree) (b : List Lexeme) → Under goal fs Kind.WholeBounds → shape e ≡ Shape.Bound → Closing goal c (Have (frame Wait.WholeBounds ps a ∷ fs) e b)
+bounds-end {goal = Goal.ForExpression} [] e b u s = cc
+bounds-end {goal = Goal.ForBounds} {ps = ps} [] e b u s = record { all = record { rest = []; answers = (trees (ps ++ e ∷ []), rw s) }; first = tt }
+bounds-end (f ∷ fs) e b u s = absurd (alone Goal.ForBounds f.wait u.0)
 
 -- frames that go on after their part, or close with a mark
-pub goes-on : {c : ℕ} (w : Wait) {ps : List Tree} {a : List Lexeme} {fs : List Frame} {e : Tree} {b : List Lexeme} → Room c fs (makes w) → inner (frame w ps a ∷ fs) ≤ c → ends_with w ≡ None → shows (wanted w) (shape e) ≡ true → meets (wanted w) Kind.Step ≡ false → Closing c (Have (frame w ps a ∷ fs) e b)
+pub goes-on : {goal : Goal} {c : ℕ} (w : Wait) {ps : List Tree} {a : List Lexeme} {fs : List Frame} {e : Tree} {b : List Lexeme} → Room goal c fs (makes w) → inner (frame w ps a ∷ fs) ≤ c → ends_with w ≡ None → shows (wanted w) (shape e) ≡ true → meets (wanted w) Kind.Step ≡ false → Closing goal c (Have (frame w ps a ∷ fs) e b)
 goes-on Wait.Whole {fs = fs} {e} {b} r i q s n = whole-ends fs e b r.under s
-goes-on Wait.WholeBounds {fs = fs} r i q s n = absurd (never-under fs r.under)
+goes-on Wait.WholeBounds {fs = fs} {e} {b} r i q s n = bounds-end fs e b r.under (bound-is (shape e) s)
 goes-on Wait.ParenthesesBody r i q s n = ends_with_mark (LexKind.Mark Mark.RightParen) Form.Parentheses Conversion.Keep r i refl (rw s) refl
 goes-on (Wait.Argument d) r i q s n = ends_with_mark (LexKind.Mark Mark.RightParen) (Form.Segment d) Conversion.Keep r i refl (rw s) refl
 goes-on Wait.BraceFirst r i q s n = ends_with_mark (LexKind.Mark Mark.RightBrace) Form.SetEnumeration Conversion.Keep r i refl (rw s) refl

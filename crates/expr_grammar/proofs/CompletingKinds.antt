@@ -12,8 +12,9 @@ use Rattle.expr_grammar.specs.Tables.{mode, plain_shape, infix_shape, shape_by, 
 use Rattle.expr_grammar.proofs.Starting.{plain-expression, member-expression}
 
 pub data Kind : Type 0 where
-  -- the bottom, and what no frame takes
+  -- the bottom of each goal, and what no frame takes
   Whole : Kind
+  WholeBounds : Kind
   Never : Kind
   Expression : Kind
   -- what a definition may have on its right: an expression or an instance
@@ -32,6 +33,16 @@ pub data Kind : Type 0 where
   Replacement : Kind
   Parameter : Kind
 
+-- what the machine reads: an expression, or bounds alone
+pub data Goal : Type 0 where
+  ForExpression : Goal
+  ForBounds : Goal
+
+-- the kind of the bottom frame
+abbrev pub bottom : Goal → Kind
+bottom ForExpression = Whole
+bottom ForBounds = WholeBounds
+
 abbrev pub binds : Binding → Kind
 binds Binding.Names = Names
 binds Binding.Either = Either
@@ -41,7 +52,7 @@ binds Binding.One = One
 -- the kind of part that a frame makes in the end
 abbrev pub makes : Wait → Kind
 makes Wait.Whole = Whole
-makes Wait.WholeBounds = Never
+makes Wait.WholeBounds = WholeBounds
 makes (Wait.SegmentName n) = Segment
 makes (Wait.Argument n) = Segment
 makes (Wait.ArgumentSymbol n) = Segment
@@ -229,3 +240,14 @@ meets-shows _ _ sh h j = cc
 pub meets-no_step : (j k : Kind) → meets j k ≡ true → meets Kind.Step k ≡ false → meets j Kind.Step ≡ false
 meets-no_step Kind.Step k h n = cc
 meets-no_step _ k h n = refl
+
+-- no frame takes what the bottom frame makes, and no part is of its kind
+pub meets-bottom : (goal : Goal) (k : Kind) → meets k (bottom goal) ≡ false
+meets-bottom ForExpression Kind.Whole = refl
+meets-bottom ForExpression _ = refl
+meets-bottom ForBounds Kind.Whole = refl
+meets-bottom ForBounds _ = refl
+
+pub bottom-shows : (goal : Goal) (sh : Shape) → shows (bottom goal) sh ≡ true → ⊥
+bottom-shows ForExpression sh h = cc
+bottom-shows ForBounds sh h = cc

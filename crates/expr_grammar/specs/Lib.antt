@@ -1,5 +1,6 @@
 pub mod Kinds
 pub mod Tables
 pub mod Machine
+pub mod BoundsAlone
 pub mod Following
 pub mod Counting

@@ -14,7 +14,8 @@ ghost use Rattle.tla_tree.specs.FirstBad.{DerivesWhole, Begins, IsFirstBad};
 ghost use Rattle.tla_tree.specs.Derivation.{Derives, DerivesBounds};
 ghost use Rattle.expr_grammar.specs.Following.{IsQuietNext};
 ghost use Rattle.expr_grammar.specs.Counting.{nodes, made};
-ghost use Rattle.expr_grammar.specs.Machine.{State, run, start, parse, parse_bounds, RefusesAt};
+ghost use Rattle.expr_grammar.specs.Machine.{State, run, start, parse, start_bounds, parse_bounds, RefusesAt};
+ghost use Rattle.expr_grammar.specs.BoundsAlone.{BeginsBounds, IsFirstBadOfBounds, RefusesBoundsAt};
 
 pub use wait::{
     Binding, Conversion, Handed, Lead, MarkMove, Mode, PartMove, Role, Shape, Start, Wait,
@@ -60,6 +61,23 @@ pub fn unrefused_completes()
 pub fn refuses_at_first_bad()
     ensures refused { (lexemes : List Lexeme) → (index : ℕ) → RefusesAt lexemes index → IsFirstBad lexemes index }
     ensures bad { (lexemes : List Lexeme) → (index : ℕ) → IsFirstBad lexemes index → RefusesAt lexemes index }
+{}
+
+/// Where the machine refuses bounds alone, no derivable list of bounds begins with the lexemes so far.
+pub fn refuses_no_beginning_of_bounds()
+    ensures { (lexemes : List Lexeme) → run (Some start_bounds) lexemes ≡ None → BeginsBounds lexemes → ⊥ }
+{}
+
+/// Where it has not refused them, some lexemes complete those so far to a list that it accepts.
+pub fn unrefused_bounds_complete()
+    ensures { (lexemes : List Lexeme) → (state : State) → run (Some start_bounds) lexemes ≡ Some state → (rest : List Lexeme) × (bounds : Trees) × (parse_bounds (lexemes ++ rest) ≡ Some bounds) }
+{}
+
+/// The machine refuses bounds alone exactly at the first bad lexeme: the lexemes before it begin a
+/// derivable list of bounds, and those up to and with it do not.
+pub fn refuses_bounds_at_first_bad()
+    ensures refused { (lexemes : List Lexeme) → (index : ℕ) → RefusesBoundsAt lexemes index → IsFirstBadOfBounds lexemes index }
+    ensures bad { (lexemes : List Lexeme) → (index : ℕ) → IsFirstBadOfBounds lexemes index → RefusesBoundsAt lexemes index }
 {}
 
 /// An expression stays one, by the same tree, before the end and before each lexeme that is no
