@@ -34,3 +34,4 @@ mod CountingMade
 mod CountingHeld
 mod CountingSamples
 mod CompletingFirst
+mod Stopping

@@ -7,12 +7,12 @@
 
 mod wait;
 
-ghost use Rattle.std.specs.Prelude.{◌≡◌, ℕ, ◌*◌, ◌≤◌, List, ◌++◌, length, Option, Some, None};
+ghost use Rattle.std.specs.Prelude.{◌≡◌, true, ℕ, ◌*◌, ◌≤◌, List, ◌++◌, length, Option, Some, None};
 ghost use Rattle.tla_symbols.specs.declared.lexeme.Lexeme.{Lexeme};
 ghost use Rattle.tla_tree.specs.Syntax.{Tree, Trees};
 ghost use Rattle.tla_tree.specs.FirstBad.{DerivesWhole, Begins, IsFirstBad};
 ghost use Rattle.tla_tree.specs.Derivation.{Derives, DerivesBounds};
-ghost use Rattle.expr_grammar.specs.Following.{IsQuietNext};
+ghost use Rattle.expr_grammar.specs.Following.{IsQuietNext, stops, done_before};
 ghost use Rattle.expr_grammar.specs.Counting.{nodes, made};
 ghost use Rattle.expr_grammar.specs.Machine.{State, run, start, parse, start_bounds, parse_bounds, RefusesAt};
 ghost use Rattle.expr_grammar.specs.BoundsAlone.{BeginsBounds, IsFirstBadOfBounds, RefusesBoundsAt};
@@ -84,6 +84,13 @@ pub fn refuses_bounds_at_first_bad()
 /// operator, no bullet and no `[]`.
 pub fn ends_before_quiet()
     ensures { (tree : Tree) → (lexemes : List Lexeme) → (inner : ℕ) → (follows next : Option Lexeme) → Derives tree lexemes inner follows → IsQuietNext next → Derives tree lexemes inner next }
+{}
+
+/// An expression is done exactly before a comma, `]`, `-.`, a name, a word that begins a unit, a run
+/// of dashes or of `=`, and the run that closes the module, where it is derivable before that.
+pub fn done_exactly()
+    ensures done { (lexemes : List Lexeme) → (tree : Tree) → (next : Lexeme) → done_before (run (Some start) lexemes) next.kind ≡ Some tree → (stops next.kind ≡ true) × Derives tree lexemes 0 (Some next) }
+    ensures all { (lexemes : List Lexeme) → (tree : Tree) → (next : Lexeme) → stops next.kind ≡ true → Derives tree lexemes 0 (Some next) → done_before (run (Some start) lexemes) next.kind ≡ Some tree }
 {}
 
 /// A tree has at most two nodes for each of its lexemes.

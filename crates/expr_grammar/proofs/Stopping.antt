@@ -1,0 +1,36 @@
+-- An expression is done exactly before certain lexemes.
+use Rattle.std.proofs.Common.{◌≡◌, Bool, true, false, List, Option, Some, None, refl, ap, sym, ◌∙◌}
+use Rattle.std.specs.Prelude.{cond}
+use Rattle.tla_symbols.specs.declared.op.Op.TheVariants as Op
+use Rattle.tla_symbols.specs.declared.lexeme.LexKind.{LexKind}
+use Rattle.tla_symbols.specs.declared.lexeme.Mark.TheVariants as Mark
+use Rattle.tla_symbols.specs.declared.lexeme.Lexeme.{Lexeme}
+use Rattle.tla_tree.specs.Syntax.{Tree}
+use Rattle.tla_tree.specs.Alignment.{takes_left}
+use Rattle.tla_tree.specs.Derivation.{Derives}
+use Rattle.tla_tree.specs.FirstBad.{DerivesWhole}
+use Rattle.expr_grammar.specs.Machine.{run, start, finish}
+use Rattle.expr_grammar.specs.Following.{IsQuiet, stops, done_before}
+use Rattle.expr_grammar.proofs.Complete.{derives-parses}
+use Rattle.expr_grammar.proofs.Following.{before-quiet}
+use Rattle.expr_grammar.proofs.Sounding.{accepted-derives}
+
+stops-apart : (k : LexKind) → stops k ≡ true → takes_left k ≡ false
+stops-apart (LexKind.Sym Op.Negative) h = refl
+stops-apart (LexKind.Sym op) h = cc
+stops-apart (LexKind.Mark Mark.LeftBracket) h = cc
+stops-apart (LexKind.Mark Mark.Dot) h = cc
+stops-apart _ h = refl
+
+stops-quiet : (t : Lexeme) → stops t.kind ≡ true → IsQuiet t
+stops-quiet t h = record { apart = stops-apart t.kind h; no_arm = λ e. (let q : stops t.kind ≡ false = ap stops e in cc) }
+
+pub done-derives : (lexemes : List Lexeme) (tree : Tree) (next : Lexeme) → done_before (run (Some start) lexemes) next.kind ≡ Some tree → (stops next.kind ≡ true) × Derives tree lexemes 0 (Some next)
+done-derives lexemes tree next e = by (stops next.kind) refl e
+  where
+    by : (b : Bool) → stops next.kind ≡ b → cond b (finish (run (Some start) lexemes)) None ≡ Some tree → (stops next.kind ≡ true) × Derives tree lexemes 0 (Some next)
+    by true s e = (s, before-quiet (accepted-derives lexemes tree e) (Some next) (stops-quiet next s))
+    by false s e = cc
+
+pub derives-done : (lexemes : List Lexeme) (tree : Tree) (next : Lexeme) → stops next.kind ≡ true → Derives tree lexemes 0 (Some next) → done_before (run (Some start) lexemes) next.kind ≡ Some tree
+derives-done lexemes tree next s d = ap (λ b. cond b (finish (run (Some start) lexemes)) None) s ∙ derives-parses tree lexemes (before-quiet d None tt)
