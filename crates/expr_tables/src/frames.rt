@@ -1,8 +1,9 @@
 // What frames are by their waits: what comes next in them, and with which form they end.
-ghost use Rattle.std.specs.Prelude.{◌≡◌};
+ghost use Rattle.std.specs.Prelude.{◌≡◌, option_map};
 ghost use Rattle.expr_grammar.specs.Tables as tables;
 
-use expr_grammar::{Handed, Mode, Shape, Wait};
+use crate::kinds::is_name;
+use expr_grammar::{Binding, Handed, Mode, Shape, Wait};
 use tla_symbols::Lexeme;
 use tla_tree::Form;
 
@@ -213,5 +214,43 @@ pub fn finishes(wait: Wait, shape: Shape) -> Option<Form>
         ends_with(wait)
     } else {
         ends_with_part(wait, shape)
+    }
+}
+
+fn handed_wait(handed: Handed, lexeme: Lexeme) -> Wait
+    ensures { result ≡ (tables.handed handed lexeme).wait }
+{
+    match handed {
+        Handed::Segment => Wait::SegmentName(lexeme),
+        Handed::Definition => {
+            if is_name(lexeme.kind) {
+                Wait::DefinitionName(lexeme)
+            } else {
+                Wait::PrefixName(lexeme)
+            }
+        }
+    }
+}
+
+/// The wait of the frame that begins at once above one with this wait: its part has a frame of its
+/// own.
+pub fn child(wait: Wait) -> Option<Wait>
+    ensures { result ≡ option_map (λ part. part.wait) (tables.child wait) }
+{
+    match wait {
+        Wait::WholeBounds => Some(Wait::BindingStart(Binding::Bound)),
+        Wait::Handing(handed, lexeme) => Some(handed_wait(handed, lexeme)),
+        Wait::QuantifierFirst(_) => Some(Wait::BindingStart(Binding::Either)),
+        Wait::QuantifierNext(_) => Some(Wait::BindingStart(Binding::Bound)),
+        Wait::TemporalFirst(_) => Some(Wait::BindingStart(Binding::Names)),
+        Wait::ChooseFirst => Some(Wait::BindingStart(Binding::One)),
+        Wait::ImageBounds => Some(Wait::BindingStart(Binding::Bound)),
+        Wait::FunctionBounds => Some(Wait::BindingStart(Binding::Bound)),
+        Wait::ExceptUpdates => Some(Wait::UpdateBang),
+        Wait::CaseArms => Some(Wait::ArmGuard),
+        Wait::DefinitionParameters(_) => Some(Wait::ParameterStart),
+        Wait::FunctionHeadBounds(_) => Some(Wait::BindingStart(Binding::Bound)),
+        Wait::Replacements(_) => Some(Wait::ReplacementStart),
+        _ => None,
     }
 }

@@ -6,10 +6,12 @@
 mod frames;
 mod kinds;
 mod moves;
+mod operators;
 mod parts;
 mod starts;
 
-pub use frames::{absorbs, finishes, is_expression, list_of, mode};
+pub use frames::{absorbs, child, finishes, is_expression, list_of, mode};
 pub use moves::{at_mark, endable};
+pub use operators::{lead, takes};
 pub use parts::at_part;
-pub use starts::{goes_on, is_bullet, role, starts_expression};
+pub use starts::{begins, goes_on, is_bullet, role};

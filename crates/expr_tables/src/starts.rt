@@ -2,7 +2,7 @@
 ghost use Rattle.std.specs.Prelude.{◌≡◌, ◌-◌, ◌<◌, ◌^◌};
 ghost use Rattle.expr_grammar.specs.Tables as tables;
 
-use expr_grammar::{Conversion, Handed, PartMove, Role, Shape, Start, Wait};
+use expr_grammar::{Conversion, Handed, Mode, PartMove, Role, Shape, Start, Wait};
 use tla_symbols::{Fix, LexKind, Lexeme, Mark, Op, Word, range_of};
 use tla_tree::Form;
 
@@ -114,7 +114,7 @@ fn word_start(word: Word, lexeme: Lexeme) -> Start
 }
 
 /// What the lexeme begins where an expression is due.
-pub fn starts_expression(lexeme: Lexeme) -> Start
+fn starts_expression(lexeme: Lexeme) -> Start
     requires { lexeme.span.start < 2 ^ 32 - 2 }
     ensures { result ≡ tables.start_kind lexeme.kind lexeme }
 {
@@ -129,9 +129,38 @@ pub fn starts_expression(lexeme: Lexeme) -> Start
     }
 }
 
+/// What the lexeme begins where a subscript is due.
+fn starts_subscript(lexeme: Lexeme) -> Start
+    ensures { result ≡ tables.subscript_kind lexeme.kind lexeme }
+{
+    match lexeme.kind {
+        LexKind::Name => Start::PushLeaf(Form::Segment(lexeme), Wait::SubscriptRead),
+        LexKind::Mark(mark) => match mark {
+            Mark::LeftParen => Start::Push(Wait::ParenthesesBody),
+            Mark::LeftBracket => Start::Push(Wait::SquareFirst(false)),
+            Mark::LeftBrace => Start::Push(Wait::BraceFirst),
+            Mark::LeftAngle => Start::Push(Wait::AngleFirst(false)),
+            _ => Start::NoStart,
+        },
+        _ => Start::NoStart,
+    }
+}
+
+/// What the lexeme begins in a frame in which this comes next.
+pub fn begins(mode: Mode, lexeme: Lexeme) -> Start
+    requires { lexeme.span.start < 2 ^ 32 - 2 }
+    ensures { result ≡ tables.begins mode lexeme }
+{
+    match mode {
+        Mode::Operand => starts_expression(lexeme),
+        Mode::Subscript => starts_subscript(lexeme),
+        Mode::Marks | Mode::Child => Start::NoStart,
+    }
+}
+
 /// What a mark does after the first part in braces, where that part may bind: `:` makes a filter
 /// of the bare form `x \in e`, and of another part the elements of an image.
-pub fn after_brace(shape: Shape, kind: LexKind) -> PartMove
+pub(crate) fn after_brace(shape: Shape, kind: LexKind) -> PartMove
     ensures { result ≡ tables.after_brace shape kind }
 {
     if !matches!(&kind, LexKind::Mark(Mark::Colon)) {
