@@ -63,6 +63,7 @@ form Form.Names = Form.Names
 form Form.TupleNames = Form.TupleNames
 form Form.Bound = Form.Bound
 form Form.TupleBound = Form.TupleBound
+form Form.Bounds = Form.Bounds
 form (Form.Field t) = Form.Field (bare t)
 form Form.Update = Form.Update
 form (Form.FieldStep t) = Form.FieldStep (bare t)

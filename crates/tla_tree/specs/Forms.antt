@@ -10,6 +10,7 @@ helps Form.Names = true
 helps Form.TupleNames = true
 helps Form.Bound = true
 helps Form.TupleBound = true
+helps Form.Bounds = true
 helps (Form.Field name) = true
 helps Form.Update = true
 helps (Form.FieldStep name) = true

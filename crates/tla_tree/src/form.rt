@@ -88,6 +88,9 @@ pub enum Form {
     Bound,
     /// `<<x, y>> \in S`: the names, the set.
     TupleBound,
+    /// `x \in S, y \in T` in the head of a function's definition, before its body is read: the
+    /// bounds.
+    Bounds,
     /// `h |-> e` or `h : e`, by the field's name: the value.
     Field(Lexeme),
     /// `!.h[i] = e`: the steps, the value.
@@ -127,8 +130,9 @@ pub enum Form {
     PostfixParameter(Lexeme),
 }
 
-/// Whether the form is a helper form: a node of it is as high as its highest part.
-pub(crate) fn helps(form: Form) -> bool
+/// Whether the form is a helper form: a part of expressions and none itself. A node of it is as high
+/// as its highest part.
+pub fn helps(form: Form) -> bool
     ensures { result ≡ helps form }
 {
     match form {
@@ -138,6 +142,7 @@ pub(crate) fn helps(form: Form) -> bool
         | Form::TupleNames
         | Form::Bound
         | Form::TupleBound
+        | Form::Bounds
         | Form::Field(_)
         | Form::Update
         | Form::FieldStep(_)

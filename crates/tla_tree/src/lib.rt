@@ -9,7 +9,7 @@ mod form;
 mod tree;
 mod unit;
 
-pub use form::Form;
+pub use form::{Form, helps};
 pub use tree::Tree;
 pub use unit::{ModuleTree, Unit};
 
