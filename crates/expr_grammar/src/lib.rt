@@ -12,7 +12,7 @@ ghost use Rattle.tla_symbols.specs.declared.lexeme.Lexeme.{Lexeme};
 ghost use Rattle.tla_tree.specs.Syntax.{Tree, Trees};
 ghost use Rattle.tla_tree.specs.FirstBad.{DerivesWhole, Begins, IsFirstBad};
 ghost use Rattle.tla_tree.specs.Derivation.{Derives, DerivesBounds};
-ghost use Rattle.expr_grammar.specs.Following.{IsQuietNext, stops, done_before};
+ghost use Rattle.expr_grammar.specs.Following.{IsQuietNext, stops, done_before, closes_bounds, bounds_done_before};
 ghost use Rattle.expr_grammar.specs.Counting.{nodes, made};
 ghost use Rattle.expr_grammar.specs.Machine.{State, run, start, parse, start_bounds, parse_bounds, RefusesAt};
 ghost use Rattle.expr_grammar.specs.BoundsAlone.{BeginsBounds, IsFirstBadOfBounds, RefusesBoundsAt};
@@ -91,6 +91,13 @@ pub fn ends_before_quiet()
 pub fn done_exactly()
     ensures done { (lexemes : List Lexeme) → (tree : Tree) → (next : Lexeme) → done_before (run (Some start) lexemes) next.kind ≡ Some tree → (stops next.kind ≡ true) × Derives tree lexemes 0 (Some next) }
     ensures all { (lexemes : List Lexeme) → (tree : Tree) → (next : Lexeme) → stops next.kind ≡ true → Derives tree lexemes 0 (Some next) → done_before (run (Some start) lexemes) next.kind ≡ Some tree }
+{}
+
+/// Bounds alone are done exactly before the `]` that closes the head of a function's definition, where
+/// they are derivable before that.
+pub fn bounds_done_exactly()
+    ensures done { (lexemes : List Lexeme) → (bounds : Trees) → (next : Lexeme) → bounds_done_before (run (Some start_bounds) lexemes) next.kind ≡ Some bounds → (closes_bounds next.kind ≡ true) × DerivesBounds bounds lexemes 0 (Some next) }
+    ensures all { (lexemes : List Lexeme) → (bounds : Trees) → (next : Lexeme) → closes_bounds next.kind ≡ true → DerivesBounds bounds lexemes 0 (Some next) → bounds_done_before (run (Some start_bounds) lexemes) next.kind ≡ Some bounds }
 {}
 
 /// A tree has at most two nodes for each of its lexemes.
