@@ -1,4 +1,4 @@
--- The nodes of the tree that the machine finds are among those that it made.
+-- What the trees of a state have more after a step was made, and the tree or the bounds that the machine finds have no more nodes than it made.
 use Rattle.std.proofs.Common.{◌≡◌, ℕ, suc, ◌+◌, ◌≤◌, Bool, true, false, List, [], ◌∷◌, ◌++◌, Option, Some, None, refl, ap, arith}
 use Rattle.std.specs.Prelude.{cond, nat_lt}
 use Rattle.tla_symbols.specs.declared.lexeme.Lexeme.{Lexeme}
@@ -10,24 +10,16 @@ use Rattle.expr_grammar.specs.declared.wait.Conversion.{Conversion}
 use Rattle.expr_grammar.specs.declared.wait.Lead.{Lead}
 use Rattle.expr_grammar.specs.declared.wait.MarkMove.{MarkMove}
 use Rattle.expr_grammar.specs.declared.wait.PartMove.{PartMove}
+use Rattle.expr_grammar.specs.declared.wait.Shape.{Shape}
 use Rattle.expr_grammar.specs.declared.wait.Start.{Start}
 use Rattle.expr_grammar.specs.declared.wait.Wait.{Wait}
 use Rattle.expr_grammar.specs.Tables.{mode, Child, child, list_of, goes_on, begins, at_mark, endable, absorbs, role, edge_of, lead, takes, choice, shape, is_expression, name_of, names_of, bound_of, converted, finishes, at_part}
-use Rattle.expr_grammar.specs.Machine.{whole, Frame, frame, State, At, Have, inner, with_child, entry, ready, node, node_with, absorbed, complete, led, on_form, on_tree, act, operator_step, moved, part_step, is_operator, within, on_bullet, leave, have, ended, marked, begun, step, run, start, close_all, finish, parse}
-use Rattle.expr_grammar.specs.Counting.{nodes, all_nodes, made_name, made_names, made_bound, made_converted, made_led, made_ending, made_choice, made_operator, made_move, made_part, made_within, made_bullet, made_leave, made_have, made_ended, made_mark, made_begun, made_step, made_run, made_close, made_finish, made}
+use Rattle.expr_grammar.specs.Machine.{whole, whole_bounds, on_bounds, close_bounds, finish_bounds, parse_bounds, start_bounds, Frame, frame, State, At, Have, inner, with_child, entry, ready, node, node_with, absorbed, complete, led, on_form, on_tree, act, operator_step, moved, part_step, is_operator, within, on_bullet, leave, have, ended, marked, begun, step, run, start, close_all, finish, parse}
+use Rattle.expr_grammar.specs.Counting.{nodes, all_nodes, held, held_by, made_name, made_names, made_bound, made_converted, made_led, made_ending, made_choice, made_operator, made_move, made_part, made_within, made_bullet, made_leave, made_have, made_ended, made_mark, made_begun, made_step, made_run, made_close, made_finish, made, made_bounds}
 use Rattle.expr_grammar.proofs.Counting.{nodes-then}
 
 abbrev kept : List Tree → ℕ
 kept ps = all_nodes (trees ps)
-
--- the nodes that stand in frames
-abbrev held : List Frame → ℕ
-held [] = 0
-held (f ∷ fs) = kept f.parts + held fs
-
-abbrev held_by : State → ℕ
-held_by (At fs) = held fs
-held_by (Have fs e b) = held fs + nodes e
 
 abbrev held_next : Option State → ℕ
 held_next None = 0
@@ -169,6 +161,11 @@ step-counted (At []) t = omega arith
 step-counted (At (f ∷ fs)) t = either-counted (nat_lt t.col (inner (f ∷ fs))) _ _ _ _ _ (ended-counted (endable f.wait (Some t.kind)) f fs t) (begun-counted (begins (mode f.wait) t) f fs t)
 step-counted (Have fs e b) t = have-counted fs e b t
 
+pub step-held : (st next : State) (t : Lexeme) → step st t ≡ Some next → held_by next ≤ held_by st + made_step st t
+step-held st next t e =
+    let q : held_next (step st t) ≡ held_by next = ap held_next e in
+    omega (arith, q, step-counted st t)
+
 run-counted : (o : Option State) (ts : List Lexeme) → held_next (run o ts) ≤ held_next o + made_run o ts
 run-counted o [] = omega arith
 run-counted None (t ∷ ts) = omega arith
@@ -206,3 +203,32 @@ pub nodes-made : (tree : Tree) (ts : List Lexeme) → parse ts ≡ Some tree →
 nodes-made tree ts e =
     let q : nodes_found (parse ts) ≡ nodes tree = ap nodes_found e in
     omega (arith, q, run-counted (Some start) ts, finish-counted (run (Some start) ts))
+
+-- the same for bounds alone
+abbrev bounds_found : Option Trees → ℕ
+bounds_found None = 0
+bounds_found (Some bounds) = all_nodes bounds
+
+found-bounds : (o : Option Form) (go : Form → ℕ) (next : Form → Option Trees) (k : ℕ) → ((form : Form) → bounds_found (next form) ≤ k + suc (go form)) → bounds_found (on_bounds o next) ≤ k + made_ending o go
+found-bounds None go next k h = omega arith
+found-bounds (Some form) go next k h = h form
+
+bottom-bounds : (w : Wait) (sh : Shape) (xs : Trees) → bounds_found (whole_bounds w sh xs) ≤ all_nodes xs
+bottom-bounds Wait.WholeBounds Shape.Bound xs = omega arith
+bottom-bounds _ sh xs = omega arith
+
+close-bounds-counted : (fs : List Frame) (e : Tree) (b : List Lexeme) → bounds_found (close_bounds fs e b) ≤ (held fs + nodes e) + made_close fs e b
+close-bounds-counted [] e b = omega arith
+close-bounds-counted (f ∷ []) e b = omega (arith, bottom-bounds f.wait (shape e) (trees (f.parts ++ e ∷ [])), kept-append f.parts (e ∷ []))
+close-bounds-counted (f ∷ g ∷ fs) e b = found-bounds (finishes f.wait (shape e)) _ _ _ (λ form. omega (arith, close-bounds-counted (g ∷ fs) (node_with form f e b) (f.read ++ b), ending-held f (g ∷ fs) e))
+
+finish-bounds-counted : (o : Option State) → bounds_found (finish_bounds o) ≤ held_next o + made_finish o
+finish-bounds-counted None = omega arith
+finish-bounds-counted (Some (At [])) = omega arith
+finish-bounds-counted (Some (At (f ∷ fs))) = found-bounds (endable f.wait None) _ _ _ (λ form. omega (arith, close-bounds-counted fs (node form f) f.read))
+finish-bounds-counted (Some (Have fs e b)) = close-bounds-counted fs e b
+
+pub bounds-made : (bounds : Trees) (ts : List Lexeme) → parse_bounds ts ≡ Some bounds → all_nodes bounds ≤ made_bounds ts
+bounds-made bounds ts e =
+    let q : bounds_found (parse_bounds ts) ≡ all_nodes bounds = ap bounds_found e in
+    omega (arith, q, run-counted (Some start_bounds) ts, finish-bounds-counted (run (Some start_bounds) ts))

@@ -9,15 +9,17 @@ use Rattle.tla_tree.specs.declared.form.Form.{Form}
 use Rattle.tla_tree.specs.Syntax.{Tree, Trees, Node, Nil, Cons, trees}
 use Rattle.tla_tree.specs.Lexemes.{built, one, then}
 use Rattle.precedence.specs.declared.Choice.{Choice}
+use Rattle.expr_grammar.specs.declared.wait.Binding.TheVariants as Binding
 use Rattle.expr_grammar.specs.declared.wait.Conversion.{Conversion}
 use Rattle.expr_grammar.specs.declared.wait.Lead.{Lead}
 use Rattle.expr_grammar.specs.declared.wait.MarkMove.{MarkMove}
 use Rattle.expr_grammar.specs.declared.wait.PartMove.{PartMove}
 use Rattle.expr_grammar.specs.declared.wait.Start.{Start}
 use Rattle.expr_grammar.specs.declared.wait.Wait.{Wait}
+use Rattle.expr_grammar.specs.Kinds.{is_name, is_left_angle}
 use Rattle.expr_grammar.specs.Tables.{mode, Child, child, list_of, goes_on, begins, at_mark, endable, absorbs, role, edge_of, lead, takes, choice, shape, is_expression, name_of, names_of, bound_of, converted, finishes, at_part}
-use Rattle.expr_grammar.specs.Machine.{Frame, frame, State, At, Have, inner, with_child, entry, ready, node, node_with, absorbed, complete, led, on_form, act, operator_step, moved, part_step, is_operator, within, on_bullet, leave, have, ended, marked, begun, step, run, start}
-use Rattle.expr_grammar.specs.Counting.{made_name, made_names, made_bound, made_converted, made_led, made_ending, made_choice, made_operator, made_move, made_part, made_within, made_bullet, made_leave, made_have, made_ended, made_mark, made_begun, made_step, made_run, made_close, made_finish, made}
+use Rattle.expr_grammar.specs.Machine.{Frame, frame, State, At, Have, inner, with_child, entry, ready, node, node_with, absorbed, complete, led, on_form, act, operator_step, moved, part_step, is_operator, within, on_bullet, leave, have, ended, marked, begun, step, run, start, start_bounds}
+use Rattle.expr_grammar.specs.Counting.{made_name, made_names, made_bound, made_converted, made_led, made_ending, made_choice, made_operator, made_move, made_part, made_within, made_bullet, made_leave, made_have, made_ended, made_mark, made_begun, made_step, made_run, made_close, made_finish, made, made_bounds}
 
 abbrev names : Form → ℕ
 names Form.Identifier = 1
@@ -223,3 +225,33 @@ finish-made (Some (Have fs e b)) = close-made fs e b
 pub made-few : (ts : List Lexeme) → made ts ≤ 8 * length ts
 made-few [] = omega arith
 made-few (t ∷ ts) = omega (arith, run-made (Some start) (t ∷ ts), finish-made (run (Some start) (t ∷ ts)))
+
+-- before the end too
+pub run-few : (ts : List Lexeme) → made_run (Some start) ts ≤ 8 * length ts
+run-few ts = omega (arith, made-few ts)
+
+-- bounds alone begin with two frames, and their first lexeme makes at most a name
+first-bounds : (t : Lexeme) → made_step start_bounds t + owed_next (step start_bounds t) ≤ 8
+first-bounds t = by (nat_lt t.col 0) (is_name t.kind) (is_left_angle t.kind)
+  where
+    first : Frame
+    first = frame (Wait.BindingStart Binding.Bound) [] []
+
+    below : List Frame
+    below = frame Wait.WholeBounds [] [] ∷ []
+
+    move : Bool → Bool → MarkMove
+    move name angle = cond name (MarkMove.Leaf (Form.Name t) (Wait.BindingRead Binding.Bound)) (cond angle (MarkMove.Shift (Wait.TupleComma Binding.Bound)) MarkMove.Refused)
+
+    by : (left name angle : Bool) → cond left 0 (made_mark (move name angle) first below t) + owed_next (cond left None (marked (move name angle) first below t)) ≤ 8
+    by true name angle = omega arith
+    by false true angle = omega arith
+    by false false true = omega arith
+    by false false false = omega arith
+
+pub made-bounds-few : (ts : List Lexeme) → made_bounds ts ≤ 8 * length ts
+made-bounds-few [] = omega arith
+made-bounds-few (t ∷ ts) = omega (arith, first-bounds t, run-made (step start_bounds t) ts, finish-made (run (step start_bounds t) ts))
+
+pub run-bounds-few : (ts : List Lexeme) → made_run (Some start_bounds) ts ≤ 8 * length ts
+run-bounds-few ts = omega (arith, made-bounds-few ts)

@@ -1,10 +1,10 @@
--- A lexeme that is no operator, no bullet and no `[]` may follow every expression, and asks nothing of it.
+-- A lexeme that is no operator, no bullet and no `[]` may follow every expression and all bounds, and asks nothing of them.
 use Rattle.std.proofs.Common.{◌≡◌, ℕ, inl, inr, Bool, true, false, List, Option, Some, None, ap}
 use Rattle.tla_symbols.specs.declared.lexeme.Lexeme.{Lexeme}
 use Rattle.tla_tree.specs.declared.form.Form.{Form}
 use Rattle.tla_tree.specs.Syntax.{Tree, Trees}
 use Rattle.tla_tree.specs.Alignment.{IsBullet, takes_left, MayFollow, MayFollowArms}
-use Rattle.tla_tree.specs.Derivation.{Derives, node, Spells, identifier, number, text, at, prefixed, infixed, postfixed, products, parentheses, quantifier, bounded_quantifier, temporal_quantifier, choose, bounded_choose, empty_set, set, set_filter, set_image, application, function, function_set, record_of, record_set, field, except, empty_tuple, tuple, square, angle, fairness, if_then_else, case, let_in, junctions, DerivesFactors, last_factor, more_factors, DerivesArms, last_arm, other_arm, more_arms, DerivesArm, arm, DerivesItems, last_item, more_items}
+use Rattle.tla_tree.specs.Derivation.{Derives, node, Spells, identifier, number, text, at, prefixed, infixed, postfixed, products, parentheses, quantifier, bounded_quantifier, temporal_quantifier, choose, bounded_choose, empty_set, set, set_filter, set_image, application, function, function_set, record_of, record_set, field, except, empty_tuple, tuple, square, angle, fairness, if_then_else, case, let_in, junctions, DerivesFactors, last_factor, more_factors, DerivesArms, last_arm, other_arm, more_arms, DerivesArm, arm, DerivesItems, last_item, more_items, DerivesBound, bound, tuple_bound, DerivesBounds, last_bound, more_bounds}
 use Rattle.expr_grammar.specs.Following.{IsQuietNext}
 
 bullet-takes : (n : Lexeme) → IsBullet n → takes_left n.kind ≡ true
@@ -77,3 +77,11 @@ mutual
   items-quiet : {first : Lexeme} {xs : Trees} {l : List Lexeme} {o : Option Lexeme} → DerivesItems first xs l o → (p : Option Lexeme) → IsQuietNext p → DerivesItems first xs l p
   items-quiet (last_item g r d) p q = last_item g r (before-quiet d p q)
   items-quiet (more_items u g r d d') p q = more_items u g r d (items-quiet d' p q)
+
+bound-quiet : {x : Tree} {a : List Lexeme} {i : ℕ} {o : Option Lexeme} → DerivesBound x a i o → (p : Option Lexeme) → IsQuietNext p → DerivesBound x a i p
+bound-quiet (bound m k h d d') p q = bound m k h d (before-quiet d' p q)
+bound-quiet (tuple_bound m k h d d') p q = tuple_bound m k h d (before-quiet d' p q)
+
+pub bounds-quiet : {xs : Trees} {a : List Lexeme} {i : ℕ} {o : Option Lexeme} → DerivesBounds xs a i o → (p : Option Lexeme) → IsQuietNext p → DerivesBounds xs a i p
+bounds-quiet (last_bound d) p q = last_bound (bound-quiet d p q)
+bounds-quiet (more_bounds t k d d') p q = more_bounds t k d (bounds-quiet d' p q)

@@ -1,20 +1,18 @@
 -- The machine reads bounds that stand alone.
-use Rattle.std.proofs.Common.{◌≡◌, ℕ, true, inl, List, [], ◌∷◌, ◌++◌, Option, Some, None, refl, ap, sym, subst, ◌∙◌, append-nil, arith}
-use Rattle.tla_symbols.specs.declared.lexeme.Mark.TheVariants as Mark
+use Rattle.std.proofs.Common.{◌≡◌, ℕ, inl, List, [], ◌∷◌, ◌++◌, Option, Some, None, refl, ap, sym, subst, ◌∙◌, append-nil, arith}
 use Rattle.tla_symbols.specs.declared.lexeme.Lexeme.{Lexeme}
 use Rattle.tla_tree.specs.declared.form.Form.{Form}
 use Rattle.tla_tree.specs.Syntax.{Tree, Trees, trees}
-use Rattle.tla_tree.specs.Lexemes.{IsMark, built, joined}
+use Rattle.tla_tree.specs.Lexemes.{built, joined}
 use Rattle.tla_tree.specs.Derivation.{DerivesBound, DerivesBounds, last_bound, more_bounds}
 use Rattle.expr_grammar.specs.declared.wait.Binding.TheVariants as Binding
 use Rattle.expr_grammar.specs.declared.wait.Wait.{Wait}
 use Rattle.expr_grammar.specs.declared.wait.Conversion.TheVariants as Conversion
 use Rattle.expr_grammar.specs.declared.wait.PartMove.{PartMove}
-use Rattle.expr_grammar.specs.declared.wait.Shape.{Shape}
 use Rattle.expr_grammar.specs.Tables.{absorbs, shape, at_part}
-use Rattle.expr_grammar.specs.Machine.{Frame, frame, State, inner, ready, complete, moved, part_step, node_with, run, finish_bounds, close_bounds, start_bounds, parse_bounds}
+use Rattle.expr_grammar.specs.Machine.{Frame, frame, State, ready, moved, part_step, node_with, run, finish_bounds, close_bounds, parse_bounds}
 use Rattle.expr_grammar.proofs.Tabled.{Part, closed, headed, finished, EndsHead, head_at_end, Ends, at_end as ends_at_end}
-use Rattle.expr_grammar.proofs.Reading.{rest_part, tied-part, opened, reads-part, marked-part, complete-have, onward, From-zero}
+use Rattle.expr_grammar.proofs.Reading.{rest_part, tied-part, opened, reads-part, marked-part, complete-have, From-zero}
 use Rattle.expr_grammar.proofs.Asking.{mark-follows}
 use Rattle.expr_grammar.proofs.Bounding.{Ended}
 use Rattle.expr_grammar.proofs.Starting.{mark-role, trees-snoc, joined-snoc}

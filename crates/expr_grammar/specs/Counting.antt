@@ -1,8 +1,8 @@
--- How many nodes a tree has, and how many the machine makes, those that it drops included.
+-- How many nodes a tree has, how many the trees of a state have, and how many the machine makes, those that it drops included.
 use Rattle.std.specs.Prelude.{ℕ, suc, ◌+◌, nat_lt, cond, List, [], ◌∷◌, ◌++◌, Option, Some, None}
 use Rattle.tla_symbols.specs.declared.lexeme.Lexeme.{Lexeme}
 use Rattle.tla_tree.specs.declared.form.Form.{Form}
-use Rattle.tla_tree.specs.Syntax.{Tree, Trees, Node, Nil, Cons}
+use Rattle.tla_tree.specs.Syntax.{Tree, Trees, Node, Nil, Cons, trees}
 use Rattle.precedence.specs.declared.Choice.{Choice}
 use Rattle.precedence.specs.declared.Choice.TheVariants.{Ends, Waits, Clashes}
 use Rattle.expr_grammar.specs.declared.wait.Conversion.{Conversion}
@@ -11,7 +11,7 @@ use Rattle.expr_grammar.specs.declared.wait.MarkMove.{MarkMove}
 use Rattle.expr_grammar.specs.declared.wait.PartMove.{PartMove}
 use Rattle.expr_grammar.specs.declared.wait.Start.{Start}
 use Rattle.expr_grammar.specs.Tables.{mode, list_of, goes_on, begins, at_mark, endable, role, edge_of, lead, takes, choice, shape, is_expression, finishes, at_part}
-use Rattle.expr_grammar.specs.Machine.{Frame, State, At, Have, inner, node, node_with, is_operator, step, run, start}
+use Rattle.expr_grammar.specs.Machine.{Frame, State, At, Have, inner, node, node_with, is_operator, step, run, start, start_bounds}
 
 abbrev mutual
   pub nodes : Tree → ℕ
@@ -20,6 +20,16 @@ abbrev mutual
   pub all_nodes : Trees → ℕ
   all_nodes Nil = 0
   all_nodes (Cons tree rest) = nodes tree + all_nodes rest
+
+-- the nodes of the trees that stand in frames
+abbrev pub held : List Frame → ℕ
+held [] = 0
+held (f ∷ fs) = all_nodes (trees f.parts) + held fs
+
+-- and of those in a state
+abbrev pub held_by : State → ℕ
+held_by (At fs) = held fs
+held_by (Have fs e b) = held fs + nodes e
 
 -- a name that turns out to bind is made anew
 abbrev pub made_name : Tree → ℕ
@@ -129,6 +139,7 @@ abbrev pub made_last : List Frame → ℕ
 made_last [] = 0
 made_last (f ∷ fs) = made_ending (endable f.wait None) (λ form. made_close fs (node form f) f.read)
 
+-- at the end the frames of both goals end alike
 abbrev pub made_finish : Option State → ℕ
 made_finish None = 0
 made_finish (Some (At fs)) = made_last fs
@@ -137,3 +148,7 @@ made_finish (Some (Have fs e b)) = made_close fs e b
 -- the nodes that the machine makes of a list, refused or not
 abbrev pub made : List Lexeme → ℕ
 made ts = made_run (Some start) ts + made_finish (run (Some start) ts)
+
+-- the same for bounds alone
+abbrev pub made_bounds : List Lexeme → ℕ
+made_bounds ts = made_run (Some start_bounds) ts + made_finish (run (Some start_bounds) ts)

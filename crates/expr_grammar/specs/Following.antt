@@ -1,13 +1,13 @@
--- Lexemes that may follow every expression, and ask nothing of it.
+-- Lexemes that may follow every expression and ask nothing of it, and those before which an expression or bounds are done.
 use Rattle.std.specs.Prelude.{◌≡◌, Bool, true, false, cond, Option, Some, None}
 use Rattle.tla_symbols.specs.declared.op.Op.TheVariants as Op
 use Rattle.tla_symbols.specs.declared.lexeme.LexKind.{LexKind}
 use Rattle.tla_symbols.specs.declared.lexeme.Word.TheVariants as Word
 use Rattle.tla_symbols.specs.declared.lexeme.Mark.TheVariants as Mark
 use Rattle.tla_symbols.specs.declared.lexeme.Lexeme.{Lexeme}
-use Rattle.tla_tree.specs.Syntax.{Tree}
+use Rattle.tla_tree.specs.Syntax.{Tree, Trees}
 use Rattle.tla_tree.specs.Alignment.{takes_left}
-use Rattle.expr_grammar.specs.Machine.{State, finish}
+use Rattle.expr_grammar.specs.Machine.{State, finish, finish_bounds}
 
 -- no operator (and so no bullet), and no `[]`, which an arm could follow
 pub record IsQuiet (lexeme : Lexeme) : Type 0 where
@@ -19,7 +19,7 @@ abbrev pub IsQuietNext : Option Lexeme → Type 0
 IsQuietNext None = Unit {0}
 IsQuietNext (Some lexeme) = IsQuiet lexeme
 
--- the lexemes before which an expression of a unit may be done: what parts units or begins one, and what ends modules
+-- the lexemes before which an expression of a unit may be done
 abbrev pub stops : LexKind → Bool
 stops LexKind.Name = true
 stops LexKind.Dashes = true
@@ -43,3 +43,12 @@ stops _ = false
 -- the expression that is done before a lexeme, if one is
 abbrev pub done_before : Option State → LexKind → Option Tree
 done_before state kind = cond (stops kind) (finish state) None
+
+-- the lexeme before which bounds alone may be done: the `]` that closes the head of a function's definition
+abbrev pub closes_bounds : LexKind → Bool
+closes_bounds (LexKind.Mark Mark.RightBracket) = true
+closes_bounds _ = false
+
+-- the bounds that are done before a lexeme, if they are
+abbrev pub bounds_done_before : Option State → LexKind → Option Trees
+bounds_done_before state kind = cond (closes_bounds kind) (finish_bounds state) None

@@ -7,14 +7,14 @@
 
 mod wait;
 
-ghost use Rattle.std.specs.Prelude.{◌≡◌, true, ℕ, ◌*◌, ◌≤◌, List, ◌++◌, length, Option, Some, None};
+ghost use Rattle.std.specs.Prelude.{◌≡◌, true, ℕ, ◌+◌, ◌*◌, ◌≤◌, List, ◌++◌, length, Option, Some, None};
 ghost use Rattle.tla_symbols.specs.declared.lexeme.Lexeme.{Lexeme};
 ghost use Rattle.tla_tree.specs.Syntax.{Tree, Trees};
 ghost use Rattle.tla_tree.specs.FirstBad.{DerivesWhole, Begins, IsFirstBad};
 ghost use Rattle.tla_tree.specs.Derivation.{Derives, DerivesBounds};
-ghost use Rattle.expr_grammar.specs.Following.{IsQuietNext, stops, done_before};
-ghost use Rattle.expr_grammar.specs.Counting.{nodes, made};
-ghost use Rattle.expr_grammar.specs.Machine.{State, run, start, parse, start_bounds, parse_bounds, RefusesAt};
+ghost use Rattle.expr_grammar.specs.Following.{IsQuietNext, stops, done_before, closes_bounds, bounds_done_before};
+ghost use Rattle.expr_grammar.specs.Counting.{nodes, all_nodes, held_by, made_step, made, made_bounds};
+ghost use Rattle.expr_grammar.specs.Machine.{State, step, run, start, parse, start_bounds, parse_bounds, RefusesAt};
 ghost use Rattle.expr_grammar.specs.BoundsAlone.{BeginsBounds, IsFirstBadOfBounds, RefusesBoundsAt};
 
 pub use wait::{
@@ -93,14 +93,32 @@ pub fn done_exactly()
     ensures all { (lexemes : List Lexeme) → (tree : Tree) → (next : Lexeme) → stops next.kind ≡ true → Derives tree lexemes 0 (Some next) → done_before (run (Some start) lexemes) next.kind ≡ Some tree }
 {}
 
+/// Bounds alone are done exactly before the `]` that closes the head of a function's definition, where
+/// they are derivable before that.
+pub fn bounds_done_exactly()
+    ensures done { (lexemes : List Lexeme) → (bounds : Trees) → (next : Lexeme) → bounds_done_before (run (Some start_bounds) lexemes) next.kind ≡ Some bounds → (closes_bounds next.kind ≡ true) × DerivesBounds bounds lexemes 0 (Some next) }
+    ensures all { (lexemes : List Lexeme) → (bounds : Trees) → (next : Lexeme) → closes_bounds next.kind ≡ true → DerivesBounds bounds lexemes 0 (Some next) → bounds_done_before (run (Some start_bounds) lexemes) next.kind ≡ Some bounds }
+{}
+
 /// A tree has at most two nodes for each of its lexemes.
 pub fn few_nodes()
     ensures { (tree : Tree) → (lexemes : List Lexeme) → DerivesWhole tree lexemes → nodes tree ≤ 2 * length lexemes }
 {}
 
-/// The machine makes at most eight nodes for each lexeme, those that it drops included, whether it
-/// refuses or not. The nodes of a tree that it finds are among them.
+/// By the count of `made`, which has those that it drops, the machine makes at most eight nodes for
+/// each lexeme, whether it refuses or not. A tree that it finds has no more than that count.
 pub fn few_made()
     ensures few { (lexemes : List Lexeme) → made lexemes ≤ 8 * length lexemes }
     ensures counted { (tree : Tree) → (lexemes : List Lexeme) → parse lexemes ≡ Some tree → nodes tree ≤ made lexemes }
+{}
+
+/// The same for bounds alone, by the count of `made_bounds`.
+pub fn few_made_of_bounds()
+    ensures few { (lexemes : List Lexeme) → made_bounds lexemes ≤ 8 * length lexemes }
+    ensures counted { (bounds : Trees) → (lexemes : List Lexeme) → parse_bounds lexemes ≡ Some bounds → all_nodes bounds ≤ made_bounds lexemes }
+{}
+
+/// What the trees in the machine's state have more after a step is counted as made by that step.
+pub fn made_tied()
+    ensures { (state next : State) → (lexeme : Lexeme) → step state lexeme ≡ Some next → held_by next ≤ held_by state + made_step state lexeme }
 {}

@@ -67,7 +67,8 @@ pub enum Wait {
     /// The first part in brackets, and whether they may be those of an action.
     SquareFirst(bool),
     FunctionTo,
-    /// The bounds of a function, the first of which began as an operand in brackets.
+    /// The bounds of a function, the first of which began as an operand in brackets, and whether the
+    /// brackets may be those of an action.
     FunctionNames(bool),
     FunctionBounds,
     FunctionBody,
@@ -190,7 +191,8 @@ pub enum PartMove {
     Goes(Wait, Conversion),
     /// The next part begins with the lexeme.
     Hand(Handed),
-    /// The part begins the first bound of a function.
+    /// The part begins the first bound of a function. The flag says whether the brackets may be those of
+    /// an action.
     Convert(bool),
     Refused,
 }

@@ -28,6 +28,7 @@ impl MemoryFolder {
     /// A folder with these files, which fails at the calls whose numbers `fails` lists.
     pub fn new(files: FileMap, fails: List<u32>) -> Self
         ensures files { held result ≡ record { files = files; changes = [] } }
+        ensures failures { result.failures ≡ record { fails = fails; calls = 0; faults = 0 } }
         ensures count { ⟦<MemoryFolder as Folder>⟧.fault_count result ≡ 0 }
     {
         MemoryFolder {

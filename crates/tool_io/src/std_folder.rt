@@ -12,7 +12,8 @@ use std::io::{self, ErrorKind, Read};
 use std::rt::Files;
 use tool_list::{Chars, List};
 
-/// The folders of the system. They tell nothing. Each error of the system raises the count.
+/// The folders of the system. They tell nothing. Each error of the system but want of memory raises the
+/// count.
 #[derive(Drop)]
 pub struct StdFolder<R> {
     rt: R,

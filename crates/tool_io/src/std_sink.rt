@@ -1,6 +1,6 @@
 // Any writer of std as an output.
-ghost use Rattle.std.specs.Prelude.{◌≡◌, ◌<◌, ◌≤◌, length, IfOk, IfSome, OnErr, Err, None};
-ghost use Rattle.std.specs.Io.KnownBytes.{WriteAppends};
+ghost use Rattle.std.specs.Prelude.{◌≡◌, ◌<◌, ◌≤◌, length, take, IfOk, IfSome, OnErr, Err, None};
+ghost use Rattle.std.specs.Io.KnownBytes.{Appends, WriteAppends};
 ghost use Rattle.tool_io.specs.Causes.{HasOneCause};
 
 use crate::{IoFault, Sink};
@@ -28,6 +28,7 @@ impl<W: Write> StdSink<W> {
     fn put(&mut self, piece: &[u8]) -> Option<usize>
         ensures kept { self.new.faults ≡ self.old.faults }
         ensures bound { IfSome result (λ n. n ≤ length piece.now) }
+        ensures written { IfSome result (λ n. Appends (W.contents self.old.inner) (W.contents self.new.inner) (take n piece.now)) }
     {
         let count = self.inner.write(piece).ok()?;
         self.inner.flush().ok()?;
