@@ -1,1 +1,3 @@
+mod Deciding
+mod Stack
 pub mod Orders

@@ -1,11 +1,18 @@
 //! Which of two neighbouring operators takes the operand between them.
 //!
-//! Answers from the precedence ranges alone. Knows nothing of lexemes and trees.
+//! Answers from the precedence ranges alone, for a pair and for a stack of operators that wait. The
+//! edges that it tells apart are those of `tla_tree`'s trees. Knows nothing of lexemes, and of how a
+//! tree is found.
 #![tactic(auto)]
+
+mod neighbour;
+mod op_stack;
 
 ghost use Rattle.std.specs.Prelude.{◌≡◌, ◌<◌, ◌↔◌, IsTrue};
 ghost use Rattle.tla_tree.specs.Edges.{Edge, Meets, Joins};
 
+pub use neighbour::{Neighbour, Operator, choose, choose_neighbour, range_on};
+pub use op_stack::{Clash, OpError, OpStack, one_closing};
 use tla_symbols::Range;
 
 /// What becomes of an operator that waits for its last operand, at one that comes after that
@@ -33,3 +40,6 @@ pub fn meets(outer: Range, inner: Range) -> bool
 pub fn one_order()
     ensures { (earlier later : Edge) → Meets earlier later → Joins later earlier → ⊥ }
 {}
+
+#[cfg(test)]
+mod tests;
