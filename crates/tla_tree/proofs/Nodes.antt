@@ -48,6 +48,13 @@ grown-known known (first ∷ nodes) number there =
     let more : number < length (known ++ tree_over known first ∷ []) = omega (arith, there, length-append known (tree_over known first ∷ [])) in
     grown-known (known ++ tree_over known first ∷ []) nodes number more ∙ get_or-append known _ _ number there
 
+grown-first : (known : List Tree) (first : Node) (nodes : List Node) → tree_of (grown known (first ∷ nodes)) (length known + 0) ≡ tree_over known first
+unfolding grown
+grown-first known first nodes =
+    let e : length known + 0 ≡ length known = omega arith in
+    let last : length known < length (known ++ tree_over known first ∷ []) = omega (arith, length-append known (tree_over known first ∷ [])) in
+    rw e (grown-known (known ++ tree_over known first ∷ []) nodes (length known) last ∙ get_or-append_seam known (tree_over known first) [] _)
+
 children-known : (known : List Tree) (nodes : List Node) (children : List ℕ) → AllByRecursion (λ child. child < length known) children → map (tree_of known) children ≡ map (tree_of (grown known nodes)) children
 children-known known nodes [] before = refl
 children-known known nodes (child ∷ children) before =
@@ -58,14 +65,10 @@ unfolding grown
 grown-at known [] number there before = absurd (omega (arith, there))
 grown-at known (first ∷ nodes) zero there before =
     let e : length known + 0 ≡ length known = omega arith in
-    let last : length known < length (known ++ tree_over known first ∷ []) = omega (arith, length-append known (tree_over known first ∷ [])) in
-    let is : tree_of (grown (known ++ tree_over known first ∷ []) nodes) (length known) ≡ tree_over known first =
-    grown-known (known ++ tree_over known first ∷ []) nodes (length known) last ∙ get_or-append_seam known (tree_over known first) [] _
-    in
     let same : map (tree_of known) first.children ≡ map (tree_of (grown known (first ∷ nodes))) first.children =
     children-known known (first ∷ nodes) first.children (subst (λ n. AllByRecursion (λ child. child < n) first.children) e before)
     in
-    ap (λ n. tree_of (grown known (first ∷ nodes)) n) e ∙ (is ∙ ap (λ xs. Syntax.Node first.form first.span (trees xs)) same)
+    grown-first known first nodes ∙ ap (λ xs. Syntax.Node first.form first.span (trees xs)) same
 grown-at known (first ∷ nodes) (suc number) there before =
     let more : List Tree = known ++ tree_over known first ∷ [] in
     let e : length known + suc number ≡ length more + number = omega (arith, length-append known (tree_over known first ∷ [])) in
@@ -86,13 +89,7 @@ before-there nodes number (child ∷ children) there before = (omega (arith, the
 grown-form : (known : List Tree) (nodes : List Node) (number : ℕ) → number < length nodes → (parts : Syntax.Trees) × (tree_of (grown known nodes) (length known + number) ≡ Syntax.Node (node_at nodes number).form (node_at nodes number).span parts)
 unfolding grown
 grown-form known [] number there = absurd (omega (arith, there))
-grown-form known (first ∷ nodes) zero there =
-    let e : length known + 0 ≡ length known = omega arith in
-    let last : length known < length (known ++ tree_over known first ∷ []) = omega (arith, length-append known (tree_over known first ∷ [])) in
-    let is : tree_of (grown (known ++ tree_over known first ∷ []) nodes) (length known) ≡ tree_over known first =
-    grown-known (known ++ tree_over known first ∷ []) nodes (length known) last ∙ get_or-append_seam known (tree_over known first) [] _
-    in
-    (trees (map (tree_of known) first.children), ap (λ n. tree_of (grown known (first ∷ nodes)) n) e ∙ is)
+grown-form known (first ∷ nodes) zero there = (trees (map (tree_of known) first.children), grown-first known first nodes)
 grown-form known (first ∷ nodes) (suc number) there =
     let more : List Tree = known ++ tree_over known first ∷ [] in
     let e : length known + suc number ≡ length more + number = omega (arith, length-append known (tree_over known first ∷ [])) in
