@@ -1,6 +1,7 @@
 //! The tables of moves in code: what lexemes begin, what they do to frames, and which frames end.
 //!
-//! Answers exactly what the tables of `expr_grammar` say. Knows nothing of how frames are kept.
+//! Answers exactly what the tables of `expr_grammar` say; of a part with a frame of its own `child`
+//! gives only the wait. Knows nothing of how frames are kept.
 #![tactic(auto)]
 
 mod frames;
@@ -8,10 +9,12 @@ mod kinds;
 mod moves;
 mod operators;
 mod parts;
+mod shapes;
 mod starts;
 
 pub use frames::{absorbs, child, finishes, is_expression, list_of, mode};
 pub use moves::{at_mark, endable};
-pub use operators::{lead, takes};
+pub use operators::{choice, lead, takes};
 pub use parts::at_part;
+pub use shapes::shape;
 pub use starts::{begins, goes_on, is_bullet, role};

@@ -67,54 +67,10 @@ fn takes_set(binding: Binding) -> bool
     !matches!(&binding, Binding::Names)
 }
 
-fn shift(test: bool, wait: Wait) -> MarkMove
-    ensures { result ≡ tables.if_move test (MarkMove.Shift wait) }
+fn if_move(test: bool, then: MarkMove) -> MarkMove
+    ensures { result ≡ tables.if_move test then }
 {
-    if test {
-        MarkMove::Shift(wait)
-    } else {
-        MarkMove::Refused
-    }
-}
-
-fn close(test: bool, form: Form) -> MarkMove
-    ensures { result ≡ tables.if_move test (MarkMove.Close form) }
-{
-    if test {
-        MarkMove::Close(form)
-    } else {
-        MarkMove::Refused
-    }
-}
-
-fn leaf(test: bool, form: Form, wait: Wait) -> MarkMove
-    ensures { result ≡ tables.if_move test (MarkMove.Leaf form wait) }
-{
-    if test {
-        MarkMove::Leaf(form, wait)
-    } else {
-        MarkMove::Refused
-    }
-}
-
-fn hand(test: bool, handed: Handed) -> MarkMove
-    ensures { result ≡ tables.if_move test (MarkMove.Hand handed) }
-{
-    if test {
-        MarkMove::Hand(handed)
-    } else {
-        MarkMove::Refused
-    }
-}
-
-fn push(test: bool, wait: Wait) -> MarkMove
-    ensures { result ≡ tables.if_move test (MarkMove.Push wait) }
-{
-    if test {
-        MarkMove::Push(wait)
-    } else {
-        MarkMove::Refused
-    }
+    if test { then } else { MarkMove::Refused }
 }
 
 fn at_argument_symbol(name: Lexeme, kind: LexKind) -> MarkMove
@@ -123,7 +79,7 @@ fn at_argument_symbol(name: Lexeme, kind: LexKind) -> MarkMove
     if is_comma(kind) {
         return MarkMove::Shift(Wait::Argument(name));
     }
-    close(is_right_paren(kind), Form::Segment(name))
+    if_move(is_right_paren(kind), MarkMove::Close(Form::Segment(name)))
 }
 
 fn at_binding_start(binding: Binding, lexeme: Lexeme) -> MarkMove
@@ -133,7 +89,10 @@ fn at_binding_start(binding: Binding, lexeme: Lexeme) -> MarkMove
         return MarkMove::Leaf(Form::Name(lexeme), Wait::BindingRead(binding));
     }
     if is_left_angle(lexeme.kind) {
-        return shift(takes_set(binding), Wait::TupleComma(binding));
+        return if_move(
+            takes_set(binding),
+            MarkMove::Shift(Wait::TupleComma(binding)),
+        );
     }
     MarkMove::Refused
 }
@@ -142,10 +101,13 @@ fn at_binding_read(binding: Binding, lexeme: Lexeme) -> MarkMove
     ensures { result ≡ tables.at_mark (Wait.BindingRead binding) lexeme }
 {
     if is_comma(lexeme.kind) {
-        return shift(takes_more(binding), Wait::BindingComma(binding));
+        return if_move(
+            takes_more(binding),
+            MarkMove::Shift(Wait::BindingComma(binding)),
+        );
     }
     if is_member(lexeme.kind) {
-        return shift(takes_set(binding), Wait::BoundSet);
+        return if_move(takes_set(binding), MarkMove::Shift(Wait::BoundSet));
     }
     MarkMove::Refused
 }
@@ -156,7 +118,10 @@ fn at_tuple_read(binding: Binding, lexeme: Lexeme) -> MarkMove
     if is_comma(lexeme.kind) {
         return MarkMove::Shift(Wait::TupleComma(binding));
     }
-    shift(is_right_angle(lexeme.kind), Wait::TupleClosed(binding))
+    if_move(
+        is_right_angle(lexeme.kind),
+        MarkMove::Shift(Wait::TupleClosed(binding)),
+    )
 }
 
 fn at_step_first(lexeme: Lexeme) -> MarkMove
@@ -165,7 +130,10 @@ fn at_step_first(lexeme: Lexeme) -> MarkMove
     if is_dot(lexeme.kind) {
         return MarkMove::Shift(Wait::StepField);
     }
-    push(is_left_bracket(lexeme.kind), Wait::IndexPart)
+    if_move(
+        is_left_bracket(lexeme.kind),
+        MarkMove::Push(Wait::IndexPart),
+    )
 }
 
 fn at_step_next(lexeme: Lexeme) -> MarkMove
@@ -177,7 +145,7 @@ fn at_step_next(lexeme: Lexeme) -> MarkMove
     if is_left_bracket(lexeme.kind) {
         return MarkMove::Push(Wait::IndexPart);
     }
-    shift(is_equal(lexeme.kind), Wait::UpdateValue)
+    if_move(is_equal(lexeme.kind), MarkMove::Shift(Wait::UpdateValue))
 }
 
 fn at_let(lexeme: Lexeme) -> MarkMove
@@ -186,7 +154,7 @@ fn at_let(lexeme: Lexeme) -> MarkMove
     if is_name(lexeme.kind) {
         return MarkMove::Hand(Handed::Definition);
     }
-    hand(is_negative(lexeme.kind), Handed::Definition)
+    if_move(is_negative(lexeme.kind), MarkMove::Hand(Handed::Definition))
 }
 
 fn at_definition_name(name: Lexeme, lexeme: Lexeme) -> MarkMove
@@ -220,7 +188,10 @@ fn at_parameter_start(lexeme: Lexeme) -> MarkMove
     if is_negative(lexeme.kind) {
         return MarkMove::Shift(Wait::PrefixPlace(lexeme));
     }
-    shift(is_underscore(lexeme.kind), Wait::SymbolPlace)
+    if_move(
+        is_underscore(lexeme.kind),
+        MarkMove::Shift(Wait::SymbolPlace),
+    )
 }
 
 fn at_places_read(name: Lexeme, places: u32, lexeme: Lexeme) -> MarkMove
@@ -229,9 +200,9 @@ fn at_places_read(name: Lexeme, places: u32, lexeme: Lexeme) -> MarkMove
     if is_comma(lexeme.kind) {
         return MarkMove::Shift(Wait::Places(name, places));
     }
-    close(
+    if_move(
         is_right_paren(lexeme.kind),
-        Form::OperatorParameter(name, places),
+        MarkMove::Close(Form::OperatorParameter(name, places)),
     )
 }
 
@@ -241,9 +212,9 @@ fn at_symbol_place(lexeme: Lexeme) -> MarkMove
     if defines(Fix::Infix, lexeme.kind) {
         return MarkMove::Shift(Wait::InfixPlace(lexeme));
     }
-    close(
+    if_move(
         defines(Fix::Postfix, lexeme.kind),
-        Form::PostfixParameter(lexeme),
+        MarkMove::Close(Form::PostfixParameter(lexeme)),
     )
 }
 
@@ -255,80 +226,128 @@ pub fn at_mark(wait: Wait, lexeme: Lexeme) -> MarkMove
 {
     let kind = lexeme.kind;
     match wait {
-        Wait::BraceFirst => close(is_right_brace(kind), Form::SetEnumeration),
-        Wait::AngleFirst(_) => close(is_right_angle(kind), Form::Tuple),
-        Wait::Argument(name) => leaf(
+        Wait::BraceFirst => if_move(is_right_brace(kind), MarkMove::Close(Form::SetEnumeration)),
+        Wait::AngleFirst(_) => if_move(is_right_angle(kind), MarkMove::Close(Form::Tuple)),
+        Wait::Argument(name) => if_move(
             passes(kind),
-            Form::Symbol(lexeme),
-            Wait::ArgumentSymbol(name),
+            MarkMove::Leaf(Form::Symbol(lexeme), Wait::ArgumentSymbol(name)),
         ),
         Wait::ArgumentSymbol(name) => at_argument_symbol(name, kind),
-        Wait::SegmentName(name) => shift(is_left_paren(kind), Wait::Argument(name)),
-        Wait::IdentifierBang => hand(is_name(kind), Handed::Segment),
-        Wait::SubscriptRead => shift(is_bang(kind), Wait::SubscriptBang),
-        Wait::SubscriptBang => leaf(is_name(kind), Form::Segment(lexeme), Wait::SubscriptRead),
-        Wait::BindingStart(binding) => at_binding_start(binding, lexeme),
-        Wait::BindingComma(binding) => leaf(
+        Wait::SegmentName(name) => if_move(
+            is_left_paren(kind),
+            MarkMove::Shift(Wait::Argument(name)),
+        ),
+        Wait::IdentifierBang => if_move(is_name(kind), MarkMove::Hand(Handed::Segment)),
+        Wait::SubscriptRead => if_move(is_bang(kind), MarkMove::Shift(Wait::SubscriptBang)),
+        Wait::SubscriptBang => if_move(
             is_name(kind),
-            Form::Name(lexeme),
-            Wait::BindingRead(binding),
+            MarkMove::Leaf(Form::Segment(lexeme), Wait::SubscriptRead),
+        ),
+        Wait::BindingStart(binding) => at_binding_start(binding, lexeme),
+        Wait::BindingComma(binding) => if_move(
+            is_name(kind),
+            MarkMove::Leaf(Form::Name(lexeme), Wait::BindingRead(binding)),
         ),
         Wait::BindingRead(binding) => at_binding_read(binding, lexeme),
-        Wait::TupleComma(binding) => leaf(
+        Wait::TupleComma(binding) => if_move(
             is_name(kind),
-            Form::Name(lexeme),
-            Wait::TupleRead(binding),
+            MarkMove::Leaf(Form::Name(lexeme), Wait::TupleRead(binding)),
         ),
         Wait::TupleRead(binding) => at_tuple_read(binding, lexeme),
-        Wait::TupleClosed(_) => shift(is_member(kind), Wait::TupleBoundSet),
-        Wait::FieldName => close(is_name(kind), Form::FieldAccess(lexeme)),
-        Wait::RecordNext => shift(is_name(kind), Wait::RecordNamed(lexeme)),
-        Wait::RecordNamed(name) => shift(is_maps_to(kind), Wait::RecordValue(name, lexeme)),
-        Wait::RecordSetNext => shift(is_name(kind), Wait::RecordSetNamed(lexeme)),
-        Wait::RecordSetNamed(name) => shift(is_colon(kind), Wait::RecordSetValue(name, lexeme)),
-        Wait::UpdateBang => shift(is_bang(kind), Wait::StepFirst),
+        Wait::TupleClosed(_) => if_move(is_member(kind), MarkMove::Shift(Wait::TupleBoundSet)),
+        Wait::FieldName => if_move(is_name(kind), MarkMove::Close(Form::FieldAccess(lexeme))),
+        Wait::RecordNext => if_move(is_name(kind), MarkMove::Shift(Wait::RecordNamed(lexeme))),
+        Wait::RecordNamed(name) => if_move(
+            is_maps_to(kind),
+            MarkMove::Shift(Wait::RecordValue(name, lexeme)),
+        ),
+        Wait::RecordSetNext => if_move(
+            is_name(kind),
+            MarkMove::Shift(Wait::RecordSetNamed(lexeme)),
+        ),
+        Wait::RecordSetNamed(name) => if_move(
+            is_colon(kind),
+            MarkMove::Shift(Wait::RecordSetValue(name, lexeme)),
+        ),
+        Wait::UpdateBang => if_move(is_bang(kind), MarkMove::Shift(Wait::StepFirst)),
         Wait::StepFirst => at_step_first(lexeme),
         Wait::StepNext => at_step_next(lexeme),
-        Wait::StepField => leaf(is_name(kind), Form::FieldStep(lexeme), Wait::StepNext),
-        Wait::ArmGuard => shift(is_other(kind), Wait::OtherArrow),
-        Wait::OtherArrow => shift(is_arrow(kind), Wait::OtherBody),
+        Wait::StepField => if_move(
+            is_name(kind),
+            MarkMove::Leaf(Form::FieldStep(lexeme), Wait::StepNext),
+        ),
+        Wait::ArmGuard => if_move(is_other(kind), MarkMove::Shift(Wait::OtherArrow)),
+        Wait::OtherArrow => if_move(is_arrow(kind), MarkMove::Shift(Wait::OtherBody)),
         Wait::LetFirst => at_let(lexeme),
         Wait::DefinitionName(name) => at_definition_name(name, lexeme),
-        Wait::DefinitionDefine(name) => shift(is_define(kind), Wait::DefinitionBody(name)),
-        Wait::DefinitionBody(_) => push(is_instance(kind), Wait::InstanceModule),
-        Wait::PrefixName(symbol) => leaf(
-            is_name(kind),
-            Form::Name(lexeme),
-            Wait::PrefixDefine(symbol),
+        Wait::DefinitionDefine(name) => if_move(
+            is_define(kind),
+            MarkMove::Shift(Wait::DefinitionBody(name)),
         ),
-        Wait::PrefixDefine(symbol) => shift(is_define(kind), Wait::PrefixBody(symbol)),
-        Wait::InfixName(symbol) => leaf(
+        Wait::DefinitionBody(_) => if_move(is_instance(kind), MarkMove::Push(Wait::InstanceModule)),
+        Wait::PrefixName(symbol) => if_move(
             is_name(kind),
-            Form::Name(lexeme),
-            Wait::InfixDefine(symbol),
+            MarkMove::Leaf(Form::Name(lexeme), Wait::PrefixDefine(symbol)),
         ),
-        Wait::InfixDefine(symbol) => shift(is_define(kind), Wait::InfixBody(symbol)),
-        Wait::PostfixDefine(symbol) => shift(is_define(kind), Wait::PostfixBody(symbol)),
-        Wait::FunctionHeadDefine(name) => shift(is_define(kind), Wait::FunctionHeadBody(name)),
-        Wait::InstanceModule => shift(is_name(kind), Wait::InstanceNamed(lexeme)),
-        Wait::InstanceNamed(module) => shift(is_with(kind), Wait::Replacements(module)),
-        Wait::ReplacementStart => shift(is_replaceable(kind), Wait::ReplacementArrow(lexeme)),
-        Wait::ReplacementArrow(left) => shift(is_left_arrow(kind), Wait::ReplacementRight(left)),
-        Wait::ReplacementRight(left) => leaf(
+        Wait::PrefixDefine(symbol) => if_move(
+            is_define(kind),
+            MarkMove::Shift(Wait::PrefixBody(symbol)),
+        ),
+        Wait::InfixName(symbol) => if_move(
+            is_name(kind),
+            MarkMove::Leaf(Form::Name(lexeme), Wait::InfixDefine(symbol)),
+        ),
+        Wait::InfixDefine(symbol) => if_move(
+            is_define(kind),
+            MarkMove::Shift(Wait::InfixBody(symbol)),
+        ),
+        Wait::PostfixDefine(symbol) => if_move(
+            is_define(kind),
+            MarkMove::Shift(Wait::PostfixBody(symbol)),
+        ),
+        Wait::FunctionHeadDefine(name) => if_move(
+            is_define(kind),
+            MarkMove::Shift(Wait::FunctionHeadBody(name)),
+        ),
+        Wait::InstanceModule => if_move(
+            is_name(kind),
+            MarkMove::Shift(Wait::InstanceNamed(lexeme)),
+        ),
+        Wait::InstanceNamed(module) => if_move(
+            is_with(kind),
+            MarkMove::Shift(Wait::Replacements(module)),
+        ),
+        Wait::ReplacementStart => if_move(
+            is_replaceable(kind),
+            MarkMove::Shift(Wait::ReplacementArrow(lexeme)),
+        ),
+        Wait::ReplacementArrow(left) => if_move(
+            is_left_arrow(kind),
+            MarkMove::Shift(Wait::ReplacementRight(left)),
+        ),
+        Wait::ReplacementRight(left) => if_move(
             is_given(kind),
-            Form::Symbol(lexeme),
-            Wait::ReplacementEnd(left),
+            MarkMove::Leaf(Form::Symbol(lexeme), Wait::ReplacementEnd(left)),
         ),
         Wait::ParameterStart => at_parameter_start(lexeme),
-        Wait::ParameterName(name) => shift(is_left_paren(kind), Wait::Places(name, 0)),
-        Wait::Places(name, places) => shift(
+        Wait::ParameterName(name) => if_move(
+            is_left_paren(kind),
+            MarkMove::Shift(Wait::Places(name, 0)),
+        ),
+        Wait::Places(name, places) => if_move(
             is_underscore(kind),
-            Wait::PlacesRead(name, places + 1),
+            MarkMove::Shift(Wait::PlacesRead(name, places + 1)),
         ),
         Wait::PlacesRead(name, places) => at_places_read(name, places, lexeme),
-        Wait::PrefixPlace(symbol) => close(is_underscore(kind), Form::PrefixParameter(symbol)),
+        Wait::PrefixPlace(symbol) => if_move(
+            is_underscore(kind),
+            MarkMove::Close(Form::PrefixParameter(symbol)),
+        ),
         Wait::SymbolPlace => at_symbol_place(lexeme),
-        Wait::InfixPlace(symbol) => close(is_underscore(kind), Form::InfixParameter(symbol)),
+        Wait::InfixPlace(symbol) => if_move(
+            is_underscore(kind),
+            MarkMove::Close(Form::InfixParameter(symbol)),
+        ),
         _ => MarkMove::Refused,
     }
 }

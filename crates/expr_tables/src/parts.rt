@@ -9,29 +9,26 @@ use crate::kinds::{
     is_left_paren, is_maps_to, is_name, is_negative, is_right_angle, is_right_angle_subscript,
     is_right_brace, is_right_bracket, is_right_bracket_subscript, is_right_paren, is_then,
 };
-use crate::starts::after_brace;
 use expr_grammar::{Conversion, Handed, PartMove, Shape, Wait};
 use tla_symbols::{LexKind, Lexeme};
 use tla_tree::Form;
 
-fn goes(test: bool, wait: Wait) -> PartMove
-    ensures { result ≡ tables.if_goes test (tables.keeps wait) }
+fn keeps(wait: Wait) -> PartMove
+    ensures { result ≡ tables.keeps wait }
 {
-    if test {
-        PartMove::Goes(wait, Conversion::Keep)
-    } else {
-        PartMove::Refused
-    }
+    PartMove::Goes(wait, Conversion::Keep)
 }
 
-fn done(test: bool, form: Form) -> PartMove
-    ensures { result ≡ tables.if_goes test (tables.done form) }
+fn done(form: Form) -> PartMove
+    ensures { result ≡ tables.done form }
 {
-    if test {
-        PartMove::Done(form, Conversion::Keep)
-    } else {
-        PartMove::Refused
-    }
+    PartMove::Done(form, Conversion::Keep)
+}
+
+fn if_goes(test: bool, then: PartMove) -> PartMove
+    ensures { result ≡ tables.if_goes test then }
+{
+    if test { then } else { PartMove::Refused }
 }
 
 /// A part goes on after a comma, and the form closes with a mark.
@@ -39,9 +36,9 @@ fn parted(kind: LexKind, wait: Wait, closes: bool, form: Form) -> PartMove
     ensures { result ≡ tables.parted kind wait closes form }
 {
     if is_comma(kind) {
-        return PartMove::Goes(wait, Conversion::Keep);
+        return keeps(wait);
     }
-    done(closes, form)
+    if_goes(closes, done(form))
 }
 
 fn after_square(actions: bool, lexeme: Lexeme) -> PartMove
@@ -49,12 +46,12 @@ fn after_square(actions: bool, lexeme: Lexeme) -> PartMove
 {
     let kind = lexeme.kind;
     if is_arrow(kind) {
-        return PartMove::Goes(Wait::FunctionTo, Conversion::Keep);
+        return keeps(Wait::FunctionTo);
     }
     if is_right_bracket_subscript(kind) {
-        return goes(actions, Wait::SquareSubscript);
+        return if_goes(actions, keeps(Wait::SquareSubscript));
     }
-    goes(is_except(kind), Wait::ExceptUpdates)
+    if_goes(is_except(kind), keeps(Wait::ExceptUpdates))
 }
 
 fn in_square_after_name(actions: bool, name: Lexeme, lexeme: Lexeme) -> PartMove
@@ -96,15 +93,27 @@ fn in_square(actions: bool, shape: Shape, lexeme: Lexeme) -> PartMove
     }
 }
 
+/// What a mark does after the first part in braces, where that part may bind: `:` makes a filter
+/// of the bare form `x \in e`, and of another part the elements of an image.
+fn after_brace(shape: Shape, kind: LexKind) -> PartMove
+    ensures { result ≡ tables.after_brace shape kind }
+{
+    let goes_on = match shape {
+        Shape::Member => PartMove::Goes(Wait::FilterBody, Conversion::AsBound),
+        _ => keeps(Wait::ImageBounds),
+    };
+    if_goes(is_colon(kind), goes_on)
+}
+
 fn in_brace(shape: Shape, lexeme: Lexeme) -> PartMove
     ensures { result ≡ tables.after_expression Wait.BraceFirst shape lexeme }
 {
     let kind = lexeme.kind;
     if is_right_brace(kind) {
-        return PartMove::Done(Form::SetEnumeration, Conversion::Keep);
+        return done(Form::SetEnumeration);
     }
     if is_comma(kind) {
-        return PartMove::Goes(Wait::BraceNext, Conversion::Keep);
+        return keeps(Wait::BraceNext);
     }
     after_brace(shape, kind)
 }
@@ -114,13 +123,13 @@ fn in_angle(actions: bool, lexeme: Lexeme) -> PartMove
 {
     let kind = lexeme.kind;
     if is_comma(kind) {
-        return PartMove::Goes(Wait::AngleNext, Conversion::Keep);
+        return keeps(Wait::AngleNext);
     }
     if is_right_angle(kind) {
-        return PartMove::Done(Form::Tuple, Conversion::Keep);
+        return done(Form::Tuple);
     }
     if is_right_angle_subscript(kind) {
-        return goes(actions, Wait::AngleSubscript);
+        return if_goes(actions, keeps(Wait::AngleSubscript));
     }
     PartMove::Refused
 }
@@ -131,10 +140,10 @@ fn after_value(name: Lexeme, mark: Lexeme, next: Wait, form: Form, kind: LexKind
     if is_comma(kind) {
         return PartMove::Goes(next, Conversion::AsField(name, mark));
     }
-    if is_right_bracket(kind) {
-        return PartMove::Done(form, Conversion::AsField(name, mark));
-    }
-    PartMove::Refused
+    if_goes(
+        is_right_bracket(kind),
+        PartMove::Done(form, Conversion::AsField(name, mark)),
+    )
 }
 
 /// After an expression.
@@ -143,7 +152,7 @@ fn after_expression(wait: Wait, shape: Shape, lexeme: Lexeme) -> PartMove
 {
     let kind = lexeme.kind;
     match wait {
-        Wait::ParenthesesBody => done(is_right_paren(kind), Form::Parentheses),
+        Wait::ParenthesesBody => if_goes(is_right_paren(kind), done(Form::Parentheses)),
         Wait::Argument(name) => parted(
             kind,
             Wait::Argument(name),
@@ -157,7 +166,7 @@ fn after_expression(wait: Wait, shape: Shape, lexeme: Lexeme) -> PartMove
             is_right_brace(kind),
             Form::SetEnumeration,
         ),
-        Wait::FilterBody => done(is_right_brace(kind), Form::SetFilter),
+        Wait::FilterBody => if_goes(is_right_brace(kind), done(Form::SetFilter)),
         Wait::ApplicationArgument => parted(
             kind,
             Wait::ApplicationArgument,
@@ -165,8 +174,8 @@ fn after_expression(wait: Wait, shape: Shape, lexeme: Lexeme) -> PartMove
             Form::Application,
         ),
         Wait::SquareFirst(actions) => in_square(actions, shape, lexeme),
-        Wait::FunctionTo => done(is_right_bracket(kind), Form::FunctionSet),
-        Wait::FunctionBody => done(is_right_bracket(kind), Form::FunctionConstructor),
+        Wait::FunctionTo => if_goes(is_right_bracket(kind), done(Form::FunctionSet)),
+        Wait::FunctionBody => if_goes(is_right_bracket(kind), done(Form::FunctionConstructor)),
         Wait::RecordValue(name, mark) => after_value(
             name,
             mark,
@@ -189,32 +198,23 @@ fn after_expression(wait: Wait, shape: Shape, lexeme: Lexeme) -> PartMove
         ),
         Wait::AngleFirst(actions) => in_angle(actions, lexeme),
         Wait::AngleNext => parted(kind, Wait::AngleNext, is_right_angle(kind), Form::Tuple),
-        Wait::FairSubscript(word) => goes(is_left_paren(kind), Wait::FairAction(word)),
-        Wait::FairAction(word) => done(is_right_paren(kind), Form::Fairness(word)),
-        Wait::IfTest => goes(is_then(kind), Wait::IfThen),
-        Wait::IfThen => goes(is_else(kind), Wait::IfElse),
-        Wait::ArmGuard => goes(is_arrow(kind), Wait::ArmBody),
+        Wait::FairSubscript(word) => if_goes(is_left_paren(kind), keeps(Wait::FairAction(word))),
+        Wait::FairAction(word) => if_goes(is_right_paren(kind), done(Form::Fairness(word))),
+        Wait::IfTest => if_goes(is_then(kind), keeps(Wait::IfThen)),
+        Wait::IfThen => if_goes(is_else(kind), keeps(Wait::IfElse)),
+        Wait::ArmGuard => if_goes(is_arrow(kind), keeps(Wait::ArmBody)),
         _ => PartMove::Refused,
     }
 }
 
 /// A bound or a parameter goes on after a comma, and what follows them begins with a mark.
-fn after_bound(next: Wait, closes: bool, then: Wait, kind: LexKind) -> PartMove
-    ensures { result ≡ tables.after_bound next closes (tables.keeps then) kind }
+fn after_bound(next: Wait, closes: bool, then: PartMove, kind: LexKind) -> PartMove
+    ensures { result ≡ tables.after_bound next closes then kind }
 {
     if is_comma(kind) {
-        return PartMove::Goes(next, Conversion::Keep);
+        return keeps(next);
     }
-    goes(closes, then)
-}
-
-fn after_image_bound(kind: LexKind) -> PartMove
-    ensures { result ≡ tables.after_bound Wait.ImageBounds (kinds.is_right_brace kind) (tables.done Form.SetImage) kind }
-{
-    if is_comma(kind) {
-        return PartMove::Goes(Wait::ImageBounds, Conversion::Keep);
-    }
-    done(is_right_brace(kind), Form::SetImage)
+    if_goes(closes, then)
 }
 
 fn after_definition(lexeme: Lexeme) -> PartMove
@@ -224,7 +224,7 @@ fn after_definition(lexeme: Lexeme) -> PartMove
     if is_name(kind) || is_negative(kind) {
         return PartMove::Hand(Handed::Definition);
     }
-    goes(is_in_word(kind), Wait::LetBody)
+    if_goes(is_in_word(kind), keeps(Wait::LetBody))
 }
 
 /// After names.
@@ -233,9 +233,12 @@ fn after_names(wait: Wait, lexeme: Lexeme) -> PartMove
 {
     let colon = is_colon(lexeme.kind);
     match wait {
-        Wait::QuantifierFirst(quantifier) => goes(colon, Wait::QuantifierBody(quantifier)),
-        Wait::TemporalFirst(quantifier) => goes(colon, Wait::TemporalBody(quantifier)),
-        Wait::ChooseFirst => goes(colon, Wait::ChooseBody),
+        Wait::QuantifierFirst(quantifier) => if_goes(
+            colon,
+            keeps(Wait::QuantifierBody(quantifier)),
+        ),
+        Wait::TemporalFirst(quantifier) => if_goes(colon, keeps(Wait::TemporalBody(quantifier))),
+        Wait::ChooseFirst => if_goes(colon, keeps(Wait::ChooseBody)),
         _ => PartMove::Refused,
     }
 }
@@ -250,18 +253,25 @@ fn after_bounds(wait: Wait, lexeme: Lexeme) -> PartMove
             after_bound(
                 Wait::QuantifierNext(quantifier),
                 is_colon(kind),
-                Wait::BoundedBody(quantifier),
+                keeps(Wait::BoundedBody(quantifier)),
                 kind,
             )
         }
-        Wait::ChooseFirst => goes(is_colon(kind), Wait::BoundedChooseBody),
-        Wait::WholeBounds => goes(is_comma(kind), Wait::WholeBounds),
-        Wait::ImageBounds => after_image_bound(kind),
+        Wait::ChooseFirst => if_goes(is_colon(kind), keeps(Wait::BoundedChooseBody)),
+        Wait::WholeBounds => if_goes(is_comma(kind), keeps(Wait::WholeBounds)),
+        Wait::ImageBounds => {
+            after_bound(
+                Wait::ImageBounds,
+                is_right_brace(kind),
+                done(Form::SetImage),
+                kind,
+            )
+        }
         Wait::FunctionNames(_) | Wait::FunctionBounds => {
             after_bound(
                 Wait::FunctionBounds,
                 is_maps_to(kind),
-                Wait::FunctionBody,
+                keeps(Wait::FunctionBody),
                 kind,
             )
         }
@@ -269,7 +279,7 @@ fn after_bounds(wait: Wait, lexeme: Lexeme) -> PartMove
             after_bound(
                 Wait::FunctionHeadBounds(name),
                 is_right_bracket(kind),
-                Wait::FunctionHeadDefine(name),
+                keeps(Wait::FunctionHeadDefine(name)),
                 kind,
             )
         }
@@ -284,7 +294,7 @@ fn after_helper(wait: Wait, lexeme: Lexeme) -> PartMove
     let kind = lexeme.kind;
     match wait {
         Wait::Handing(handed, _) => match handed {
-            Handed::Segment => goes(is_bang(kind), Wait::IdentifierBang),
+            Handed::Segment => if_goes(is_bang(kind), keeps(Wait::IdentifierBang)),
             Handed::Definition => after_definition(lexeme),
         },
         Wait::ExceptUpdates => parted(
@@ -297,11 +307,11 @@ fn after_helper(wait: Wait, lexeme: Lexeme) -> PartMove
             after_bound(
                 Wait::DefinitionParameters(name),
                 is_right_paren(kind),
-                Wait::DefinitionDefine(name),
+                keeps(Wait::DefinitionDefine(name)),
                 kind,
             )
         }
-        Wait::Replacements(module) => goes(is_comma(kind), Wait::Replacements(module)),
+        Wait::Replacements(module) => if_goes(is_comma(kind), keeps(Wait::Replacements(module))),
         _ => PartMove::Refused,
     }
 }
@@ -327,7 +337,7 @@ fn after_arm(wait: Wait, lexeme: Lexeme) -> PartMove
     ensures { result ≡ tables.after_part wait Shape.Arm lexeme }
 {
     match wait {
-        Wait::CaseArms => goes(is_always(lexeme.kind), Wait::CaseArms),
+        Wait::CaseArms => if_goes(is_always(lexeme.kind), keeps(Wait::CaseArms)),
         _ => PartMove::Refused,
     }
 }

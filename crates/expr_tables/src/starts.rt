@@ -1,8 +1,8 @@
 // Tables of moves: what lexemes begin, what they are after an operand, and which are bullets.
-ghost use Rattle.std.specs.Prelude.{◌≡◌, ◌-◌, ◌<◌, ◌^◌};
+ghost use Rattle.std.specs.Prelude.{◌≡◌};
 ghost use Rattle.expr_grammar.specs.Tables as tables;
 
-use expr_grammar::{Conversion, Handed, Mode, PartMove, Role, Shape, Start, Wait};
+use expr_grammar::{Handed, Mode, Role, Start, Wait};
 use tla_symbols::{Fix, LexKind, Lexeme, Mark, Op, Word, range_of};
 use tla_tree::Form;
 
@@ -34,15 +34,13 @@ fn is_same_junction(kind: LexKind, other: LexKind) -> bool
 /// Whether the lexeme opens an aligned list where an operand is due: only the spellings `/\` and
 /// `\/` do, not `\land` and `\lor`.
 pub fn is_bullet(lexeme: Lexeme) -> bool
-    requires { lexeme.span.start < 2 ^ 32 - 2 }
     ensures { result ≡ tables.is_bullet lexeme }
 {
-    is_junction(lexeme.kind) && lexeme.span.end == lexeme.span.start + 2
+    is_junction(lexeme.kind) && lexeme.span.end >= 2 && lexeme.span.end - 2 == lexeme.span.start
 }
 
 /// Whether the lexeme begins the next item of the list that the first bullet opened.
 pub fn goes_on(first: Lexeme, lexeme: Lexeme) -> bool
-    requires { lexeme.span.start < 2 ^ 32 - 2 }
     ensures { result ≡ tables.goes_on first lexeme }
 {
     is_bullet(lexeme) && is_same_junction(lexeme.kind, first.kind) && lexeme.col == first.col
@@ -73,7 +71,6 @@ pub fn role(kind: LexKind) -> Role
 }
 
 fn symbol_start(op: Op, lexeme: Lexeme) -> Start
-    requires { lexeme.span.start < 2 ^ 32 - 2 }
     ensures { result ≡ tables.start_symbol op lexeme }
 {
     if is_bullet(lexeme) {
@@ -115,7 +112,6 @@ fn word_start(word: Word, lexeme: Lexeme) -> Start
 
 /// What the lexeme begins where an expression is due.
 fn starts_expression(lexeme: Lexeme) -> Start
-    requires { lexeme.span.start < 2 ^ 32 - 2 }
     ensures { result ≡ tables.start_kind lexeme.kind lexeme }
 {
     match lexeme.kind {
@@ -148,26 +144,11 @@ fn starts_subscript(lexeme: Lexeme) -> Start
 
 /// What the lexeme begins in a frame in which this comes next.
 pub fn begins(mode: Mode, lexeme: Lexeme) -> Start
-    requires { lexeme.span.start < 2 ^ 32 - 2 }
     ensures { result ≡ tables.begins mode lexeme }
 {
     match mode {
         Mode::Operand => starts_expression(lexeme),
         Mode::Subscript => starts_subscript(lexeme),
         Mode::Marks | Mode::Child => Start::NoStart,
-    }
-}
-
-/// What a mark does after the first part in braces, where that part may bind: `:` makes a filter
-/// of the bare form `x \in e`, and of another part the elements of an image.
-pub(crate) fn after_brace(shape: Shape, kind: LexKind) -> PartMove
-    ensures { result ≡ tables.after_brace shape kind }
-{
-    if !matches!(&kind, LexKind::Mark(Mark::Colon)) {
-        return PartMove::Refused;
-    }
-    match shape {
-        Shape::Member => PartMove::Goes(Wait::FilterBody, Conversion::AsBound),
-        _ => PartMove::Goes(Wait::ImageBounds, Conversion::Keep),
     }
 }

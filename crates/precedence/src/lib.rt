@@ -11,7 +11,7 @@ mod op_stack;
 ghost use Rattle.std.specs.Prelude.{◌≡◌, ◌<◌, ◌↔◌, IsTrue};
 ghost use Rattle.tla_tree.specs.Edges.{Edge, Meets, Joins};
 
-pub use neighbour::{Neighbour, Operator, choose, choose_neighbour, range_on};
+pub use neighbour::{Neighbour, Operator, choose, choose_neighbour, may_hold, range_on};
 pub use op_stack::{Clash, OpError, OpStack, one_closing};
 use tla_symbols::Range;
 

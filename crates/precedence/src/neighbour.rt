@@ -70,8 +70,8 @@ pub fn choose_neighbour(waiting: Neighbour, coming: Neighbour) -> Choice
     }
 }
 
-// Whether the inner one may stand bare as an operand of the outer one.
-fn may_hold(outer: Neighbour, inner: Neighbour) -> bool
+/// Whether the inner one may stand bare as an operand of the outer one: its range lies above.
+pub fn may_hold(outer: Neighbour, inner: Neighbour) -> bool
     ensures { result ≡ choices.meets (ranges.edge_of outer) (ranges.edge_of inner) }
 {
     meets(range_on(outer), range_on(inner))
