@@ -16,8 +16,9 @@ use Rattle.expr_grammar.specs.declared.wait.Shape.{Shape}
 use Rattle.expr_grammar.specs.Kinds.{is_member}
 use Rattle.expr_grammar.specs.Tables.{plain_shape, is_plain, is_plain_name, are_plain_names, is_binder, member_shape, shape, name_leaf, name_of, names_of, bound_of, as_bound}
 use Rattle.expr_grammar.proofs.KindTests.{member-is}
-use Rattle.expr_grammar.proofs.Naming.{name-identifier, segment-leaf, arguments-there}
+use Rattle.expr_grammar.proofs.Naming.{name-identifier, arguments-there}
 use Rattle.expr_grammar.proofs.Membering.{plain-names, all-plain, is_member_shape, plain-no_member}
+use Rattle.expr_grammar.proofs.Starting.{segment-leaf}
 
 segments-there : {xs : Trees} {a : List Lexeme} {i : ℕ} → DerivesSegments xs a i → HasNoPart xs → ⊥
 segments-there (last_segment d) h = h

@@ -1,5 +1,6 @@
 -- What the tests for kinds say.
-use Rattle.std.proofs.Common.{◌≡◌, refl, true}
+use Rattle.std.proofs.Common.{◌≡◌, Bool, true, false, refl}
+use Rattle.std.specs.Prelude.{cond}
 use Rattle.tla_symbols.specs.declared.op.Op.TheVariants as Op
 use Rattle.tla_symbols.specs.declared.lexeme.LexKind.{LexKind}
 use Rattle.tla_symbols.specs.declared.lexeme.Word.TheVariants as Word
@@ -125,3 +126,8 @@ equal-is _ h = cc
 pub negative-is : (k : LexKind) → is_negative k ≡ true → k ≡ LexKind.Sym Op.Negative
 negative-is (LexKind.Sym Op.Negative) h = refl
 negative-is _ h = cc
+
+-- what holds of both cases of a test holds of its answer
+pub by-test : {A : Type 0} (P : A → Type 0) (b : Bool) (m n : A) → (b ≡ true → P m) → (b ≡ false → P n) → P (cond b m n)
+by-test P true m n f g = f refl
+by-test P false m n f g = g refl

@@ -22,12 +22,13 @@ use Rattle.expr_grammar.specs.declared.wait.MarkMove.{MarkMove}
 use Rattle.expr_grammar.specs.Kinds.{is_name, is_define, is_left_arrow, is_maps_to, is_comma, is_colon, is_bang, is_arrow, is_left_paren, is_right_paren, is_left_bracket, is_right_brace, is_left_angle, is_right_angle, is_underscore, is_dot, is_other, is_instance, is_with, is_member, is_equal, is_negative}
 use Rattle.expr_grammar.specs.Tables.{mode, is_bullet, start_kind, subscript_kind, begins, defines, passes, is_given_kind, is_replaceable, takes_more, takes_set, takes_none, takes_lone_tuple, if_move, at_mark, ends_symbol, when, endable}
 use Rattle.expr_grammar.specs.Machine.{inside}
-use Rattle.expr_grammar.proofs.KindTests.{name-is, define-is, left_arrow-is, maps_to-is, comma-is, colon-is, bang-is, arrow-is, left_paren-is, right_paren-is, left_bracket-is, right_brace-is, left_angle-is, right_angle-is, underscore-is, dot-is, other-is, instance-is, with-is, member-is, equal-is, negative-is}
+use Rattle.expr_grammar.proofs.KindTests.{name-is, define-is, left_arrow-is, maps_to-is, comma-is, colon-is, bang-is, arrow-is, left_paren-is, right_paren-is, left_bracket-is, right_brace-is, left_angle-is, right_angle-is, underscore-is, dot-is, other-is, instance-is, with-is, member-is, equal-is, negative-is, by-test}
 use Rattle.expr_grammar.proofs.Tabled.{promised}
 use Rattle.expr_grammar.proofs.Asking.{absurd-bool}
 use Rattle.expr_grammar.proofs.Naming.{true-bullet}
-use Rattle.expr_grammar.proofs.Views.{IsDue, symbol-leaf, segment-leaf, Stands, expression, symbol, instance, names, segment, parameter, replacement, Shut, HasRead, prefix_operand, parentheses_body, list_first, handing_segment, identifier_bang, segment_name, argument, argument_symbol, subscript_read, subscript_bang, binding_start, binding_comma, binding_read, tuple_comma, tuple_read, tuple_closed, bound_set, tuple_bound_set, quantifier_first, temporal_first, choose_first, brace_first, field_name, square_first, record_value, record_next, record_named, record_set_value, record_set_next, record_set_named, update_bang, step_first, step_next, step_field, update_value, index_part, angle_first, fair_subscript, if_test, case_arms, arm_guard, other_arrow, other_body, let_first, handing_definition, definition_name, definition_parameters, definition_define, definition_body, prefix_name, prefix_define, prefix_body, infix_name, infix_define, infix_body, postfix_define, postfix_body, function_head_bounds, function_head_define, function_head_body, instance_module, instance_named, replacements, replacement_start, replacement_arrow, replacement_right, replacement_end, parameter_start, parameter_name, places, places_read, prefix_place, symbol_place, infix_place}
+use Rattle.expr_grammar.proofs.Views.{IsDue, Stands, expression, symbol, instance, names, segment, parameter, replacement, Shut, HasRead, prefix_operand, parentheses_body, list_first, handing_segment, identifier_bang, segment_name, argument, argument_symbol, subscript_read, subscript_bang, binding_start, binding_comma, binding_read, tuple_comma, tuple_read, tuple_closed, bound_set, tuple_bound_set, quantifier_first, temporal_first, choose_first, brace_first, field_name, square_first, record_value, record_next, record_named, record_set_value, record_set_next, record_set_named, update_bang, step_first, step_next, step_field, update_value, index_part, angle_first, fair_subscript, if_test, case_arms, arm_guard, other_arrow, other_body, let_first, handing_definition, definition_name, definition_parameters, definition_define, definition_body, prefix_name, prefix_define, prefix_body, infix_name, infix_define, infix_body, postfix_define, postfix_body, function_head_bounds, function_head_define, function_head_body, instance_module, instance_named, replacements, replacement_start, replacement_arrow, replacement_right, replacement_end, parameter_start, parameter_name, places, places_read, prefix_place, symbol_place, infix_place}
 use Rattle.expr_grammar.proofs.Viewing.{adds-close, adds-part, adds-mark, reread, names-more, names-close, names-for, tuple-for, alone-name, defines-is, passes-is, given-is, replaceable-is, places-more}
+use Rattle.expr_grammar.proofs.Starting.{segment-leaf, symbol-leaf}
 
 -- what a move of a frame makes
 abbrev pub MarkOk : Wait → ℕ → Wait → List Tree → List Lexeme → Lexeme → MarkMove → Type 0
@@ -38,10 +39,6 @@ MarkOk w i v ps a t (MarkMove.Push u) = HasRead v (inside v i) u [] (t ∷ []) �
 MarkOk w i v ps a t (MarkMove.Hand h) = HasRead w i (Wait.Handing h t) ps a
 MarkOk w i v ps a t (MarkMove.Close form) = Shut w (built form (trees ps) (a ++ t ∷ [])) (a ++ t ∷ []) i
 MarkOk w i v ps a t MarkMove.Refused = Unit {0}
-
-by-test : (P : MarkMove → Type 0) (b : Bool) (m n : MarkMove) → (b ≡ true → P m) → (b ≡ false → P n) → P (cond b m n)
-by-test P true m n f g = f refl
-by-test P false m n f g = g refl
 
 only : (P : MarkMove → Type 0) (b : Bool) (m : MarkMove) → P MarkMove.Refused → (b ≡ true → P m) → P (if_move b m)
 only P true m r f = f refl

@@ -9,7 +9,7 @@ use Rattle.tla_symbols.specs.declared.lexeme.Mark.{Mark}
 use Rattle.tla_symbols.specs.declared.lexeme.Lexeme.{Lexeme}
 use Rattle.tla_symbols.specs.Symbols.{range_of}
 use Rattle.tla_tree.specs.declared.form.Form.{Form}
-use Rattle.tla_tree.specs.Syntax.{Tree, Trees, Nil, trees}
+use Rattle.tla_tree.specs.Syntax.{Tree, Trees, trees}
 use Rattle.tla_tree.specs.Edges.{Edge, Open, AllJoin}
 use Rattle.tla_tree.specs.Alignment.{IsBullet, GoesOn, takes_left, MayFollow, MayFollowArms}
 use Rattle.tla_tree.specs.Shapes.{HasNoPart, AreBareSegments}
@@ -27,7 +27,7 @@ use Rattle.expr_grammar.specs.Tables.{mode, handed, list_of, is_junction, is_bul
 use Rattle.expr_grammar.specs.Machine.{inside, is_operator}
 use Rattle.expr_grammar.proofs.Tabled.{IsNoBullet, Ends, at_end, by_column, by_mark, by_operator, EndsHead, head_at_end, head_by_column, head_by_mark, Part, headed, finished, Begun, pushed_hand, fresh_child, shifted, leafed}
 use Rattle.expr_grammar.proofs.Asking.{continues, Follows, not-open}
-use Rattle.expr_grammar.proofs.Starting.{start-at, trees-snoc, joined-snoc, renamed}
+use Rattle.expr_grammar.proofs.Starting.{start-at, trees-snoc, joined-snoc, renamed, segment-leaf}
 
 -- a name does not go on before this lexeme
 abbrev pub NoParen : Option Lexeme → Type 0
@@ -91,9 +91,6 @@ path-ends n x i (Some t) e f = by-column (nat_lt t.col i) (is_operator (role t.k
     by-column true c k l = by_column (rw e) (grind (arith, nat_tests)) tt
     by-column false true k l = by_operator (grind (arith, nat_tests)) l refl refl (rw e)
     by-column false false k l = let z : is_bang t.kind ≡ false = no-bang t.kind f in by_mark (grind (arith, nat_tests)) l (rw (e, z))
-
-abbrev pub segment-leaf : Lexeme → Tree
-segment-leaf n = built (Form.Segment n) Nil (n ∷ [])
 
 abbrev pub name-identifier : Lexeme → Tree
 name-identifier n = built Form.Identifier (one (segment-leaf n)) (n ∷ [])

@@ -1,6 +1,6 @@
 -- A lexeme after a finished part keeps to the grammar.
 use Rattle.std.proofs.Common.{◌≡◌, ℕ, ◌≤◌, inl, inr, Bool, true, false, List, [], ◌∷◌, ◌++◌, Option, Some, refl, ap, sym, subst, ◌∙◌, append_assoc}
-use Rattle.std.specs.Prelude.{cond, IsTrue}
+use Rattle.std.specs.Prelude.{IsTrue}
 use Rattle.tla_symbols.specs.declared.op.Op.{Op}
 use Rattle.tla_symbols.specs.declared.lexeme.Mark.{Mark}
 use Rattle.tla_symbols.specs.declared.lexeme.Lexeme.{Lexeme}
@@ -19,11 +19,11 @@ use Rattle.expr_grammar.specs.declared.wait.Shape.{Shape}
 use Rattle.expr_grammar.specs.Kinds.{is_name, is_arrow, is_maps_to, is_comma, is_colon, is_bang, is_left_paren, is_right_paren, is_right_bracket, is_right_bracket_subscript, is_right_brace, is_right_angle, is_right_angle_subscript, is_except, is_in_word, is_then, is_else, is_always, is_negative}
 use Rattle.expr_grammar.specs.Tables.{mode, shape, is_expression, name_leaf, name_of, as_bound, converted, if_goes, after_brace, after_square, in_square, after_expression, after_part}
 use Rattle.expr_grammar.specs.Machine.{inside}
-use Rattle.expr_grammar.proofs.KindTests.{name-is, arrow-is, maps_to-is, comma-is, colon-is, bang-is, left_paren-is, right_paren-is, right_bracket-is, right_bracket_subscript-is, right_brace-is, right_angle-is, right_angle_subscript-is, except-is, in_word-is, then-is, else-is, always-is, negative-is}
+use Rattle.expr_grammar.proofs.KindTests.{name-is, arrow-is, maps_to-is, comma-is, colon-is, bang-is, left_paren-is, right_paren-is, right_bracket-is, right_bracket_subscript-is, right_brace-is, right_angle-is, right_angle_subscript-is, except-is, in_word-is, then-is, else-is, always-is, negative-is, by-test}
 use Rattle.expr_grammar.proofs.Tabled.{promised}
 use Rattle.expr_grammar.proofs.Naming.{name-identifier}
-use Rattle.expr_grammar.proofs.Starting.{derives-shape, trees-snoc, joined-snoc}
-use Rattle.expr_grammar.proofs.Views.{IsDue, Sort, sort, binding, Bounds, symbol-leaf, Stands, expression, symbol, instance, names, bound, arm, other_arm, segment, definition, parameter, replacement, update, step, Shut, HasRead, binding_comma, parentheses_body, handing_segment, identifier_bang, argument, quantifier_first, quantifier_next, quantifier_body, bounded_body, temporal_first, temporal_body, choose_first, choose_body, bounded_choose_body, brace_first, brace_next, filter_body, image_bounds, application_argument, square_first, function_to, function_names, function_bounds, function_body, record_value, record_next, record_set_value, record_set_next, except_updates, index_part, angle_first, angle_next, square_subscript, angle_subscript, fair_subscript, fair_action, if_test, if_then, if_else, case_arms, arm_guard, arm_body, handing_definition, let_body, definition_parameters, definition_define, function_head_bounds, function_head_define, replacements, NamesFor, BoundFor}
+use Rattle.expr_grammar.proofs.Starting.{derives-shape, trees-snoc, joined-snoc, symbol-leaf}
+use Rattle.expr_grammar.proofs.Views.{IsDue, Sort, sort, binding, Bounds, Stands, expression, symbol, instance, names, bound, arm, other_arm, segment, definition, parameter, replacement, update, step, Shut, HasRead, binding_comma, parentheses_body, handing_segment, identifier_bang, argument, quantifier_first, quantifier_next, quantifier_body, bounded_body, temporal_first, temporal_body, choose_first, choose_body, bounded_choose_body, brace_first, brace_next, filter_body, image_bounds, application_argument, square_first, function_to, function_names, function_bounds, function_body, record_value, record_next, record_set_value, record_set_next, except_updates, index_part, angle_first, angle_next, square_subscript, angle_subscript, fair_subscript, fair_action, if_test, if_then, if_else, case_arms, arm_guard, arm_body, handing_definition, let_body, definition_parameters, definition_define, function_head_bounds, function_head_define, replacements, NamesFor, BoundFor}
 use Rattle.expr_grammar.proofs.Viewing.{trees-then, adds-close, adds-mark, reread, names-more}
 use Rattle.expr_grammar.proofs.Converting.{member-bound, name-derives, bare-shape}
 use Rattle.expr_grammar.proofs.Marking.{operand-due, not-subscript}
@@ -36,10 +36,6 @@ PartOk w i ps a x b t (PartMove.Goes u c) = HasRead w i u (ps ++ converted c x b
 PartOk w i ps a x b t (PartMove.Hand h) = HasRead w i (Wait.Handing h t) (ps ++ x ∷ []) (a ++ b)
 PartOk w i ps a x b t (PartMove.Convert flag) = HasRead (Wait.FunctionNames flag) i (Wait.BindingComma Binding.Bound) (name_of x ∷ []) (b ++ t ∷ []) × HasRead w i (Wait.FunctionNames flag) ps a
 PartOk w i ps a x b t PartMove.Refused = Unit {0}
-
-pub by-test : (P : PartMove → Type 0) (b : Bool) (m n : PartMove) → (b ≡ true → P m) → (b ≡ false → P n) → P (cond b m n)
-by-test P true m n f g = f refl
-by-test P false m n f g = g refl
 
 pub only : (P : PartMove → Type 0) (b : Bool) (m : PartMove) → P PartMove.Refused → (b ≡ true → P m) → P (if_goes b m)
 only P true m r f = f refl

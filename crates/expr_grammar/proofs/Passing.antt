@@ -9,7 +9,7 @@ use Rattle.tla_symbols.specs.declared.lexeme.Mark.{Mark}
 use Rattle.tla_symbols.specs.declared.lexeme.Lexeme.{Lexeme}
 use Rattle.tla_symbols.specs.Symbols.{range_of}
 use Rattle.tla_tree.specs.declared.form.Form.{Form}
-use Rattle.tla_tree.specs.Syntax.{Tree, Trees, Node, Nil, Cons, trees}
+use Rattle.tla_tree.specs.Syntax.{Tree, Trees, Node, Cons, trees}
 use Rattle.tla_tree.specs.Edges.{Edge, AllJoin, right_edge, right_edge_of_last, left_edge}
 use Rattle.tla_tree.specs.Alignment.{IsBullet, GoesOn, From, MayFollow}
 use Rattle.tla_tree.specs.Shapes.{IsSubscript}
@@ -28,7 +28,7 @@ use Rattle.expr_grammar.specs.Tables.{mode, list_of, is_bullet, begins, at_mark,
 use Rattle.expr_grammar.specs.Machine.{inside, is_operator}
 use Rattle.expr_grammar.proofs.Tabled.{InItem, EndsHead, head_by_column, head_by_mark, Part, headed, Closed, close, done, Begun, pushed, shifted, leafed, went}
 use Rattle.expr_grammar.proofs.Asking.{continues, Follows, AllFit, absurd-bool}
-use Rattle.expr_grammar.proofs.Starting.{start-at, mark-role, trees-snoc, renamed-closed}
+use Rattle.expr_grammar.proofs.Starting.{start-at, mark-role, trees-snoc, renamed-closed, symbol-leaf}
 use Rattle.expr_grammar.proofs.Bounding.{in-square, square-move}
 use Rattle.expr_grammar.proofs.Naming.{NoMore, operator-takes, items-deep}
 
@@ -69,9 +69,6 @@ pub last-arms : {xs : Trees} {a : List Lexeme} {i : ℕ} {o : Option Lexeme} →
 last-arms (last_arm d m) x = refl
 last-arms (other_arm k l d) x = refl
 last-arms (more_arms t k d rest) x = refl
-
-abbrev pub symbol-leaf : Lexeme → Tree
-symbol-leaf s = built (Form.Symbol s) Nil (s ∷ [])
 
 pub symbol-ends : (v : Wait) (s u : Lexeme) (i : ℕ) → mode v ≡ Mode.Operand → at_mark v u ≡ MarkMove.Refused → endable v (Some u.kind) ≡ Some (Form.Symbol s) → begins Mode.Operand u ≡ Start.NoStart → EndsHead v i (Form.Symbol s) (Some u)
 symbol-ends v s u i m r e n = by-column (nat_lt u.col (inside v i)) refl

@@ -27,6 +27,13 @@ use Rattle.expr_grammar.specs.Machine.{is_operator}
 use Rattle.expr_grammar.proofs.Tabled.{promised, IsPlain, Part, Closed}
 use Rattle.expr_grammar.proofs.Asking.{continues, Follows, Place, operand, subscript, AllFit}
 
+-- a lexeme as a part
+abbrev pub segment-leaf : Lexeme → Tree
+segment-leaf n = built (Form.Segment n) Nil (n ∷ [])
+
+abbrev pub symbol-leaf : Lexeme → Tree
+symbol-leaf t = built (Form.Symbol t) Nil (t ∷ [])
+
 pub plain-expression : (xs : Trees) → is_expression (plain_shape xs) ≡ true
 plain-expression (Cons (Node (Form.Segment n) s Nil) Nil) = refl
 plain-expression _ = refl

@@ -6,7 +6,7 @@ use Rattle.tla_symbols.specs.declared.lexeme.Word.{Word}
 use Rattle.tla_symbols.specs.declared.lexeme.Mark.{Mark}
 use Rattle.tla_symbols.specs.declared.lexeme.Lexeme.{Lexeme}
 use Rattle.tla_tree.specs.declared.form.Form.{Form}
-use Rattle.tla_tree.specs.Syntax.{Tree, Trees, Nil, trees}
+use Rattle.tla_tree.specs.Syntax.{Tree, Trees, trees}
 use Rattle.tla_tree.specs.Edges.{Operator, product, AllJoin, left_edge, right_edge}
 use Rattle.tla_tree.specs.Alignment.{IsBullet, GoesOn}
 use Rattle.tla_tree.specs.Shapes.{IsBareMember, BindsOne, AreBareSegments, IsSubscript}
@@ -19,6 +19,7 @@ use Rattle.expr_grammar.specs.declared.wait.Wait.{Wait}
 use Rattle.expr_grammar.specs.declared.wait.Mode.{Mode}
 use Rattle.expr_grammar.specs.Tables.{mode, takes_more, takes_set, name_leaf}
 use Rattle.expr_grammar.proofs.Asking.{AllFit}
+use Rattle.expr_grammar.proofs.Starting.{symbol-leaf, segment-leaf}
 
 -- the helper forms, by the place that asks for them
 pub data Sort : Type 0 where
@@ -66,12 +67,6 @@ BoundFor Binding.One x b i o = DerivesBound x b i o × BindsOne x
 BoundFor Binding.Bound x b i o = DerivesBound x b i o
 BoundFor Binding.Names x b i o = ⊥
 BoundFor Binding.Either x b i o = DerivesBound x b i o
-
-abbrev pub symbol-leaf : Lexeme → Tree
-symbol-leaf t = built (Form.Symbol t) Nil (t ∷ [])
-
-abbrev pub segment-leaf : Lexeme → Tree
-segment-leaf n = built (Form.Segment n) Nil (n ∷ [])
 
 -- an expression or a subscript may stand under the wait
 abbrev pub IsDue : Wait → Type 0

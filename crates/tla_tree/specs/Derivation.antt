@@ -47,7 +47,7 @@ mutual
         → right_edge x ≡ []
         → Derives x a i (Some t)
         → Spells (Form.Postfix t) (one x) (a ++ t ∷ []) i o
-    -- `e \X e \X ..`: no range admits a bare `\X` as an operand
+    -- `e \X e \X ..`: none of its operands is a bare `\X`
     products : {x : Tree} {xs : Trees} {a b : List Lexeme} {i : ℕ} {o : Option Lexeme} (t : Lexeme)
         → IsSymbol t Op.Product
         → AllJoin product (right_edge x)

@@ -1,0 +1,37 @@
+//! Which name needs which, and an order in which each stands behind what it needs.
+//!
+//! Knows nothing of texts and trees: who puts a name says what it needs. No call goes deeper with the
+//! length of a chain of needs, and each takes time in proportion to the names and needs that were put.
+#![tactic(auto)]
+
+use tool_list::{Chars, Memory};
+
+mod components;
+mod graph;
+mod rows;
+mod search;
+
+pub use graph::Graph;
+
+/// Why there is no order.
+#[derive(Drop)]
+pub enum GraphError {
+    /// There was no room.
+    Memory,
+    /// Some name reaches itself. This is the first such in byte order.
+    Cyclic { name: Chars },
+}
+
+impl From<Memory> for GraphError {
+    ghost use Rattle.std.specs.Prelude.{◌≡◌};
+    ghost use Rattle.module_graph.specs.declared.GraphError.{GraphError};
+
+    ghost from_gives = { λ _ e. e ≡ GraphError.Memory };
+
+    fn from(_: Memory) -> Self {
+        GraphError::Memory
+    }
+}
+
+#[cfg(test)]
+mod tests;
