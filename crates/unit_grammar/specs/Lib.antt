@@ -1,0 +1,4 @@
+pub mod Units
+pub mod Derivation
+pub mod FirstBad
+pub mod Heights

@@ -1,0 +1,5 @@
+//! The grammar of modules and their units, and its laws.
+//!
+//! Answers which lists of lexemes are modules, and what their units are. Knows nothing of how a
+//! list is read in memory: units hold trees, and no numbers of nodes.
+#![tactic(auto)]
