@@ -1,5 +1,6 @@
 -- Sample modules with their derivations. Lines are parted by a bar.
 use Rattle.std.proofs.Common.{◌≡◌, ℕ, ◌+◌, inl, List, [], ◌∷◌, ◌++◌, Option, Some, None, refl}
+use Rattle.tla_symbols.specs.declared.op.Op.TheVariants as Op
 use Rattle.tla_symbols.specs.declared.lexeme.LexKind.{LexKind}
 use Rattle.tla_symbols.specs.declared.lexeme.Word.TheVariants as Word
 use Rattle.tla_symbols.specs.declared.lexeme.Mark.TheVariants as Mark
@@ -12,6 +13,9 @@ use Rattle.tla_tree.specs.Derivation.{Derives, node, identifier, last_segment, b
 use Rattle.unit_grammar.specs.Units.{UnitTree, Variables, Constants, OperatorDefinition, ModuleDefinition, Instance, Theorem, Line, ModuleBegin, ModuleEnd}
 use Rattle.unit_grammar.specs.Derivation.{BeginsModule, alone, last_name, more_names, exported, kept, variables, constants, definition, instance, theorem, line, nested, DerivesUnits, no_units, more_units, DerivesModule, outermost}
 use Rattle.unit_grammar.specs.Heights.{module_height}
+use Rattle.precedence.specs.Choices.{meets, joins, same_edge, same_op, op_number, fix_number, choose}
+use Rattle.unit_grammar.specs.Machine.{parse, RefusesAt}
+use Rattle.std.specs.Prelude.{true, is_some}
 
 abbrev at : LexKind → ℕ → Lexeme
 at kind from = record { kind = kind; span = record { start = from; end = from + 1 }; line = 0; col = from }
@@ -82,6 +86,39 @@ outer-units = more_units (nested (at LexKind.Equals 22) (header-begins 4) inner-
 
 outer-module : DerivesModule (record { name = name 2; extends = []; units = outer_units }) (header 0 ++ (outer_lexemes ++ at LexKind.Close 29 ∷ []))
 outer-module = outermost (at LexKind.Close 29) (header-begins 0) outer-units refl
+
+-- the machine finds them
+first-parsed : parse (header 0 ++ (first_lexemes ++ at LexKind.Close 12 ∷ [])) ≡ Some (record { name = name 2; extends = []; units = first_units })
+unfolding meets joins same_edge same_op op_number fix_number choose
+first-parsed = refl
+
+outer-parsed : parse (header 0 ++ (outer_lexemes ++ at LexKind.Close 29 ∷ [])) ≡ Some (record { name = name 2; extends = []; units = outer_units })
+unfolding meets joins same_edge same_op op_number fix_number choose
+outer-parsed = refl
+
+-- ---- MODULE A ---- | EXTENDS B, C | f[x \in S] == x | a + b == a | -. a == a | CONSTANT _ + _, -. _ | ASSUME f | ====
+forms-parsed : is_some (parse (header 0 ++ (at (LexKind.Word Word.Extends) 4 ∷ name 5 ∷ at (LexKind.Mark Mark.Comma) 6 ∷ name 7
+    ∷ name 8 ∷ at (LexKind.Mark Mark.LeftBracket) 9 ∷ name 10 ∷ at (LexKind.Sym Op.In) 11 ∷ name 12 ∷ at (LexKind.Mark Mark.RightBracket) 13 ∷ at (LexKind.Mark Mark.Define) 14 ∷ name 15
+    ∷ name 16 ∷ at (LexKind.Sym Op.Plus) 17 ∷ name 18 ∷ at (LexKind.Mark Mark.Define) 19 ∷ name 20
+    ∷ at (LexKind.Sym Op.Negative) 21 ∷ name 22 ∷ at (LexKind.Mark Mark.Define) 23 ∷ name 24
+    ∷ at (LexKind.Word Word.Constant) 25 ∷ at (LexKind.Mark Mark.Underscore) 26 ∷ at (LexKind.Sym Op.Plus) 27 ∷ at (LexKind.Mark Mark.Underscore) 28 ∷ at (LexKind.Mark Mark.Comma) 29 ∷ at (LexKind.Sym Op.Negative) 30 ∷ at (LexKind.Mark Mark.Underscore) 31
+    ∷ at (LexKind.Word Word.Assume) 32 ∷ name 33 ∷ at LexKind.Close 34 ∷ []))) ≡ true
+unfolding meets joins same_edge same_op op_number fix_number choose
+forms-parsed = refl
+
+-- the bound's set ends before `=>`, and nothing but `]` or a comma may follow it: f[x \in S => T]
+arrow-refused : RefusesAt (header 0 ++ (name 4 ∷ at (LexKind.Mark Mark.LeftBracket) 5 ∷ name 6 ∷ at (LexKind.Sym Op.In) 7 ∷ name 8 ∷ at (LexKind.Sym Op.Implies) 9 ∷ [])) 9
+unfolding meets joins same_edge same_op op_number fix_number choose
+arrow-refused = record { reached = _; reads = refl; refuses = refl }
+
+-- LOCAL stands before no declaration
+local-refused : RefusesAt (header 0 ++ (at (LexKind.Word Word.Local) 4 ∷ at (LexKind.Word Word.Variable) 5 ∷ [])) 5
+local-refused = record { reached = _; reads = refl; refuses = refl }
+
+-- a LET has no body: B == LET C == 2 | ====
+let-refused : RefusesAt (header 0 ++ (name 4 ∷ at (LexKind.Mark Mark.Define) 5 ∷ at (LexKind.Word Word.Let) 6 ∷ name 7 ∷ at (LexKind.Mark Mark.Define) 8 ∷ at LexKind.Number 9 ∷ at LexKind.Close 10 ∷ [])) 10
+unfolding meets joins same_edge same_op op_number fix_number choose
+let-refused = record { reached = _; reads = refl; refuses = refl }
 
 -- a nested module adds 1, also one without units
 outer-height : module_height (record { name = name 2; extends = []; units = outer_units }) ≡ 2
