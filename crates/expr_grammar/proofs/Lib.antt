@@ -8,7 +8,7 @@ mod Bounding
 mod Naming
 mod Passing
 mod Membering
-mod Defining
+pub mod Defining
 mod Generating
 pub mod Complete
 pub mod Following

@@ -1,2 +1,6 @@
 mod Samples
 mod Stopping
+mod Flat
+mod Moving
+mod ReadingParts
+mod ReadingUnits
