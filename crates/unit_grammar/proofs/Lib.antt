@@ -4,3 +4,6 @@ mod Flat
 mod Moving
 mod ReadingParts
 mod ReadingUnits
+mod Views
+mod SoundingParts
+mod Sounding

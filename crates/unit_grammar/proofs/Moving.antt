@@ -44,7 +44,7 @@ taken (g ∷ gs) begun x b d us t = part_step gs begun (taking g x b) d us t
 abbrev pub took : Around → Tree → List Lexeme → Lexeme → Option State
 took k x b t = taken k.frames k.begun x b k.depth k.units t
 
-by-move : (fs : List Frame) (begun : Begun) (f : Frame) (d : ℕ) (us : List UnitTree) (t : Lexeme) (m : Move) → move f.wait t ≡ m → part_step fs begun f d us t ≡ moved m begun f fs d us t (λ form. taken fs begun (node form f) f.read d us t)
+pub by-move : (fs : List Frame) (begun : Begun) (f : Frame) (d : ℕ) (us : List UnitTree) (t : Lexeme) (m : Move) → move f.wait t ≡ m → part_step fs begun f d us t ≡ moved m begun f fs d us t (λ form. taken fs begun (node form f) f.read d us t)
 by-move [] begun f d us t m e = ap (λ z. moved z begun f [] d us t (λ form. finished begun (node form f) d us t)) e
 by-move (g ∷ gs) begun f d us t m e = ap (λ z. moved z begun f (g ∷ gs) d us t (λ form. part_step gs begun (taking g (node form f) f.read) d us t)) e
 
@@ -95,7 +95,7 @@ pub goes-on : (st : Expressions.State) (s : Lexeme) (a : List Lexeme) (o : Optio
 goes-on st s a None e x h = let q : finish (Expressions.run (Some st) (s ∷ a)) ≡ None = ap (λ z. finish (Expressions.run z a)) e ∙ ap finish (run-none a) in cc
 goes-on st s a (Some next) e x h = (next, e)
 
-run-snoc : (b : List Lexeme) (s : Lexeme) (o : Option Expressions.State) (st next : Expressions.State) → Expressions.run o b ≡ Some st → Expressions.step st s ≡ Some next → Expressions.run o (b ++ s ∷ []) ≡ Some next
+pub run-snoc : (b : List Lexeme) (s : Lexeme) (o : Option Expressions.State) (st next : Expressions.State) → Expressions.run o b ≡ Some st → Expressions.step st s ≡ Some next → Expressions.run o (b ++ s ∷ []) ≡ Some next
 run-snoc [] s None st next e h = cc
 run-snoc [] s (Some su) st next e h = let q : su ≡ st = cc in subst (λ z. Expressions.step z s ≡ Some next) (sym q) h
 run-snoc (t ∷ b) s None st next e h = cc

@@ -16,7 +16,7 @@ use Rattle.tla_tree.specs.Derivation.{DerivesBound, bound, tuple_bound, DerivesB
 use Rattle.expr_grammar.specs.Kinds.{is_comma, is_left_paren, is_with, is_define, is_left_bracket, is_right_bracket, is_instance}
 use Rattle.expr_grammar.specs.Tables.{start_kind, defines, is_given_kind, is_replaceable}
 use Rattle.expr_grammar.specs.Machine.{start_bounds, parse_bounds}
-use Rattle.expr_grammar.specs.Following.{stops}
+use Rattle.expr_grammar.specs.Following.{IsQuietNext, stops}
 use Rattle.expr_grammar.proofs.KindTests.{instance-is}
 use Rattle.expr_grammar.proofs.Following.{before-quiet}
 use Rattle.expr_grammar.proofs.Heading.{derives-bounds}
@@ -233,14 +233,14 @@ postfix-head v s op g i =
     let z : defines Fix.Postfix s.kind ≡ true = ap (defines Fix.Postfix) g ∙ i in
     rw (a, b, c, y, z)
 
--- bounds stay bounds without the bracket behind them
-bound-quiet : {x : Tree} {a : List Lexeme} {o : Option Lexeme} → DerivesBound x a 0 o → DerivesBound x a 0 None
-bound-quiet (bound m e l d b) = bound m e l d (before-quiet b None tt)
-bound-quiet (tuple_bound m e l d b) = tuple_bound m e l d (before-quiet b None tt)
+-- bounds stay bounds before what asks nothing of them
+bound-quiet : {x : Tree} {a : List Lexeme} {o : Option Lexeme} → DerivesBound x a 0 o → (p : Option Lexeme) → IsQuietNext p → DerivesBound x a 0 p
+bound-quiet (bound m e l d b) p q = bound m e l d (before-quiet b p q)
+bound-quiet (tuple_bound m e l d b) p q = tuple_bound m e l d (before-quiet b p q)
 
-bounds-quiet : {xs : Trees} {a : List Lexeme} {o : Option Lexeme} → DerivesBounds xs a 0 o → DerivesBounds xs a 0 None
-bounds-quiet (last_bound d) = last_bound (bound-quiet d)
-bounds-quiet (more_bounds t e d ds) = more_bounds t e d (bounds-quiet ds)
+pub bounds-quiet : {xs : Trees} {a : List Lexeme} {o : Option Lexeme} → DerivesBounds xs a 0 o → (p : Option Lexeme) → IsQuietNext p → DerivesBounds xs a 0 p
+bounds-quiet (last_bound d) p q = last_bound (bound-quiet d p q)
+bounds-quiet (more_bounds t e d ds) p q = more_bounds t e d (bounds-quiet ds p q)
 
 starts-name : (n : Lexeme) → IsName n → unit_start n.kind n ≡ UnitStart.Definition (Wait.DefinitionName n)
 starts-name n e = ap (λ z. unit_start z n) e
@@ -252,7 +252,7 @@ starts-prefix n e = ap (λ z. unit_start z n) e
 read-bounds : (k : Around) (n u t : Lexeme) (bounds : Trees) (a ts : List Lexeme) → k.frames ≡ [] → IsMark u Mark.RightBracket → DerivesBounds bounds a 0 (Some u) → run (Some (state k.depth k.units (Bounds k.begun (frame (Wait.Bounds n) Nil (n ∷ t ∷ [])) start_bounds []))) (a ++ u ∷ ts) ≡ run (at k (Wait.BoundsDefine n) bounds (n ∷ t ∷ (a ++ u ∷ []))) ts
 read-bounds k n u t bounds a ts q e d =
     let z : is_right_bracket u.kind ≡ true = ap is_right_bracket e in
-    let r : parse_bounds a ≡ Some bounds = derives-bounds bounds a (bounds-quiet d) in
+    let r : parse_bounds a ≡ Some bounds = derives-bounds bounds a (bounds-quiet d None tt) in
     let m : move (Wait.BoundsRead n) u ≡ Move.Shift (Wait.BoundsDefine n) = rw z in
     let i : run (Some (state k.depth k.units (Bounds k.begun (frame (Wait.Bounds n) Nil (n ∷ t ∷ [])) start_bounds []))) (a ++ u ∷ ts) ≡ run (part_step [] k.begun (frame (Wait.BoundsRead n) bounds (n ∷ t ∷ a)) k.depth k.units u) ts =
     reads-bounds a k.begun (frame (Wait.Bounds n) Nil (n ∷ t ∷ [])) start_bounds [] k.depth k.units u ts bounds refl z r

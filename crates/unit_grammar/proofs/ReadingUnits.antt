@@ -25,7 +25,7 @@ use Rattle.unit_grammar.proofs.Moving.{around, at, reads-on}
 use Rattle.unit_grammar.proofs.ReadingParts.{read-constants, Follows, InstanceRead, read-instance, DefinitionRead, read-definition}
 
 -- what begins a unit, or ends a module
-abbrev begins_unit : LexKind → Bool
+abbrev pub begins_unit : LexKind → Bool
 begins_unit LexKind.Name = true
 begins_unit (LexKind.Sym Op.Negative) = true
 begins_unit LexKind.Dashes = true
@@ -43,7 +43,7 @@ begins_unit (LexKind.Word Word.Axiom) = true
 begins_unit (LexKind.Word Word.Theorem) = true
 begins_unit _ = false
 
-record Facts (k : LexKind) : Type 0 where
+pub record Facts (k : LexKind) : Type 0 where
   pub stops : stops k ≡ true
   pub comma : is_comma k ≡ false
   pub paren : is_left_paren k ≡ false
@@ -51,7 +51,7 @@ record Facts (k : LexKind) : Type 0 where
   pub extends : is_extends k ≡ false
   pub module_word : is_module k ≡ false
 
-facts : (k : LexKind) → begins_unit k ≡ true → Facts k
+pub facts : (k : LexKind) → begins_unit k ≡ true → Facts k
 facts LexKind.Name h = record { stops = refl; comma = refl; paren = refl; with = refl; extends = refl; module_word = refl }
 facts (LexKind.Sym Op.Negative) h = record { stops = refl; comma = refl; paren = refl; with = refl; extends = refl; module_word = refl }
 facts (LexKind.Sym op) h = cc
@@ -78,7 +78,7 @@ pub follows-of : (t : Lexeme) → begins_unit t.kind ≡ true → Follows t
 follows-of t h = let f : Facts t.kind = facts t.kind h in record { stops = f.stops; comma = f.comma; paren = f.paren; with = f.with }
 
 -- the first lexeme of what remains
-abbrev FirstBegins : List Lexeme → Type 0
+abbrev pub FirstBegins : List Lexeme → Type 0
 FirstBegins [] = ⊥
 FirstBegins (t ∷ b) = begins_unit t.kind ≡ true
 
@@ -123,7 +123,7 @@ module-first (extending {d = d} {w = w} {n = n} {e = e} {x = x} {a = a} h i j k 
 front-begins : {a : List Lexeme} (c : List Lexeme) → FirstOf a → FirstBegins (a ++ c)
 front-begins c f = subst (λ z. FirstBegins (z ++ c)) (sym f.is) f.begins
 
-rest-begins : {depth : ℕ} {units : List UnitTree} {l : List Lexeme} → Rest depth units l → FirstBegins l
+pub rest-begins : {depth : ℕ} {units : List UnitTree} {l : List Lexeme} → Rest depth units l → FirstBegins l
 rest-begins (closes e) = ap begins_unit e
 rest-begins (ends e r) = ap begins_unit e
 rest-begins (goes {b = b} t p r) = front-begins (t ∷ b) (plain-first p)

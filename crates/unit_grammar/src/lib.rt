@@ -20,6 +20,11 @@ pub fn accepts_derivable()
     ensures { (found : ModuleUnits) → (lexemes : List Lexeme) → DerivesModule found lexemes → parse lexemes ≡ Some found }
 {}
 
+/// What the machine accepts is derivable, by the module that it answers.
+pub fn accepted_derives()
+    ensures { (found : ModuleUnits) → (lexemes : List Lexeme) → parse lexemes ≡ Some found → DerivesModule found lexemes }
+{}
+
 /// No two modules derive one list.
 pub fn one_module()
     ensures { (found other : ModuleUnits) → (lexemes : List Lexeme) → DerivesModule found lexemes → DerivesModule other lexemes → found ≡ other }
