@@ -7,3 +7,5 @@ mod ReadingUnits
 mod Views
 mod SoundingParts
 mod Sounding
+mod Completing
+mod FirstBad

@@ -42,12 +42,12 @@ GoingOk ts (Some s) = PlaceOk s.depth s.units s.place ts
 pub renamed : (o : Option State) (ts us : List Lexeme) → ts ≡ us → GoingOk ts o → GoingOk us o
 renamed o ts us e g = subst (λ z. GoingOk z o) e g
 
-wholes-as : (us vs : List UnitTree) (ts ss : List Lexeme) → us ≡ vs → ts ≡ ss → Wholes us ts → Wholes vs ss
+pub wholes-as : (us vs : List UnitTree) (ts ss : List Lexeme) → us ≡ vs → ts ≡ ss → Wholes us ts → Wholes vs ss
 wholes-as us vs ts ss e h w = subst (λ z. Wholes vs z) h (subst (λ z. Wholes z ts) e w)
 
 -- ---- what may stand behind a unit
 
-quiet-of : (t : Lexeme) → begins_unit t.kind ≡ true → IsQuiet t
+pub quiet-of : (t : Lexeme) → begins_unit t.kind ≡ true → IsQuiet t
 quiet-of t h = record { apart = by t.kind h; no_arm = λ e. (let q : begins_unit t.kind ≡ false = ap begins_unit e in cc) }
   where
     by : (k : LexKind) → begins_unit k ≡ true → takes_left k ≡ false
@@ -56,7 +56,7 @@ quiet-of t h = record { apart = by t.kind h; no_arm = λ e. (let q : begins_unit
     by (LexKind.Mark mark) h = cc
     by _ h = refl
 
-replacement-quiet : {x : Tree} {a : List Lexeme} {t : Lexeme} → DerivesReplacement x a 0 (Some t) → (u : Lexeme) → IsQuiet u → DerivesReplacement x a 0 (Some u)
+pub replacement-quiet : {x : Tree} {a : List Lexeme} {t : Lexeme} → DerivesReplacement x a 0 (Some t) → (u : Lexeme) → IsQuiet u → DerivesReplacement x a 0 (Some u)
 replacement-quiet (replaced h k d) u q = replaced h k (before-quiet d (Some u) q)
 replacement-quiet (replaced_by_symbol h k e g) u q = replaced_by_symbol h k e g
 
@@ -76,8 +76,14 @@ definition-quiet (postfix_operator k l h m e) u q = postfix_operator k l h m (be
 definition-quiet (function_of v d k l m n b e) u q = function_of v d k l m n b (before-quiet e (Some u) q)
 definition-quiet (module_of d h m i) u q = module_of d h m (instance-quiet i u q)
 
+pub made-quiet : (s : Sort) (x : Tree) (b : List Lexeme) (t : Lexeme) → Made s x b t → (u : Lexeme) → IsQuiet u → Made s x b u
+made-quiet Sort.Declaration x b t m u q = m
+made-quiet Sort.Definition x b t m u q = definition-quiet m u q
+made-quiet Sort.Instance x b t m u q = instance-quiet m u q
+made-quiet Sort.Replacement x b t m u q = replacement-quiet m u q
+
 -- a unit is read, with which the modules go on
-plain-goes : {unit : UnitTree} {a : List Lexeme} {depth : ℕ} {us : List UnitTree} {q : List Lexeme} → ((t : Lexeme) → begins_unit t.kind ≡ true → Plain unit a t) → Goes (suc depth) us q → Goes (suc depth) (us ++ unit ∷ []) (q ++ a)
+pub plain-goes : {unit : UnitTree} {a : List Lexeme} {depth : ℕ} {us : List UnitTree} {q : List Lexeme} → ((t : Lexeme) → begins_unit t.kind ≡ true → Plain unit a t) → Goes (suc depth) us q → Goes (suc depth) (us ++ unit ∷ []) (q ++ a)
 plain-goes {unit = unit} {a = a} {depth = depth} {us = us} {q = q} p g = record { on = λ vs b r. by vs b r (rest-begins r) }
   where
     by : (vs : List UnitTree) (b : List Lexeme) → Rest (suc depth) vs b → FirstBegins b → Wholes ((us ++ unit ∷ []) ++ vs) ((q ++ a) ++ b)
@@ -130,7 +136,7 @@ local-sound {depth = depth} {us = us} {q = q} w g l t h = renamed (unit_due (Som
 -- ---- a whole part of a unit
 
 -- what the unit takes last, before a lexeme
-data Finishes (begun : Begun) (x : Tree) (b : List Lexeme) (t : Lexeme) : Type 0 where
+pub data Finishes (begun : Begun) (x : Tree) (b : List Lexeme) (t : Lexeme) : Type 0 where
   by_part : {s : Sort} → wants begun ≡ Some s → Made s x b t → Finishes begun x b t
   by_claim : wants begun ≡ None → Derives x b 0 (Some t) → Finishes begun x b t
 
@@ -146,35 +152,45 @@ declared-sound {depth = depth} {us = us} {q = q} w xs x d b g k h m t = by (is_c
         (at_part q (w ∷ ((d ++ b) ++ t ∷ [])) [] g (opened_constants k (parameters-more xs x d b t h m (comma-is t.kind e))) (base refl) (λ u. declaration))
     by false e = due-sound (plain-goes {unit = Constants (then xs x)} {a = w ∷ (d ++ b)} (λ u f. plain_constants k (parameters-close xs x d b h m)) g) t
 
+made-parameter : (s : Sort) (x : Tree) (b : List Lexeme) (t : Lexeme) → Some s ≡ Some Sort.Declaration → Made s x b t → DerivesParameter x b
+made-parameter Sort.Declaration x b t r m = m
+made-parameter _ x b t r m = cc
+
+made-definition : (s : Sort) (x : Tree) (b : List Lexeme) (t : Lexeme) → Some s ≡ Some Sort.Definition → Made s x b t → DerivesDefinition x b 0 (Some t)
+made-definition Sort.Definition x b t r m = m
+made-definition _ x b t r m = cc
+
+made-instance : (s : Sort) (x : Tree) (b : List Lexeme) (t : Lexeme) → Some s ≡ Some Sort.Instance → Made s x b t → DerivesInstance x b 0 (Some t)
+made-instance Sort.Instance x b t r m = m
+made-instance _ x b t r m = cc
+
+-- the unit is whole, and the modules go on after it
+pub finish-goes : {depth : ℕ} {us : List UnitTree} {q l : List Lexeme} (begun : Begun) (x : Tree) (b : List Lexeme) (t : Lexeme) → Opened begun l → Finishes begun x b t → Goes (suc depth) us q → Goes (suc depth) (us ++ unit_of begun x ∷ []) (q ++ (l ++ b))
+finish-goes begun x b t (opened_constants {w = w} {xs = xs} {d = d} k h) (by_part {s = s} e m) g =
+    plain-goes {unit = Constants (then xs x)} {a = w ∷ (d ++ b)} (λ u f. plain_constants k (parameters-close xs x d b h (made-parameter s x b t (sym e) m))) g
+finish-goes begun x b t (opened_definition {l = l} k) (by_part {s = s} e m) g =
+    plain-goes {unit = unit_of begun x} {a = l ++ b} (λ u f. plain_definition k (definition-quiet (made-definition s x b t (sym e) m) u (quiet-of u f))) g
+finish-goes begun x b t (opened_instance {l = l} k) (by_part {s = s} e m) g =
+    plain-goes {unit = unit_of begun x} {a = l ++ b} (λ u f. plain_instance k (instance-quiet (made-instance s x b t (sym e) m) u (quiet-of u f))) g
+finish-goes begun x b t (opened_assumption {w = w} k) (by_claim e m) g = plain-goes {unit = unit_of begun x} {a = w ∷ b} (λ u f. plain_assumption k (before-quiet m (Some u) (quiet-of u f))) g
+finish-goes begun x b t (opened_theorem {w = w} k) (by_claim e m) g = plain-goes {unit = unit_of begun x} {a = w ∷ b} (λ u f. plain_theorem k (before-quiet m (Some u) (quiet-of u f))) g
+finish-goes begun x b t (opened_assumption k) (by_part e m) g = cc
+finish-goes begun x b t (opened_theorem k) (by_part e m) g = cc
+finish-goes begun x b t (opened_constants k h) (by_claim e m) g = cc
+finish-goes begun x b t (opened_definition k) (by_claim e m) g = cc
+finish-goes begun x b t (opened_instance k) (by_claim e m) g = cc
+
 finished-sound : {depth : ℕ} {us : List UnitTree} {q l : List Lexeme} (begun : Begun) (x : Tree) (b : List Lexeme) (t : Lexeme) → Goes (suc depth) us q → Opened begun l → Finishes begun x b t → GoingOk ((q ++ (l ++ b)) ++ t ∷ []) (finished begun x (suc depth) us t)
-finished-sound begun x b t g (opened_constants {w = w} {xs = xs} {d = d} k h) (by_part {s = s} e m) = declared-sound w xs x d b g k h (made s (cc) m) t
-  where
-    made : (s : Sort) → s ≡ Sort.Declaration → Made s x b t → DerivesParameter x b
-    made Sort.Declaration r m = m
-    made _ r m = cc
+finished-sound begun x b t g (opened_constants {w = w} {xs = xs} {d = d} k h) (by_part {s = s} e m) = declared-sound w xs x d b g k h (made-parameter s x b t (sym e) m) t
 finished-sound begun x b t g (opened_constants k h) (by_claim e m) = cc
-finished-sound begun x b t g (opened_definition {before = before} {l = l} k) (by_part {s = s} e m) =
-    due-sound (plain-goes {unit = unit_of begun x} {a = l ++ b} (λ u f. plain_definition k (definition-quiet (made s (cc) m) u (quiet-of u f))) g) t
-  where
-    made : (s : Sort) → s ≡ Sort.Definition → Made s x b t → DerivesDefinition x b 0 (Some t)
-    made Sort.Definition r m = m
-    made _ r m = cc
-finished-sound begun x b t g (opened_definition k) (by_claim e m) = cc
-finished-sound begun x b t g (opened_instance {before = before} {l = l} k) (by_part {s = s} e m) =
-    due-sound (plain-goes {unit = unit_of begun x} {a = l ++ b} (λ u f. plain_instance k (instance-quiet (made s (cc) m) u (quiet-of u f))) g) t
-  where
-    made : (s : Sort) → s ≡ Sort.Instance → Made s x b t → DerivesInstance x b 0 (Some t)
-    made Sort.Instance r m = m
-    made _ r m = cc
-finished-sound begun x b t g (opened_instance k) (by_claim e m) = cc
-finished-sound begun x b t g (opened_assumption {w = w} k) (by_part e m) = cc
-finished-sound begun x b t g (opened_assumption {w = w} k) (by_claim e m) = due-sound (plain-goes {unit = unit_of begun x} {a = w ∷ b} (λ u f. plain_assumption k (before-quiet m (Some u) (quiet-of u f))) g) t
-finished-sound begun x b t g (opened_theorem {w = w} k) (by_part e m) = cc
-finished-sound begun x b t g (opened_theorem {w = w} k) (by_claim e m) = due-sound (plain-goes {unit = unit_of begun x} {a = w ∷ b} (λ u f. plain_theorem k (before-quiet m (Some u) (quiet-of u f))) g) t
+finished-sound begun x b t g (opened_definition k) h = due-sound (finish-goes begun x b t (opened_definition k) h g) t
+finished-sound begun x b t g (opened_instance k) h = due-sound (finish-goes begun x b t (opened_instance k) h g) t
+finished-sound begun x b t g (opened_assumption k) h = due-sound (finish-goes begun x b t (opened_assumption k) h g) t
+finished-sound begun x b t g (opened_theorem k) h = due-sound (finish-goes begun x b t (opened_theorem k) h g) t
 
 -- ---- parts
 
-taking-sound : {s r : Sort} {w : Wait} {ps : Trees} {a : List Lexeme} → Holds s r w ps a → (x : Tree) (b : List Lexeme) (t : Lexeme) → Made r x b t → HasRead t s (after_part w) (then ps x) (a ++ b)
+pub taking-sound : {s r : Sort} {w : Wait} {ps : Trees} {a : List Lexeme} → Holds s r w ps a → (x : Tree) (b : List Lexeme) (t : Lexeme) → Made r x b t → HasRead t s (after_part w) (then ps x) (a ++ b)
 taking-sound (parameters {ps = ps} {d = d} k l h) x b t m = parameters_read ps x d b k l h m
 taking-sound (replacements {ps = ps} {d = d} k l m h) x b t e = replacements_read ps x d b k l m h e
 taking-sound (body_instance {n = n} {ps = ps} {a = a} d h m) x b t e =
@@ -275,7 +291,7 @@ expression-sound {depth = depth} {us = us} {begun = begun} {fs = fs} q l c b st 
     going None r = tt
     going (Some su) r = at_expression q l c g o u (run-snoc b t (Some start) st su e r)
 
-bracket-quiet : (t : Lexeme) → is_right_bracket t.kind ≡ true → IsQuiet t
+pub bracket-quiet : (t : Lexeme) → is_right_bracket t.kind ≡ true → IsQuiet t
 bracket-quiet t h = let e : t.kind ≡ LexKind.Mark Mark.RightBracket = right_bracket-is t.kind h in record { apart = ap takes_left e; no_arm = λ k. cc }
 
 going-bounds : {depth : ℕ} {us : List UnitTree} {before : Option Lexeme} (q l : List Lexeme) (n u : Lexeme) (b : List Lexeme) (st : Expressions.State) (t : Lexeme) → Goes (suc depth) us q → SpellsLocal before l → IsName n → IsMark u Mark.LeftBracket → Expressions.run (Some start_bounds) b ≡ Some st → (next : Option Expressions.State) → Expressions.step st t ≡ next → GoingOk ((q ++ (l ++ (n ∷ u ∷ b))) ++ t ∷ []) (reading_bounds next (OfDefinition before) (frame (Wait.Bounds n) Nil (n ∷ u ∷ [])) (b ++ t ∷ []) (suc depth) us)
@@ -319,11 +335,11 @@ names-more : (ns c : List Lexeme) (m t : Lexeme) → NamesSeen ns c → IsName m
 names-more ns c m t h k e names b r =
     subst (λ z. SpellsNames z ((c ++ m ∷ t ∷ []) ++ b)) (sym (append_assoc ns (m ∷ []) names)) (subst (λ z. SpellsNames (ns ++ m ∷ names) z) (sym (append_assoc c (m ∷ t ∷ []) b)) (h (m ∷ names) (m ∷ t ∷ b) (more_names k e r)))
 
-names-close : (ns c : List Lexeme) (m : Lexeme) → NamesSeen ns c → IsName m → SpellsNames (ns ++ m ∷ []) (c ++ m ∷ [])
+pub names-close : (ns c : List Lexeme) (m : Lexeme) → NamesSeen ns c → IsName m → SpellsNames (ns ++ m ∷ []) (c ++ m ∷ [])
 names-close ns c m h k = h (m ∷ []) (m ∷ []) (last_name k)
 
 -- the begin of a nested module
-nested-opens : {depth : ℕ} {us : List UnitTree} {q : List Lexeme} → Goes (suc depth) us q → Opens (suc depth) us q
+pub nested-opens : {depth : ℕ} {us : List UnitTree} {q : List Lexeme} → Goes (suc depth) us q → Opens (suc depth) us q
 nested-opens {depth = depth} {us = us} {q = q} g = record { begin = λ n names a k. record { on = λ vs b r. by n names a k vs b r (rest-begins r) } }
   where
     by : (n : Lexeme) (names a : List Lexeme) → BeginsModule n names a → (vs : List UnitTree) (b : List Lexeme) → Rest (suc (suc depth)) vs b → FirstBegins b → Wholes ((us ++ ModuleBegin n names ∷ []) ++ vs) ((q ++ a) ++ b)
@@ -331,7 +347,7 @@ nested-opens {depth = depth} {us = us} {q = q} g = record { begin = λ n names a
     by n names a k vs (t ∷ b) r f = wholes-as _ _ _ _ (sym (append_assoc us (ModuleBegin n names ∷ []) vs)) (sym (append_assoc q a (t ∷ b))) (g.on (ModuleBegin n names ∷ vs) (a ++ t ∷ b) (opens t k r))
 
 -- and that of the outermost
-outermost-opens : Opens ℕ.zero [] []
+pub outermost-opens : Opens ℕ.zero [] []
 outermost-opens = record { begin = λ n names a k. record { on = λ vs b r. by n names a k vs b r (rest-begins r) } }
   where
     by : (n : Lexeme) (names a : List Lexeme) → BeginsModule n names a → (vs : List UnitTree) (b : List Lexeme) → Rest (suc ℕ.zero) vs b → FirstBegins b → Wholes (ModuleBegin n names ∷ vs) (a ++ b)

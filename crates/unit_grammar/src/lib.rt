@@ -6,12 +6,12 @@
 
 mod wait;
 
-ghost use Rattle.std.specs.Prelude.{◌≡◌, ℕ, List, Option, Some, None};
+ghost use Rattle.std.specs.Prelude.{◌≡◌, ℕ, List, ◌++◌, Option, Some, None};
 ghost use Rattle.tla_symbols.specs.declared.lexeme.Lexeme.{Lexeme};
 ghost use Rattle.unit_grammar.specs.Units.{ModuleUnits};
 ghost use Rattle.unit_grammar.specs.Derivation.{DerivesModule};
-ghost use Rattle.unit_grammar.specs.FirstBad.{Begins};
-ghost use Rattle.unit_grammar.specs.Machine.{run, opening, parse};
+ghost use Rattle.unit_grammar.specs.FirstBad.{Begins, IsFirstBad};
+ghost use Rattle.unit_grammar.specs.Machine.{State, run, opening, parse, RefusesAt};
 
 pub use wait::{Move, Stage, StageMove, UnitStart, Wait};
 
@@ -33,4 +33,16 @@ pub fn one_module()
 /// Where the machine refuses, no derivable list begins with the lexemes so far.
 pub fn refuses_no_beginning()
     ensures { (lexemes : List Lexeme) → run (Some opening) lexemes ≡ None → Begins lexemes → ⊥ }
+{}
+
+/// Where the machine has not refused, some lexemes complete those so far to a list that it accepts.
+pub fn unrefused_completes()
+    ensures { (lexemes : List Lexeme) → (reached : State) → run (Some opening) lexemes ≡ Some reached → (rest : List Lexeme) × (found : ModuleUnits) × (parse (lexemes ++ rest) ≡ Some found) }
+{}
+
+/// The machine refuses exactly at the first bad lexeme: the lexemes before it begin a derivable
+/// list, and those up to and with it do not.
+pub fn refuses_at_first_bad()
+    ensures refused { (lexemes : List Lexeme) → (index : ℕ) → RefusesAt lexemes index → IsFirstBad lexemes index }
+    ensures bad { (lexemes : List Lexeme) → (index : ℕ) → IsFirstBad lexemes index → RefusesAt lexemes index }
 {}
