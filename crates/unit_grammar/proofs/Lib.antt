@@ -9,3 +9,5 @@ mod SoundingParts
 mod Sounding
 mod Completing
 mod FirstBad
+mod Lasting
+mod Ending

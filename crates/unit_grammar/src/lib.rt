@@ -6,11 +6,11 @@
 
 mod wait;
 
-ghost use Rattle.std.specs.Prelude.{◌≡◌, ℕ, List, ◌++◌, Option, Some, None};
+ghost use Rattle.std.specs.Prelude.{◌≡◌, ◌⊎◌, ℕ, ◌<◌, List, ◌++◌, length, Some, None};
 ghost use Rattle.tla_symbols.specs.declared.lexeme.Lexeme.{Lexeme};
 ghost use Rattle.unit_grammar.specs.Units.{ModuleUnits};
 ghost use Rattle.unit_grammar.specs.Derivation.{DerivesModule};
-ghost use Rattle.unit_grammar.specs.FirstBad.{Begins, IsFirstBad};
+ghost use Rattle.unit_grammar.specs.FirstBad.{IsDerivable, Begins, IsFirstBad, EndsOnce};
 ghost use Rattle.unit_grammar.specs.Machine.{State, run, opening, parse, RefusesAt};
 
 pub use wait::{Move, Stage, StageMove, UnitStart, Wait};
@@ -45,4 +45,15 @@ pub fn unrefused_completes()
 pub fn refuses_at_first_bad()
     ensures refused { (lexemes : List Lexeme) → (index : ℕ) → RefusesAt lexemes index → IsFirstBad lexemes index }
     ensures bad { (lexemes : List Lexeme) → (index : ℕ) → IsFirstBad lexemes index → RefusesAt lexemes index }
+{}
+
+/// A list that ends as the lexemes of a text do is accepted where the machine has not refused it.
+pub fn accepts_read()
+    ensures { (lexemes : List Lexeme) → EndsOnce lexemes → (reached : State) → run (Some opening) lexemes ≡ Some reached → (found : ModuleUnits) × (parse lexemes ≡ Some found) }
+{}
+
+/// A list that ends as the lexemes of a text do is derivable, or some lexeme of it is the first bad
+/// one.
+pub fn derivable_or_bad()
+    ensures { (lexemes : List Lexeme) → EndsOnce lexemes → IsDerivable lexemes ⊎ ((index : ℕ) × (index < length lexemes) × IsFirstBad lexemes index) }
 {}
