@@ -5,10 +5,10 @@ use Rattle.unit_grammar.specs.Units.{UnitTree, OperatorDefinition, FunctionDefin
 
 -- a unit is as high as its expressions; one without any has 1, and so has a nested module without units
 abbrev pub unit_height : UnitTree → ℕ
-unit_height (OperatorDefinition before x) = max 1 (height x)
-unit_height (FunctionDefinition before x) = max 1 (height x)
-unit_height (ModuleDefinition before x) = max 1 (height x)
-unit_height (Instance before x) = max 1 (height x)
+unit_height (OperatorDefinition local x) = max 1 (height x)
+unit_height (FunctionDefinition local x) = max 1 (height x)
+unit_height (ModuleDefinition local x) = max 1 (height x)
+unit_height (Instance local x) = max 1 (height x)
 unit_height (Assumption word name x) = max 1 (height x)
 unit_height (Theorem word name x) = max 1 (height x)
 unit_height _ = 1

@@ -8,10 +8,10 @@ use Rattle.tla_tree.specs.Syntax.{Tree, Trees, Node}
 pub data UnitTree : Type 0 where
   Variables : (names : List Lexeme) → UnitTree
   Constants : (declarations : Trees) → UnitTree
-  OperatorDefinition : (before : Option Lexeme) (definition : Tree) → UnitTree
-  FunctionDefinition : (before : Option Lexeme) (definition : Tree) → UnitTree
-  ModuleDefinition : (before : Option Lexeme) (definition : Tree) → UnitTree
-  Instance : (before : Option Lexeme) (instance : Tree) → UnitTree
+  OperatorDefinition : (local : Option Lexeme) (definition : Tree) → UnitTree
+  FunctionDefinition : (local : Option Lexeme) (definition : Tree) → UnitTree
+  ModuleDefinition : (local : Option Lexeme) (definition : Tree) → UnitTree
+  Instance : (local : Option Lexeme) (instance : Tree) → UnitTree
   Assumption : (word : Lexeme) (name : Option Lexeme) (claim : Tree) → UnitTree
   Theorem : (word : Lexeme) (name : Option Lexeme) (claim : Tree) → UnitTree
   Line : (dashes : Lexeme) → UnitTree
@@ -26,6 +26,6 @@ pub record ModuleUnits : Type 0 where
 
 -- the unit of a definition, by the form of its tree
 abbrev pub defined : Option Lexeme → Tree → UnitTree
-defined before (Node (Form.FunctionDefinition n) s parts) = FunctionDefinition before (Node (Form.FunctionDefinition n) s parts)
-defined before (Node (Form.ModuleDefinition n) s parts) = ModuleDefinition before (Node (Form.ModuleDefinition n) s parts)
-defined before x = OperatorDefinition before x
+defined local (Node (Form.FunctionDefinition n) s parts) = FunctionDefinition local (Node (Form.FunctionDefinition n) s parts)
+defined local (Node (Form.ModuleDefinition n) s parts) = ModuleDefinition local (Node (Form.ModuleDefinition n) s parts)
+defined local x = OperatorDefinition local x
