@@ -11,3 +11,4 @@ mod Completing
 mod FirstBad
 mod Lasting
 mod Ending
+mod Nesting

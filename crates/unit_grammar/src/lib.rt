@@ -6,11 +6,12 @@
 
 mod wait;
 
-ghost use Rattle.std.specs.Prelude.{◌≡◌, ◌⊎◌, ℕ, ◌<◌, List, ◌++◌, length, Some, None};
+ghost use Rattle.std.specs.Prelude.{◌≡◌, ◌⊎◌, ℕ, suc, ◌<◌, max, List, [], ◌∷◌, ◌++◌, length, Some, None};
 ghost use Rattle.tla_symbols.specs.declared.lexeme.Lexeme.{Lexeme};
-ghost use Rattle.unit_grammar.specs.Units.{ModuleUnits};
-ghost use Rattle.unit_grammar.specs.Derivation.{DerivesModule};
+ghost use Rattle.unit_grammar.specs.Units.{UnitTree, ModuleBegin, ModuleEnd, ModuleUnits};
+ghost use Rattle.unit_grammar.specs.Derivation.{DerivesUnits, DerivesModule};
 ghost use Rattle.unit_grammar.specs.FirstBad.{IsDerivable, Begins, IsFirstBad, EndsOnce};
+ghost use Rattle.unit_grammar.specs.Heights.{highest_unit};
 ghost use Rattle.unit_grammar.specs.Machine.{State, run, opening, parse, RefusesAt};
 
 pub use wait::{Move, Stage, StageMove, UnitStart, Wait};
@@ -56,4 +57,11 @@ pub fn accepts_read()
 /// one.
 pub fn derivable_or_bad()
     ensures { (lexemes : List Lexeme) → EndsOnce lexemes → IsDerivable lexemes ⊎ ((index : ℕ) × (index < length lexemes) × IsFirstBad lexemes index) }
+{}
+
+/// A nested module is one higher than its highest unit, and of units that stand beside others the
+/// higher counts.
+pub fn heights_nest()
+    ensures nested { (units : List UnitTree) → (lexemes : List Lexeme) → (next : Lexeme) → DerivesUnits units lexemes next → (name : Lexeme) → (extends : List Lexeme) → (closing : Lexeme) → highest_unit 0 (ModuleBegin name extends ∷ (units ++ ModuleEnd closing ∷ [])) ≡ suc (highest_unit 0 units) }
+    ensures beside { (units : List UnitTree) → (lexemes : List Lexeme) → (next : Lexeme) → DerivesUnits units lexemes next → (more : List UnitTree) → highest_unit 0 (units ++ more) ≡ max (highest_unit 0 units) (highest_unit 0 more) }
 {}
