@@ -1,4 +1,4 @@
-mod KindTests
+pub mod KindTests
 mod Samples
 mod Tabled
 mod Reading
@@ -8,30 +8,30 @@ mod Bounding
 mod Naming
 mod Passing
 mod Membering
-mod Defining
+pub mod Defining
 mod Generating
-mod Complete
-mod Following
+pub mod Complete
+pub mod Following
 mod SampleTrees
 mod Views
-mod Viewing
+pub mod Viewing
 mod Marking
 mod Converting
 mod Parting
 mod Ending
 mod Joining
-mod Sounding
-mod Heading
-mod CompletingKinds
+pub mod Sounding
+pub mod Heading
+pub mod CompletingKinds
 mod CompletingTables
-mod CompletingStates
+pub mod CompletingStates
 mod CompletingParts
 mod CompletingFrames
 mod CompletingMarks
-mod Completing
+pub mod Completing
 mod Counting
 mod CountingMade
 mod CountingHeld
 mod CountingSamples
 mod CompletingFirst
-mod Stopping
+pub mod Stopping

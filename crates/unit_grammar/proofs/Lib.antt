@@ -1,0 +1,14 @@
+mod Samples
+mod Stopping
+mod Flat
+mod Moving
+mod ReadingParts
+mod ReadingUnits
+mod Views
+mod SoundingParts
+mod Sounding
+mod Completing
+mod FirstBad
+mod Lasting
+mod Ending
+mod Nesting

@@ -1,0 +1,6 @@
+pub mod Units
+pub mod Derivation
+pub mod FirstBad
+pub mod Heights
+pub mod Tables
+pub mod Machine
