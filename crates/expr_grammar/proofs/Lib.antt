@@ -30,8 +30,8 @@ mod CompletingFrames
 mod CompletingMarks
 pub mod Completing
 mod Counting
-mod CountingMade
+pub mod CountingMade
 mod CountingHeld
 mod CountingSamples
-mod CompletingFirst
+pub mod CompletingFirst
 pub mod Stopping
