@@ -9,7 +9,7 @@ ghost use Rattle.expr_grammar.specs.Tables as tables;
 use crate::kinds::is_member;
 use expr_grammar::Shape;
 use tla_symbols::Lexeme;
-use tla_tree::{Form, Tree};
+use tla_tree::{Form, Tree, helps};
 
 /// What the tables tell apart of the part at the node.
 pub fn shape(tree: &Tree, node: u32) -> Shape
@@ -33,32 +33,10 @@ pub fn shape(tree: &Tree, node: u32) -> Shape
 fn helper_shape(form: Form) -> Shape
     ensures { result ≡ tables.shape_by (helps form) }
 {
-    match form {
-        Form::Segment(_)
-        | Form::Name(_)
-        | Form::Names
-        | Form::TupleNames
-        | Form::Bound
-        | Form::TupleBound
-        | Form::Field(_)
-        | Form::Update
-        | Form::FieldStep(_)
-        | Form::IndexStep
-        | Form::Arm
-        | Form::OtherArm
-        | Form::OperatorDefinition(_)
-        | Form::PrefixDefinition(_)
-        | Form::InfixDefinition(_)
-        | Form::PostfixDefinition(_)
-        | Form::FunctionDefinition(_)
-        | Form::ModuleDefinition(_)
-        | Form::Instance(_)
-        | Form::Replacement(_)
-        | Form::OperatorParameter(_, _)
-        | Form::PrefixParameter(_)
-        | Form::InfixParameter(_)
-        | Form::PostfixParameter(_) => Shape::Helper,
-        _ => Shape::Expression,
+    if helps(form) {
+        Shape::Helper
+    } else {
+        Shape::Expression
     }
 }
 
