@@ -10,7 +10,7 @@ use Rattle.module_graph.specs.Places.{Has, Edges, Way, HasPlaces, IsOrdered}
 use Rattle.module_graph.specs.Walks.{AreParted, IsWalk, AreWalk, IsTop, IsPopped, AreJoined, WentOn, closed_marks, unvisited, work, KeepsFound}
 use Rattle.module_graph.proofs.Lists.{at-within, at-there, at-same, at-taken, at-last, at-set-same, at-set-other, same-or-other}
 use Rattle.module_graph.proofs.Ways.{way-edge}
-use Rattle.module_graph.proofs.Walking.{cases, less-or, new-open, new-closed, to-last, walk-loose, walk-closed, walk-popped, walk-opened}
+use Rattle.module_graph.proofs.Walking.{cases, less-or, new-open, to-last, walk-loose, walk-closed, walk-popped, walk-opened}
 use Rattle.module_graph.proofs.Joining.{walk-joined-at}
 use Rattle.module_graph.proofs.Closing.{marks-new, marks-snoc, walk-shut}
 
@@ -122,41 +122,6 @@ begun edges old new place w none n l em ep et eg eo ec =
     walk-as edges [] _ new.marks.items _ new.path.items _ new.todo.items _ new.groups.items _ new.order.items _ new.cyclic.items em ep (et r.0 r.1) eg eo ec
     (walk-opened edges old.marks.items old.path.items old.todo.items old.groups.items old.order.items old.cyclic.items place r.0 (walk-loose edges old.marks.items old.path.items old.todo.items old.groups.items old.order.items old.cyclic.items place w) n
     (λ a y f. let k : a < length old.path.items = at-within old.path.items a y f in absurd (omega (arith, k, z.0))) r.1)
-
--- no place at all
-pub walk-none : (edges : Edges) (walk : Walk) → length walk.marks.items ≡ length edges → ((place : ℕ) (mark : Mark) → slice_get walk.marks.items place ≡ Some mark → mark ≡ Mark.New) → walk.path.items ≡ [] → walk.todo.items ≡ [] → walk.groups.items ≡ [] → walk.order.items ≡ [] → walk.cyclic.items ≡ [] → AreWalk edges [] walk
-walk-none edges walk long new ep et eg eo ec = walk-as edges [] walk.marks.items walk.marks.items [] walk.path.items [] walk.todo.items [] walk.groups.items [] walk.order.items [] walk.cyclic.items refl ep et eg eo ec (record {
-  long = long;
-  marked = record {
-    open_there = λ x i f. absurd (new-open i (sym (new x (Mark.Open i) f)));
-    open_mark = λ i x f. absurd (nothing i x f);
-    closed_there = λ x f. absurd (new-closed (sym (new x Mark.Closed f)));
-    closed_mark = λ x h. absurd (nothing h.0 x h.1);
-  };
-  parted = record {
-    base = λ g f. absurd (nothing 0 g f);
-    none = λ z. (refl, refl);
-    within = λ r g f. absurd (nothing r g f);
-    rising = λ r s g h l e f. absurd (nothing r g e);
-  };
-  opened = record {
-    onward = λ a b x y e f l. absurd (nothing a x e);
-    back = λ r g i x y h e f. absurd (nothing i x e);
-    alone = λ r g i h l n. absurd (nothing r g h.stands);
-    loops = λ r g i x h e n. absurd (nothing i x e);
-    follows = λ r g i x j h e d. absurd (nothing i x e);
-    owned = λ u j e. absurd (nothing u j e);
-  };
-  shut = record {
-    shut = λ x j h d. absurd (nothing h.0 x h.1);
-    once = λ i j x e f. absurd (nothing i x e);
-    cycles = λ x h. absurd (nothing h.0 x h.1);
-    behind = λ i x e. absurd (nothing i x e);
-  };
-})
-  where
-    nothing : {A : Type 0} (i : ℕ) (x : A) → slice_get [] i ≡ Some x → ⊥
-    nothing i x e = let l : i < 0 = at-within [] i x e in omega arith
 
 -- all places closed
 pub arranged : (edges : Edges) (walk : Walk) → AreWalk edges [] walk → length walk.groups.items ≡ 0 → ((place : ℕ) → place < length edges → slice_get walk.marks.items place ≡ Some Mark.New → ⊥) → IsOrdered edges walk.order.items walk.cyclic.items

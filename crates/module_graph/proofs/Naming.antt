@@ -44,9 +44,6 @@ same-name a b e = slice_cmp-IsAntisymmetric nat_cmp-IsAntisymmetric a b (tie (na
 pub name-itself : (a b : List ℕ) → a ≡ b → bytes_eq a b ≡ true
 name-itself a b e = ap (bytes_eq a) (sym e) ∙ nat_list_eq_equiv.refl a
 
-name_eq : List ℕ → List ℕ → Bool
-name_eq = eq_by_cmp name_cmp
-
 tied : (a b : List ℕ) → eq_by_cmp name_cmp a b ≡ bytes_eq a b
 tied a b = is_eq-slice_cmp a b
 

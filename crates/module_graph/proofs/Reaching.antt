@@ -1,5 +1,5 @@
 -- The search from a place.
-use Rattle.std.proofs.Common.{◌≡◌, ℕ, zero, suc, ◌+◌, ◌<◌, Bool, true, false, List, [], ◌∷◌, ◌++◌, Some, refl, sym, ap, ◌∙◌, subst, inl, inr, length, arith}
+use Rattle.std.proofs.Common.{◌≡◌, ℕ, zero, suc, ◌+◌, ◌<◌, Bool, true, false, List, [], ◌∷◌, ◌++◌, Some, sym, ap, ◌∙◌, subst, inl, inr, length, arith}
 use Rattle.std.specs.Prelude.{◌⊎◌, slice_get, slice_set}
 use Rattle.std.proofs.lemmas.List.{length-set, length-append}
 use Rattle.module_graph.specs.Family.{Leads, last, more}
@@ -32,19 +32,6 @@ unseen-set (true ∷ seen) (r ∷ edges) zero row s e = cc
 unseen-set (false ∷ seen) (r ∷ edges) zero row s e = let h : r ≡ row = cc in let k : length r ≡ length row = ap length h in omega arith
 unseen-set (true ∷ seen) (r ∷ edges) (suc i) row s e = unseen-set seen edges i row s e
 unseen-set (false ∷ seen) (r ∷ edges) (suc i) row s e = omega (arith, unseen-set seen edges i row s e)
-
-pub search-start : (edges : Edges) (start : ℕ) (seen : List Bool) (todo : List ℕ) → start < length edges → length seen ≡ length edges → ((i : ℕ) → slice_get seen i ≡ Some true → ⊥) → todo ≡ start ∷ [] → IsSearch edges start seen todo
-search-start edges start seen todo l long none e = subst (IsSearch edges start seen) (sym e) (record {
-  long = long;
-  sound = λ i s. absurd (none i s);
-  due = λ i h. inl (one i h);
-  within = λ i h. let q : start ≡ i = one i h in omega arith;
-  first = inr (0, refl);
-  closed = λ i j s d. absurd (none i s);
-})
-  where
-    one : (i : ℕ) → Has (start ∷ []) i → start ≡ i
-    one i h = elim (at-pushed [] start h.0 i h.1) as (λ _. start ≡ i) [ inl before ↦ cc | inr end ↦ end.1 ]
 
 module _ (edges : Edges) (start : ℕ) (seen : List Bool) (todo rest : List ℕ) (place : ℕ) (s : IsSearch edges start seen todo) (popped : todo ≡ rest ++ place ∷ []) where
   pub popped-has : Has todo place

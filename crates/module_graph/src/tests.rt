@@ -3,55 +3,55 @@ use std::alloc::Global;
 use std::test::Fail;
 use tool_list::List;
 
-fn names(alloc: Global, words: &[&str]) -> Result<List<Chars>, Memory> {
+// Puts a name with needs that are parted by blanks.
+fn put(graph: &mut Graph, alloc: Global, name: &str, needs: &str) -> Result<(), Memory> {
     let mut names = List::new(alloc);
-    for word in words {
-        names.push(Chars::from_str(alloc, word)?)?;
+    for need in needs.split(' ') {
+        names.push(Chars::from_str(alloc, need)?)?;
     }
-    Ok(names)
+    graph.put(alloc, name, &names)
+}
+
+// The order, or the name of a cycle behind `!`.
+fn shown(graph: &Graph, alloc: Global) -> Result<String, Memory> {
+    let mut text = String::new(alloc);
+    match graph.order(alloc) {
+        Ok(names) => {
+            for name in names.as_slice() {
+                text.push_str(name.as_str())?;
+            }
+        }
+        Err(GraphError::Cyclic { name }) => {
+            text.push_str("!")?;
+            text.push_str(name.as_str())?;
+        }
+        Err(GraphError::Memory) => return Err(Memory),
+    }
+    Ok(text)
 }
 
 #[test]
 fn orders_a_chain(rt: HostRuntime) -> Result<(), Fail> {
     let alloc = rt.alloc();
     let mut graph = Graph::new(alloc);
-    graph.put(alloc, "A", &names(alloc, &["Naturals", "B", "B"])?)?;
-    graph.put(alloc, "B", &names(alloc, &["C"])?)?;
-    graph.put(alloc, "C", &names(alloc, &["A"])?)?;
-    graph.put(alloc, "C", &List::new(alloc))?;
-    let mut order = String::new(alloc);
-    if let Ok(found) = graph.order(alloc) {
-        for name in found.as_slice() {
-            order.push_str(name.as_str())?;
-        }
-    }
-    assert_eq!(rt; order.as_str(), "CBA");
-    assert!(rt; graph.reaches(alloc, "A", "C")? && graph.reaches(alloc, "A", "Naturals")?);
-    assert!(rt; !graph.reaches(alloc, "C", "A")? && !graph.reaches(alloc, "A", "A")?);
-    assert!(rt; !graph.reaches(alloc, "Naturals", "Naturals")?);
+    put(&mut graph, alloc, "A", "N B B")?;
+    put(&mut graph, alloc, "B", "C")?;
+    put(&mut graph, alloc, "C", "N")?;
+    assert_eq!(rt; shown(&graph, alloc)?.as_str(), "CBA");
+    assert!(rt; graph.reaches(alloc, "A", "N")?);
+    assert!(rt; !graph.reaches(alloc, "C", "A")?);
     Ok(())
 }
 
 #[test]
-fn names_the_first_cycle(rt: HostRuntime) -> Result<(), Fail> {
+fn names_the_first_on_a_cycle(rt: HostRuntime) -> Result<(), Fail> {
     let alloc = rt.alloc();
     let mut graph = Graph::new(alloc);
-    graph.put(alloc, "A", &names(alloc, &["Z", "D"])?)?;
-    graph.put(alloc, "Z", &names(alloc, &["Y"])?)?;
-    graph.put(alloc, "Y", &names(alloc, &["X"])?)?;
-    graph.put(alloc, "X", &names(alloc, &["Z"])?)?;
-    graph.put(alloc, "D", &names(alloc, &["D1"])?)?;
-    let mut first = String::new(alloc);
-    if let Err(GraphError::Cyclic { name }) = graph.order(alloc) {
-        first.push_str(name.as_str())?;
-    }
-    assert_eq!(rt; first.as_str(), "X");
-    assert!(rt; graph.reaches(alloc, "Z", "Z")? && !graph.reaches(alloc, "A", "A")?);
-    graph.put(alloc, "D", &names(alloc, &["D"])?)?;
-    let mut first = String::new(alloc);
-    if let Err(GraphError::Cyclic { name }) = graph.order(alloc) {
-        first.push_str(name.as_str())?;
-    }
-    assert_eq!(rt; first.as_str(), "D");
+    put(&mut graph, alloc, "A", "Z D")?;
+    put(&mut graph, alloc, "Z", "X")?;
+    put(&mut graph, alloc, "X", "Y Z")?;
+    assert_eq!(rt; shown(&graph, alloc)?.as_str(), "!X");
+    put(&mut graph, alloc, "D", "D")?;
+    assert_eq!(rt; shown(&graph, alloc)?.as_str(), "!D");
     Ok(())
 }
