@@ -2,7 +2,7 @@
 --
 -- While an expression is read, or the bounds in a function's head, the state of the machine for these stands beside the
 -- frames that wait for it. An expression is done before the lexemes that may follow one in a unit, and bounds before `]`.
-use Rattle.std.specs.Prelude.{◌≡◌, ℕ, suc, ◌+◌, take, cond, List, [], ◌∷◌, ◌++◌, Option, Some, None}
+use Rattle.std.specs.Prelude.{◌≡◌, ℕ, suc, ◌+◌, take, cond, List, [], ◌∷◌, ◌++◌, length, Option, Some, None}
 use Rattle.tla_symbols.specs.declared.lexeme.LexKind.{LexKind}
 use Rattle.tla_symbols.specs.declared.lexeme.Lexeme.{Lexeme}
 use Rattle.tla_tree.specs.declared.form.Form.{Form}
@@ -180,6 +180,13 @@ abbrev pub run : Option State → List Lexeme → Option State
 run o [] = o
 run None (t ∷ ts) = None
 run (Some s) (t ∷ ts) = run (step s t) ts
+
+-- how many frames are held
+abbrev pub held : Place → ℕ
+held (Part begun f fs) = suc (length fs)
+held (Expression begun fs st b) = length fs
+held (Bounds begun f st b) = 1
+held _ = 0
 
 abbrev pub opening : State
 opening = state ℕ.zero [] (Stands Stage.Opening [])

@@ -1,5 +1,5 @@
 -- The tables of moves for units: what a lexeme does at a stage of a module, and to a frame of a unit's part.
-use Rattle.std.specs.Prelude.{◌+◌, Bool, true, false, cond, Some, None}
+use Rattle.std.specs.Prelude.{ℕ, ◌+◌, Bool, true, false, cond, Some, None}
 use Rattle.tla_symbols.specs.declared.op.Op.TheVariants as Op
 use Rattle.tla_symbols.specs.declared.place.Fix.{Fix}
 use Rattle.tla_symbols.specs.declared.lexeme.LexKind.{LexKind}
@@ -73,6 +73,11 @@ stage_move Stage.Closed t = StageMove.Refused
 
 abbrev pub if_move : Bool → Move → Move
 if_move test move = cond test move Move.Refused
+
+-- the places of an operator's declaration that were read
+abbrev pub places_of : Wait → ℕ
+places_of (Wait.Places n places) = places
+places_of _ = 0
 
 -- what a lexeme does to a frame
 abbrev pub move : Wait → Lexeme → Move
