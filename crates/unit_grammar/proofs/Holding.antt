@@ -2,8 +2,8 @@
 use Rattle.std.proofs.Common.{◌≡◌, ℕ, ◌≤◌, List, length, Some, subst, arith}
 use Rattle.tla_symbols.specs.declared.lexeme.Lexeme.{Lexeme}
 use Rattle.unit_grammar.specs.Units.{UnitTree}
-use Rattle.unit_grammar.specs.Machine.{Frame, Begun, Place, State, held, run, opening}
-use Rattle.unit_grammar.proofs.Views.{Sort, parameters, replacements, body_instance, Stack, base, above, Under, claims, awaits, PlaceOk, at_opening, at_word, at_name, at_dashes, at_read, at_extends, at_extended, at_unit, at_line, at_local, at_variable, at_variables, at_closed, at_declared, at_part, at_expression, at_bounds}
+use Rattle.unit_grammar.specs.Machine.{Frame, Begun, Focus, State, held, run, opening}
+use Rattle.unit_grammar.proofs.Views.{Sort, parameters, replacements, body_instance, Stack, base, above, Under, claims, awaits, FocusOk, at_opening, at_word, at_name, at_dashes, at_read, at_extends, at_extended, at_unit, at_line, at_local, at_variable, at_variables, at_closed, at_declared, at_part, at_expression, at_bounds}
 use Rattle.unit_grammar.proofs.Sounding.{GoingOk, opening-sound}
 
 -- the frames that may stand below a part of a sort
@@ -29,7 +29,7 @@ few-under : {begun : Begun} {fs : List Frame} {c : List Lexeme} → Under begun 
 few-under (claims e) = omega arith
 few-under (awaits {s = s} {gs = gs} k aw) = let n : length gs ≤ deep s = few-below k in let m : deep s ≤ 2 = few-deep s in omega arith
 
-few-held : {depth : ℕ} {us : List UnitTree} {place : Place} {p : List Lexeme} → PlaceOk depth us place p → held place ≤ 3
+few-held : {depth : ℕ} {us : List UnitTree} {focus : Focus} {p : List Lexeme} → FocusOk depth us focus p → held focus ≤ 3
 few-held (at_part {s = s} {fs = fs} q l c g o k h) = let n : length fs ≤ deep s = few-below k in let m : deep s ≤ 2 = few-deep s in omega arith
 few-held (at_expression q l c g o u e) = few-under u
 few-held (at_bounds q l g s k m e) = omega arith
@@ -48,5 +48,5 @@ few-held (at_variables q w ns c v g k h f) = omega arith
 few-held (at_closed w) = omega arith
 few-held (at_declared q w xs x d b g k h m) = omega arith
 
-pub holds-few : (lexemes : List Lexeme) (reached : State) → run (Some opening) lexemes ≡ Some reached → held reached.place ≤ 3
+pub holds-few : (lexemes : List Lexeme) (reached : State) → run (Some opening) lexemes ≡ Some reached → held reached.focus ≤ 3
 holds-few lexemes reached e = few-held (subst (λ o. GoingOk lexemes o) e (opening-sound lexemes))

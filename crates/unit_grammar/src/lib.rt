@@ -14,7 +14,7 @@ ghost use Rattle.unit_grammar.specs.FirstBad.{IsDerivable, Begins, IsFirstBad, E
 ghost use Rattle.unit_grammar.specs.Heights.{highest_unit};
 ghost use Rattle.unit_grammar.specs.Machine.{State, held, run, opening, parse, RefusesAt};
 
-pub use wait::{Move, Stage, StageMove, UnitStart, Wait};
+pub use wait::{Due, DueMove, Move, UnitStart, Wait};
 
 /// The machine accepts each derivable list, with the module that derives it.
 pub fn accepts_derivable()
@@ -61,7 +61,7 @@ pub fn derivable_or_bad()
 
 /// At most three frames are held: a definition, an instance on its right, a replacement in that.
 pub fn few_held()
-    ensures { (lexemes : List Lexeme) → (reached : State) → run (Some opening) lexemes ≡ Some reached → held reached.place ≤ 3 }
+    ensures { (lexemes : List Lexeme) → (reached : State) → run (Some opening) lexemes ≡ Some reached → held reached.focus ≤ 3 }
 {}
 
 /// A nested module is one higher than its highest unit, and of units that stand beside others the

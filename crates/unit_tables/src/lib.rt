@@ -1,4 +1,4 @@
-//! The tables of the machine for units in code: what lexemes begin, and what they do at stages and
+//! The tables of the machine for units in code: what lexemes begin, and what they do in modules and
 //! to frames.
 //!
 //! Answers exactly what the tables of `unit_grammar` say. Knows nothing of how units and frames are
@@ -7,8 +7,8 @@
 
 mod frames;
 mod moves;
-mod stages;
+mod units;
 
 pub use frames::{after_bounds, after_expression, after_part};
 pub use moves::frame_move;
-pub use stages::{stage_move, unit_start};
+pub use units::{due_move, unit_start};
