@@ -10,6 +10,7 @@ use Rattle.tla_tree.specs.Syntax.{Tree, Trees, Nil}
 use Rattle.tla_tree.specs.Lexemes.{IsName, IsWord, IsMark, IsSymbol, Defines, built, one, two, then, joined}
 use Rattle.tla_tree.specs.Headings.{DerivesPlaces, DerivesParameter, DerivesParameters, DerivesHead, IsReplaceable}
 use Rattle.tla_tree.specs.Derivation.{Derives, DerivesBounds, DerivesDefinition, DerivesInstance, DerivesReplacements, DerivesReplacement}
+use Rattle.expr_grammar.specs.Tables.{name_leaf}
 use Rattle.expr_grammar.specs.Machine as Expressions
 use Rattle.expr_grammar.specs.Machine.{start, start_bounds}
 use Rattle.unit_grammar.specs.Units.{UnitTree, ModuleBegin, ModuleUnits}
@@ -48,9 +49,6 @@ ReplacementsSeen ps a = (xs : Trees) (c : List Lexeme) (t : Lexeme) → DerivesR
 -- what an expression makes a definition of
 abbrev pub Defining : Form → Trees → List Lexeme → Type 0
 Defining form ps a = (x : Tree) (b : List Lexeme) (t : Lexeme) → Derives x b 0 (Some t) → DerivesDefinition (built form (then ps x) (a ++ b)) (a ++ b) 0 (Some t)
-
-abbrev pub name_leaf : Lexeme → Tree
-name_leaf n = built (Form.Name n) Nil (n ∷ [])
 
 -- what a frame has read that makes a part of a sort, where a lexeme is due
 pub data HasRead (t : Lexeme) : Sort → Wait → Trees → List Lexeme → Type 0 where
