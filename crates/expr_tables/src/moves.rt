@@ -12,7 +12,7 @@ use tla_symbols::{Fix, LexKind, Lexeme, Op, definable, range_of};
 use tla_tree::Form;
 
 /// Whether the lexeme is a symbol that can be defined at the place.
-fn defines(fix: Fix, kind: LexKind) -> bool
+pub fn defines(fix: Fix, kind: LexKind) -> bool
     ensures { result ≡ tables.defines fix kind }
 {
     match kind {
@@ -32,7 +32,7 @@ fn passes(kind: LexKind) -> bool
 }
 
 /// Whether the lexeme is a symbol that may stand bare on the right of `<-`.
-fn is_given(kind: LexKind) -> bool
+pub fn is_given(kind: LexKind) -> bool
     ensures { result ≡ tables.is_given_kind kind }
 {
     match kind {
@@ -46,7 +46,7 @@ fn is_given(kind: LexKind) -> bool
 }
 
 /// Whether the lexeme is a name, or a symbol that can be defined.
-fn is_replaceable(kind: LexKind) -> bool
+pub fn is_replaceable(kind: LexKind) -> bool
     ensures { result ≡ tables.is_replaceable kind }
 {
     is_name(kind)

@@ -19,10 +19,11 @@ use Rattle.unit_grammar.specs.Units.{UnitTree, ModuleEnd}
 use Rattle.unit_grammar.specs.Derivation.{BeginsModule, alone, extending, kept, DerivesModule}
 use Rattle.unit_grammar.specs.FirstBad.{IsDerivable, Begins}
 use Rattle.unit_grammar.specs.declared.wait.Wait.{Wait}
-use Rattle.unit_grammar.specs.Machine.{Frame, Begun, OfDefinition, Place, State, run, opening}
+use Rattle.unit_grammar.specs.Machine.{Frame, Begun, OfDefinition, Focus, State, run, opening}
 use Rattle.unit_grammar.proofs.Flat.{plain_variables, plain_constants, Rest, closes, ends, whole-derives}
 use Rattle.unit_grammar.proofs.ReadingParts.{bounds-quiet}
-use Rattle.unit_grammar.proofs.Views.{Sort, Made, Defining, name_leaf, HasRead, declaration, declaration_name, places, places_read, prefix_place, symbol_place, infix_place, definition_name, parameters_read, define, body, prefix_name, prefix_define, infix_name, infix_define, postfix_define, bounds_read, bounds_define, right, instance_name, instance_read, replacements_read, replacement_start, replacement_arrow, replacement_right, complete, Stack, base, above, Under, claims, awaits, Opened, opened_definition, Wholes, Goes, Opens, PlaceOk, at_opening, at_word, at_name, at_dashes, at_read, at_extends, at_extended, at_unit, at_line, at_local, at_variable, at_variables, at_closed, at_declared, at_part, at_expression, at_bounds}
+use Rattle.expr_grammar.specs.Tables.{name_leaf}
+use Rattle.unit_grammar.proofs.Views.{Sort, Made, Defining, HasRead, declaration, declaration_name, places, places_read, prefix_place, symbol_place, infix_place, definition_name, parameters_read, define, body, prefix_name, prefix_define, infix_name, infix_define, postfix_define, bounds_read, bounds_define, right, instance_name, instance_read, replacements_read, replacement_start, replacement_arrow, replacement_right, complete, Stack, base, above, Under, claims, awaits, Opened, opened_definition, Wholes, Goes, Opens, FocusOk, at_opening, at_word, at_name, at_dashes, at_read, at_extends, at_extended, at_unit, at_line, at_local, at_variable, at_variables, at_closed, at_declared, at_part, at_expression, at_bounds}
 use Rattle.unit_grammar.proofs.SoundingParts.{parameters-close, replacements-close}
 use Rattle.unit_grammar.proofs.Sounding.{GoingOk, opening-sound, plain-goes, Finishes, by_part, by_claim, finish-goes, taking-sound, outermost-opens, nested-opens, names-close, replacement-quiet, made-quiet}
 
@@ -187,32 +188,32 @@ unit-sooner begun a b f = record { rest = b ++ f.rest; tree = f.tree; whole = su
 abbrev header : List Lexeme
 header = some (LexKind.Word Word.Module) ∷ some_name ∷ some LexKind.Dashes ∷ []
 
--- each place is completed
-place-begins : {depth : ℕ} {us : List UnitTree} {place : Place} {p : List Lexeme} → PlaceOk depth us place p → Begins p
-place-begins at_opening = begins-sooner [] (some LexKind.Dashes ∷ header) (opens-begins outermost-opens some_name [] (some LexKind.Dashes ∷ header) (alone refl refl refl refl))
-place-begins (at_word {d = d} k) = begins-sooner (d ∷ []) header (opens-begins outermost-opens some_name [] (d ∷ header) (alone k refl refl refl))
-place-begins (at_name q d w o k l) = begins-sooner (q ++ d ∷ w ∷ []) (some_name ∷ some LexKind.Dashes ∷ []) (begins-as _ _ (sym (append_assoc q (d ∷ w ∷ []) (some_name ∷ some LexKind.Dashes ∷ []))) (opens-begins o some_name [] (d ∷ w ∷ some_name ∷ some LexKind.Dashes ∷ []) (alone k l refl refl)))
-place-begins (at_dashes {n = n} q d w o k l m) = begins-sooner (q ++ d ∷ w ∷ n ∷ []) (some LexKind.Dashes ∷ []) (begins-as _ _ (sym (append_assoc q (d ∷ w ∷ n ∷ []) (some LexKind.Dashes ∷ []))) (opens-begins o n [] (d ∷ w ∷ n ∷ some LexKind.Dashes ∷ []) (alone k l m refl)))
-place-begins (at_read {n = n} q d w e o k l m i) = opens-begins o n [] (d ∷ w ∷ n ∷ e ∷ []) (alone k l m i)
-place-begins (at_extends {n = n} {ns = ns} q d w e x c o k l m i j h) =
+-- each state is completed
+focus-begins : {depth : ℕ} {us : List UnitTree} {focus : Focus} {p : List Lexeme} → FocusOk depth us focus p → Begins p
+focus-begins at_opening = begins-sooner [] (some LexKind.Dashes ∷ header) (opens-begins outermost-opens some_name [] (some LexKind.Dashes ∷ header) (alone refl refl refl refl))
+focus-begins (at_word {d = d} k) = begins-sooner (d ∷ []) header (opens-begins outermost-opens some_name [] (d ∷ header) (alone k refl refl refl))
+focus-begins (at_name q d w o k l) = begins-sooner (q ++ d ∷ w ∷ []) (some_name ∷ some LexKind.Dashes ∷ []) (begins-as _ _ (sym (append_assoc q (d ∷ w ∷ []) (some_name ∷ some LexKind.Dashes ∷ []))) (opens-begins o some_name [] (d ∷ w ∷ some_name ∷ some LexKind.Dashes ∷ []) (alone k l refl refl)))
+focus-begins (at_dashes {n = n} q d w o k l m) = begins-sooner (q ++ d ∷ w ∷ n ∷ []) (some LexKind.Dashes ∷ []) (begins-as _ _ (sym (append_assoc q (d ∷ w ∷ n ∷ []) (some LexKind.Dashes ∷ []))) (opens-begins o n [] (d ∷ w ∷ n ∷ some LexKind.Dashes ∷ []) (alone k l m refl)))
+focus-begins (at_read {n = n} q d w e o k l m i) = opens-begins o n [] (d ∷ w ∷ n ∷ e ∷ []) (alone k l m i)
+focus-begins (at_extends {n = n} {ns = ns} q d w e x c o k l m i j h) =
     begins-sooner (q ++ d ∷ w ∷ n ∷ e ∷ x ∷ c) (some_name ∷ []) (begins-as _ _ (sym (append_assoc q (d ∷ w ∷ n ∷ e ∷ x ∷ c) (some_name ∷ []))) (opens-begins o n (ns ++ some_name ∷ []) (d ∷ w ∷ n ∷ e ∷ x ∷ (c ++ some_name ∷ [])) (extending k l m i j (names-close ns c some_name h refl))))
-place-begins (at_extended {n = n} q d w e x ns c v o k l m i j h f) = opens-begins o n (ns ++ v ∷ []) (d ∷ w ∷ n ∷ e ∷ x ∷ (c ++ v ∷ [])) (extending k l m i j (names-close ns c v h f))
-place-begins (at_unit g) = goes-begins g
-place-begins (at_line {d = d} q g k) = begins-sooner (q ++ d ∷ []) header (begins-as _ _ (sym (append_assoc q (d ∷ []) header)) (opens-begins (nested-opens g) some_name [] (d ∷ header) (alone k refl refl refl)))
-place-begins (at_local {w = w} q g k) =
+focus-begins (at_extended {n = n} q d w e x ns c v o k l m i j h f) = opens-begins o n (ns ++ v ∷ []) (d ∷ w ∷ n ∷ e ∷ x ∷ (c ++ v ∷ [])) (extending k l m i j (names-close ns c v h f))
+focus-begins (at_unit g) = goes-begins g
+focus-begins (at_line {d = d} q g k) = begins-sooner (q ++ d ∷ []) header (begins-as _ _ (sym (append_assoc q (d ∷ []) header)) (opens-begins (nested-opens g) some_name [] (d ∷ header) (alone k refl refl refl)))
+focus-begins (at_local {w = w} q g k) =
     begins-sooner (q ++ w ∷ []) (some_name ∷ []) (begins-as _ _ (sym (append_assoc q (w ∷ []) (some_name ∷ []))) (unit-begins (OfDefinition (Some w)) (some_name ∷ []) g (opened_definition (kept k)) (completes-stack (base refl) (some_name ∷ []) (completes-part {t = close} (definition_name refl)))))
-place-begins (at_variable {ns = ns} q w c g k h) =
+focus-begins (at_variable {ns = ns} q w c g k h) =
     begins-sooner (q ++ w ∷ c) (some_name ∷ []) (begins-as _ _ (sym (append_assoc q (w ∷ c) (some_name ∷ []))) (goes-begins (plain-goes (λ u f. plain_variables k (names-close ns c some_name h refl)) g)))
-place-begins (at_variables q w ns c v g k h f) = goes-begins (plain-goes (λ u z. plain_variables k (names-close ns c v h f)) g)
-place-begins (at_closed {ts = ts} w) = ([], (w.0, subst (λ z. DerivesModule w.0 z) (sym (append-nil ts)) (whole-derives w.2)))
-place-begins (at_declared q w xs x d b g k h m) = goes-begins (plain-goes (λ u f. plain_constants k (parameters-close xs x d b h m)) g)
-place-begins (at_part {begun = begun} {f = f} q l c g o k h) = unit-begins begun (c ++ f.read) g o (completes-stack k f.read (completes-part (h close)))
-place-begins (at_expression {begun = begun} {st = st} {b = b} q l c g o u e) =
+focus-begins (at_variables q w ns c v g k h f) = goes-begins (plain-goes (λ u z. plain_variables k (names-close ns c v h f)) g)
+focus-begins (at_closed {ts = ts} w) = ([], (w.0, subst (λ z. DerivesModule w.0 z) (sym (append-nil ts)) (whole-derives w.2)))
+focus-begins (at_declared q w xs x d b g k h m) = goes-begins (plain-goes (λ u f. plain_constants k (parameters-close xs x d b h m)) g)
+focus-begins (at_part {begun = begun} {f = f} q l c g o k h) = unit-begins begun (c ++ f.read) g o (completes-stack k f.read (completes-part (h close)))
+focus-begins (at_expression {begun = begun} {st = st} {b = b} q l c g o u e) =
     let k : (rest : List Lexeme) × (tree : Tree) × (Expressions.parse (b ++ rest) ≡ Some tree) = completes-expression b st e in
     let d : Derives k.1 (b ++ k.0) 0 (Some close) = before-quiet (accepted-derives (b ++ k.0) k.1 k.2) (Some close) close-quiet in
     let f : UnitFinishing begun (c ++ (b ++ k.0)) = expression-finishes u k.1 (b ++ k.0) d in
     unit-begins begun (c ++ b) g o (unit-sooner begun (c ++ b) k.0 (subst (λ z. UnitFinishing begun z) (sym (append_assoc c b k.0)) f))
-place-begins (at_bounds {before = before} {n = n} {u = u} {st = st} {b = b} q l g s k m e) =
+focus-begins (at_bounds {before = before} {n = n} {u = u} {st = st} {b = b} q l g s k m e) =
     let r : (rest : List Lexeme) × (bounds : Trees) × (Expressions.parse_bounds (b ++ rest) ≡ Some bounds) = completes-bounds b st e in
     let d : DerivesBounds r.1 (b ++ r.0) 0 (Some close) = bounds-quiet (accepted-bounds (b ++ r.0) r.1 r.2) (Some close) close-quiet in
     let f : Finishing Sort.Definition (n ∷ u ∷ (b ++ r.0)) = completes-part (bounds_read k m d) in
@@ -220,4 +221,4 @@ place-begins (at_bounds {before = before} {n = n} {u = u} {st = st} {b = b} q l 
 
 -- what the machine has not refused begins a module
 pub unrefused-begins : (lexemes : List Lexeme) (reached : State) → run (Some opening) lexemes ≡ Some reached → Begins lexemes
-unrefused-begins lexemes reached e = place-begins (subst (λ o. GoingOk lexemes o) e (opening-sound lexemes))
+unrefused-begins lexemes reached e = focus-begins (subst (λ o. GoingOk lexemes o) e (opening-sound lexemes))

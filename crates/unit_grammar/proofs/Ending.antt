@@ -12,15 +12,15 @@ use Rattle.expr_grammar.specs.Machine.{start}
 use Rattle.expr_grammar.specs.Following.{done_before}
 use Rattle.unit_grammar.specs.Units.{UnitTree, Constants, ModuleUnits}
 use Rattle.unit_grammar.specs.FirstBad.{IsDerivable, IsFirstBad, IsLast, EndsOnce}
-use Rattle.unit_grammar.specs.declared.wait.Stage.{Stage}
-use Rattle.unit_grammar.specs.declared.wait.StageMove.{StageMove}
+use Rattle.unit_grammar.specs.declared.wait.Due.{Due}
+use Rattle.unit_grammar.specs.declared.wait.DueMove.{DueMove}
 use Rattle.unit_grammar.specs.declared.wait.Wait.{Wait}
 use Rattle.unit_grammar.specs.declared.wait.Move.{Move}
-use Rattle.unit_grammar.specs.Tables.{unit_start, stage_move, move, after_expression, after_bounds}
-use Rattle.unit_grammar.specs.Machine.{Frame, frame, Begun, OfConstants, OfDefinition, OfInstance, OfAssumption, OfTheorem, Place, Stands, Declared, Part, Expression, Bounds, State, started, unit_due, staged, after_declared, finished, node, taking, reading, moved, part_step, given, expression_step, bounds_before, reading_bounds, bounds_step, place_step, step, run, opening, answered, answer, parse}
+use Rattle.unit_grammar.specs.Tables.{unit_start, due_move, move, after_expression, after_bounds}
+use Rattle.unit_grammar.specs.Machine.{Frame, frame, Begun, OfConstants, OfDefinition, OfInstance, OfAssumption, OfTheorem, Focus, Stands, Declared, Part, Expression, Bounds, State, started, unit_due, due_moved, after_declared, finished, node, taking, reading, moved, part_step, given, expression_step, bounds_before, reading_bounds, bounds_step, focus_step, step, run, opening, answered, answer, parse}
 use Rattle.unit_grammar.proofs.Flat.{whole-derives}
 use Rattle.unit_grammar.proofs.ReadingUnits.{run-nothing}
-use Rattle.unit_grammar.proofs.Views.{Wholes, PlaceOk, at_opening, at_word, at_name, at_dashes, at_read, at_extends, at_extended, at_unit, at_line, at_local, at_variable, at_variables, at_closed, at_declared, at_part, at_expression, at_bounds}
+use Rattle.unit_grammar.proofs.Views.{Wholes, FocusOk, at_opening, at_word, at_name, at_dashes, at_read, at_extends, at_extended, at_unit, at_line, at_local, at_variable, at_variables, at_closed, at_declared, at_part, at_expression, at_bounds}
 use Rattle.unit_grammar.proofs.Sounding.{GoingOk, opening-sound}
 use Rattle.unit_grammar.proofs.FirstBad.{refused-first}
 use Rattle.unit_grammar.proofs.Lasting.{Last, closing, ending, wrong, as_lexeme, last-refused}
@@ -28,7 +28,7 @@ use Rattle.unit_grammar.proofs.Lasting.{Last, closing, ending, wrong, as_lexeme,
 -- the outermost module is closed, if the lexeme was read at all
 abbrev OnlyClosed : Option State → Type 0
 OnlyClosed None = Unit {0}
-OnlyClosed (Some s) = s.place ≡ Stands Stage.Closed []
+OnlyClosed (Some s) = s.focus ≡ Stands Due.Closed []
 
 due-closes : (d : ℕ) (us : List UnitTree) (t : Lexeme) → Last t.kind → OnlyClosed (unit_due None d us t)
 due-closes d us t l = by t.kind l d
@@ -40,61 +40,61 @@ due-closes d us t l = by t.kind l d
     by k ending d = tt
     by k wrong d = tt
 
--- what stages do at such a lexeme
-data StageStays : StageMove → Type 0 where
-  stage_refuses : StageStays StageMove.Refused
-  has_begun : {n : Lexeme} → StageStays (StageMove.Begun n)
-  is_list : StageStays StageMove.Listed
-  is_line : {d : Lexeme} → StageStays (StageMove.Lined d)
-  begins_unit : StageStays (StageMove.Begins None)
+-- what such a lexeme does where something is due
+data DueStays : DueMove → Type 0 where
+  due_refuses : DueStays DueMove.Refused
+  has_begun : {n : Lexeme} → DueStays (DueMove.Begun n)
+  is_list : DueStays DueMove.Listed
+  is_line : {d : Lexeme} → DueStays (DueMove.Lined d)
+  begins_unit : DueStays (DueMove.Begins None)
 
-stage-stays : (stage : Stage) (k : LexKind) → Last k → (s : Span) (line col : ℕ) → StageStays (stage_move stage (as_lexeme k s line col))
-stage-stays Stage.Opening k closing s line col = stage_refuses
-stage-stays Stage.Opening k ending s line col = stage_refuses
-stage-stays Stage.Opening k wrong s line col = stage_refuses
-stage-stays Stage.OpeningWord k closing s line col = stage_refuses
-stage-stays Stage.OpeningWord k ending s line col = stage_refuses
-stage-stays Stage.OpeningWord k wrong s line col = stage_refuses
-stage-stays Stage.ModuleName k closing s line col = stage_refuses
-stage-stays Stage.ModuleName k ending s line col = stage_refuses
-stage-stays Stage.ModuleName k wrong s line col = stage_refuses
-stage-stays (Stage.ModuleDashes n) k closing s line col = stage_refuses
-stage-stays (Stage.ModuleDashes n) k ending s line col = stage_refuses
-stage-stays (Stage.ModuleDashes n) k wrong s line col = stage_refuses
-stage-stays (Stage.ModuleRead n) k closing s line col = has_begun
-stage-stays (Stage.ModuleRead n) k ending s line col = has_begun
-stage-stays (Stage.ModuleRead n) k wrong s line col = has_begun
-stage-stays (Stage.ExtendsName n) k closing s line col = stage_refuses
-stage-stays (Stage.ExtendsName n) k ending s line col = stage_refuses
-stage-stays (Stage.ExtendsName n) k wrong s line col = stage_refuses
-stage-stays (Stage.ExtendsRead n) k closing s line col = has_begun
-stage-stays (Stage.ExtendsRead n) k ending s line col = has_begun
-stage-stays (Stage.ExtendsRead n) k wrong s line col = has_begun
-stage-stays Stage.Unit k closing s line col = begins_unit
-stage-stays Stage.Unit k ending s line col = begins_unit
-stage-stays Stage.Unit k wrong s line col = begins_unit
-stage-stays (Stage.Dashes d) k closing s line col = is_line
-stage-stays (Stage.Dashes d) k ending s line col = is_line
-stage-stays (Stage.Dashes d) k wrong s line col = is_line
-stage-stays (Stage.Local w) k closing s line col = stage_refuses
-stage-stays (Stage.Local w) k ending s line col = stage_refuses
-stage-stays (Stage.Local w) k wrong s line col = stage_refuses
-stage-stays Stage.VariableName k closing s line col = stage_refuses
-stage-stays Stage.VariableName k ending s line col = stage_refuses
-stage-stays Stage.VariableName k wrong s line col = stage_refuses
-stage-stays Stage.VariableRead k closing s line col = is_list
-stage-stays Stage.VariableRead k ending s line col = is_list
-stage-stays Stage.VariableRead k wrong s line col = is_list
-stage-stays Stage.Closed k closing s line col = stage_refuses
-stage-stays Stage.Closed k ending s line col = stage_refuses
-stage-stays Stage.Closed k wrong s line col = stage_refuses
+due-stays : (due : Due) (k : LexKind) → Last k → (s : Span) (line col : ℕ) → DueStays (due_move due (as_lexeme k s line col))
+due-stays Due.Opening k closing s line col = due_refuses
+due-stays Due.Opening k ending s line col = due_refuses
+due-stays Due.Opening k wrong s line col = due_refuses
+due-stays Due.OpeningWord k closing s line col = due_refuses
+due-stays Due.OpeningWord k ending s line col = due_refuses
+due-stays Due.OpeningWord k wrong s line col = due_refuses
+due-stays Due.ModuleName k closing s line col = due_refuses
+due-stays Due.ModuleName k ending s line col = due_refuses
+due-stays Due.ModuleName k wrong s line col = due_refuses
+due-stays (Due.ModuleDashes n) k closing s line col = due_refuses
+due-stays (Due.ModuleDashes n) k ending s line col = due_refuses
+due-stays (Due.ModuleDashes n) k wrong s line col = due_refuses
+due-stays (Due.ModuleRead n) k closing s line col = has_begun
+due-stays (Due.ModuleRead n) k ending s line col = has_begun
+due-stays (Due.ModuleRead n) k wrong s line col = has_begun
+due-stays (Due.ExtendsName n) k closing s line col = due_refuses
+due-stays (Due.ExtendsName n) k ending s line col = due_refuses
+due-stays (Due.ExtendsName n) k wrong s line col = due_refuses
+due-stays (Due.ExtendsRead n) k closing s line col = has_begun
+due-stays (Due.ExtendsRead n) k ending s line col = has_begun
+due-stays (Due.ExtendsRead n) k wrong s line col = has_begun
+due-stays Due.Unit k closing s line col = begins_unit
+due-stays Due.Unit k ending s line col = begins_unit
+due-stays Due.Unit k wrong s line col = begins_unit
+due-stays (Due.Dashes d) k closing s line col = is_line
+due-stays (Due.Dashes d) k ending s line col = is_line
+due-stays (Due.Dashes d) k wrong s line col = is_line
+due-stays (Due.Local w) k closing s line col = due_refuses
+due-stays (Due.Local w) k ending s line col = due_refuses
+due-stays (Due.Local w) k wrong s line col = due_refuses
+due-stays Due.VariableName k closing s line col = due_refuses
+due-stays Due.VariableName k ending s line col = due_refuses
+due-stays Due.VariableName k wrong s line col = due_refuses
+due-stays Due.VariableRead k closing s line col = is_list
+due-stays Due.VariableRead k ending s line col = is_list
+due-stays Due.VariableRead k wrong s line col = is_list
+due-stays Due.Closed k closing s line col = due_refuses
+due-stays Due.Closed k ending s line col = due_refuses
+due-stays Due.Closed k wrong s line col = due_refuses
 
-staged-closes : (m : StageMove) → StageStays m → (names : List Lexeme) (d : ℕ) (us : List UnitTree) (t : Lexeme) → Last t.kind → OnlyClosed (staged m names d us t)
-staged-closes m stage_refuses names d us t l = tt
-staged-closes m has_begun names d us t l = due-closes (suc d) _ t l
-staged-closes m is_list names d us t l = due-closes d _ t l
-staged-closes m is_line names d us t l = due-closes d _ t l
-staged-closes m begins_unit names d us t l = due-closes d us t l
+due_moved-closes : (m : DueMove) → DueStays m → (names : List Lexeme) (d : ℕ) (us : List UnitTree) (t : Lexeme) → Last t.kind → OnlyClosed (due_moved m names d us t)
+due_moved-closes m due_refuses names d us t l = tt
+due_moved-closes m has_begun names d us t l = due-closes (suc d) _ t l
+due_moved-closes m is_list names d us t l = due-closes d _ t l
+due_moved-closes m is_line names d us t l = due-closes d _ t l
+due_moved-closes m begins_unit names d us t l = due-closes d us t l
 
 -- and frames
 data MoveStays : Move → Type 0 where
@@ -232,12 +232,12 @@ bounds-closes : (o : Option Trees) (begun : Begun) (f : Frame) (st : Expressions
 bounds-closes (Some xs) begun f st b d us t l = part-closes [] begun (frame (after_bounds f.wait) xs (f.read ++ b)) d us t l
 bounds-closes None begun f st b d us t l = subst (λ o. OnlyClosed (reading_bounds o begun f (b ++ t ∷ []) d us)) (sym (last-refused st t l)) tt
 
-place-closes : (place : Place) (d : ℕ) (us : List UnitTree) (t : Lexeme) → Last t.kind → OnlyClosed (place_step place d us t)
-place-closes (Stands stage names) d us t l = staged-closes (stage_move stage t) (stage-stays stage t.kind l t.span t.line t.col) names d us t l
-place-closes (Declared xs) d us t l = declared-closes xs d us t l
-place-closes (Part begun f fs) d us t l = part-closes fs begun f d us t l
-place-closes (Expression begun fs st b) d us t l = expression-closes (done_before (Some st) t.kind) begun fs st b d us t l
-place-closes (Bounds begun f st b) d us t l = bounds-closes (bounds_before (Some st) t.kind) begun f st b d us t l
+focus-closes : (focus : Focus) (d : ℕ) (us : List UnitTree) (t : Lexeme) → Last t.kind → OnlyClosed (focus_step focus d us t)
+focus-closes (Stands due names) d us t l = due_moved-closes (due_move due t) (due-stays due t.kind l t.span t.line t.col) names d us t l
+focus-closes (Declared xs) d us t l = declared-closes xs d us t l
+focus-closes (Part begun f fs) d us t l = part-closes fs begun f d us t l
+focus-closes (Expression begun fs st b) d us t l = expression-closes (done_before (Some st) t.kind) begun fs st b d us t l
+focus-closes (Bounds begun f st b) d us t l = bounds-closes (bounds_before (Some st) t.kind) begun f st b d us t l
 
 last-of : (t : Lexeme) → IsLast t → Last t.kind
 last-of t (inl e) = subst Last (sym e) closing
@@ -250,10 +250,10 @@ goes-closed (Some s) ts h = h s
 
 run-closes : (ts : List Lexeme) (s : State) → EndsOnce ts → OnlyClosed (run (Some s) ts)
 run-closes [] s e = absurd e
-run-closes (t ∷ []) s e = place-closes s.place s.depth s.units t (last-of t e)
+run-closes (t ∷ []) s e = focus-closes s.focus s.depth s.units t (last-of t e)
 run-closes (t ∷ next ∷ ts) s e = goes-closed (step s t) (next ∷ ts) (λ r. run-closes (next ∷ ts) r e.1)
 
-closed-wholes : {d : ℕ} {us : List UnitTree} {place : Place} {p : List Lexeme} → PlaceOk d us place p → place ≡ Stands Stage.Closed [] → Wholes us p
+closed-wholes : {d : ℕ} {us : List UnitTree} {focus : Focus} {p : List Lexeme} → FocusOk d us focus p → focus ≡ Stands Due.Closed [] → Wholes us p
 closed-wholes (at_closed w) e = w
 closed-wholes at_opening e = cc
 closed-wholes (at_word k) e = cc
@@ -272,15 +272,15 @@ closed-wholes (at_part q l c g o k h) e = cc
 closed-wholes (at_expression q l c g o u h) e = cc
 closed-wholes (at_bounds q l g s k m h) e = cc
 
-closing-wholes : (lexemes : List Lexeme) → EndsOnce lexemes → (reached : State) → run (Some opening) lexemes ≡ Some reached → (reached.place ≡ Stands Stage.Closed []) × Wholes reached.units lexemes
+closing-wholes : (lexemes : List Lexeme) → EndsOnce lexemes → (reached : State) → run (Some opening) lexemes ≡ Some reached → (reached.focus ≡ Stands Due.Closed []) × Wholes reached.units lexemes
 closing-wholes lexemes e reached h =
-    let c : reached.place ≡ Stands Stage.Closed [] = subst OnlyClosed h (run-closes lexemes opening e) in
+    let c : reached.focus ≡ Stands Due.Closed [] = subst OnlyClosed h (run-closes lexemes opening e) in
     (c, closed-wholes (subst (λ o. GoingOk lexemes o) h (opening-sound lexemes)) c)
 
 -- a list that is read to such an end is accepted
 pub accepts-read : (lexemes : List Lexeme) → EndsOnce lexemes → (reached : State) → run (Some opening) lexemes ≡ Some reached → (found : ModuleUnits) × (parse lexemes ≡ Some found)
 accepts-read lexemes e reached h =
-    let w : (reached.place ≡ Stands Stage.Closed []) × Wholes reached.units lexemes = closing-wholes lexemes e reached h in
+    let w : (reached.focus ≡ Stands Due.Closed []) × Wholes reached.units lexemes = closing-wholes lexemes e reached h in
     (w.1.0, ap answer h ∙ (ap (λ z. answered z reached.units) w.0 ∙ w.1.1))
 
 -- where the machine refuses
@@ -315,5 +315,5 @@ pub derivable-or-bad : (lexemes : List Lexeme) → EndsOnce lexemes → IsDeriva
 derivable-or-bad lexemes e = by (run (Some opening) lexemes) refl
   where
     by : (o : Option State) → run (Some opening) lexemes ≡ o → IsDerivable lexemes ⊎ ((index : ℕ) × (index < length lexemes) × IsFirstBad lexemes index)
-    by (Some r) h = let w : (r.place ≡ Stands Stage.Closed []) × Wholes r.units lexemes = closing-wholes lexemes e r h in inl (w.1.0, whole-derives w.1.2)
+    by (Some r) h = let w : (r.focus ≡ Stands Due.Closed []) × Wholes r.units lexemes = closing-wholes lexemes e r h in inl (w.1.0, whole-derives w.1.2)
     by None h = let k : FirstNone lexemes opening = first-none lexemes opening h in inr (k.index, k.below, refused-first lexemes k.index (record { reached = k.reached; reads = k.reads; refuses = k.refuses }))

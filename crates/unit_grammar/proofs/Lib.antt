@@ -12,3 +12,4 @@ mod FirstBad
 mod Lasting
 mod Ending
 mod Nesting
+mod Holding

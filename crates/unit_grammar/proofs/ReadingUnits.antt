@@ -14,12 +14,12 @@ use Rattle.expr_grammar.proofs.Defining.{IsFirst, Beginning, definition-beginnin
 use Rattle.unit_grammar.specs.Units.{UnitTree, Variables, Constants, ModuleBegin, ModuleEnd, ModuleUnits}
 use Rattle.unit_grammar.specs.Derivation.{SpellsNames, last_name, more_names, BeginsModule, alone, extending, SpellsLocal, exported, kept, DerivesModule}
 use Rattle.unit_grammar.specs.FirstBad.{Begins}
-use Rattle.unit_grammar.specs.declared.wait.Stage.{Stage}
-use Rattle.unit_grammar.specs.declared.wait.StageMove.{StageMove}
+use Rattle.unit_grammar.specs.declared.wait.Due.{Due}
+use Rattle.unit_grammar.specs.declared.wait.DueMove.{DueMove}
 use Rattle.unit_grammar.specs.declared.wait.UnitStart.{UnitStart}
 use Rattle.unit_grammar.specs.declared.wait.Wait.{Wait}
-use Rattle.unit_grammar.specs.Tables.{is_dashes, is_module, is_extends, may_be_local, unit_start, stage_move}
-use Rattle.unit_grammar.specs.Machine.{after_declared, OfConstants, OfDefinition, OfInstance, OfAssumption, OfTheorem, State, state, Stands, started, unit_due, staged, step, run, opening, answer, parse}
+use Rattle.unit_grammar.specs.Tables.{is_dashes, is_module, is_extends, may_be_local, unit_start, due_move}
+use Rattle.unit_grammar.specs.Machine.{after_declared, OfConstants, OfDefinition, OfInstance, OfAssumption, OfTheorem, State, state, Stands, started, unit_due, due_moved, step, run, opening, answer, parse}
 use Rattle.unit_grammar.proofs.Flat.{Plain, plain_variables, plain_constants, plain_definition, plain_instance, plain_assumption, plain_theorem, plain_line, Rest, closes, ends, goes, opens, Whole, whole, derives-whole}
 use Rattle.unit_grammar.proofs.Moving.{around, at, reads-on}
 use Rattle.unit_grammar.proofs.ReadingParts.{read-constants, Follows, InstanceRead, read-instance, DefinitionRead, read-definition}
@@ -131,31 +131,31 @@ rest-begins (opens {b = b} t k r) = front-begins (t ∷ b) (module-first k)
 
 -- ---- lists of names
 
-abbrev standing : ℕ → List UnitTree → Stage → List Lexeme → Option State
-standing d us stage names = Some (state d us (Stands stage names))
+abbrev standing : ℕ → List UnitTree → Due → List Lexeme → Option State
+standing d us due names = Some (state d us (Stands due names))
 
-reads-variables : {names a : List Lexeme} → SpellsNames names a → (d : ℕ) (us : List UnitTree) (ns : List Lexeme) (t : Lexeme) (ts : List Lexeme) → is_comma t.kind ≡ false → run (standing d us Stage.VariableName ns) (a ++ t ∷ ts) ≡ run (unit_due None d (us ++ Variables (ns ++ names) ∷ []) t) ts
+reads-variables : {names a : List Lexeme} → SpellsNames names a → (d : ℕ) (us : List UnitTree) (ns : List Lexeme) (t : Lexeme) (ts : List Lexeme) → is_comma t.kind ≡ false → run (standing d us Due.VariableName ns) (a ++ t ∷ ts) ≡ run (unit_due None d (us ++ Variables (ns ++ names) ∷ []) t) ts
 reads-variables (last_name {n = n} e) d us ns t ts c =
-    let p : stage_move Stage.VariableName n ≡ StageMove.Named Stage.VariableRead = rw e in
-    let q : stage_move Stage.VariableRead t ≡ StageMove.Listed = rw c in
-    ap (λ z. run (staged z ns d us n) (t ∷ ts)) p ∙ ap (λ z. run (staged z (ns ++ n ∷ []) d us t) ts) q
+    let p : due_move Due.VariableName n ≡ DueMove.Named Due.VariableRead = rw e in
+    let q : due_move Due.VariableRead t ≡ DueMove.Listed = rw c in
+    ap (λ z. run (due_moved z ns d us n) (t ∷ ts)) p ∙ ap (λ z. run (due_moved z (ns ++ n ∷ []) d us t) ts) q
 reads-variables (more_names {n = n} {t = s} {names = names} {a = a} e g h) d us ns t ts c =
-    let p : stage_move Stage.VariableName n ≡ StageMove.Named Stage.VariableRead = rw e in
-    let q : stage_move Stage.VariableRead s ≡ StageMove.Goes Stage.VariableName = rw g in
-    ap (λ z. run (staged z ns d us n) (s ∷ (a ++ t ∷ ts))) p
-    ∙ (ap (λ z. run (staged z (ns ++ n ∷ []) d us s) (a ++ t ∷ ts)) q
+    let p : due_move Due.VariableName n ≡ DueMove.Named Due.VariableRead = rw e in
+    let q : due_move Due.VariableRead s ≡ DueMove.Goes Due.VariableName = rw g in
+    ap (λ z. run (due_moved z ns d us n) (s ∷ (a ++ t ∷ ts))) p
+    ∙ (ap (λ z. run (due_moved z (ns ++ n ∷ []) d us s) (a ++ t ∷ ts)) q
     ∙ (reads-variables h d us (ns ++ n ∷ []) t ts c ∙ ap (λ z. run (unit_due None d (us ++ Variables z ∷ []) t) ts) (append_assoc ns (n ∷ []) names)))
 
-reads-extended : {names a : List Lexeme} → SpellsNames names a → (m : Lexeme) (d : ℕ) (us : List UnitTree) (ns : List Lexeme) (t : Lexeme) (ts : List Lexeme) → is_comma t.kind ≡ false → run (standing d us (Stage.ExtendsName m) ns) (a ++ t ∷ ts) ≡ run (unit_due None (suc d) (us ++ ModuleBegin m (ns ++ names) ∷ []) t) ts
+reads-extended : {names a : List Lexeme} → SpellsNames names a → (m : Lexeme) (d : ℕ) (us : List UnitTree) (ns : List Lexeme) (t : Lexeme) (ts : List Lexeme) → is_comma t.kind ≡ false → run (standing d us (Due.ExtendsName m) ns) (a ++ t ∷ ts) ≡ run (unit_due None (suc d) (us ++ ModuleBegin m (ns ++ names) ∷ []) t) ts
 reads-extended (last_name {n = n} e) m d us ns t ts c =
-    let p : stage_move (Stage.ExtendsName m) n ≡ StageMove.Named (Stage.ExtendsRead m) = rw e in
-    let q : stage_move (Stage.ExtendsRead m) t ≡ StageMove.Begun m = rw c in
-    ap (λ z. run (staged z ns d us n) (t ∷ ts)) p ∙ ap (λ z. run (staged z (ns ++ n ∷ []) d us t) ts) q
+    let p : due_move (Due.ExtendsName m) n ≡ DueMove.Named (Due.ExtendsRead m) = rw e in
+    let q : due_move (Due.ExtendsRead m) t ≡ DueMove.Begun m = rw c in
+    ap (λ z. run (due_moved z ns d us n) (t ∷ ts)) p ∙ ap (λ z. run (due_moved z (ns ++ n ∷ []) d us t) ts) q
 reads-extended (more_names {n = n} {t = s} {names = names} {a = a} e g h) m d us ns t ts c =
-    let p : stage_move (Stage.ExtendsName m) n ≡ StageMove.Named (Stage.ExtendsRead m) = rw e in
-    let q : stage_move (Stage.ExtendsRead m) s ≡ StageMove.Goes (Stage.ExtendsName m) = rw g in
-    ap (λ z. run (staged z ns d us n) (s ∷ (a ++ t ∷ ts))) p
-    ∙ (ap (λ z. run (staged z (ns ++ n ∷ []) d us s) (a ++ t ∷ ts)) q
+    let p : due_move (Due.ExtendsName m) n ≡ DueMove.Named (Due.ExtendsRead m) = rw e in
+    let q : due_move (Due.ExtendsRead m) s ≡ DueMove.Goes (Due.ExtendsName m) = rw g in
+    ap (λ z. run (due_moved z ns d us n) (s ∷ (a ++ t ∷ ts))) p
+    ∙ (ap (λ z. run (due_moved z (ns ++ n ∷ []) d us s) (a ++ t ∷ ts)) q
     ∙ (reads-extended h m d us (ns ++ n ∷ []) t ts c ∙ ap (λ z. run (unit_due None (suc d) (us ++ ModuleBegin m z ∷ []) t) ts) (append_assoc ns (n ∷ []) names)))
 
 -- ---- how modules begin
@@ -167,9 +167,9 @@ record HeaderRead (n : Lexeme) (names a : List Lexeme) : Type 0 where
   pub rest : List Lexeme
   pub is : a ≡ d ∷ w ∷ rest
   pub dashes : is_dashes d.kind ≡ true
-  pub starts : unit_start d.kind d ≡ UnitStart.Goes (Stage.Dashes d)
+  pub starts : unit_start d.kind d ≡ UnitStart.Goes (Due.Dashes d)
   pub word : is_module w.kind ≡ true
-  pub reads : (depth : ℕ) (us : List UnitTree) (t : Lexeme) (ts : List Lexeme) → begins_unit t.kind ≡ true → run (standing depth us Stage.ModuleName []) (rest ++ t ∷ ts) ≡ run (unit_due None (suc depth) (us ++ ModuleBegin n names ∷ []) t) ts
+  pub reads : (depth : ℕ) (us : List UnitTree) (t : Lexeme) (ts : List Lexeme) → begins_unit t.kind ≡ true → run (standing depth us Due.ModuleName []) (rest ++ t ∷ ts) ≡ run (unit_due None (suc depth) (us ++ ModuleBegin n names ∷ []) t) ts
 
 read-header : {n : Lexeme} {names a : List Lexeme} → BeginsModule n names a → HeaderRead n names a
 read-header (alone {d = d} {w = w} {n = n} {e = e} h i j k) = record {
@@ -181,11 +181,11 @@ read-header (alone {d = d} {w = w} {n = n} {e = e} h i j k) = record {
   starts = ap (λ z. unit_start z d) h;
   word = ap is_module i;
   reads = λ depth us t ts b.
-      let p : stage_move Stage.ModuleName n ≡ StageMove.Goes (Stage.ModuleDashes n) = rw j in
-      let q : stage_move (Stage.ModuleDashes n) e ≡ StageMove.Goes (Stage.ModuleRead n) = rw k in
+      let p : due_move Due.ModuleName n ≡ DueMove.Goes (Due.ModuleDashes n) = rw j in
+      let q : due_move (Due.ModuleDashes n) e ≡ DueMove.Goes (Due.ModuleRead n) = rw k in
       let c : is_extends t.kind ≡ false = (facts t.kind b).extends in
-      let r : stage_move (Stage.ModuleRead n) t ≡ StageMove.Begun n = rw c in
-      ap (λ z. run (staged z [] depth us n) (e ∷ t ∷ ts)) p ∙ (ap (λ z. run (staged z [] depth us e) (t ∷ ts)) q ∙ ap (λ z. run (staged z [] depth us t) ts) r);
+      let r : due_move (Due.ModuleRead n) t ≡ DueMove.Begun n = rw c in
+      ap (λ z. run (due_moved z [] depth us n) (e ∷ t ∷ ts)) p ∙ (ap (λ z. run (due_moved z [] depth us e) (t ∷ ts)) q ∙ ap (λ z. run (due_moved z [] depth us t) ts) r);
 }
 read-header (extending {d = d} {w = w} {n = n} {e = e} {x = x} {names = names} {a = a} h i j k l m) = record {
   d = d;
@@ -196,39 +196,39 @@ read-header (extending {d = d} {w = w} {n = n} {e = e} {x = x} {names = names} {
   starts = ap (λ z. unit_start z d) h;
   word = ap is_module i;
   reads = λ depth us t ts b.
-      let p : stage_move Stage.ModuleName n ≡ StageMove.Goes (Stage.ModuleDashes n) = rw j in
-      let q : stage_move (Stage.ModuleDashes n) e ≡ StageMove.Goes (Stage.ModuleRead n) = rw k in
-      let r : stage_move (Stage.ModuleRead n) x ≡ StageMove.Goes (Stage.ExtendsName n) = rw l in
-      ap (λ z. run (staged z [] depth us n) (e ∷ x ∷ (a ++ t ∷ ts))) p
-      ∙ (ap (λ z. run (staged z [] depth us e) (x ∷ (a ++ t ∷ ts))) q
-      ∙ (ap (λ z. run (staged z [] depth us x) (a ++ t ∷ ts)) r
+      let p : due_move Due.ModuleName n ≡ DueMove.Goes (Due.ModuleDashes n) = rw j in
+      let q : due_move (Due.ModuleDashes n) e ≡ DueMove.Goes (Due.ModuleRead n) = rw k in
+      let r : due_move (Due.ModuleRead n) x ≡ DueMove.Goes (Due.ExtendsName n) = rw l in
+      ap (λ z. run (due_moved z [] depth us n) (e ∷ x ∷ (a ++ t ∷ ts))) p
+      ∙ (ap (λ z. run (due_moved z [] depth us e) (x ∷ (a ++ t ∷ ts))) q
+      ∙ (ap (λ z. run (due_moved z [] depth us x) (a ++ t ∷ ts)) r
       ∙ reads-extended m n depth us [] t ts (facts t.kind b).comma));
 }
 
-reads-nested : {n : Lexeme} {names a : List Lexeme} → BeginsModule n names a → (depth : ℕ) (us : List UnitTree) (t : Lexeme) (ts : List Lexeme) → begins_unit t.kind ≡ true → run (standing depth us Stage.Unit []) (a ++ t ∷ ts) ≡ run (unit_due None (suc depth) (us ++ ModuleBegin n names ∷ []) t) ts
+reads-nested : {n : Lexeme} {names a : List Lexeme} → BeginsModule n names a → (depth : ℕ) (us : List UnitTree) (t : Lexeme) (ts : List Lexeme) → begins_unit t.kind ≡ true → run (standing depth us Due.Unit []) (a ++ t ∷ ts) ≡ run (unit_due None (suc depth) (us ++ ModuleBegin n names ∷ []) t) ts
 reads-nested {n = n} {names = names} k depth us t ts b =
     let r : HeaderRead n names _ = read-header k in
-    let m : stage_move (Stage.Dashes r.d) r.w ≡ StageMove.Goes Stage.ModuleName = (let z : is_module r.w.kind ≡ true = r.word in rw z) in
-    ap (λ z. run (standing depth us Stage.Unit []) (z ++ t ∷ ts)) r.is
+    let m : due_move (Due.Dashes r.d) r.w ≡ DueMove.Goes Due.ModuleName = (let z : is_module r.w.kind ≡ true = r.word in rw z) in
+    ap (λ z. run (standing depth us Due.Unit []) (z ++ t ∷ ts)) r.is
     ∙ (ap (λ z. run (started z None depth us r.d) (r.w ∷ (r.rest ++ t ∷ ts))) r.starts
-    ∙ (ap (λ z. run (staged z [] depth us r.w) (r.rest ++ t ∷ ts)) m ∙ r.reads depth us t ts b))
+    ∙ (ap (λ z. run (due_moved z [] depth us r.w) (r.rest ++ t ∷ ts)) m ∙ r.reads depth us t ts b))
 
 reads-outermost : {n : Lexeme} {names a : List Lexeme} → BeginsModule n names a → (t : Lexeme) (ts : List Lexeme) → begins_unit t.kind ≡ true → run (Some opening) (a ++ t ∷ ts) ≡ run (unit_due None (suc ℕ.zero) (ModuleBegin n names ∷ []) t) ts
 reads-outermost {n = n} {names = names} k t ts b =
     let r : HeaderRead n names _ = read-header k in
-    let l : stage_move Stage.Opening r.d ≡ StageMove.Goes Stage.OpeningWord = (let z : is_dashes r.d.kind ≡ true = r.dashes in rw z) in
-    let m : stage_move Stage.OpeningWord r.w ≡ StageMove.Goes Stage.ModuleName = (let z : is_module r.w.kind ≡ true = r.word in rw z) in
+    let l : due_move Due.Opening r.d ≡ DueMove.Goes Due.OpeningWord = (let z : is_dashes r.d.kind ≡ true = r.dashes in rw z) in
+    let m : due_move Due.OpeningWord r.w ≡ DueMove.Goes Due.ModuleName = (let z : is_module r.w.kind ≡ true = r.word in rw z) in
     ap (λ z. run (Some opening) (z ++ t ∷ ts)) r.is
-    ∙ (ap (λ z. run (staged z [] ℕ.zero [] r.d) (r.w ∷ (r.rest ++ t ∷ ts))) l
-    ∙ (ap (λ z. run (staged z [] ℕ.zero [] r.w) (r.rest ++ t ∷ ts)) m ∙ r.reads ℕ.zero [] t ts b))
+    ∙ (ap (λ z. run (due_moved z [] ℕ.zero [] r.d) (r.w ∷ (r.rest ++ t ∷ ts))) l
+    ∙ (ap (λ z. run (due_moved z [] ℕ.zero [] r.w) (r.rest ++ t ∷ ts)) m ∙ r.reads ℕ.zero [] t ts b))
 
 -- ---- units
 
-reads-local : {before : Option Lexeme} {a : List Lexeme} → SpellsLocal before a → (d : ℕ) (us : List UnitTree) (s : Lexeme) (ts : List Lexeme) → may_be_local s.kind ≡ true → run (standing d us Stage.Unit []) (a ++ s ∷ ts) ≡ run (started (unit_start s.kind s) before d us s) ts
+reads-local : {before : Option Lexeme} {a : List Lexeme} → SpellsLocal before a → (d : ℕ) (us : List UnitTree) (s : Lexeme) (ts : List Lexeme) → may_be_local s.kind ≡ true → run (standing d us Due.Unit []) (a ++ s ∷ ts) ≡ run (started (unit_start s.kind s) before d us s) ts
 reads-local exported d us s ts h = refl
 reads-local (kept {w = w} e) d us s ts h =
-    let m : stage_move (Stage.Local w) s ≡ StageMove.Begins (Some w) = rw h in
-    ap (λ z. run (started (unit_start z w) None d us w) (s ∷ ts)) e ∙ ap (λ z. run (staged z [] d us s) ts) m
+    let m : due_move (Due.Local w) s ≡ DueMove.Begins (Some w) = rw h in
+    ap (λ z. run (started (unit_start z w) None d us w) (s ∷ ts)) e ∙ ap (λ z. run (due_moved z [] d us s) ts) m
 
 reads-declared : {xs : Trees} {a : List Lexeme} → DerivesParameters xs a → (d : ℕ) (us : List UnitTree) (t : Lexeme) (ts : List Lexeme) → begins_unit t.kind ≡ true → run (at (around (OfConstants Nil) [] d us) Wait.Declaration Nil []) (a ++ t ∷ ts) ≡ run (unit_due None d (us ++ Constants xs ∷ []) t) ts
 reads-declared {xs = xs} {a = a} n d us t ts b =
@@ -236,7 +236,7 @@ reads-declared {xs = xs} {a = a} n d us t ts b =
     let m : after_declared xs d us t ≡ unit_due None d (us ++ Constants xs ∷ []) t = rw c in
     read-constants n d us Nil t ts (facts t.kind b).paren ∙ ap (λ z. run z ts) m
 
-reads-plain : {u : UnitTree} {a : List Lexeme} {t : Lexeme} → Plain u a t → begins_unit t.kind ≡ true → (d : ℕ) (us : List UnitTree) (ts : List Lexeme) → run (standing d us Stage.Unit []) (a ++ t ∷ ts) ≡ run (unit_due None d (us ++ u ∷ []) t) ts
+reads-plain : {u : UnitTree} {a : List Lexeme} {t : Lexeme} → Plain u a t → begins_unit t.kind ≡ true → (d : ℕ) (us : List UnitTree) (ts : List Lexeme) → run (standing d us Due.Unit []) (a ++ t ∷ ts) ≡ run (unit_due None d (us ++ u ∷ []) t) ts
 reads-plain (plain_variables {w = w} {next = t} {a = a} (inl e) n) b d us ts =
     ap (λ z. run (started (unit_start z w) None d us w) (a ++ t ∷ ts)) e ∙ reads-variables n d us [] t ts (facts t.kind b).comma
 reads-plain (plain_variables {w = w} {next = t} {a = a} (inr e) n) b d us ts =
@@ -247,15 +247,15 @@ reads-plain (plain_constants {w = w} {next = t} {xs = xs} {a = a} (inr e) n) b d
     ap (λ z. run (started (unit_start z w) None d us w) (a ++ t ∷ ts)) e ∙ reads-declared n d us t ts b
 reads-plain (plain_definition {before = before} {x = x} {a = a} {b = c} {next = t} l h) b d us ts =
     let r : DefinitionRead x c t = read-definition h (follows-of t b) in
-    ap (λ z. run (standing d us Stage.Unit []) z) (append_assoc a c (t ∷ ts))
-    ∙ (ap (λ z. run (standing d us Stage.Unit []) (a ++ (z ++ t ∷ ts))) r.is
+    ap (λ z. run (standing d us Due.Unit []) z) (append_assoc a c (t ∷ ts))
+    ∙ (ap (λ z. run (standing d us Due.Unit []) (a ++ (z ++ t ∷ ts))) r.is
     ∙ (reads-local l d us r.s (r.rest ++ t ∷ ts) r.local
     ∙ (ap (λ z. run (started z before d us r.s) (r.rest ++ t ∷ ts)) r.starts ∙ r.reads (OfDefinition before) d us ts)))
 reads-plain (plain_instance {before = before} {x = x} {a = a} {b = c} {next = t} l h) b d us ts =
     let r : InstanceRead x c t = read-instance h (follows-of t b) in
     let s : unit_start r.w.kind r.w ≡ UnitStart.Instance = ap (λ z. unit_start z r.w) r.word in
-    ap (λ z. run (standing d us Stage.Unit []) z) (append_assoc a c (t ∷ ts))
-    ∙ (ap (λ z. run (standing d us Stage.Unit []) (a ++ (z ++ t ∷ ts))) r.is
+    ap (λ z. run (standing d us Due.Unit []) z) (append_assoc a c (t ∷ ts))
+    ∙ (ap (λ z. run (standing d us Due.Unit []) (a ++ (z ++ t ∷ ts))) r.is
     ∙ (reads-local l d us r.w (r.rest ++ t ∷ ts) (ap may_be_local r.word)
     ∙ (ap (λ z. run (started z before d us r.w) (r.rest ++ t ∷ ts)) s ∙ r.reads (around (OfInstance before) [] d us) ts)))
 reads-plain (plain_assumption {w = w} {next = t} {x = x} {a = a} (inl e) h) b d us ts =
@@ -268,20 +268,20 @@ reads-plain (plain_theorem {w = w} {next = t} {x = x} {a = a} e h) b d us ts =
     ap (λ z. run (started (unit_start z w) None d us w) (a ++ t ∷ ts)) e ∙ reads-on a (OfTheorem w) [] start [] d us t ts x refl (facts t.kind b).stops h
 reads-plain (plain_line {d = w} {next = t} e n) b d us ts =
     let c : is_module t.kind ≡ false = (facts t.kind b).module_word in
-    let m : stage_move (Stage.Dashes w) t ≡ StageMove.Lined w = rw c in
-    ap (λ z. run (started (unit_start z w) None d us w) (t ∷ ts)) e ∙ ap (λ z. run (staged z [] d us t) ts) m
+    let m : due_move (Due.Dashes w) t ≡ DueMove.Lined w = rw c in
+    ap (λ z. run (started (unit_start z w) None d us w) (t ∷ ts)) e ∙ ap (λ z. run (due_moved z [] d us t) ts) m
 
 -- ---- modules
 
-reads-rest : {depth : ℕ} {units : List UnitTree} {l : List Lexeme} → Rest depth units l → (us : List UnitTree) → run (standing depth us Stage.Unit []) l ≡ standing ℕ.zero (us ++ units) Stage.Closed []
-reads-rest (closes {c = c} e) us = ap (λ z. started (unit_start z c) None (suc ℕ.zero) us c) e ∙ ap (λ z. standing ℕ.zero z Stage.Closed []) (sym (append-nil us))
+reads-rest : {depth : ℕ} {units : List UnitTree} {l : List Lexeme} → Rest depth units l → (us : List UnitTree) → run (standing depth us Due.Unit []) l ≡ standing ℕ.zero (us ++ units) Due.Closed []
+reads-rest (closes {c = c} e) us = ap (λ z. started (unit_start z c) None (suc ℕ.zero) us c) e ∙ ap (λ z. standing ℕ.zero z Due.Closed []) (sym (append-nil us))
 reads-rest (ends {depth = depth} {e = e} {units = units} {b = b} h r) us =
     ap (λ z. run (started (unit_start z e) None (suc (suc depth)) us e) b) h
-    ∙ (reads-rest r (us ++ ModuleEnd e ∷ []) ∙ ap (λ z. standing ℕ.zero z Stage.Closed []) (append_assoc us (ModuleEnd e ∷ []) units))
+    ∙ (reads-rest r (us ++ ModuleEnd e ∷ []) ∙ ap (λ z. standing ℕ.zero z Due.Closed []) (append_assoc us (ModuleEnd e ∷ []) units))
 reads-rest (goes {depth = depth} {unit = unit} {units = units} {b = b} t p r) us =
-    reads-plain p (rest-begins r) depth us b ∙ (reads-rest r (us ++ unit ∷ []) ∙ ap (λ z. standing ℕ.zero z Stage.Closed []) (append_assoc us (unit ∷ []) units))
+    reads-plain p (rest-begins r) depth us b ∙ (reads-rest r (us ++ unit ∷ []) ∙ ap (λ z. standing ℕ.zero z Due.Closed []) (append_assoc us (unit ∷ []) units))
 reads-rest (opens {depth = depth} {n = n} {names = names} {units = units} {b = b} t k r) us =
-    reads-nested k depth us t b (rest-begins r) ∙ (reads-rest r (us ++ ModuleBegin n names ∷ []) ∙ ap (λ z. standing ℕ.zero z Stage.Closed []) (append_assoc us (ModuleBegin n names ∷ []) units))
+    reads-nested k depth us t b (rest-begins r) ∙ (reads-rest r (us ++ ModuleBegin n names ∷ []) ∙ ap (λ z. standing ℕ.zero z Due.Closed []) (append_assoc us (ModuleBegin n names ∷ []) units))
 
 whole-parses : {found : ModuleUnits} {ts : List Lexeme} → Whole found ts → parse ts ≡ Some found
 whole-parses (whole {n = n} {names = names} {b = b} t k r) = ap answer (reads-outermost k t b (rest-begins r) ∙ reads-rest r (ModuleBegin n names ∷ []))

@@ -22,22 +22,22 @@ use Rattle.expr_grammar.proofs.Stopping.{done-derives}
 use Rattle.expr_grammar.proofs.Sounding.{accepted-bounds}
 use Rattle.unit_grammar.specs.Units.{UnitTree, Constants, ModuleBegin, ModuleEnd, ModuleUnits}
 use Rattle.unit_grammar.specs.Derivation.{DeclaresConstants, SpellsNames, last_name, more_names, BeginsModule, alone, extending, SpellsLocal, exported, kept, DerivesModule}
-use Rattle.unit_grammar.specs.declared.wait.Stage.{Stage}
-use Rattle.unit_grammar.specs.declared.wait.StageMove.{StageMove}
+use Rattle.unit_grammar.specs.declared.wait.Due.{Due}
+use Rattle.unit_grammar.specs.declared.wait.DueMove.{DueMove}
 use Rattle.unit_grammar.specs.declared.wait.Wait.{Wait}
 use Rattle.unit_grammar.specs.declared.wait.Move.{Move}
-use Rattle.unit_grammar.specs.Tables.{is_dashes, is_module, is_extends, may_be_local, unit_start, if_stage, move, after_part, after_expression}
-use Rattle.unit_grammar.specs.Machine.{Frame, frame, Begun, OfConstants, OfDefinition, Place, Stands, Part, Bounds, State, state, unit_of, ended, closed, started, unit_due, staged, after_declared, finished, concluded, node, taking, shut, reading, moved, part_step, given, expression_step, bounds_before, reading_bounds, bounds_step, place_step, step, run, opening, whole, answered, answer, parse}
+use Rattle.unit_grammar.specs.Tables.{is_dashes, is_module, is_extends, may_be_local, unit_start, if_due, move, after_part, after_expression}
+use Rattle.unit_grammar.specs.Machine.{Frame, frame, Begun, OfConstants, OfDefinition, Focus, Stands, Part, Bounds, State, state, unit_of, ended, closed, started, unit_due, due_moved, after_declared, finished, concluded, node, taking, shut, reading, moved, part_step, given, expression_step, bounds_before, reading_bounds, bounds_step, focus_step, step, run, opening, whole, answered, answer, parse}
 use Rattle.unit_grammar.proofs.Flat.{Plain, plain_variables, plain_constants, plain_definition, plain_instance, plain_assumption, plain_theorem, plain_line, Rest, closes, ends, goes, opens, whole as as_whole, whole-derives}
 use Rattle.unit_grammar.proofs.Moving.{run-snoc}
 use Rattle.unit_grammar.proofs.ReadingParts.{bounds-quiet}
 use Rattle.unit_grammar.proofs.ReadingUnits.{begins_unit, FirstBegins, rest-begins, facts, run-nothing}
-use Rattle.unit_grammar.proofs.Views.{Sort, Made, ParametersSeen, HasRead, declaration, definition_name, parameters_read, prefix_name, bounds_read, instance_name, replacements_read, complete, Holds, parameters, replacements, body_instance, wants, Stack, base, above, Under, claims, awaits, Opened, opened_constants, opened_definition, opened_instance, opened_assumption, opened_theorem, Wholes, Goes, Opens, NamesSeen, PlaceOk, at_opening, at_word, at_name, at_dashes, at_read, at_extends, at_extended, at_unit, at_line, at_local, at_variable, at_variables, at_closed, at_declared, at_part, at_expression, at_bounds}
+use Rattle.unit_grammar.proofs.Views.{Sort, Made, ParametersSeen, HasRead, declaration, definition_name, parameters_read, prefix_name, bounds_read, instance_name, replacements_read, complete, Holds, parameters, replacements, body_instance, wants, Stack, base, above, Under, claims, awaits, Opened, opened_constants, opened_definition, opened_instance, opened_assumption, opened_theorem, Wholes, Goes, Opens, NamesSeen, FocusOk, at_opening, at_word, at_name, at_dashes, at_read, at_extends, at_extended, at_unit, at_line, at_local, at_variable, at_variables, at_closed, at_declared, at_part, at_expression, at_bounds}
 use Rattle.unit_grammar.proofs.SoundingParts.{MoveOk, move-sound, parameters-more, parameters-close}
 
 abbrev pub GoingOk : List Lexeme → Option State → Type 0
 GoingOk ts None = Unit {0}
-GoingOk ts (Some s) = PlaceOk s.depth s.units s.place ts
+GoingOk ts (Some s) = FocusOk s.depth s.units s.focus ts
 
 pub renamed : (o : Option State) (ts us : List Lexeme) → ts ≡ us → GoingOk ts o → GoingOk us o
 renamed o ts us e g = subst (λ z. GoingOk z o) e g
@@ -309,15 +309,15 @@ bounds-sound {depth = depth} {us = us} {before = before} q l n u b st t g s k m 
     by true r None h = going-bounds q l n u b st t g s k m e (Expressions.step st t) refl
     by false r o h = going-bounds q l n u b st t g s k m e (Expressions.step st t) refl
 
--- ---- stages
+-- ---- each lexeme
 
-by-stage : (P : StageMove → Type 0) (c : Bool) (m n : StageMove) → (c ≡ true → P m) → (c ≡ false → P n) → P (cond c m n)
-by-stage P true m n f g = f refl
-by-stage P false m n f g = g refl
+by-due : (P : DueMove → Type 0) (c : Bool) (m n : DueMove) → (c ≡ true → P m) → (c ≡ false → P n) → P (cond c m n)
+by-due P true m n f g = f refl
+by-due P false m n f g = g refl
 
-only-stage : (P : StageMove → Type 0) (c : Bool) (m : StageMove) → P StageMove.Refused → (c ≡ true → P m) → P (if_stage c m)
-only-stage P true m r f = f refl
-only-stage P false m r f = r
+only-due : (P : DueMove → Type 0) (c : Bool) (m : DueMove) → P DueMove.Refused → (c ≡ true → P m) → P (if_due c m)
+only-due P true m r f = f refl
+only-due P false m r f = r
 
 dashes-is : (k : LexKind) → is_dashes k ≡ true → k ≡ LexKind.Dashes
 dashes-is LexKind.Dashes h = refl
@@ -354,62 +354,62 @@ outermost-opens = record { begin = λ n names a k. record { on = λ vs b r. by n
     by n names a k vs [] r f = absurd f
     by n names a k vs (t ∷ b) r f = (record { name = n; extends = names; units = vs }, refl, as_whole t k r)
 
-stage-sound : {depth : ℕ} {us : List UnitTree} {place : Place} {p : List Lexeme} → PlaceOk depth us place p → (t : Lexeme) → GoingOk (p ++ t ∷ []) (place_step place depth us t)
-stage-sound at_opening t = only-stage (λ m. GoingOk (t ∷ []) (staged m [] ℕ.zero [] t)) (is_dashes t.kind) _ tt (λ e. at_word (dashes-is t.kind e))
-stage-sound (at_word {d = d} k) t = only-stage (λ m. GoingOk (d ∷ t ∷ []) (staged m [] ℕ.zero [] t)) (is_module t.kind) _ tt (λ e. at_name [] d t outermost-opens k (module-is t.kind e))
-stage-sound {depth = depth} {us = us} {p = p} (at_name q d w o k l) t =
-    only-stage (λ m. GoingOk (p ++ t ∷ []) (staged m [] depth us t)) (is_name t.kind) _ tt
-    (λ e. renamed (Some (state depth us (Stands (Stage.ModuleDashes t) []))) _ _ (sym (append_assoc q (d ∷ w ∷ []) (t ∷ []))) (at_dashes q d w o k l (name-is t.kind e)))
-stage-sound {depth = depth} {us = us} {p = p} (at_dashes {n = n} q d w o k l m) t =
-    only-stage (λ z. GoingOk (p ++ t ∷ []) (staged z [] depth us t)) (is_dashes t.kind) _ tt
-    (λ e. renamed (Some (state depth us (Stands (Stage.ModuleRead n) []))) _ _ (sym (append_assoc q (d ∷ w ∷ n ∷ []) (t ∷ []))) (at_read q d w t o k l m (dashes-is t.kind e)))
-stage-sound {depth = depth} {us = us} {p = p} (at_read {n = n} q d w e o k l m i) t =
-    by-stage (λ z. GoingOk (p ++ t ∷ []) (staged z [] depth us t)) (is_extends t.kind) _ _
-    (λ h. renamed (Some (state depth us (Stands (Stage.ExtendsName n) []))) _ _ (sym (append_assoc q (d ∷ w ∷ n ∷ e ∷ []) (t ∷ []))) (at_extends q d w e t [] o k l m i (extends-is t.kind h) (λ names b r. r)))
+focus-sound : {depth : ℕ} {us : List UnitTree} {focus : Focus} {p : List Lexeme} → FocusOk depth us focus p → (t : Lexeme) → GoingOk (p ++ t ∷ []) (focus_step focus depth us t)
+focus-sound at_opening t = only-due (λ m. GoingOk (t ∷ []) (due_moved m [] ℕ.zero [] t)) (is_dashes t.kind) _ tt (λ e. at_word (dashes-is t.kind e))
+focus-sound (at_word {d = d} k) t = only-due (λ m. GoingOk (d ∷ t ∷ []) (due_moved m [] ℕ.zero [] t)) (is_module t.kind) _ tt (λ e. at_name [] d t outermost-opens k (module-is t.kind e))
+focus-sound {depth = depth} {us = us} {p = p} (at_name q d w o k l) t =
+    only-due (λ m. GoingOk (p ++ t ∷ []) (due_moved m [] depth us t)) (is_name t.kind) _ tt
+    (λ e. renamed (Some (state depth us (Stands (Due.ModuleDashes t) []))) _ _ (sym (append_assoc q (d ∷ w ∷ []) (t ∷ []))) (at_dashes q d w o k l (name-is t.kind e)))
+focus-sound {depth = depth} {us = us} {p = p} (at_dashes {n = n} q d w o k l m) t =
+    only-due (λ z. GoingOk (p ++ t ∷ []) (due_moved z [] depth us t)) (is_dashes t.kind) _ tt
+    (λ e. renamed (Some (state depth us (Stands (Due.ModuleRead n) []))) _ _ (sym (append_assoc q (d ∷ w ∷ n ∷ []) (t ∷ []))) (at_read q d w t o k l m (dashes-is t.kind e)))
+focus-sound {depth = depth} {us = us} {p = p} (at_read {n = n} q d w e o k l m i) t =
+    by-due (λ z. GoingOk (p ++ t ∷ []) (due_moved z [] depth us t)) (is_extends t.kind) _ _
+    (λ h. renamed (Some (state depth us (Stands (Due.ExtendsName n) []))) _ _ (sym (append_assoc q (d ∷ w ∷ n ∷ e ∷ []) (t ∷ []))) (at_extends q d w e t [] o k l m i (extends-is t.kind h) (λ names b r. r)))
     (λ h. due-sound (o.begin n [] (d ∷ w ∷ n ∷ e ∷ []) (alone k l m i)) t)
-stage-sound {depth = depth} {us = us} {p = p} (at_extends {n = n} {ns = ns} q d w e x c o k l m i j h) t =
-    only-stage (λ z. GoingOk (p ++ t ∷ []) (staged z ns depth us t)) (is_name t.kind) _ tt
-    (λ f. renamed (Some (state depth us (Stands (Stage.ExtendsRead n) (ns ++ t ∷ [])))) _ _ (sym (append_assoc q (d ∷ w ∷ n ∷ e ∷ x ∷ c) (t ∷ []))) (at_extended q d w e x ns c t o k l m i j h (name-is t.kind f)))
-stage-sound {depth = depth} {us = us} {p = p} (at_extended {n = n} q d w e x ns c v o k l m i j h f) t =
-    by-stage (λ z. GoingOk (p ++ t ∷ []) (staged z (ns ++ v ∷ []) depth us t)) (is_comma t.kind) _ _
-    (λ y. renamed (Some (state depth us (Stands (Stage.ExtendsName n) (ns ++ v ∷ [])))) _ _ (spelled q (d ∷ w ∷ n ∷ e ∷ x ∷ []) c v t) (at_extends q d w e x (c ++ v ∷ t ∷ []) o k l m i j (names-more ns c v t h f (comma-is t.kind y))))
+focus-sound {depth = depth} {us = us} {p = p} (at_extends {n = n} {ns = ns} q d w e x c o k l m i j h) t =
+    only-due (λ z. GoingOk (p ++ t ∷ []) (due_moved z ns depth us t)) (is_name t.kind) _ tt
+    (λ f. renamed (Some (state depth us (Stands (Due.ExtendsRead n) (ns ++ t ∷ [])))) _ _ (sym (append_assoc q (d ∷ w ∷ n ∷ e ∷ x ∷ c) (t ∷ []))) (at_extended q d w e x ns c t o k l m i j h (name-is t.kind f)))
+focus-sound {depth = depth} {us = us} {p = p} (at_extended {n = n} q d w e x ns c v o k l m i j h f) t =
+    by-due (λ z. GoingOk (p ++ t ∷ []) (due_moved z (ns ++ v ∷ []) depth us t)) (is_comma t.kind) _ _
+    (λ y. renamed (Some (state depth us (Stands (Due.ExtendsName n) (ns ++ v ∷ [])))) _ _ (spelled q (d ∷ w ∷ n ∷ e ∷ x ∷ []) c v t) (at_extends q d w e x (c ++ v ∷ t ∷ []) o k l m i j (names-more ns c v t h f (comma-is t.kind y))))
     (λ y. due-sound (o.begin n (ns ++ v ∷ []) (d ∷ w ∷ n ∷ e ∷ x ∷ (c ++ v ∷ [])) (extending k l m i j (names-close ns c v h f))) t)
   where
     spelled : (q a c : List Lexeme) (v t : Lexeme) → q ++ (a ++ (c ++ v ∷ t ∷ [])) ≡ (q ++ (a ++ (c ++ v ∷ []))) ++ t ∷ []
     spelled q a c v t = simp append_assoc
-stage-sound (at_unit g) t = due-sound g t
-stage-sound {depth = depth} {us = us} {p = p} (at_line {d = d} q g k) t =
-    by-stage (λ z. GoingOk (p ++ t ∷ []) (staged z [] depth us t)) (is_module t.kind) _ _
-    (λ e. renamed (Some (state depth us (Stands Stage.ModuleName []))) _ _ (sym (append_assoc q (d ∷ []) (t ∷ []))) (at_name q d t (nested-opens g) k (module-is t.kind e)))
+focus-sound (at_unit g) t = due-sound g t
+focus-sound {depth = depth} {us = us} {p = p} (at_line {d = d} q g k) t =
+    by-due (λ z. GoingOk (p ++ t ∷ []) (due_moved z [] depth us t)) (is_module t.kind) _ _
+    (λ e. renamed (Some (state depth us (Stands Due.ModuleName []))) _ _ (sym (append_assoc q (d ∷ []) (t ∷ []))) (at_name q d t (nested-opens g) k (module-is t.kind e)))
     (λ e. due-sound (plain-goes {a = d ∷ []} (λ u f. plain_line k (λ h. (let z : is_module u.kind ≡ false = (facts u.kind f).module_word in let y : is_module u.kind ≡ true = ap is_module h in cc))) g) t)
-stage-sound {depth = depth} {us = us} {p = p} (at_local {w = w} q g k) t =
-    only-stage (λ z. GoingOk (p ++ t ∷ []) (staged z [] depth us t)) (may_be_local t.kind) _ tt (λ e. local-sound w g k t e)
-stage-sound {depth = depth} {us = us} {p = p} (at_variable {ns = ns} q w c g k h) t =
-    only-stage (λ z. GoingOk (p ++ t ∷ []) (staged z ns depth us t)) (is_name t.kind) _ tt
-    (λ f. renamed (Some (state depth us (Stands Stage.VariableRead (ns ++ t ∷ [])))) _ _ (sym (append_assoc q (w ∷ c) (t ∷ []))) (at_variables q w ns c t g k h (name-is t.kind f)))
-stage-sound {depth = depth} {us = us} {p = p} (at_variables q w ns c v g k h f) t =
-    by-stage (λ z. GoingOk (p ++ t ∷ []) (staged z (ns ++ v ∷ []) depth us t)) (is_comma t.kind) _ _
-    (λ y. renamed (Some (state depth us (Stands Stage.VariableName (ns ++ v ∷ [])))) _ _ (spelled q w c v t) (at_variable q w (c ++ v ∷ t ∷ []) g k (names-more ns c v t h f (comma-is t.kind y))))
+focus-sound {depth = depth} {us = us} {p = p} (at_local {w = w} q g k) t =
+    only-due (λ z. GoingOk (p ++ t ∷ []) (due_moved z [] depth us t)) (may_be_local t.kind) _ tt (λ e. local-sound w g k t e)
+focus-sound {depth = depth} {us = us} {p = p} (at_variable {ns = ns} q w c g k h) t =
+    only-due (λ z. GoingOk (p ++ t ∷ []) (due_moved z ns depth us t)) (is_name t.kind) _ tt
+    (λ f. renamed (Some (state depth us (Stands Due.VariableRead (ns ++ t ∷ [])))) _ _ (sym (append_assoc q (w ∷ c) (t ∷ []))) (at_variables q w ns c t g k h (name-is t.kind f)))
+focus-sound {depth = depth} {us = us} {p = p} (at_variables q w ns c v g k h f) t =
+    by-due (λ z. GoingOk (p ++ t ∷ []) (due_moved z (ns ++ v ∷ []) depth us t)) (is_comma t.kind) _ _
+    (λ y. renamed (Some (state depth us (Stands Due.VariableName (ns ++ v ∷ [])))) _ _ (spelled q w c v t) (at_variable q w (c ++ v ∷ t ∷ []) g k (names-more ns c v t h f (comma-is t.kind y))))
     (λ y. due-sound (plain-goes {a = w ∷ (c ++ v ∷ [])} (λ u z. plain_variables k (names-close ns c v h f)) g) t)
   where
     spelled : (q : List Lexeme) (w : Lexeme) (c : List Lexeme) (v t : Lexeme) → q ++ w ∷ (c ++ v ∷ t ∷ []) ≡ (q ++ w ∷ (c ++ v ∷ [])) ++ t ∷ []
     spelled q w c v t = ap (λ z. q ++ w ∷ z) (sym (append_assoc c (v ∷ []) (t ∷ []))) ∙ sym (append_assoc q (w ∷ (c ++ v ∷ [])) (t ∷ []))
-stage-sound (at_closed w) t = tt
-stage-sound (at_declared q w xs x d b g k h m) t = declared-sound w xs x d b g k h m t
-stage-sound (at_part {f = f} {fs = fs} q l c g o k h) t = part-sound fs f q l c t g o k (h t)
-stage-sound (at_expression {st = st} {b = b} q l c g o u e) t = expression-sound q l c b st t g o u e (done_before (Some st) t.kind) refl
-stage-sound (at_bounds {n = n} {u = u} {st = st} {b = b} q l g s k m e) t = bounds-sound q l n u b st t g s k m e
+focus-sound (at_closed w) t = tt
+focus-sound (at_declared q w xs x d b g k h m) t = declared-sound w xs x d b g k h m t
+focus-sound (at_part {f = f} {fs = fs} q l c g o k h) t = part-sound fs f q l c t g o k (h t)
+focus-sound (at_expression {st = st} {b = b} q l c g o u e) t = expression-sound q l c b st t g o u e (done_before (Some st) t.kind) refl
+focus-sound (at_bounds {n = n} {u = u} {st = st} {b = b} q l g s k m e) t = bounds-sound q l n u b st t g s k m e
 
 pub run-sound : (ts : List Lexeme) (o : Option State) (p : List Lexeme) → GoingOk p o → GoingOk (p ++ ts) (run o ts)
 run-sound [] o p g = renamed o _ _ (sym (append-nil p)) g
 run-sound (t ∷ ts) None p g = subst (λ z. GoingOk (p ++ t ∷ ts) z) (sym (run-nothing (t ∷ ts))) tt
 run-sound (t ∷ ts) (Some s) p g =
-    renamed (run (step s t) ts) _ _ (append_assoc p (t ∷ []) ts) (run-sound ts (step s t) (p ++ t ∷ []) (stage-sound g t))
+    renamed (run (step s t) ts) _ _ (append_assoc p (t ∷ []) ts) (run-sound ts (step s t) (p ++ t ∷ []) (focus-sound g t))
 
 pub opening-sound : (ts : List Lexeme) → GoingOk ts (run (Some opening) ts)
 opening-sound ts = run-sound ts (Some opening) [] at_opening
 
-answered-sound : {depth : ℕ} {us : List UnitTree} {place : Place} {p : List Lexeme} → PlaceOk depth us place p → (found : ModuleUnits) → answered place us ≡ Some found → DerivesModule found p
+answered-sound : {depth : ℕ} {us : List UnitTree} {focus : Focus} {p : List Lexeme} → FocusOk depth us focus p → (found : ModuleUnits) → answered focus us ≡ Some found → DerivesModule found p
 answered-sound {p = p} (at_closed w) found e =
     let q : w.0 ≡ found = (let a : whole _ ≡ Some w.0 = w.1 in cc) in
     subst (λ z. DerivesModule z p) q (whole-derives w.2)

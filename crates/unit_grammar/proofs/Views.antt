@@ -10,14 +10,15 @@ use Rattle.tla_tree.specs.Syntax.{Tree, Trees, Nil}
 use Rattle.tla_tree.specs.Lexemes.{IsName, IsWord, IsMark, IsSymbol, Defines, built, one, two, then, joined}
 use Rattle.tla_tree.specs.Headings.{DerivesPlaces, DerivesParameter, DerivesParameters, DerivesHead, IsReplaceable}
 use Rattle.tla_tree.specs.Derivation.{Derives, DerivesBounds, DerivesDefinition, DerivesInstance, DerivesReplacements, DerivesReplacement}
+use Rattle.expr_grammar.specs.Tables.{name_leaf}
 use Rattle.expr_grammar.specs.Machine as Expressions
 use Rattle.expr_grammar.specs.Machine.{start, start_bounds}
 use Rattle.unit_grammar.specs.Units.{UnitTree, ModuleBegin, ModuleUnits}
 use Rattle.unit_grammar.specs.Derivation.{IsDashes, DeclaresVariables, DeclaresConstants, Assumes, SpellsNames, BeginsModule, SpellsLocal}
-use Rattle.unit_grammar.specs.declared.wait.Stage.{Stage}
+use Rattle.unit_grammar.specs.declared.wait.Due.{Due}
 use Rattle.unit_grammar.specs.declared.wait.Wait.{Wait}
 use Rattle.unit_grammar.specs.Tables.{after_expression}
-use Rattle.unit_grammar.specs.Machine.{Frame, frame, Begun, OfConstants, OfDefinition, OfInstance, OfAssumption, OfTheorem, Place, Stands, Declared, Part, Expression, Bounds, whole}
+use Rattle.unit_grammar.specs.Machine.{Frame, frame, Begun, OfConstants, OfDefinition, OfInstance, OfAssumption, OfTheorem, Focus, Stands, Declared, Part, Expression, Bounds, whole}
 use Rattle.unit_grammar.proofs.Flat.{Rest, Whole}
 
 -- ---- parts
@@ -48,9 +49,6 @@ ReplacementsSeen ps a = (xs : Trees) (c : List Lexeme) (t : Lexeme) → DerivesR
 -- what an expression makes a definition of
 abbrev pub Defining : Form → Trees → List Lexeme → Type 0
 Defining form ps a = (x : Tree) (b : List Lexeme) (t : Lexeme) → Derives x b 0 (Some t) → DerivesDefinition (built form (then ps x) (a ++ b)) (a ++ b) 0 (Some t)
-
-abbrev pub name_leaf : Lexeme → Tree
-name_leaf n = built (Form.Name n) Nil (n ∷ [])
 
 -- what a frame has read that makes a part of a sort, where a lexeme is due
 pub data HasRead (t : Lexeme) : Sort → Wait → Trees → List Lexeme → Type 0 where
@@ -136,21 +134,21 @@ abbrev pub NamesSeen : List Lexeme → List Lexeme → Type 0
 NamesSeen ns c = (names b : List Lexeme) → SpellsNames names b → SpellsNames (ns ++ names) (c ++ b)
 
 -- where in the modules the machine stands, after these lexemes
-pub data PlaceOk : ℕ → List UnitTree → Place → List Lexeme → Type 0 where
-  at_opening : PlaceOk ℕ.zero [] (Stands Stage.Opening []) []
-  at_word : {d : Lexeme} → IsDashes d → PlaceOk ℕ.zero [] (Stands Stage.OpeningWord []) (d ∷ [])
-  at_name : {depth : ℕ} {us : List UnitTree} (q : List Lexeme) (d w : Lexeme) → Opens depth us q → IsDashes d → IsWord w Word.Module → PlaceOk depth us (Stands Stage.ModuleName []) (q ++ d ∷ w ∷ [])
-  at_dashes : {depth : ℕ} {us : List UnitTree} {n : Lexeme} (q : List Lexeme) (d w : Lexeme) → Opens depth us q → IsDashes d → IsWord w Word.Module → IsName n → PlaceOk depth us (Stands (Stage.ModuleDashes n) []) (q ++ d ∷ w ∷ n ∷ [])
-  at_read : {depth : ℕ} {us : List UnitTree} {n : Lexeme} (q : List Lexeme) (d w e : Lexeme) → Opens depth us q → IsDashes d → IsWord w Word.Module → IsName n → IsDashes e → PlaceOk depth us (Stands (Stage.ModuleRead n) []) (q ++ d ∷ w ∷ n ∷ e ∷ [])
-  at_extends : {depth : ℕ} {us : List UnitTree} {n : Lexeme} {ns : List Lexeme} (q : List Lexeme) (d w e x : Lexeme) (c : List Lexeme) → Opens depth us q → IsDashes d → IsWord w Word.Module → IsName n → IsDashes e → IsWord x Word.Extends → NamesSeen ns c → PlaceOk depth us (Stands (Stage.ExtendsName n) ns) (q ++ d ∷ w ∷ n ∷ e ∷ x ∷ c)
-  at_extended : {depth : ℕ} {us : List UnitTree} {n : Lexeme} (q : List Lexeme) (d w e x : Lexeme) (ns c : List Lexeme) (m : Lexeme) → Opens depth us q → IsDashes d → IsWord w Word.Module → IsName n → IsDashes e → IsWord x Word.Extends → NamesSeen ns c → IsName m → PlaceOk depth us (Stands (Stage.ExtendsRead n) (ns ++ m ∷ [])) (q ++ d ∷ w ∷ n ∷ e ∷ x ∷ (c ++ m ∷ []))
-  at_unit : {depth : ℕ} {us : List UnitTree} {q : List Lexeme} → Goes (suc depth) us q → PlaceOk (suc depth) us (Stands Stage.Unit []) q
-  at_line : {depth : ℕ} {us : List UnitTree} {d : Lexeme} (q : List Lexeme) → Goes (suc depth) us q → IsDashes d → PlaceOk (suc depth) us (Stands (Stage.Dashes d) []) (q ++ d ∷ [])
-  at_local : {depth : ℕ} {us : List UnitTree} {w : Lexeme} (q : List Lexeme) → Goes (suc depth) us q → IsWord w Word.Local → PlaceOk (suc depth) us (Stands (Stage.Local w) []) (q ++ w ∷ [])
-  at_variable : {depth : ℕ} {us : List UnitTree} {ns : List Lexeme} (q : List Lexeme) (w : Lexeme) (c : List Lexeme) → Goes (suc depth) us q → DeclaresVariables w → NamesSeen ns c → PlaceOk (suc depth) us (Stands Stage.VariableName ns) (q ++ w ∷ c)
-  at_variables : {depth : ℕ} {us : List UnitTree} (q : List Lexeme) (w : Lexeme) (ns c : List Lexeme) (m : Lexeme) → Goes (suc depth) us q → DeclaresVariables w → NamesSeen ns c → IsName m → PlaceOk (suc depth) us (Stands Stage.VariableRead (ns ++ m ∷ [])) (q ++ w ∷ (c ++ m ∷ []))
-  at_closed : {us : List UnitTree} {ts : List Lexeme} → Wholes us ts → PlaceOk ℕ.zero us (Stands Stage.Closed []) ts
-  at_declared : {depth : ℕ} {us : List UnitTree} (q : List Lexeme) (w : Lexeme) (xs : Trees) (x : Tree) (d b : List Lexeme) → Goes (suc depth) us q → DeclaresConstants w → ParametersSeen xs d → DerivesParameter x b → PlaceOk (suc depth) us (Declared (then xs x)) (q ++ w ∷ (d ++ b))
-  at_part : {depth : ℕ} {us : List UnitTree} {begun : Begun} {s : Sort} {f : Frame} {fs : List Frame} (q l c : List Lexeme) → Goes (suc depth) us q → Opened begun l → Stack begun s fs c → ((t : Lexeme) → HasRead t s f.wait f.parts f.read) → PlaceOk (suc depth) us (Part begun f fs) (q ++ (l ++ (c ++ f.read)))
-  at_expression : {depth : ℕ} {us : List UnitTree} {begun : Begun} {fs : List Frame} {st : Expressions.State} {b : List Lexeme} (q l c : List Lexeme) → Goes (suc depth) us q → Opened begun l → Under begun fs c → Expressions.run (Some start) b ≡ Some st → PlaceOk (suc depth) us (Expression begun fs st b) (q ++ (l ++ (c ++ b)))
-  at_bounds : {depth : ℕ} {us : List UnitTree} {before : Option Lexeme} {n u : Lexeme} {st : Expressions.State} {b : List Lexeme} (q l : List Lexeme) → Goes (suc depth) us q → SpellsLocal before l → IsName n → IsMark u Mark.LeftBracket → Expressions.run (Some start_bounds) b ≡ Some st → PlaceOk (suc depth) us (Bounds (OfDefinition before) (frame (Wait.Bounds n) Nil (n ∷ u ∷ [])) st b) (q ++ (l ++ (n ∷ u ∷ b)))
+pub data FocusOk : ℕ → List UnitTree → Focus → List Lexeme → Type 0 where
+  at_opening : FocusOk ℕ.zero [] (Stands Due.Opening []) []
+  at_word : {d : Lexeme} → IsDashes d → FocusOk ℕ.zero [] (Stands Due.OpeningWord []) (d ∷ [])
+  at_name : {depth : ℕ} {us : List UnitTree} (q : List Lexeme) (d w : Lexeme) → Opens depth us q → IsDashes d → IsWord w Word.Module → FocusOk depth us (Stands Due.ModuleName []) (q ++ d ∷ w ∷ [])
+  at_dashes : {depth : ℕ} {us : List UnitTree} {n : Lexeme} (q : List Lexeme) (d w : Lexeme) → Opens depth us q → IsDashes d → IsWord w Word.Module → IsName n → FocusOk depth us (Stands (Due.ModuleDashes n) []) (q ++ d ∷ w ∷ n ∷ [])
+  at_read : {depth : ℕ} {us : List UnitTree} {n : Lexeme} (q : List Lexeme) (d w e : Lexeme) → Opens depth us q → IsDashes d → IsWord w Word.Module → IsName n → IsDashes e → FocusOk depth us (Stands (Due.ModuleRead n) []) (q ++ d ∷ w ∷ n ∷ e ∷ [])
+  at_extends : {depth : ℕ} {us : List UnitTree} {n : Lexeme} {ns : List Lexeme} (q : List Lexeme) (d w e x : Lexeme) (c : List Lexeme) → Opens depth us q → IsDashes d → IsWord w Word.Module → IsName n → IsDashes e → IsWord x Word.Extends → NamesSeen ns c → FocusOk depth us (Stands (Due.ExtendsName n) ns) (q ++ d ∷ w ∷ n ∷ e ∷ x ∷ c)
+  at_extended : {depth : ℕ} {us : List UnitTree} {n : Lexeme} (q : List Lexeme) (d w e x : Lexeme) (ns c : List Lexeme) (m : Lexeme) → Opens depth us q → IsDashes d → IsWord w Word.Module → IsName n → IsDashes e → IsWord x Word.Extends → NamesSeen ns c → IsName m → FocusOk depth us (Stands (Due.ExtendsRead n) (ns ++ m ∷ [])) (q ++ d ∷ w ∷ n ∷ e ∷ x ∷ (c ++ m ∷ []))
+  at_unit : {depth : ℕ} {us : List UnitTree} {q : List Lexeme} → Goes (suc depth) us q → FocusOk (suc depth) us (Stands Due.Unit []) q
+  at_line : {depth : ℕ} {us : List UnitTree} {d : Lexeme} (q : List Lexeme) → Goes (suc depth) us q → IsDashes d → FocusOk (suc depth) us (Stands (Due.Dashes d) []) (q ++ d ∷ [])
+  at_local : {depth : ℕ} {us : List UnitTree} {w : Lexeme} (q : List Lexeme) → Goes (suc depth) us q → IsWord w Word.Local → FocusOk (suc depth) us (Stands (Due.Local w) []) (q ++ w ∷ [])
+  at_variable : {depth : ℕ} {us : List UnitTree} {ns : List Lexeme} (q : List Lexeme) (w : Lexeme) (c : List Lexeme) → Goes (suc depth) us q → DeclaresVariables w → NamesSeen ns c → FocusOk (suc depth) us (Stands Due.VariableName ns) (q ++ w ∷ c)
+  at_variables : {depth : ℕ} {us : List UnitTree} (q : List Lexeme) (w : Lexeme) (ns c : List Lexeme) (m : Lexeme) → Goes (suc depth) us q → DeclaresVariables w → NamesSeen ns c → IsName m → FocusOk (suc depth) us (Stands Due.VariableRead (ns ++ m ∷ [])) (q ++ w ∷ (c ++ m ∷ []))
+  at_closed : {us : List UnitTree} {ts : List Lexeme} → Wholes us ts → FocusOk ℕ.zero us (Stands Due.Closed []) ts
+  at_declared : {depth : ℕ} {us : List UnitTree} (q : List Lexeme) (w : Lexeme) (xs : Trees) (x : Tree) (d b : List Lexeme) → Goes (suc depth) us q → DeclaresConstants w → ParametersSeen xs d → DerivesParameter x b → FocusOk (suc depth) us (Declared (then xs x)) (q ++ w ∷ (d ++ b))
+  at_part : {depth : ℕ} {us : List UnitTree} {begun : Begun} {s : Sort} {f : Frame} {fs : List Frame} (q l c : List Lexeme) → Goes (suc depth) us q → Opened begun l → Stack begun s fs c → ((t : Lexeme) → HasRead t s f.wait f.parts f.read) → FocusOk (suc depth) us (Part begun f fs) (q ++ (l ++ (c ++ f.read)))
+  at_expression : {depth : ℕ} {us : List UnitTree} {begun : Begun} {fs : List Frame} {st : Expressions.State} {b : List Lexeme} (q l c : List Lexeme) → Goes (suc depth) us q → Opened begun l → Under begun fs c → Expressions.run (Some start) b ≡ Some st → FocusOk (suc depth) us (Expression begun fs st b) (q ++ (l ++ (c ++ b)))
+  at_bounds : {depth : ℕ} {us : List UnitTree} {before : Option Lexeme} {n u : Lexeme} {st : Expressions.State} {b : List Lexeme} (q l : List Lexeme) → Goes (suc depth) us q → SpellsLocal before l → IsName n → IsMark u Mark.LeftBracket → Expressions.run (Some start_bounds) b ≡ Some st → FocusOk (suc depth) us (Bounds (OfDefinition before) (frame (Wait.Bounds n) Nil (n ∷ u ∷ [])) st b) (q ++ (l ++ (n ∷ u ∷ b)))

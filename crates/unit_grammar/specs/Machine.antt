@@ -2,7 +2,7 @@
 --
 -- While an expression is read, or the bounds in a function's head, the state of the machine for these stands beside the
 -- frames that wait for it. An expression is done before the lexemes that may follow one in a unit, and bounds before `]`.
-use Rattle.std.specs.Prelude.{◌≡◌, ℕ, suc, ◌+◌, take, cond, List, [], ◌∷◌, ◌++◌, Option, Some, None}
+use Rattle.std.specs.Prelude.{◌≡◌, ℕ, suc, ◌+◌, take, cond, List, [], ◌∷◌, ◌++◌, length, Option, Some, None}
 use Rattle.tla_symbols.specs.declared.lexeme.LexKind.{LexKind}
 use Rattle.tla_symbols.specs.declared.lexeme.Lexeme.{Lexeme}
 use Rattle.tla_tree.specs.declared.form.Form.{Form}
@@ -13,12 +13,12 @@ use Rattle.expr_grammar.specs.Machine as Expressions
 use Rattle.expr_grammar.specs.Machine.{start, start_bounds, finish_bounds}
 use Rattle.expr_grammar.specs.Following.{done_before}
 use Rattle.unit_grammar.specs.Units.{UnitTree, Variables, Constants, Instance, Assumption, Theorem, Line, ModuleBegin, ModuleEnd, ModuleUnits, defined}
-use Rattle.unit_grammar.specs.declared.wait.Stage.{Stage}
-use Rattle.unit_grammar.specs.declared.wait.StageMove.{StageMove}
+use Rattle.unit_grammar.specs.declared.wait.Due.{Due}
+use Rattle.unit_grammar.specs.declared.wait.DueMove.{DueMove}
 use Rattle.unit_grammar.specs.declared.wait.UnitStart.{UnitStart}
 use Rattle.unit_grammar.specs.declared.wait.Wait.{Wait}
 use Rattle.unit_grammar.specs.declared.wait.Move.{Move}
-use Rattle.unit_grammar.specs.Tables.{unit_start, stage_move, move, after_part, after_expression, after_bounds}
+use Rattle.unit_grammar.specs.Tables.{unit_start, due_move, move, after_part, after_expression, after_bounds}
 
 -- a part that is read: what it waits for, its own parts, and its lexemes
 pub record Frame : Type 0 where
@@ -37,25 +37,26 @@ pub data Begun : Type 0 where
   OfAssumption : (word : Lexeme) → Begun
   OfTheorem : (word : Lexeme) → Begun
 
-pub data Place : Type 0 where
+-- what is read now
+pub data Focus : Type 0 where
   -- a lexeme of the module's own form is due, after these names of a list
-  Stands : (stage : Stage) (names : List Lexeme) → Place
+  Stands : (due : Due) (names : List Lexeme) → Focus
   -- declarations of constants are read: a comma, or the next unit
-  Declared : (declarations : Trees) → Place
+  Declared : (declarations : Trees) → Focus
   -- a lexeme of a part is due, with the parts that wait for it
-  Part : (begun : Begun) (f : Frame) (fs : List Frame) → Place
+  Part : (begun : Begun) (f : Frame) (fs : List Frame) → Focus
   -- an expression or bounds are read, with their lexemes so far
-  Expression : (begun : Begun) (fs : List Frame) (state : Expressions.State) (read : List Lexeme) → Place
-  Bounds : (begun : Begun) (f : Frame) (state : Expressions.State) (read : List Lexeme) → Place
+  Expression : (begun : Begun) (fs : List Frame) (state : Expressions.State) (read : List Lexeme) → Focus
+  Bounds : (begun : Begun) (f : Frame) (state : Expressions.State) (read : List Lexeme) → Focus
 
 -- how many modules are open, the units so far with the begins of these modules, and where in the last it stands
 pub record State : Type 0 where
   pub depth : ℕ
   pub units : List UnitTree
-  pub place : Place
+  pub focus : Focus
 
-abbrev pub state : ℕ → List UnitTree → Place → State
-state depth units place = record { depth = depth; units = units; place = place }
+abbrev pub state : ℕ → List UnitTree → Focus → State
+state depth units focus = record { depth = depth; units = units; focus = focus }
 
 abbrev pub unit_of : Begun → Tree → UnitTree
 unit_of (OfConstants xs) x = Constants (then xs x)
@@ -66,16 +67,16 @@ unit_of (OfTheorem w) x = Theorem w None x
 
 -- the run of `=` that ends a nested module
 abbrev pub ended : ℕ → List UnitTree → Lexeme → Option State
-ended (suc (suc depth)) us t = Some (state (suc depth) (us ++ ModuleEnd t ∷ []) (Stands Stage.Unit []))
+ended (suc (suc depth)) us t = Some (state (suc depth) (us ++ ModuleEnd t ∷ []) (Stands Due.Unit []))
 ended _ us t = None
 
 -- and the one that closes the outermost
 abbrev pub closed : ℕ → List UnitTree → Option State
-closed (suc ℕ.zero) us = Some (state ℕ.zero us (Stands Stage.Closed []))
+closed (suc ℕ.zero) us = Some (state ℕ.zero us (Stands Due.Closed []))
 closed _ us = None
 
 abbrev pub started : UnitStart → Option Lexeme → ℕ → List UnitTree → Lexeme → Option State
-started (UnitStart.Goes stage) l d us t = Some (state d us (Stands stage []))
+started (UnitStart.Goes due) l d us t = Some (state d us (Stands due []))
 started (UnitStart.Definition w) l d us t = Some (state d us (Part (OfDefinition l) (frame w Nil (t ∷ [])) []))
 started UnitStart.Instance l d us t = Some (state d us (Part (OfInstance l) (frame Wait.InstanceName Nil (t ∷ [])) []))
 started UnitStart.Constants l d us t = Some (state d us (Part (OfConstants Nil) (frame Wait.Declaration Nil []) []))
@@ -89,14 +90,14 @@ started UnitStart.Refused l d us t = None
 abbrev pub unit_due : Option Lexeme → ℕ → List UnitTree → Lexeme → Option State
 unit_due l d us t = started (unit_start t.kind t) l d us t
 
-abbrev pub staged : StageMove → List Lexeme → ℕ → List UnitTree → Lexeme → Option State
-staged (StageMove.Goes stage) names d us t = Some (state d us (Stands stage names))
-staged (StageMove.Named stage) names d us t = Some (state d us (Stands stage (names ++ t ∷ [])))
-staged (StageMove.Begun n) names d us t = unit_due None (suc d) (us ++ ModuleBegin n names ∷ []) t
-staged StageMove.Listed names d us t = unit_due None d (us ++ Variables names ∷ []) t
-staged (StageMove.Lined dashes) names d us t = unit_due None d (us ++ Line dashes ∷ []) t
-staged (StageMove.Begins l) names d us t = unit_due l d us t
-staged StageMove.Refused names d us t = None
+abbrev pub due_moved : DueMove → List Lexeme → ℕ → List UnitTree → Lexeme → Option State
+due_moved (DueMove.Goes due) names d us t = Some (state d us (Stands due names))
+due_moved (DueMove.Named due) names d us t = Some (state d us (Stands due (names ++ t ∷ [])))
+due_moved (DueMove.Begun n) names d us t = unit_due None (suc d) (us ++ ModuleBegin n names ∷ []) t
+due_moved DueMove.Listed names d us t = unit_due None d (us ++ Variables names ∷ []) t
+due_moved (DueMove.Lined dashes) names d us t = unit_due None d (us ++ Line dashes ∷ []) t
+due_moved (DueMove.Begins l) names d us t = unit_due l d us t
+due_moved DueMove.Refused names d us t = None
 
 -- a lexeme after declarations of constants
 abbrev pub after_declared : Trees → ℕ → List UnitTree → Lexeme → Option State
@@ -166,36 +167,43 @@ abbrev pub bounds_step : Option Trees → Begun → Frame → Expressions.State 
 bounds_step (Some xs) begun f st b d us t = part_step [] begun (frame (after_bounds f.wait) xs (f.read ++ b)) d us t
 bounds_step None begun f st b d us t = reading_bounds (Expressions.step st t) begun f (b ++ t ∷ []) d us
 
-abbrev pub place_step : Place → ℕ → List UnitTree → Lexeme → Option State
-place_step (Stands stage names) d us t = staged (stage_move stage t) names d us t
-place_step (Declared xs) d us t = after_declared xs d us t
-place_step (Part begun f fs) d us t = part_step fs begun f d us t
-place_step (Expression begun fs st b) d us t = expression_step (done_before (Some st) t.kind) begun fs st b d us t
-place_step (Bounds begun f st b) d us t = bounds_step (bounds_before (Some st) t.kind) begun f st b d us t
+abbrev pub focus_step : Focus → ℕ → List UnitTree → Lexeme → Option State
+focus_step (Stands due names) d us t = due_moved (due_move due t) names d us t
+focus_step (Declared xs) d us t = after_declared xs d us t
+focus_step (Part begun f fs) d us t = part_step fs begun f d us t
+focus_step (Expression begun fs st b) d us t = expression_step (done_before (Some st) t.kind) begun fs st b d us t
+focus_step (Bounds begun f st b) d us t = bounds_step (bounds_before (Some st) t.kind) begun f st b d us t
 
 abbrev pub step : State → Lexeme → Option State
-step s t = place_step s.place s.depth s.units t
+step s t = focus_step s.focus s.depth s.units t
 
 abbrev pub run : Option State → List Lexeme → Option State
 run o [] = o
 run None (t ∷ ts) = None
 run (Some s) (t ∷ ts) = run (step s t) ts
 
+-- how many frames are held
+abbrev pub held : Focus → ℕ
+held (Part begun f fs) = suc (length fs)
+held (Expression begun fs st b) = length fs
+held (Bounds begun f st b) = 1
+held _ = 0
+
 abbrev pub opening : State
-opening = state ℕ.zero [] (Stands Stage.Opening [])
+opening = state ℕ.zero [] (Stands Due.Opening [])
 
 -- the units of the outermost module stand behind its begin
 abbrev pub whole : List UnitTree → Option ModuleUnits
 whole (ModuleBegin n names ∷ us) = Some (record { name = n; extends = names; units = us })
 whole _ = None
 
-abbrev pub answered : Place → List UnitTree → Option ModuleUnits
-answered (Stands Stage.Closed names) us = whole us
+abbrev pub answered : Focus → List UnitTree → Option ModuleUnits
+answered (Stands Due.Closed names) us = whole us
 answered _ us = None
 
 abbrev pub answer : Option State → Option ModuleUnits
 answer None = None
-answer (Some s) = answered s.place s.units
+answer (Some s) = answered s.focus s.units
 
 abbrev pub parse : List Lexeme → Option ModuleUnits
 parse ts = answer (run (Some opening) ts)

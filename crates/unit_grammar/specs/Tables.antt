@@ -1,5 +1,5 @@
--- The tables of moves for units: what a lexeme does at a stage of a module, and to a frame of a unit's part.
-use Rattle.std.specs.Prelude.{◌+◌, Bool, true, false, cond, Some, None}
+-- The tables of moves for units: what a lexeme does where some lexeme of a module is due, and to a frame of a unit's part.
+use Rattle.std.specs.Prelude.{ℕ, ◌+◌, Bool, true, false, cond, Some, None}
 use Rattle.tla_symbols.specs.declared.op.Op.TheVariants as Op
 use Rattle.tla_symbols.specs.declared.place.Fix.{Fix}
 use Rattle.tla_symbols.specs.declared.lexeme.LexKind.{LexKind}
@@ -8,8 +8,8 @@ use Rattle.tla_symbols.specs.declared.lexeme.Lexeme.{Lexeme}
 use Rattle.tla_tree.specs.declared.form.Form.{Form}
 use Rattle.expr_grammar.specs.Kinds.{is_name, is_define, is_left_arrow, is_comma, is_left_paren, is_right_paren, is_left_bracket, is_right_bracket, is_underscore, is_instance, is_with, is_negative}
 use Rattle.expr_grammar.specs.Tables.{defines, is_given_kind, is_replaceable}
-use Rattle.unit_grammar.specs.declared.wait.Stage.{Stage}
-use Rattle.unit_grammar.specs.declared.wait.StageMove.{StageMove}
+use Rattle.unit_grammar.specs.declared.wait.Due.{Due}
+use Rattle.unit_grammar.specs.declared.wait.DueMove.{DueMove}
 use Rattle.unit_grammar.specs.declared.wait.UnitStart.{UnitStart}
 use Rattle.unit_grammar.specs.declared.wait.Wait.{Wait}
 use Rattle.unit_grammar.specs.declared.wait.Move.{Move}
@@ -37,14 +37,14 @@ may_be_local _ = false
 abbrev pub unit_start : LexKind → Lexeme → UnitStart
 unit_start LexKind.Name t = UnitStart.Definition (Wait.DefinitionName t)
 unit_start (LexKind.Sym Op.Negative) t = UnitStart.Definition (Wait.PrefixName t)
-unit_start LexKind.Dashes t = UnitStart.Goes (Stage.Dashes t)
+unit_start LexKind.Dashes t = UnitStart.Goes (Due.Dashes t)
 unit_start LexKind.Equals t = UnitStart.Ends
 unit_start LexKind.Close t = UnitStart.Closes
-unit_start (LexKind.Word Word.Variable) t = UnitStart.Goes Stage.VariableName
-unit_start (LexKind.Word Word.Variables) t = UnitStart.Goes Stage.VariableName
+unit_start (LexKind.Word Word.Variable) t = UnitStart.Goes Due.VariableName
+unit_start (LexKind.Word Word.Variables) t = UnitStart.Goes Due.VariableName
 unit_start (LexKind.Word Word.Constant) t = UnitStart.Constants
 unit_start (LexKind.Word Word.Constants) t = UnitStart.Constants
-unit_start (LexKind.Word Word.Local) t = UnitStart.Goes (Stage.Local t)
+unit_start (LexKind.Word Word.Local) t = UnitStart.Goes (Due.Local t)
 unit_start (LexKind.Word Word.Instance) t = UnitStart.Instance
 unit_start (LexKind.Word Word.Assume) t = UnitStart.Assumption
 unit_start (LexKind.Word Word.Assumption) t = UnitStart.Assumption
@@ -52,27 +52,32 @@ unit_start (LexKind.Word Word.Axiom) t = UnitStart.Assumption
 unit_start (LexKind.Word Word.Theorem) t = UnitStart.Theorem
 unit_start _ t = UnitStart.Refused
 
-abbrev pub if_stage : Bool → StageMove → StageMove
-if_stage test move = cond test move StageMove.Refused
+abbrev pub if_due : Bool → DueMove → DueMove
+if_due test move = cond test move DueMove.Refused
 
--- what a lexeme does at a stage
-abbrev pub stage_move : Stage → Lexeme → StageMove
-stage_move Stage.Opening t = if_stage (is_dashes t.kind) (StageMove.Goes Stage.OpeningWord)
-stage_move Stage.OpeningWord t = if_stage (is_module t.kind) (StageMove.Goes Stage.ModuleName)
-stage_move Stage.ModuleName t = if_stage (is_name t.kind) (StageMove.Goes (Stage.ModuleDashes t))
-stage_move (Stage.ModuleDashes n) t = if_stage (is_dashes t.kind) (StageMove.Goes (Stage.ModuleRead n))
-stage_move (Stage.ModuleRead n) t = cond (is_extends t.kind) (StageMove.Goes (Stage.ExtendsName n)) (StageMove.Begun n)
-stage_move (Stage.ExtendsName n) t = if_stage (is_name t.kind) (StageMove.Named (Stage.ExtendsRead n))
-stage_move (Stage.ExtendsRead n) t = cond (is_comma t.kind) (StageMove.Goes (Stage.ExtendsName n)) (StageMove.Begun n)
-stage_move Stage.Unit t = StageMove.Begins None
-stage_move (Stage.Dashes d) t = cond (is_module t.kind) (StageMove.Goes Stage.ModuleName) (StageMove.Lined d)
-stage_move (Stage.Local w) t = if_stage (may_be_local t.kind) (StageMove.Begins (Some w))
-stage_move Stage.VariableName t = if_stage (is_name t.kind) (StageMove.Named Stage.VariableRead)
-stage_move Stage.VariableRead t = cond (is_comma t.kind) (StageMove.Goes Stage.VariableName) StageMove.Listed
-stage_move Stage.Closed t = StageMove.Refused
+-- what a lexeme does where something is due
+abbrev pub due_move : Due → Lexeme → DueMove
+due_move Due.Opening t = if_due (is_dashes t.kind) (DueMove.Goes Due.OpeningWord)
+due_move Due.OpeningWord t = if_due (is_module t.kind) (DueMove.Goes Due.ModuleName)
+due_move Due.ModuleName t = if_due (is_name t.kind) (DueMove.Goes (Due.ModuleDashes t))
+due_move (Due.ModuleDashes n) t = if_due (is_dashes t.kind) (DueMove.Goes (Due.ModuleRead n))
+due_move (Due.ModuleRead n) t = cond (is_extends t.kind) (DueMove.Goes (Due.ExtendsName n)) (DueMove.Begun n)
+due_move (Due.ExtendsName n) t = if_due (is_name t.kind) (DueMove.Named (Due.ExtendsRead n))
+due_move (Due.ExtendsRead n) t = cond (is_comma t.kind) (DueMove.Goes (Due.ExtendsName n)) (DueMove.Begun n)
+due_move Due.Unit t = DueMove.Begins None
+due_move (Due.Dashes d) t = cond (is_module t.kind) (DueMove.Goes Due.ModuleName) (DueMove.Lined d)
+due_move (Due.Local w) t = if_due (may_be_local t.kind) (DueMove.Begins (Some w))
+due_move Due.VariableName t = if_due (is_name t.kind) (DueMove.Named Due.VariableRead)
+due_move Due.VariableRead t = cond (is_comma t.kind) (DueMove.Goes Due.VariableName) DueMove.Listed
+due_move Due.Closed t = DueMove.Refused
 
 abbrev pub if_move : Bool → Move → Move
 if_move test move = cond test move Move.Refused
+
+-- the places of an operator's declaration that were read
+abbrev pub places_of : Wait → ℕ
+places_of (Wait.Places n places) = places
+places_of _ = 0
 
 -- what a lexeme does to a frame
 abbrev pub move : Wait → Lexeme → Move

@@ -6,15 +6,15 @@
 
 mod wait;
 
-ghost use Rattle.std.specs.Prelude.{◌≡◌, ◌⊎◌, ℕ, suc, ◌<◌, max, List, [], ◌∷◌, ◌++◌, length, Some, None};
+ghost use Rattle.std.specs.Prelude.{◌≡◌, ◌⊎◌, ℕ, suc, ◌<◌, ◌≤◌, max, List, [], ◌∷◌, ◌++◌, length, Some, None};
 ghost use Rattle.tla_symbols.specs.declared.lexeme.Lexeme.{Lexeme};
 ghost use Rattle.unit_grammar.specs.Units.{UnitTree, ModuleBegin, ModuleEnd, ModuleUnits};
 ghost use Rattle.unit_grammar.specs.Derivation.{DerivesUnits, DerivesModule};
 ghost use Rattle.unit_grammar.specs.FirstBad.{IsDerivable, Begins, IsFirstBad, EndsOnce};
 ghost use Rattle.unit_grammar.specs.Heights.{highest_unit};
-ghost use Rattle.unit_grammar.specs.Machine.{State, run, opening, parse, RefusesAt};
+ghost use Rattle.unit_grammar.specs.Machine.{State, held, run, opening, parse, RefusesAt};
 
-pub use wait::{Move, Stage, StageMove, UnitStart, Wait};
+pub use wait::{Due, DueMove, Move, UnitStart, Wait};
 
 /// The machine accepts each derivable list, with the module that derives it.
 pub fn accepts_derivable()
@@ -57,6 +57,11 @@ pub fn accepts_read()
 /// one.
 pub fn derivable_or_bad()
     ensures { (lexemes : List Lexeme) → EndsOnce lexemes → IsDerivable lexemes ⊎ ((index : ℕ) × (index < length lexemes) × IsFirstBad lexemes index) }
+{}
+
+/// At most three frames are held: a definition, an instance on its right, a replacement in that.
+pub fn few_held()
+    ensures { (lexemes : List Lexeme) → (reached : State) → run (Some opening) lexemes ≡ Some reached → held reached.focus ≤ 3 }
 {}
 
 /// A nested module is one higher than its highest unit, and of units that stand beside others the

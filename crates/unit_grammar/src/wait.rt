@@ -2,10 +2,9 @@
 use tla_symbols::Lexeme;
 use tla_tree::Form;
 
-/// Where in a module the machine stands, outside definitions, declarations, instances and
-/// expressions.
+/// What is due in a module, outside definitions, declarations, instances and expressions.
 #[derive(Clone, Copy)]
-pub enum Stage {
+pub enum Due {
     /// The dashes that begin the outermost module are due.
     Opening,
     /// The word MODULE is due, after these dashes.
@@ -34,12 +33,12 @@ pub enum Stage {
     Closed,
 }
 
-/// What a lexeme does at a stage.
+/// What a lexeme does where something is due.
 #[derive(Clone, Copy)]
-pub enum StageMove {
-    Goes(Stage),
+pub enum DueMove {
+    Goes(Due),
     /// The lexeme is a name of the list that is read.
-    Named(Stage),
+    Named(Due),
     /// The module of this name has begun, and the lexeme is due in it.
     Begun(Lexeme),
     /// The variables are read, and the lexeme is due after them.
@@ -54,7 +53,7 @@ pub enum StageMove {
 /// What a lexeme begins where a unit is due.
 #[derive(Clone, Copy)]
 pub enum UnitStart {
-    Goes(Stage),
+    Goes(Due),
     /// A definition, of which this is due next.
     Definition(Wait),
     Instance,
