@@ -1,0 +1,9 @@
+use Rattle.std.proofs.Common.{ap, Some, ◌∙◌}
+use Rattle.expr_parse.specs.Standing.{joined}
+use Rattle.expr_parse.proofs.Renaming.{as-field-is}
+use Rattle.expr_parse.proofs.convert.as_field.Goals as goal
+
+pub returns : goal.returns
+returns c last spelled part =
+    as-field-is _ _ c.args.part _ c.args.name c.args.mark c.joined-place.result _ last spelled c.in_ok-node.ensures.ok c.covered.ensures
+    (c.joined-place.ensures ∙ ap (λ z. joined (Some c.args.name.span) z) c.joined.ensures) c.in_ok-node.ensures.number part

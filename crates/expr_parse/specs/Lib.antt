@@ -1,0 +1,4 @@
+pub mod Goals
+pub mod Standing
+pub mod Ending
+pub mod Reading

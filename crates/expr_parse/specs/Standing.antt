@@ -1,0 +1,212 @@
+-- What the code's stack and parts stand for: frames and trees of the machine.
+use Rattle.std.specs.Prelude.{◌≡◌, ℕ, Bool, true, false, cond, ◌+◌, ◌<◌, ◌≤◌, List, [], ◌∷◌, ◌++◌, length, take, drop, map, reverse, Option, Some, None}
+use Rattle.tla_symbols.specs.declared.lexeme.Span.{Span}
+use Rattle.tla_symbols.specs.declared.lexeme.Lexeme.{Lexeme}
+use Rattle.tla_tree.specs.declared.form.Form.{Form}
+use Rattle.tla_tree.specs.Forms.{helps}
+use Rattle.tla_tree.specs.Arena as Arena
+use Rattle.tla_tree.specs.Arena.{AreThere, tree_at}
+use Rattle.tla_tree.specs.Lexemes.{place}
+use Rattle.tla_tree.specs.Syntax.{Tree, Trees, Node, trees}
+use Rattle.expr_grammar.specs.declared.wait.Wait.{Wait}
+use Rattle.expr_grammar.specs.Machine as Machine
+use Rattle.expr_grammar.specs.Machine.{State, At, Have, inner}
+use Rattle.expr_grammar.specs.declared.wait.Shape.{Shape}
+use Rattle.expr_grammar.specs.declared.wait.Conversion.TheVariants as Conversion
+use Rattle.expr_grammar.specs.Tables.{names_of, as_bound, bound_of, is_expression, list_of, goes_on, finishes, shape_by}
+use Rattle.expr_grammar.specs.Counting.{made_names, made_bound, made_converted}
+use Rattle.expr_parse.specs.Goals.{parts_of}
+use Rattle.expr_parse.specs.declared.convert.Operands.{Operands}
+use Rattle.expr_parse.specs.declared.stack.Opening.{Opening}
+use Rattle.expr_parse.specs.declared.stack.Frame.{Frame}
+use Rattle.expr_parse.specs.declared.stack.Part.{Part}
+use Rattle.expr_parse.specs.declared.stack.Stack.{Stack}
+use Rattle.expr_parse.specs.declared.stack.Turn.{Turn}
+
+-- the place of lexemes that were read in a row, if there are any
+abbrev pub place_of : List Lexeme → Option Span
+place_of [] = None
+place_of (t ∷ rest) = Some (place (t ∷ rest))
+
+-- of two stretches, the one behind the other
+abbrev pub joined : Option Span → Option Span → Option Span
+joined None last = last
+joined (Some first) None = Some first
+joined (Some first) (Some last) = Some (record { start = first.start; end = last.end })
+
+-- no lexeme covers the part of no byte at the text's start
+abbrev pub covered : Option Span → Span
+covered None = record { start = 0; end = 0 }
+covered (Some span) = span
+
+-- a part of the arena is a tree, and its place that of the lexemes that it spells
+pub record IsPart (nodes : List Arena.Node) (part : Part) (tree : Tree) (spelled : List Lexeme) : Type 0 where
+  pub there : part.node < length nodes
+  pub is : tree_at nodes part.node ≡ tree
+  pub place : part.place ≡ place_of spelled
+
+abbrev pub IsThere : List Arena.Node → Part → Type 0
+IsThere nodes part = (tree : Tree) × (spelled : List Lexeme) × IsPart nodes part tree spelled
+
+-- the numbers of a frame's parts are those of its trees, and its place that of the lexemes that it has read
+pub record IsOf (nodes : List Arena.Node) (numbers : List ℕ) (span : Option Span) (parts : List Tree) (read : List Lexeme) : Type 0 where
+  pub there : AreThere nodes numbers
+  pub are : map (tree_at nodes) numbers ≡ parts
+  pub place : span ≡ place_of read
+
+-- the frames, the innermost first, and the numbers of the parts of all of them, the outermost first
+abbrev pub AreFrames : List Arena.Node → List Frame → List ℕ → List Machine.Frame → Type 0
+AreFrames nodes [] numbers [] = numbers ≡ []
+AreFrames nodes (held ∷ rest) numbers (frame ∷ frames) =
+    (held.wait ≡ frame.wait)
+    × (held.inner ≡ inner (frame ∷ frames))
+    × (held.opening.first ≤ length numbers)
+    × IsOf nodes (drop held.opening.first numbers) held.opening.place frame.parts frame.read
+    × AreFrames nodes rest (take held.opening.first numbers) frames
+AreFrames nodes _ numbers _ = ⊥
+
+abbrev pub Stands : List Arena.Node → Stack → List Machine.Frame → Type 0
+Stands nodes stack frames = AreFrames nodes (reverse stack.frames.items) stack.parts.items frames
+
+-- above the frames of the stack another one opens: its parts are on the stack already
+pub record Opens (nodes : List Arena.Node) (stack : Stack) (opening : Opening) (parts : List Tree) (read : List Lexeme) (below : List Machine.Frame) : Type 0 where
+  pub first : opening.first ≤ length stack.parts.items
+  pub own : IsOf nodes (drop opening.first stack.parts.items) opening.place parts read
+  pub stands : AreFrames nodes (reverse stack.frames.items) (take opening.first stack.parts.items) below
+
+-- the frame that was taken from the stack, and the frames below
+abbrev pub IsTop : List Arena.Node → Stack → Option Frame → List Machine.Frame → Type 0
+IsTop nodes stack None [] = Stands nodes stack []
+IsTop nodes stack None (frame ∷ below) = ⊥
+IsTop nodes stack (Some held) [] = ⊥
+IsTop nodes stack (Some held) (frame ∷ below) = (held.wait ≡ frame.wait) × Opens nodes stack held.opening frame.parts frame.read below
+
+abbrev pub IsWait : Option Wait → List Machine.Frame → Type 0
+IsWait None [] = Unit {0}
+IsWait None (frame ∷ below) = ⊥
+IsWait (Some wait) [] = ⊥
+IsWait (Some wait) (frame ∷ below) = wait ≡ frame.wait
+
+-- the nodes that were there stay
+abbrev pub Grows : List Arena.Node → List Arena.Node → Type 0
+Grows nodes more = (rest : List Arena.Node) × (more ≡ nodes ++ rest)
+
+-- a node was made of what had opened, and its frame is gone
+pub record Made (nodes more : List Arena.Node) (stack : Stack) (part : Part) (tree : Tree) (spelled : List Lexeme) (below : List Machine.Frame) : Type 0 where
+  pub grows : Grows nodes more
+  pub one : length more ≡ length nodes + 1
+  pub stands : Stands more stack below
+  pub is : IsPart more part tree spelled
+
+-- a leaf was made
+pub record Adds (nodes more : List Arena.Node) (part : Part) (tree : Tree) (spelled : List Lexeme) : Type 0 where
+  pub grows : Grows nodes more
+  pub one : length more ≡ length nodes + 1
+  pub is : IsPart more part tree spelled
+
+-- what a lexeme led to is the machine's state, or its refusal
+abbrev pub IsTurn : List Arena.Node → Stack → Turn → Option State → Type 0
+IsTurn nodes stack Turn.Refused None = Unit {0}
+IsTurn nodes stack Turn.Due (Some (At frames)) = Stands nodes stack frames
+IsTurn nodes stack (Turn.Read part) (Some (Have frames tree spelled)) = Stands nodes stack frames × IsPart nodes part tree spelled
+IsTurn nodes stack _ _ = ⊥
+
+-- a turn of the machine: old nodes stay, and no more are made than the machine makes
+pub record Turns (nodes more : List Arena.Node) (stack : Stack) (turn : Turn) (state : Option State) (made : ℕ) : Type 0 where
+  pub grows : Grows nodes more
+  pub few : length more ≤ length nodes + made
+  pub turned : IsTurn more stack turn state
+
+-- what becomes of frames and a part is what the machine makes of what they stand for
+abbrev pub Follows : (List Machine.Frame → Tree → List Lexeme → Option State) → (List Machine.Frame → Tree → List Lexeme → ℕ) → List Arena.Node → List Arena.Node → Stack → Stack → Part → Turn → Type 0
+Follows machine made nodes more stack stack' part turn =
+    (frames : List Machine.Frame) → (tree : Tree) → (spelled : List Lexeme) → Stands nodes stack frames → IsPart nodes part tree spelled
+    → Turns nodes more stack' turn (machine frames tree spelled) (made frames tree spelled)
+
+-- they stand for some frames of the machine, and for a part
+pub record IsReady (nodes : List Arena.Node) (stack : Stack) (part : Part) : Type 0 where
+  pub frames : List Machine.Frame
+  pub tree : Tree
+  pub spelled : List Lexeme
+  pub stands : Stands nodes stack frames
+  pub is : IsPart nodes part tree spelled
+
+abbrev pub IsDue : List Arena.Node → Stack → Type 0
+IsDue nodes stack = (frames : List Machine.Frame) × Stands nodes stack frames
+
+-- a frame is open above some frames of the machine
+pub record IsOpen (nodes : List Arena.Node) (stack : Stack) (opening : Opening) : Type 0 where
+  pub parts : List Tree
+  pub read : List Lexeme
+  pub below : List Machine.Frame
+  pub opens : Opens nodes stack opening parts read below
+
+-- a frame that was taken from the stack, and a part beside it
+pub record IsBeside (nodes : List Arena.Node) (stack : Stack) (held : Frame) (part : Part) (frame : Machine.Frame) (below : List Machine.Frame) (tree : Tree) (spelled : List Lexeme) : Type 0 where
+  pub wait : held.wait ≡ frame.wait
+  pub opens : Opens nodes stack held.opening frame.parts frame.read below
+  pub is : IsPart nodes part tree spelled
+
+-- what becomes of them is what the machine makes of the frame, those below it, and the part
+abbrev pub FollowsFrame : (Machine.Frame → List Machine.Frame → Tree → List Lexeme → Option State) → (Machine.Frame → List Machine.Frame → Tree → List Lexeme → ℕ) → List Arena.Node → List Arena.Node → Stack → Stack → Frame → Part → Turn → Type 0
+FollowsFrame machine made nodes more stack stack' held part turn =
+    (frame : Machine.Frame) → (below : List Machine.Frame) → (tree : Tree) → (spelled : List Lexeme) → IsBeside nodes stack held part frame below tree spelled
+    → Turns nodes more stack' turn (machine frame below tree spelled) (made frame below tree spelled)
+
+pub record CanTake (nodes : List Arena.Node) (stack : Stack) (held : Frame) (part : Part) : Type 0 where
+  pub frame : Machine.Frame
+  pub below : List Machine.Frame
+  pub tree : Tree
+  pub spelled : List Lexeme
+  pub beside : IsBeside nodes stack held part frame below tree spelled
+
+-- a frame took a part that may have been made anew
+pub record Converts (nodes more : List Arena.Node) (stack : Stack) (opening : Opening) (parts : List Tree) (read : List Lexeme) (below : List Machine.Frame) (made : ℕ) : Type 0 where
+  pub grows : Grows nodes more
+  pub few : length more ≤ length nodes + made
+  pub opens : Opens more stack opening parts read below
+
+-- a part was made anew, or stays
+pub record Becomes (nodes more : List Arena.Node) (part : Part) (tree : Tree) (spelled : List Lexeme) (made : ℕ) : Type 0 where
+  pub grows : Grows nodes more
+  pub few : length more ≤ length nodes + made
+  pub is : IsPart more part tree spelled
+
+pub record Renamed (nodes more : List Arena.Node) (number : ℕ) (tree : Tree) (made : ℕ) : Type 0 where
+  pub grows : Grows nodes more
+  pub few : length more ≤ length nodes + made
+  pub there : number < length more
+  pub is : tree_at more number ≡ tree
+
+-- the names that these trees turn out to be
+pub record AreNames (nodes more : List Arena.Node) (numbers : List ℕ) (read : Trees) : Type 0 where
+  pub grows : Grows nodes more
+  pub few : length more ≤ length nodes + made_names read
+  pub there : AreThere more numbers
+  pub are : trees (map (tree_at more) numbers) ≡ names_of read
+
+-- the operands of the infix form that may turn out to be a bound
+abbrev pub AreOperands : List Arena.Node → Option Operands → Tree → Type 0
+AreOperands nodes None tree = ((spelled : List Lexeme) → as_bound tree spelled ≡ tree) × (made_converted Conversion.AsBound tree ≡ 0)
+AreOperands nodes (Some operands) tree =
+    (operands.left < length nodes)
+    × (operands.right < length nodes)
+    × ((spelled : List Lexeme) → as_bound tree spelled ≡ bound_of (tree_at nodes operands.left) (tree_at nodes operands.right) spelled)
+    × (made_converted Conversion.AsBound tree ≡ made_bound (tree_at nodes operands.left))
+
+-- the list's first bullet, where a lexeme after this part begins the next item
+abbrev pub continues_by : Option Lexeme → Lexeme → Option Lexeme
+continues_by None t = None
+continues_by (Some first) t = cond (goes_on first t) (Some first) None
+
+abbrev pub continues : Wait → Shape → Lexeme → Option Lexeme
+continues wait shape t = continues_by (cond (is_expression shape) (list_of wait) None) t
+
+abbrev pub AreTwo : Option Operands → List ℕ → Type 0
+AreTwo None (left ∷ right ∷ []) = ⊥
+AreTwo None numbers = Unit {0}
+AreTwo (Some operands) numbers = numbers ≡ operands.left ∷ operands.right ∷ []
+
+-- a turn that the machine may stand at
+abbrev pub IsTurnReady : List Arena.Node → Stack → Turn → Type 0
+IsTurnReady nodes stack turn = (state : Option State) × IsTurn nodes stack turn state

@@ -1,0 +1,259 @@
+// The stack of frames that wait for their parts.
+ghost use Rattle.std.specs.Prelude.{◌≡◌, ◌+◌, ◌<◌, ◌≤◌, ℕ, List, [], ◌∷◌, ◌++◌, length, drop, reverse, OnOk, OnSome, IfOk};
+ghost use Rattle.tla_symbols.specs.declared.lexeme.Lexeme.{Lexeme};
+ghost use Rattle.tla_tree.specs.Arena.{Node, AreThere};
+ghost use Rattle.tla_tree.specs.Syntax as syntax;
+ghost use Rattle.tla_tree.specs.Syntax.{Nil, trees};
+ghost use Rattle.tla_tree.specs.Lexemes.{built};
+ghost use Rattle.expr_grammar.specs.Machine as machine;
+ghost use Rattle.expr_parse.specs.Standing as standing;
+ghost use Rattle.expr_parse.specs.Standing.{IsPart, IsThere, IsOpen, AreFrames, Stands, Opens, IsTop, IsWait, Made, Adds};
+
+use expr_grammar::Wait;
+use expr_tables::list_of;
+use std::alloc::Global;
+use tla_symbols::{Lexeme, Span};
+use tla_tree::{Form, Tree};
+use tool_list::Memory;
+
+/// What a frame has read: where its parts begin on the stack of parts, and the place of its
+/// lexemes, if there are any.
+#[derive(Clone, Copy)]
+pub(crate) struct Opening {
+    first: usize,
+    place: Option<Span>,
+}
+
+/// A frame of the stack.
+#[derive(Clone, Copy)]
+pub(crate) struct Frame {
+    pub(crate) wait: Wait,
+    pub(crate) opening: Opening,
+    /// The column from which lexemes stand inside all aligned lists up to this frame.
+    inner: u64,
+}
+
+/// A part that was read: its node, and the place of its lexemes.
+#[derive(Clone, Copy)]
+pub(crate) struct Part {
+    pub(crate) node: u32,
+    pub(crate) place: Option<Span>,
+}
+
+/// What a lexeme led to.
+#[derive(Clone, Copy)]
+pub(crate) enum Turn {
+    /// It does not fit.
+    Refused,
+    /// The next part or lexeme of the innermost frame is due.
+    Due,
+    /// A part was read.
+    Read(Part),
+}
+
+/// Frames, the innermost last, and the numbers of the nodes of all their parts.
+#[derive(Drop)]
+pub(crate) struct Stack {
+    alloc: Global,
+    frames: Vec<Frame>,
+    parts: Vec<u32>,
+}
+
+/// The place of two stretches of lexemes, the one behind the other.
+pub(crate) fn joined(first: Option<Span>, last: Option<Span>) -> Option<Span>
+    ensures { result ≡ standing.joined first last }
+{
+    match first {
+        None => last,
+        Some(first) => match last {
+            None => Some(first),
+            Some(last) => Some(Span {
+                start: first.start,
+                end: last.end,
+            }),
+        },
+    }
+}
+
+pub(crate) fn covered(place: Option<Span>) -> Span
+    ensures { result ≡ standing.covered place }
+{
+    match place {
+        None => Span { start: 0, end: 0 },
+        Some(span) => span,
+    }
+}
+
+/// The column from which lexemes stand inside the lists of a frame with this wait.
+fn inside(wait: Wait, inner: u64) -> u64
+    ensures { result ≡ machine.inside wait inner }
+{
+    match list_of(wait) {
+        None => inner,
+        Some(bullet) => inner.max(bullet.col as u64 + 1),
+    }
+}
+
+impl Opening {
+    /// The frame reads the lexemes of one more place.
+    pub(crate) fn reads(self, place: Option<Span>) -> Opening
+        ensures { result ≡ record { first = self.first; place = standing.joined self.place place } }
+    {
+        Opening {
+            first: self.first,
+            place: joined(self.place, place),
+        }
+    }
+}
+
+impl Stack {
+    pub(crate) fn new(alloc: Global) -> Stack
+        ensures { (nodes : List Node) → Stands nodes result [] }
+    {
+        Stack {
+            alloc,
+            frames: Vec::new(alloc),
+            parts: Vec::new(alloc),
+        }
+    }
+
+    pub(crate) fn alloc(&self) -> Global {
+        self.alloc
+    }
+
+    /// The frames, the innermost last.
+    pub(crate) fn frames(&self) -> &[Frame]
+        ensures { result.now ≡ self.now.frames.items }
+    {
+        self.frames.as_slice()
+    }
+
+    /// The column from which lexemes stand inside all aligned lists.
+    pub(crate) fn inner(&self) -> u64
+        ensures { (nodes : List Node) → (numbers : List ℕ) → (frames : List machine.Frame) → AreFrames nodes (reverse self.now.frames.items) numbers frames → result ≡ machine.inner frames }
+    {
+        match self.frames.last() {
+            Some(frame) => frame.inner,
+            None => 0,
+        }
+    }
+
+    /// What the innermost frame waits for.
+    pub(crate) fn wait(&self) -> Option<Wait>
+        ensures top { (nodes : List Node) → (frames : List machine.Frame) → Stands nodes self.now frames → IsWait result frames }
+        ensures some { OnSome result (0 < length self.now.frames.items) }
+    {
+        match self.frames.last() {
+            Some(frame) => Some(frame.wait),
+            None => None,
+        }
+    }
+
+    /// Takes the innermost frame from the stack. Its parts stay.
+    pub(crate) fn pop(&mut self) -> Option<Frame>
+        ensures top { (nodes : List Node) → (frames : List machine.Frame) → Stands nodes self.old frames → IsTop nodes self.new result frames }
+        ensures fewer { OnSome result (length self.new.frames.items + 1 ≡ length self.old.frames.items) }
+    {
+        self.frames.pop()
+    }
+
+    /// A frame that has read the lexemes of the place, and no part.
+    pub(crate) fn opening(&self, place: Option<Span>) -> Opening
+        ensures { (nodes : List Node) → (frames : List machine.Frame) → (read : List Lexeme) → Stands nodes self.now frames → place ≡ standing.place_of read → Opens nodes self.now result [] read frames }
+    {
+        Opening {
+            first: self.parts.len(),
+            place,
+        }
+    }
+
+    /// Puts a frame on the stack.
+    pub(crate) fn put(&mut self, wait: Wait, opening: Opening) -> Result<(), Memory>
+        ensures { OnOk result ((nodes : List Node) → (parts : List syntax.Tree) → (read : List Lexeme) → (below : List machine.Frame) → Opens nodes self.old opening parts read below → Stands nodes self.new (machine.frame wait parts read ∷ below)) }
+    {
+        let inner = inside(wait, self.inner());
+        self.frames.push(Frame {
+            wait,
+            opening,
+            inner,
+        })?;
+        Ok(())
+    }
+
+    /// The frame takes a part.
+    pub(crate) fn hold(&mut self, opening: Opening, part: Part) -> Result<Opening, Memory>
+        ensures same { OnOk result (self.new.frames.items ≡ self.old.frames.items) }
+        ensures more { IfOk result (λ more. (nodes : List Node) → (parts : List syntax.Tree) → (read : List Lexeme) → (below : List machine.Frame) → (tree : syntax.Tree) → (spelled : List Lexeme) → Opens nodes self.old opening parts read below → IsPart nodes part tree spelled → Opens nodes self.new more (parts ++ tree ∷ []) (read ++ spelled) below) }
+    {
+        self.parts.push(part.node)?;
+        Ok(opening.reads(part.place))
+    }
+
+    /// The node of a frame that ends: it is no longer on the stack.
+    pub(crate) fn node(
+        &mut self,
+        tree: &mut Tree,
+        form: Form,
+        opening: Opening,
+    ) -> Result<Part, Memory>
+        requires { IsOpen tree.old self.old opening }
+        ensures same { OnOk result (self.new.frames.items ≡ self.old.frames.items) }
+        ensures made { IfOk result (λ part. (parts : List syntax.Tree) → (read : List Lexeme) → (below : List machine.Frame) → Opens tree.old self.old opening parts read below → Made tree.old tree.new self.new part (built form (trees parts) read) read below) }
+    {
+        let children = from(self.parts.as_slice(), opening.first);
+        let node = add(tree, form, children, covered(opening.place))?;
+        self.parts.truncate(opening.first);
+        Ok(Part {
+            node,
+            place: opening.place,
+        })
+    }
+
+    /// The node of a frame that ends with a last part.
+    pub(crate) fn close(
+        &mut self,
+        tree: &mut Tree,
+        form: Form,
+        opening: Opening,
+        part: Part,
+    ) -> Result<Part, Memory>
+        requires opened { IsOpen tree.old self.old opening }
+        requires part { IsThere tree.old part }
+        ensures same { OnOk result (self.new.frames.items ≡ self.old.frames.items) }
+        ensures made { IfOk result (λ whole. (parts : List syntax.Tree) → (read : List Lexeme) → (below : List machine.Frame) → (last : syntax.Tree) → (spelled : List Lexeme) → Opens tree.old self.old opening parts read below → IsPart tree.old part last spelled → Made tree.old tree.new self.new whole (built form (trees (parts ++ last ∷ [])) (read ++ spelled)) (read ++ spelled) below) }
+    {
+        let opening = self.hold(opening, part)?;
+        let whole = self.node(tree, form, opening)?;
+        Ok(whole)
+    }
+}
+
+fn from(numbers: &[u32], first: usize) -> &[u32]
+    requires { first ≤ length numbers.now }
+    ensures { result.now ≡ drop first numbers.now }
+{
+    &numbers[first..]
+}
+
+/// Adds a node. A tree that can number no further node has no room for it.
+pub(crate) fn add(tree: &mut Tree, form: Form, children: &[u32], span: Span) -> Result<u32, Memory>
+    requires there { AreThere tree.old children.now }
+    ensures number { IfOk result (λ number. number ≡ length tree.old) }
+    ensures ok { OnOk result (tree.new ≡ tree.old ++ record { form = form; span = span; children = children.now } ∷ []) }
+{
+    if tree.len() >= u32::MAX as usize {
+        return Err(Memory);
+    }
+    tree.push(form, children, span)
+}
+
+/// A node of one lexeme.
+pub(crate) fn leaf(tree: &mut Tree, form: Form, lexeme: Lexeme) -> Result<Part, Memory>
+    ensures { IfOk result (λ part. Adds tree.old tree.new part (built form Nil (lexeme ∷ [])) (lexeme ∷ [])) }
+{
+    let node = add(tree, form, &[], lexeme.span)?;
+    Ok(Part {
+        node,
+        place: Some(lexeme.span),
+    })
+}
