@@ -322,3 +322,11 @@ pub read-by : (nodes more : List Arena.Node) (machine machine' : ExprMachine) (b
 read-by nodes more machine machine' before lexemes next step ends goal g g' q k s h =
     let f : cond (may_end machine.goal next.kind) (is_whole machine.goal (ending_of (run (Some (start_of machine.goal)) lexemes))) false ≡ false = ap (λ z. cond (may_end z next.kind) (is_whole z (ending_of (run (Some (start_of machine.goal)) lexemes))) false) (sym g) ∙ (sym q ∙ k) in
     (read-answer nodes more machine machine' before lexemes next step (g' ∙ g) h s f, read-few nodes more machine machine' before lexemes next step h s)
+
+-- old nodes stay while all frames end
+pub closes-grow : (nodes more most : List Arena.Node) (stack : Stack) (part : Part) (goal : Goal) (number : ℕ) (o : Option Outermost) (made : ℕ) → Closes nodes more stack (Some part) o made → ((frame : Machine.Frame) → (e : Tree) → (b : List Lexeme) → Stands more stack (frame ∷ []) → IsPart more part e b → IsGoal more most number goal frame e) → Grows nodes most
+closes-grow nodes more most stack part goal number o made c w = by o c.left
+  where
+    by : (o : Option Outermost) → IsLeft more stack (Some part) o → Grows nodes most
+    by None l = absurd l
+    by (Some last) l = let k = w last.frame last.tree last.spelled l.0 l.1 in grows-on nodes more most c.grows k.grows

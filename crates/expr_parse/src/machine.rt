@@ -8,7 +8,7 @@ ghost use Rattle.expr_parse.specs.declared.machine.Stage.TheVariants as Stage;
 ghost use Rattle.expr_parse.specs.declared.stack.Turn.TheVariants as Turn;
 ghost use Rattle.expr_parse.specs.Goals as goals;
 ghost use Rattle.expr_parse.specs.Ending as ends;
-ghost use Rattle.expr_parse.specs.Standing.{IsTurn, IsTurnReady, Stands, Turns};
+ghost use Rattle.expr_parse.specs.Standing.{Grows, IsTurn, IsTurnReady, Stands, Turns};
 ghost use Rattle.expr_parse.specs.Reading.{StandsAt, HasRead, IsReady, IsAnswer, IsDone, HasStepped, start_of};
 
 use crate::begins::{due, goes_on};
@@ -84,6 +84,7 @@ impl ExprMachine {
         requires { IsReady tree.old self.old }
         ensures answer { IfOk result (λ step. (before : ℕ) → (lexemes : List Lexeme) → HasRead tree.old self.old before lexemes → IsAnswer tree.new self.new before lexemes lexeme.now step) }
         ensures few { OnOk result ((before : ℕ) → (lexemes : List Lexeme) → HasRead tree.old self.old before lexemes → length tree.new ≤ before + 8 * (length lexemes + 1)) }
+        ensures grows { OnOk result (Grows tree.old tree.new) }
         ensures goal { self.new.goal ≡ self.old.goal }
         ensures ready { IsReady tree.new self.new }
     {
@@ -100,6 +101,7 @@ impl ExprMachine {
         requires { IsReady tree.old self.old }
         ensures answer { IfOk result (λ step. (before : ℕ) → (lexemes : List Lexeme) → HasRead tree.old self.old before lexemes → IsAnswer tree.new self.new before lexemes lexeme step) }
         ensures few { OnOk result ((before : ℕ) → (lexemes : List Lexeme) → HasRead tree.old self.old before lexemes → length tree.new ≤ before + 8 * (length lexemes + 1)) }
+        ensures grows { OnOk result (Grows tree.old tree.new) }
         ensures goal { self.new.goal ≡ self.old.goal }
         ensures ready { OnOk result (IsReady tree.new self.new) }
     {
@@ -138,6 +140,7 @@ impl ExprMachine {
     fn finish(&mut self, tree: &mut Tree, turn: Turn) -> Result<Step, Memory>
         requires { IsTurnReady tree.old self.old.stack turn }
         ensures done { IfOk result (λ step. (state : Option machine.State) → (last : ends.Outermost) → IsTurn tree.old self.old.stack turn state → ends.ending_of state ≡ Some last → IsDone tree.old tree.new self.old.goal step last (counting.made_finish state)) }
+        ensures grows { OnOk result (Grows tree.old tree.new) }
         ensures goal { self.new.goal ≡ self.old.goal }
         ensures refused { OnOk result (self.new.stage ≡ Stage.Goes Turn.Refused) }
     {
