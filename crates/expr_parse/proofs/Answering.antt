@@ -1,19 +1,17 @@
 -- What steps answer, in the terms of the grammar.
-use Rattle.std.proofs.Common.{◌≡◌, ℕ, suc, ◌+◌, ◌*◌, ◌<◌, ◌≤◌, Bool, true, false, List, [], ◌∷◌, ◌++◌, Option, Some, None, length, refl, ap, sym, subst, ◌∙◌, length-append, arith}
+use Rattle.std.proofs.Common.{◌≡◌, ℕ, ◌+◌, ◌*◌, ◌≤◌, Bool, true, false, List, [], ◌∷◌, ◌++◌, Option, Some, None, length, refl, ap, sym, subst, ◌∙◌, length-append, arith}
 use Rattle.std.specs.Prelude.{cond}
-use Rattle.tla_symbols.specs.declared.lexeme.LexKind.{LexKind}
 use Rattle.tla_symbols.specs.declared.lexeme.Lexeme.{Lexeme}
 use Rattle.tla_tree.specs.declared.form.Form.{Form}
 use Rattle.tla_tree.specs.Arena as Arena
 use Rattle.tla_tree.specs.Arena.{tree_at}
 use Rattle.tla_tree.specs.Lexemes.{built}
-use Rattle.tla_tree.specs.Syntax.{Tree, Trees, Node, trees, form}
+use Rattle.tla_tree.specs.Syntax.{Tree, Trees, trees, form}
 use Rattle.expr_grammar.specs.declared.wait.Wait.{Wait}
 use Rattle.expr_grammar.specs.declared.wait.Shape.{Shape}
-use Rattle.expr_grammar.specs.Tables.{shape, is_expression, finishes, endable}
+use Rattle.expr_grammar.specs.Tables.{shape, finishes, endable}
 use Rattle.expr_grammar.specs.Machine as Machine
 use Rattle.expr_grammar.specs.Machine.{State, At, Have, node, node_with, run, start, start_bounds, step, finish, finish_bounds, close_all, close_bounds, on_tree, on_bounds, whole, whole_bounds}
-use Rattle.expr_grammar.specs.Following as Following
 use Rattle.expr_grammar.specs.Following.{closes_bounds, done_before, bounds_done_before}
 use Rattle.expr_grammar.specs.Counting.{made_run, made_step, made_finish}
 use Rattle.expr_grammar.proofs.Complete.{run-append, refused-ends}
@@ -32,10 +30,9 @@ use Rattle.expr_parse.specs.declared.stack.Stack.{Stack}
 use Rattle.expr_parse.specs.declared.stack.Turn.TheVariants as Turn
 use Rattle.expr_parse.specs.Goals.{stops, may_end, parts_of, DerivesGoal, BeginsGoal, IsWhole, IsSame}
 use Rattle.expr_parse.specs.Standing.{IsPart, Stands, IsTurn, Turns, Grows, IsReady, Made}
-use Rattle.expr_parse.specs.Ending.{Outermost, on_outermost, closing, ending, ending_of, takes_whole, is_whole, IsLeft, Closes, IsOf, IsGoal}
-use Rattle.expr_parse.specs.Reading.{start_of, StandsAt, HasRead, IsAnswer, IsDoneBy, IsDone, IsStepTo, HasStepped}
+use Rattle.expr_parse.specs.Ending.{Outermost, on_outermost, closing, ending_of, takes_whole, is_whole, IsLeft, Closes, IsOf, IsGoal}
+use Rattle.expr_parse.specs.Reading.{start_of, StandsAt, HasRead, IsAnswer, IsDone, IsStepTo, HasStepped}
 use Rattle.expr_parse.proofs.Growing.{grows-same, grows-on}
-use Rattle.expr_parse.proofs.Closing.{turn-ready}
 
 abbrev on_last : {X : Type 0} → Option Outermost → (Outermost → Option X) → Option X
 on_last None go = None

@@ -1,6 +1,6 @@
 -- How frames end, one by one.
-use Rattle.std.proofs.Common.{◌≡◌, ℕ, zero, suc, ◌+◌, ◌-◌, ◌<◌, ◌≤◌, Bool, true, false, List, [], ◌∷◌, ◌++◌, Option, Some, None, length, take, refl, ap, sym, subst, ◌∙◌, length-append, arith}
-use Rattle.std.specs.Prelude.{reverse, slice_index_or, cond}
+use Rattle.std.proofs.Common.{◌≡◌, ℕ, zero, suc, ◌+◌, ◌-◌, ◌<◌, Bool, true, false, List, [], ◌∷◌, ◌++◌, Option, Some, None, length, take, refl, ap, sym, subst, ◌∙◌, length-append, arith}
+use Rattle.std.specs.Prelude.{reverse, slice_index_or}
 use Rattle.std.proofs.lemmas.List.{reverse-append, reverse-reverse, length-reverse, take-append-le}
 use Rattle.std.proofs.Math.Seq.{take-length}
 use Rattle.tla_symbols.specs.declared.lexeme.Lexeme.{Lexeme}
@@ -11,7 +11,7 @@ use Rattle.tla_tree.specs.Lexemes.{built}
 use Rattle.tla_tree.specs.Syntax.{Tree, Trees, Node, Nil, Cons, trees}
 use Rattle.expr_grammar.specs.declared.wait.Wait.{Wait}
 use Rattle.expr_grammar.specs.declared.wait.Shape.{Shape}
-use Rattle.expr_grammar.specs.Tables.{shape, shape_by, plain_shape, infix_shape, member_shape, is_expression, finishes, endable}
+use Rattle.expr_grammar.specs.Tables.{shape, plain_shape, infix_shape, member_shape, is_expression, finishes, endable}
 use Rattle.expr_grammar.specs.Machine as Machine
 use Rattle.expr_grammar.specs.Machine.{State, At, Have, node, node_with}
 use Rattle.expr_grammar.specs.Counting.{made_close, made_last, made_finish}
@@ -21,9 +21,9 @@ use Rattle.expr_parse.specs.declared.stack.Part.{Part}
 use Rattle.expr_parse.specs.declared.stack.Stack.{Stack}
 use Rattle.expr_parse.specs.declared.stack.Turn.TheVariants as Turn
 use Rattle.expr_parse.specs.Standing.{IsPart, AreFrames, Stands, IsWait, IsTurn, IsTop, IsReady, Opens, Made}
-use Rattle.expr_parse.specs.Ending.{Outermost, on_outermost, closing, ending, ending_of, takes_whole, is_whole, rough, on_ending, all_end, IsLeft, Closes, IsGoal}
+use Rattle.expr_parse.specs.Ending.{on_outermost, closing, ending, ending_of, takes_whole, is_whole, rough, on_ending, all_end, IsLeft, Closes}
 use Rattle.expr_parse.proofs.Growing.{grows-same, grows-on}
-use Rattle.expr_parse.proofs.Going.{Goes, AtTop, Pops, close-goes}
+use Rattle.expr_parse.proofs.Going.{Goes, AtTop, close-goes}
 use Rattle.expr_parse.proofs.Operating.{finishing}
 use Rattle.expr_parse.proofs.Renaming.{take-next}
 

@@ -1,15 +1,12 @@
 -- Turns of loops: what is left of a step is the step.
-use Rattle.std.proofs.Common.{◌≡◌, ℕ, suc, ◌+◌, ◌<◌, ◌≤◌, Bool, true, false, List, [], ◌∷◌, ◌++◌, Option, Some, None, length, refl, ap, sym, subst, ◌∙◌, append_assoc, arith}
+use Rattle.std.proofs.Common.{◌≡◌, ℕ, suc, ◌+◌, ◌≤◌, Bool, true, false, List, [], ◌∷◌, ◌++◌, Option, Some, None, length, refl, ap, sym, subst, ◌∙◌, append_assoc, arith}
 use Rattle.std.specs.Prelude.{cond}
 use Rattle.tla_symbols.specs.declared.lexeme.Lexeme.{Lexeme}
-use Rattle.tla_symbols.specs.declared.lexeme.Span.{Span}
 use Rattle.tla_tree.specs.declared.form.Form.{Form}
 use Rattle.tla_tree.specs.Arena as Arena
 use Rattle.tla_tree.specs.Arena.{tree_at}
-use Rattle.tla_tree.specs.Lexemes.{built}
-use Rattle.tla_tree.specs.Syntax.{Tree, trees}
-use Rattle.expr_grammar.specs.declared.wait.Wait.{Wait}
-use Rattle.expr_grammar.specs.Tables.{shape, is_expression}
+use Rattle.tla_tree.specs.Syntax.{Tree}
+use Rattle.expr_grammar.specs.Tables.{shape}
 use Rattle.expr_grammar.specs.Machine as Machine
 use Rattle.expr_grammar.specs.Machine.{State, node_with}
 use Rattle.expr_parse.specs.declared.stack.Frame.{Frame}
@@ -17,7 +14,7 @@ use Rattle.expr_parse.specs.declared.stack.Opening.{Opening}
 use Rattle.expr_parse.specs.declared.stack.Part.{Part}
 use Rattle.expr_parse.specs.declared.stack.Stack.{Stack}
 use Rattle.expr_parse.specs.declared.stack.Turn.TheVariants as Turn
-use Rattle.expr_parse.specs.Standing.{joined, IsPart, Stands, Opens, IsTop, IsTurn, Turns, Grows, Made, IsReady, IsBeside, CanTake, IsOpen, IsThere}
+use Rattle.expr_parse.specs.Standing.{joined, IsPart, Stands, Opens, IsTop, IsTurn, Turns, Grows, Made, IsBeside, CanTake, IsOpen, IsThere}
 use Rattle.expr_parse.proofs.Growing.{grows-same, grows-on}
 use Rattle.expr_parse.proofs.Stacking.{opens-read}
 

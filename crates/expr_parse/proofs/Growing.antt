@@ -1,10 +1,9 @@
 -- What stands in the arena stays as nodes are added.
-use Rattle.std.proofs.Common.{◌≡◌, ℕ, ◌+◌, ◌<◌, ◌≤◌, List, [], ◌∷◌, ◌++◌, length, refl, ap, sym, subst, ◌∙◌, append_assoc, append-nil, length-append, arith}
-use Rattle.std.specs.Prelude.{map, take, drop}
+use Rattle.std.proofs.Common.{◌≡◌, ℕ, ◌<◌, ◌≤◌, List, [], ◌∷◌, ◌++◌, length, refl, ap, sym, ◌∙◌, append_assoc, append-nil, length-append, arith}
+use Rattle.std.specs.Prelude.{map}
 use Rattle.tla_symbols.specs.declared.lexeme.Lexeme.{Lexeme}
 use Rattle.std.specs.List.{AllByRecursion}
-use Rattle.tla_tree.specs.Arena.{Node, AreThere, node_at, tree_at, tree_over, tree_of, grown}
-use Rattle.tla_tree.specs.Lexemes.{built}
+use Rattle.tla_tree.specs.Arena.{Node, AreThere, node_at, tree_at, tree_of, grown}
 use Rattle.tla_tree.specs.Syntax.{Tree, trees}
 use Rattle.tla_tree.specs.declared.form.Form.{Form}
 use Rattle.tla_tree.proofs.Nodes.{tree_at-old, tree_at-new, node_at-old}

@@ -6,19 +6,19 @@ use Rattle.tla_symbols.specs.declared.lexeme.Span.{Span}
 use Rattle.tla_tree.specs.declared.form.Form.{Form}
 use Rattle.tla_tree.specs.Arena.{AreThere, tree_at, node_at}
 use Rattle.tla_tree.specs.Arena as Arena
-use Rattle.tla_tree.specs.Lexemes.{built, one, then, place}
+use Rattle.tla_tree.specs.Lexemes.{built, one, then}
 use Rattle.tla_tree.specs.Syntax.{Tree, Trees, Node, Nil, Cons, trees, form}
 use Rattle.std.specs.List.{AllByRecursion}
 use Rattle.std.proofs.Math.Seq.{take-length}
 use Rattle.tla_tree.proofs.Nodes.{tree_at-node}
 use Rattle.expr_grammar.specs.declared.wait.Shape.TheVariants as Shape
 use Rattle.expr_grammar.specs.declared.wait.Conversion.TheVariants as Conversion
-use Rattle.expr_grammar.specs.Tables.{converted, shape, plain_shape, infix_shape, member_shape, name_leaf, name_of, names_of, as_bound, bound_of}
+use Rattle.expr_grammar.specs.Tables.{converted, shape, infix_shape, member_shape, name_leaf, name_of, names_of, as_bound, bound_of}
 use Rattle.expr_grammar.specs.Counting.{made_name, made_names, made_bound, made_converted}
 use Rattle.expr_parse.specs.declared.convert.Operands.{Operands}
 use Rattle.expr_parse.specs.declared.stack.Part.{Part}
 use Rattle.expr_parse.specs.Goals.{parts_of}
-use Rattle.expr_parse.specs.Standing.{place_of, joined, covered, IsPart, Grows, Becomes, Renamed, AreNames, AreOperands, AreTwo, Converts}
+use Rattle.expr_parse.specs.Standing.{place_of, joined, covered, IsPart, Becomes, Renamed, AreNames, AreOperands, AreTwo, Converts}
 use Rattle.expr_parse.proofs.Places.{place-append, covered-place}
 use Rattle.expr_parse.proofs.Growing.{grows-same, grows-one, grows-on, grows-length, map-grows, there-longer, tree_at-grows, node_at-grows, new-node}
 use Rattle.expr_parse.proofs.Stacking.{map-append, there-append}

@@ -15,7 +15,7 @@ use Rattle.expr_parse.specs.declared.stack.Frame.{Frame}
 use Rattle.expr_parse.specs.declared.stack.Opening.{Opening}
 use Rattle.expr_parse.specs.declared.stack.Part.{Part}
 use Rattle.expr_parse.specs.declared.stack.Stack.{Stack}
-use Rattle.expr_parse.specs.Standing.{place_of, joined, covered, IsPart, IsOf, AreFrames, Stands, Opens, Made, Adds}
+use Rattle.expr_parse.specs.Standing.{place_of, joined, covered, IsPart, IsOf, Stands, Opens, Made, Adds}
 use Rattle.expr_parse.proofs.Places.{place-append, covered-place}
 use Rattle.expr_parse.proofs.Growing.{grows-one, frames-grow, new-node}
 

@@ -8,8 +8,6 @@ use Rattle.tla_tree.specs.Arena.{Node}
 use Rattle.tla_tree.specs.Syntax.{Tree}
 use Rattle.expr_grammar.specs.declared.wait.Wait.{Wait}
 use Rattle.tla_tree.specs.declared.form.Form.{Form}
-use Rattle.tla_tree.specs.Lexemes.{built}
-use Rattle.tla_tree.specs.Syntax.{trees}
 use Rattle.expr_grammar.specs.declared.wait.MarkMove.{MarkMove}
 use Rattle.expr_grammar.specs.declared.wait.Start.{Start}
 use Rattle.expr_grammar.specs.Tables.{Child, absorbs, mode, endable, at_mark, begins}
@@ -21,7 +19,7 @@ use Rattle.expr_parse.specs.declared.stack.Opening.{Opening}
 use Rattle.expr_parse.specs.declared.stack.Part.{Part}
 use Rattle.expr_parse.specs.declared.stack.Stack.{Stack}
 use Rattle.expr_parse.specs.declared.stack.Turn.TheVariants as Turn
-use Rattle.expr_parse.specs.Standing.{IsPart, Stands, Opens, IsTop, IsWait, IsOpen, IsTurn, Turns, Grows, Adds, Made}
+use Rattle.expr_parse.specs.Standing.{IsPart, Stands, Opens, IsTop, IsWait, IsOpen, IsTurn, Turns, Grows, Made}
 use Rattle.expr_parse.proofs.Growing.{grows-same, grows-on}
 
 pub goes-child : (nodes : List Node) (stack : Stack) (part : Wait) (fs : List Machine.Frame) (child : Option Child) → Some part ≡ option_map (λ c. c.wait) child → ((c : Child) → child ≡ Some c → Stands nodes stack (frame part [] c.read ∷ fs)) → IsTurn nodes stack Turn.Due (Some (with_child child fs))

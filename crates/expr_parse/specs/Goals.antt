@@ -1,5 +1,5 @@
 -- What the machine reads, by its goal: an expression, or the bounds in the head of a function's definition.
-use Rattle.std.specs.Prelude.{◌≡◌, Bool, true, List, Option, Some, None}
+use Rattle.std.specs.Prelude.{◌≡◌, Bool, true, List, Some}
 use Rattle.tla_symbols.specs.declared.lexeme.LexKind.{LexKind}
 use Rattle.tla_symbols.specs.declared.lexeme.Lexeme.{Lexeme}
 use Rattle.tla_tree.specs.declared.form.Form.TheVariants as Form

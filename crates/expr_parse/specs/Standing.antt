@@ -1,21 +1,18 @@
 -- What the code's stack and parts stand for: frames and trees of the machine.
-use Rattle.std.specs.Prelude.{◌≡◌, ℕ, Bool, true, false, cond, ◌+◌, ◌<◌, ◌≤◌, List, [], ◌∷◌, ◌++◌, length, take, drop, map, reverse, Option, Some, None}
+use Rattle.std.specs.Prelude.{◌≡◌, ℕ, cond, ◌+◌, ◌<◌, ◌≤◌, List, [], ◌∷◌, ◌++◌, length, take, drop, map, reverse, Option, Some, None}
 use Rattle.tla_symbols.specs.declared.lexeme.Span.{Span}
 use Rattle.tla_symbols.specs.declared.lexeme.Lexeme.{Lexeme}
-use Rattle.tla_tree.specs.declared.form.Form.{Form}
-use Rattle.tla_tree.specs.Forms.{helps}
 use Rattle.tla_tree.specs.Arena as Arena
 use Rattle.tla_tree.specs.Arena.{AreThere, tree_at}
 use Rattle.tla_tree.specs.Lexemes.{place}
-use Rattle.tla_tree.specs.Syntax.{Tree, Trees, Node, trees}
+use Rattle.tla_tree.specs.Syntax.{Tree, Trees, trees}
 use Rattle.expr_grammar.specs.declared.wait.Wait.{Wait}
 use Rattle.expr_grammar.specs.Machine as Machine
 use Rattle.expr_grammar.specs.Machine.{State, At, Have, inner}
 use Rattle.expr_grammar.specs.declared.wait.Shape.{Shape}
 use Rattle.expr_grammar.specs.declared.wait.Conversion.TheVariants as Conversion
-use Rattle.expr_grammar.specs.Tables.{names_of, as_bound, bound_of, is_expression, list_of, goes_on, finishes, shape_by}
+use Rattle.expr_grammar.specs.Tables.{names_of, as_bound, bound_of, is_expression, list_of, goes_on}
 use Rattle.expr_grammar.specs.Counting.{made_names, made_bound, made_converted}
-use Rattle.expr_parse.specs.Goals.{parts_of}
 use Rattle.expr_parse.specs.declared.convert.Operands.{Operands}
 use Rattle.expr_parse.specs.declared.stack.Opening.{Opening}
 use Rattle.expr_parse.specs.declared.stack.Frame.{Frame}

@@ -1,4 +1,4 @@
-use Rattle.std.proofs.Common.{List, [], ◌∷◌, sym, subst, ◌∙◌}
+use Rattle.std.proofs.Common.{[], ◌∷◌, subst}
 use Rattle.expr_grammar.specs.Tables as tables
 use Rattle.expr_grammar.specs.Machine as machine
 use Rattle.expr_parse.specs.Standing.{Stands}

@@ -1,4 +1,4 @@
-use Rattle.std.proofs.Common.{List, [], ◌∷◌, ◌++◌, refl}
+use Rattle.std.proofs.Common.{[], ◌∷◌, refl}
 use Rattle.expr_parse.proofs.Growing.{opens-grow}
 use Rattle.expr_parse.proofs.Turning.{turns-one}
 use Rattle.expr_parse.proofs.begins.take_leaf.Goals as goal

@@ -1,4 +1,4 @@
-use Rattle.std.proofs.Common.{◌≡◌, ◌++◌, ◌∷◌, [], ap, sym, ◌∙◌}
+use Rattle.std.proofs.Common.{ap, sym, ◌∙◌}
 use Rattle.tla_tree.specs.Syntax.{form}
 use Rattle.tla_tree.proofs.Nodes.{tree_at-form}
 use Rattle.expr_parse.proofs.Renaming.{bound-named, bound-tuple}

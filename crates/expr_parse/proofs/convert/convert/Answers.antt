@@ -1,4 +1,4 @@
-use Rattle.std.proofs.Common.{◌≡◌, [], ◌++◌, ◌∷◌, refl, ap, sym, subst, append-nil, arith}
+use Rattle.std.proofs.Common.{◌++◌, sym, subst, append-nil, arith}
 use Rattle.expr_grammar.specs.declared.wait.Conversion.TheVariants as Conversion
 use Rattle.expr_parse.specs.Standing.{Opens}
 use Rattle.expr_parse.proofs.Growing.{grows-same, opens-grow}

@@ -1,4 +1,4 @@
-use Rattle.std.proofs.Common.{sym, ◌∙◌}
+use Rattle.std.proofs.Common.{sym}
 use Rattle.expr_parse.proofs.Renaming.{renamed-leaf}
 use Rattle.expr_parse.proofs.convert.name_node.Goals as goal
 

@@ -1,4 +1,4 @@
-use Rattle.std.proofs.Common.{ap, length, subst, ◌∙◌, ◌<◌, arith}
+use Rattle.std.proofs.Common.{subst, ◌<◌, arith}
 use Rattle.std.specs.List.{AllByRecursion}
 use Rattle.std.proofs.lemmas.Bool.Decides.{nat_tests}
 use Rattle.expr_parse.proofs.Renaming.{names-step, names-whole}

@@ -1,8 +1,8 @@
-use Rattle.std.proofs.Common.{◌≡◌, ◌<◌, refl, ap, sym, subst, ◌∙◌, arith, length}
+use Rattle.std.proofs.Common.{◌<◌, ap, subst, arith, length}
 use Rattle.expr_grammar.specs.Counting.{made_close}
 use Rattle.expr_parse.specs.Ending.{closing}
 use Rattle.expr_parse.proofs.Going.{at-top, can-take, open-beside}
-use Rattle.expr_parse.proofs.Closing.{closes-next, closes-stuck, closes-none, closes-last}
+use Rattle.expr_parse.proofs.Closing.{closes-next, closes-stuck, closes-last}
 use Rattle.expr_parse.proofs.ending.close_all.Goals as goal
 
 pub returns-in_default-finishes : goal.returns-in_default-finishes

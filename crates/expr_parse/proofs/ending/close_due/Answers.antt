@@ -1,4 +1,3 @@
-use Rattle.std.proofs.Common.{List, [], ◌∷◌}
 use Rattle.expr_parse.proofs.Closing.{due-closed, due-ready}
 use Rattle.expr_parse.proofs.ending.close_due.Goals as goal
 

@@ -1,6 +1,4 @@
-use Rattle.std.proofs.Common.{List, [], ◌∷◌, ◌++◌, subst, sym}
-use Rattle.expr_grammar.specs.Machine.{Frame}
-use Rattle.expr_parse.specs.declared.goal.Goal.TheVariants as Goal
+use Rattle.std.proofs.Common.{[], ◌∷◌, ◌++◌, subst, sym}
 use Rattle.expr_parse.specs.Ending.{IsGoal}
 use Rattle.expr_parse.proofs.Answering.{bounds-node}
 use Rattle.expr_parse.proofs.ending.whole.Goals as goal

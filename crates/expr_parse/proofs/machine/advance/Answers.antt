@@ -1,7 +1,7 @@
 use Rattle.std.proofs.Common.{subst}
 use Rattle.expr_parse.specs.Standing.{IsTurn}
-use Rattle.expr_parse.proofs.Answering.{read-turns, due-turns, refused-turns}
-use Rattle.expr_parse.proofs.Closing.{turn-ready, turn-due}
+use Rattle.expr_parse.proofs.Answering.{read-turns}
+use Rattle.expr_parse.proofs.Closing.{turn-ready}
 use Rattle.expr_parse.proofs.machine.advance.Goals as goal
 
 pub have-requires : goal.have-requires

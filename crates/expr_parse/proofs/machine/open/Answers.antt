@@ -1,5 +1,4 @@
 use Rattle.std.proofs.Common.{[], Some, refl, subst, sym}
-use Rattle.expr_parse.specs.declared.goal.Goal.TheVariants as Goal
 use Rattle.expr_parse.specs.declared.stack.Turn.TheVariants as Turn
 use Rattle.expr_parse.specs.Standing.{IsTurn}
 use Rattle.expr_parse.specs.Reading.{start_of}

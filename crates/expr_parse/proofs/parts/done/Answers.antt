@@ -1,4 +1,4 @@
-use Rattle.std.proofs.Common.{[], ◌∷◌, ◌++◌, refl, arith, suc}
+use Rattle.std.proofs.Common.{[], ◌∷◌, ◌++◌, arith}
 use Rattle.expr_grammar.specs.Tables as tables
 use Rattle.expr_parse.proofs.Growing.{grows-on}
 use Rattle.expr_parse.proofs.Going.{opens-then}

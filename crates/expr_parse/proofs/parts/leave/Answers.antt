@@ -1,6 +1,4 @@
-use Rattle.std.proofs.Common.{refl, ◌<◌, ◌≤◌, arith}
-use Rattle.std.proofs.lemmas.Bool.Decides.{nat_tests}
-use Rattle.expr_grammar.specs.Machine.{inner}
+use Rattle.std.proofs.Common.{refl, arith}
 use Rattle.expr_parse.proofs.Going.{at-top, at-none, can-take, open-beside}
 use Rattle.expr_parse.proofs.Leaving.{leaving, leaving-makes, leave-next, leave-stuck, leave-goes, leave-within}
 use Rattle.expr_parse.proofs.parts.leave.Goals as goal

@@ -1,5 +1,5 @@
 use Rattle.std.proofs.Common.{refl}
-use Rattle.expr_parse.proofs.Going.{at-top, at-none, can-take, open-beside, there-beside}
+use Rattle.expr_parse.proofs.Going.{at-top, at-none, can-take, open-beside}
 use Rattle.expr_parse.proofs.Operating.{operating, operating-makes, operate-closes, operate-open, operate-clashes, operate-factor, operate-waits}
 use Rattle.expr_parse.proofs.parts.operate.Goals as goal
 

@@ -1,4 +1,4 @@
-use Rattle.std.proofs.Common.{Some, subst}
+use Rattle.std.proofs.Common.{subst}
 use Rattle.expr_parse.specs.Ending.{ending_of, Closes}
 use Rattle.expr_grammar.specs.Counting.{made_finish}
 use Rattle.expr_parse.proofs.Answering.{whole-done, closes-grow}

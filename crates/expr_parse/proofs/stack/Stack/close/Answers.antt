@@ -1,4 +1,4 @@
-use Rattle.std.proofs.Common.{List, [], ◌∷◌, ◌++◌}
+use Rattle.std.proofs.Common.{[], ◌∷◌, ◌++◌}
 use Rattle.expr_parse.proofs.stack.Stack.close.Goals as goal
 
 pub node-requires : goal.node-requires
