@@ -1,6 +1,7 @@
 -- What steps answer, in the terms of the grammar.
 use Rattle.std.proofs.Common.{◌≡◌, ℕ, ◌+◌, ◌*◌, ◌≤◌, Bool, true, false, List, [], ◌∷◌, ◌++◌, Option, Some, None, length, refl, ap, sym, subst, ◌∙◌, length-append, arith}
 use Rattle.std.specs.Prelude.{cond}
+use Rattle.tla_symbols.specs.declared.lexeme.LexKind.{LexKind}
 use Rattle.tla_symbols.specs.declared.lexeme.Lexeme.{Lexeme}
 use Rattle.tla_tree.specs.declared.form.Form.{Form}
 use Rattle.tla_tree.specs.Arena as Arena
@@ -327,3 +328,28 @@ closes-grow nodes more most stack part goal number o made c w = by o c.left
     by : (o : Option Outermost) → IsLeft more stack (Some part) o → Grows nodes most
     by None l = absurd l
     by (Some last) l = let k = w last.frame last.tree last.spelled l.0 l.1 in grows-on nodes more most c.grows k.grows
+
+-- a machine that refuses goes on to refuse
+pub refused-stays : (nodes more : List Arena.Node) (machine : ExprMachine) (step : Step) (t : Lexeme) → HasStepped nodes more machine step None t → (step ≡ Step.Refused) × (machine.stage ≡ Stage.Goes Turn.Refused)
+refused-stays nodes more machine step t h = (by-step step h.to, by-stage machine.stage refl h.stands)
+  where
+    by-step : (x : Step) → IsStepTo x None → x ≡ Step.Refused
+    by-step Step.Refused t = refl
+    by-step Step.Going t = absurd t
+    by-step (Step.Done n) t = absurd t
+
+    by-stage : (x : Stage.the_data) → machine.stage ≡ x → StandsAt more machine x None → machine.stage ≡ Stage.Goes Turn.Refused
+    by-stage Stage.Begins q s = let k : None ≡ Some (start_of machine.goal) = s.0 in cc
+    by-stage (Stage.Goes Turn.Refused) q s = q
+    by-stage (Stage.Goes Turn.Due) q s = absurd s
+    by-stage (Stage.Goes (Turn.Read p)) q s = absurd s
+
+pub refused-stands : (nodes : List Arena.Node) (machine : ExprMachine) → machine.stage ≡ Stage.Goes Turn.Refused → StandsAt nodes machine machine.stage None
+refused-stands nodes machine q = subst (λ z. StandsAt nodes machine z None) (sym q) tt
+
+pub ends-not : (goal : Goal) (kind : LexKind) → cond (may_end goal kind) false false ≡ false
+ends-not goal kind = by (may_end goal kind)
+  where
+    by : (b : Bool) → cond b false false ≡ false
+    by true = refl
+    by false = refl

@@ -10,6 +10,7 @@ use Rattle.expr_parse.specs.declared.goal.Goal.{Goal}
 use Rattle.expr_parse.specs.declared.goal.Step.{Step}
 use Rattle.expr_parse.specs.declared.machine.Stage.{Stage}
 use Rattle.expr_parse.specs.declared.machine.ExprMachine.{ExprMachine}
+use Rattle.expr_parse.specs.declared.stack.Turn.TheVariants as Turn
 use Rattle.expr_parse.specs.Goals.{DerivesGoal, BeginsGoal, IsWhole, IsSame}
 use Rattle.expr_parse.specs.Ending.{Outermost, IsOf}
 use Rattle.expr_parse.specs.Standing.{Stands, IsTurn, Grows}
@@ -31,6 +32,10 @@ pub record HasRead (nodes : List Arena.Node) (machine : ExprMachine) (before : �
 -- it can be stepped: it has read some lexemes, or refuses
 abbrev pub IsReady : List Arena.Node → ExprMachine → Type 0
 IsReady nodes machine = (state : Option State) × StandsAt nodes machine machine.stage state
+
+-- it refuses whatever comes
+abbrev pub IsRefusing : ExprMachine → Type 0
+IsRefusing machine = machine.stage ≡ Stage.Goes Turn.Refused
 
 -- what a step answers at a lexeme, after lexemes that were read
 abbrev pub IsAnswer : List Arena.Node → ExprMachine → ℕ → List Lexeme → Lexeme → Step → Type 0

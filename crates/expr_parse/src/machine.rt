@@ -5,11 +5,12 @@ ghost use Rattle.tla_tree.specs.Arena as Arena;
 ghost use Rattle.expr_grammar.specs.Machine as machine;
 ghost use Rattle.expr_grammar.specs.Counting as counting;
 ghost use Rattle.expr_parse.specs.declared.machine.Stage.TheVariants as Stage;
+ghost use Rattle.expr_parse.specs.declared.goal.Step.TheVariants as Step;
 ghost use Rattle.expr_parse.specs.declared.stack.Turn.TheVariants as Turn;
 ghost use Rattle.expr_parse.specs.Goals as goals;
 ghost use Rattle.expr_parse.specs.Ending as ends;
 ghost use Rattle.expr_parse.specs.Standing.{Grows, IsTurn, IsTurnReady, Stands, Turns};
-ghost use Rattle.expr_parse.specs.Reading.{StandsAt, HasRead, IsReady, IsAnswer, IsDone, HasStepped, start_of};
+ghost use Rattle.expr_parse.specs.Reading.{StandsAt, HasRead, IsReady, IsRefusing, IsAnswer, IsDone, HasStepped, start_of};
 
 use crate::begins::{due, goes_on};
 use crate::ending::{close, is_whole, whole};
@@ -79,12 +80,15 @@ impl ExprMachine {
     /// an expression a comma, `]`, `-.`, a name, a word that begins a unit, a run of dashes or of
     /// `=`, or the run that closes the module; for bounds `]`. `Refused` comes exactly where it is not
     /// `Done` and nothing that is derivable begins with the lexemes so far; the machine then answers so
-    /// for good. All its steps together add at most eight nodes for each. After `Memory` it refuses.
+    /// for good. All its steps together add at most eight nodes for each, and leave the nodes that were
+    /// there. After `Memory` it refuses whatever comes.
     pub fn step(&mut self, lexeme: &Lexeme, _next: &Lexeme, tree: &mut Tree) -> Result<Step, Memory>
         requires { IsReady tree.old self.old }
         ensures answer { IfOk result (λ step. (before : ℕ) → (lexemes : List Lexeme) → HasRead tree.old self.old before lexemes → IsAnswer tree.new self.new before lexemes lexeme.now step) }
         ensures few { OnOk result ((before : ℕ) → (lexemes : List Lexeme) → HasRead tree.old self.old before lexemes → length tree.new ≤ before + 8 * (length lexemes + 1)) }
         ensures grows { OnOk result (Grows tree.old tree.new) }
+        ensures refusing { IsRefusing self.old → IfOk result (λ step. (step ≡ Step.Refused) × IsRefusing self.new) }
+        ensures memory { OnErr result (IsRefusing self.new) }
         ensures goal { self.new.goal ≡ self.old.goal }
         ensures ready { IsReady tree.new self.new }
     {
@@ -102,6 +106,7 @@ impl ExprMachine {
         ensures answer { IfOk result (λ step. (before : ℕ) → (lexemes : List Lexeme) → HasRead tree.old self.old before lexemes → IsAnswer tree.new self.new before lexemes lexeme step) }
         ensures few { OnOk result ((before : ℕ) → (lexemes : List Lexeme) → HasRead tree.old self.old before lexemes → length tree.new ≤ before + 8 * (length lexemes + 1)) }
         ensures grows { OnOk result (Grows tree.old tree.new) }
+        ensures refusing { IsRefusing self.old → IfOk result (λ step. (step ≡ Step.Refused) × IsRefusing self.new) }
         ensures goal { self.new.goal ≡ self.old.goal }
         ensures ready { OnOk result (IsReady tree.new self.new) }
     {

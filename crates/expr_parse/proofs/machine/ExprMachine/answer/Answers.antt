@@ -1,7 +1,7 @@
 use Rattle.expr_grammar.specs.Machine.{run}
-use Rattle.std.proofs.Common.{Some}
+use Rattle.std.proofs.Common.{Some, None, true, false, ◌≡◌, sym, ◌∙◌}
 use Rattle.expr_parse.specs.Reading.{start_of}
-use Rattle.expr_parse.proofs.Answering.{done-by, read-by}
+use Rattle.expr_parse.proofs.Answering.{done-by, read-by, refused-stays, refused-stands, ends-not}
 use Rattle.expr_parse.proofs.machine.ExprMachine.answer.Goals as goal
 
 pub returns-then-ends-clause-answer : goal.returns-then-ends-clause-answer
@@ -23,3 +23,14 @@ pub returns-clause-few : goal.returns-clause-few
 returns-clause-few c before lexemes h =
     let t = c.in_ok-turn.ensures.turn _ (run (Some (start_of c.args.self.now.goal)) lexemes) h.stands in
     (read-by _ _ c.args.self.now c.read.new.self before lexemes c.args.lexeme _ c.ends.result c.begun.new.self.goal c.in_ok-turn.ensures.goal c.in_ok-step-2.ensures.goal (c.ends.ensures _ t) c.if-ends.false (c.in_ok-step-2.ensures.read _ t) h).1
+
+pub returns-then-ends-clause-refusing : goal.returns-then-ends-clause-refusing
+returns-then-ends-clause-refusing c q =
+    let t = c.in_ok-turn.ensures.turn c.args.tree.now None (refused-stands c.args.tree.now c.args.self.now q) in
+    let k : true ≡ false = sym c.if-ends.true ∙ (c.ends.ensures None t ∙ ends-not c.begun.new.self.goal c.args.lexeme.kind) in
+    cc
+
+pub returns-clause-refusing : goal.returns-clause-refusing
+returns-clause-refusing c q =
+    let t = c.in_ok-turn.ensures.turn c.args.tree.now None (refused-stands c.args.tree.now c.args.self.now q) in
+    refused-stays _ _ c.read.new.self _ c.args.lexeme (c.in_ok-step-2.ensures.read None t)
