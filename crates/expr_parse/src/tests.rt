@@ -197,5 +197,21 @@ fn columns_decide(rt: HostRuntime) -> Result<(), Fail> {
         at(LexKind::Name, 1, 5),
     ];
     assert!(rt; refuses(alloc, &arms, 5)?);
+    let inner = [
+        at(LexKind::Word(Word::Case), 0, 0),
+        name(5),
+        mark(Mark::Arrow, 7),
+        at(LexKind::Word(Word::Case), 0, 10),
+        name(15),
+        mark(Mark::Arrow, 17),
+        name(20),
+        sign(Op::Always, 22),
+        name(25),
+        mark(Mark::Arrow, 27),
+        name(30),
+        mark(Mark::Comma, 31),
+    ];
+    let found = done(alloc, Goal::Expression, &inner, 11)?;
+    assert!(rt; found == Some((Form::Case, 1)));
     Ok(())
 }
