@@ -164,7 +164,7 @@ done-answer nodes more machine machine' before lexemes next (Step.Done number) l
 done-answer nodes more machine machine' before lexemes next Step.Going last made g m e w d = absurd d.done
 done-answer nodes more machine machine' before lexemes next Step.Refused last made g m e w d = absurd d.done
 
-begins-of : (goal : Goal) (lexemes : List Lexeme) (st : State) → run (Some (start_of goal)) lexemes ≡ Some st → BeginsGoal goal lexemes
+pub begins-of : (goal : Goal) (lexemes : List Lexeme) (st : State) → run (Some (start_of goal)) lexemes ≡ Some st → BeginsGoal goal lexemes
 begins-of Goal.Expression lexemes st e =
     let k = completes-expression lexemes st e in
     (k.0, (k.1, accepted-derives (lexemes ++ k.0) k.1 k.2))
@@ -172,7 +172,7 @@ begins-of Goal.Bounds lexemes st e =
     let k = completes-bounds lexemes st e in
     (k.0, (k.1, accepted-bounds (lexemes ++ k.0) k.1 k.2))
 
-begins-not : (goal : Goal) (lexemes : List Lexeme) → run (Some (start_of goal)) lexemes ≡ None → BeginsGoal goal lexemes → ⊥
+pub begins-not : (goal : Goal) (lexemes : List Lexeme) → run (Some (start_of goal)) lexemes ≡ None → BeginsGoal goal lexemes → ⊥
 begins-not Goal.Expression lexemes e b = refused-ends lexemes e b
 begins-not Goal.Bounds lexemes e b = refused-begun Kinds.Goal.ForBounds lexemes e b
 

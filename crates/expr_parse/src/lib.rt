@@ -15,6 +15,7 @@ mod stack;
 
 pub use goal::{Goal, Step};
 pub use machine::ExprMachine;
+pub use stack::{Part, add, covered, joined, leaf};
 
 #[cfg(test)]
 mod tests;

@@ -35,9 +35,10 @@ pub(crate) struct Frame {
 
 /// A part that was read: its node, and the place of its lexemes.
 #[derive(Clone, Copy)]
-pub(crate) struct Part {
-    pub(crate) node: u32,
-    pub(crate) place: Option<Span>,
+pub struct Part {
+    pub node: u32,
+    /// From the first lexeme's first byte to the end of the last one, if the part has lexemes.
+    pub place: Option<Span>,
 }
 
 /// What a lexeme led to.
@@ -60,7 +61,7 @@ pub(crate) struct Stack {
 }
 
 /// The place of two stretches of lexemes, the one behind the other.
-pub(crate) fn joined(first: Option<Span>, last: Option<Span>) -> Option<Span>
+pub fn joined(first: Option<Span>, last: Option<Span>) -> Option<Span>
     ensures { result ≡ standing.joined first last }
 {
     match first {
@@ -75,7 +76,8 @@ pub(crate) fn joined(first: Option<Span>, last: Option<Span>) -> Option<Span>
     }
 }
 
-pub(crate) fn covered(place: Option<Span>) -> Span
+/// The part of the text at a place; without one, the part of no byte at the text's start.
+pub fn covered(place: Option<Span>) -> Span
     ensures { result ≡ standing.covered place }
 {
     match place {
@@ -235,8 +237,8 @@ fn from(numbers: &[u32], first: usize) -> &[u32]
     &numbers[first..]
 }
 
-/// Adds a node. A tree that can number no further node has no room for it.
-pub(crate) fn add(tree: &mut Tree, form: Form, children: &[u32], span: Span) -> Result<u32, Memory>
+/// Adds a node and answers its number. `Memory` also where the tree can number no further node.
+pub fn add(tree: &mut Tree, form: Form, children: &[u32], span: Span) -> Result<u32, Memory>
     requires there { AreThere tree.old children.now }
     ensures number { IfOk result (λ number. number ≡ length tree.old) }
     ensures ok { OnOk result (tree.new ≡ tree.old ++ record { form = form; span = span; children = children.now } ∷ []) }
@@ -247,8 +249,8 @@ pub(crate) fn add(tree: &mut Tree, form: Form, children: &[u32], span: Span) -> 
     tree.push(form, children, span)
 }
 
-/// A node of one lexeme.
-pub(crate) fn leaf(tree: &mut Tree, form: Form, lexeme: Lexeme) -> Result<Part, Memory>
+/// Adds a node of one lexeme. `Memory` as in [`add`].
+pub fn leaf(tree: &mut Tree, form: Form, lexeme: Lexeme) -> Result<Part, Memory>
     ensures { IfOk result (λ part. Adds tree.old tree.new part (built form Nil (lexeme ∷ [])) (lexeme ∷ [])) }
 {
     let node = add(tree, form, &[], lexeme.span)?;

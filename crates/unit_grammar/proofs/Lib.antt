@@ -3,13 +3,13 @@ mod Stopping
 mod Flat
 mod Moving
 mod ReadingParts
-mod ReadingUnits
+pub mod ReadingUnits
 mod Views
 mod SoundingParts
-mod Sounding
+pub mod Sounding
 mod Completing
-mod FirstBad
+pub mod FirstBad
 mod Lasting
-mod Ending
+pub mod Ending
 mod Nesting
 mod Holding
