@@ -1,0 +1,103 @@
+-- What the reader of expressions answers, in the terms of its machine on lists.
+use Rattle.std.proofs.Common.{◌≡◌, ℕ, List, [], ◌∷◌, ◌++◌, refl, ap, sym, subst, ◌∙◌, Option, Some, None}
+use Rattle.tla_symbols.specs.declared.lexeme.Lexeme.{Lexeme}
+use Rattle.tla_tree.specs.declared.form.Form.TheVariants as Form
+use Rattle.tla_tree.specs.Arena as Arena
+use Rattle.tla_tree.specs.Arena.{tree_at}
+use Rattle.tla_tree.specs.Lexemes.{built}
+use Rattle.tla_tree.specs.Syntax.{Tree, Trees}
+use Rattle.expr_grammar.specs.Machine as Expressions
+use Rattle.expr_grammar.specs.Machine.{run, start, start_bounds}
+use Rattle.expr_grammar.specs.Following.{done_before, bounds_done_before}
+use Rattle.expr_grammar.proofs.Complete.{run-append}
+use Rattle.expr_grammar.proofs.Stopping.{done-derives, derives-done, done-bounds, bounds-done}
+use Rattle.expr_parse.specs.declared.goal.Goal.{Goal}
+use Rattle.expr_parse.specs.declared.goal.Step.{Step}
+use Rattle.expr_parse.specs.Goals.{parts_of, DerivesGoal, BeginsGoal, IsWhole}
+use Rattle.expr_parse.specs.Reading.{HasRead, IsAnswer, IsReady, start_of}
+use Rattle.expr_parse.specs.Standing.{Grows, joined}
+use Rattle.expr_parse.proofs.Answering.{begins-of, begins-not}
+use Rattle.expr_parse.proofs.Places.{place-append}
+use Rattle.unit_parse.specs.declared.reading.Reading.{Reading}
+use Rattle.unit_parse.specs.declared.reading.Heard.{Heard}
+use Rattle.unit_parse.specs.Standing.{IsReading, IsUnfinished, IsWholeBefore, HearsMore, Hears}
+
+pub reading-ready : {nodes : List Arena.Node} {reading : Reading} {aim : Goal} {st : Expressions.State} {read : List Lexeme} → IsReading nodes reading aim st read → IsReady nodes reading.machine
+reading-ready {reading = reading} {read = read} i = (run (Some (start_of reading.machine.goal)) read, i.has.stands)
+
+-- what is not whole is not done
+not-whole : (aim : Goal) (st : Expressions.State) (read : List Lexeme) (t : Lexeme) → run (Some (start_of aim)) read ≡ Some st → (IsWhole aim read t → ⊥) → IsUnfinished aim st t.kind
+not-whole Goal.Expression st read t e k = by (done_before (Some st) t.kind) refl
+  where
+    by : (o : Option Tree) → done_before (Some st) t.kind ≡ o → done_before (Some st) t.kind ≡ None
+    by None q = q
+    by (Some x) q = let d = done-derives read x t (ap (λ z. done_before z t.kind) e ∙ q) in absurd (k (d.0, (x, d.1)))
+not-whole Goal.Bounds st read t e k = by (bounds_done_before (Some st) t.kind) refl
+  where
+    by : (o : Option Trees) → bounds_done_before (Some st) t.kind ≡ o → bounds_done_before (Some st) t.kind ≡ None
+    by None q = q
+    by (Some xs) q = let d = done-bounds read xs t (ap (λ z. bounds_done_before z t.kind) e ∙ q) in absurd (k (d.0, (built Form.Bounds xs read, (refl, d.1))))
+
+-- and what is derived before a lexeme that may follow is done
+whole-done : (aim : Goal) (st : Expressions.State) (read : List Lexeme) (t : Lexeme) (x : Tree) → run (Some (start_of aim)) read ≡ Some st → IsWhole aim read t → DerivesGoal aim x read t → IsWholeBefore aim st t.kind x
+whole-done Goal.Expression st read t x e w d = sym (ap (λ z. done_before z t.kind) e) ∙ derives-done read x t w.0 d
+whole-done Goal.Bounds st read t x e w d = sym (ap (λ z. bounds_done_before z t.kind) e) ∙ bounds-done read (parts_of x) t w.0 d.1
+
+run-more : (aim : Goal) (st : Expressions.State) (read : List Lexeme) (t : Lexeme) → run (Some (start_of aim)) read ≡ Some st → run (Some (start_of aim)) (read ++ t ∷ []) ≡ Expressions.step st t
+run-more aim st read t e = run-append read (t ∷ []) (Some (start_of aim)) ∙ ap (λ z. run z (t ∷ [])) e
+
+-- a lexeme that goes on with what is read
+pub hears-going : (nodes more : List Arena.Node) (reading reading' : Reading) (aim : Goal) (st : Expressions.State) (read : List Lexeme) (t : Lexeme) → reading'.machine.goal ≡ reading.machine.goal → reading'.place ≡ joined reading.place (Some t.span) → Grows nodes more → (i : IsReading nodes reading aim st read) → (step : Step) → step ≡ Step.Going → IsAnswer more reading'.machine i.before read t step → Hears nodes more reading' aim st read t Heard.Going
+hears-going nodes more reading reading' aim st read t g p grows i step q answer =
+    let a : IsAnswer more reading'.machine i.before read t Step.Going = subst (IsAnswer more reading'.machine i.before read t) q answer in
+    let goal : reading'.machine.goal ≡ aim = g ∙ i.goal in
+    let begins : BeginsGoal aim (read ++ t ∷ []) = subst (λ z. BeginsGoal z (read ++ t ∷ [])) goal a.1 in
+    record {
+      grows = grows;
+      is = (
+        not-whole aim st read t i.runs (λ w. a.2 (subst (λ z. IsWhole z read t) (sym goal) w)),
+        by (Expressions.step st t) refl begins a.0,
+      );
+    }
+  where
+    by : (o : Option Expressions.State) → Expressions.step st t ≡ o → BeginsGoal aim (read ++ t ∷ []) → HasRead more reading'.machine i.before (read ++ t ∷ []) → HearsMore more reading' aim st read t
+    by None q begins has = absurd (begins-not aim (read ++ t ∷ []) (run-more aim st read t i.runs ∙ q) begins)
+    by (Some st') q begins has = record {
+      state = st';
+      steps = q;
+      is = record {
+        goal = g ∙ i.goal;
+        before = i.before;
+        has = has;
+        runs = run-more aim st read t i.runs ∙ q;
+        place = p ∙ (ap (λ z. joined z (Some t.span)) i.place ∙ sym (place-append read (t ∷ [])));
+      };
+    }
+
+pub hears-refused : (nodes more : List Arena.Node) (reading reading' : Reading) (aim : Goal) (st : Expressions.State) (read : List Lexeme) (t : Lexeme) → reading'.machine.goal ≡ reading.machine.goal → Grows nodes more → (i : IsReading nodes reading aim st read) → (step : Step) → step ≡ Step.Refused → IsAnswer more reading'.machine i.before read t step → Hears nodes more reading' aim st read t Heard.Refused
+hears-refused nodes more reading reading' aim st read t g grows i step q answer =
+    let a : IsAnswer more reading'.machine i.before read t Step.Refused = subst (IsAnswer more reading'.machine i.before read t) q answer in
+    let goal : reading'.machine.goal ≡ aim = g ∙ i.goal in
+    record {
+      grows = grows;
+      is = (
+        not-whole aim st read t i.runs (λ w. a.2 (subst (λ z. IsWhole z read t) (sym goal) w)),
+        by (Expressions.step st t) refl (λ b. a.1 (subst (λ z. BeginsGoal z (read ++ t ∷ [])) (sym goal) b)),
+      );
+    }
+  where
+    by : (o : Option Expressions.State) → Expressions.step st t ≡ o → (BeginsGoal aim (read ++ t ∷ []) → ⊥) → Expressions.step st t ≡ None
+    by None q k = q
+    by (Some st') q k = absurd (k (begins-of aim (read ++ t ∷ []) st' (run-more aim st read t i.runs ∙ q)))
+
+pub hears-done : (nodes more : List Arena.Node) (reading reading' : Reading) (node : ℕ) (aim : Goal) (st : Expressions.State) (read : List Lexeme) (t : Lexeme) → reading'.machine.goal ≡ reading.machine.goal → Grows nodes more → (i : IsReading nodes reading aim st read) → (step : Step) → step ≡ Step.Done node → IsAnswer more reading'.machine i.before read t step → Hears nodes more reading' aim st read t (Heard.Done (record { node = node; place = reading.place }))
+hears-done nodes more reading reading' node aim st read t g grows i step q answer =
+    let a : IsAnswer more reading'.machine i.before read t (Step.Done node) = subst (IsAnswer more reading'.machine i.before read t) q answer in
+    let goal : reading'.machine.goal ≡ aim = g ∙ i.goal in
+    record {
+      grows = grows;
+      is = (
+        whole-done aim st read t (tree_at more node) i.runs (subst (λ z. IsWhole z read t) goal a.1) (subst (λ z. DerivesGoal z (tree_at more node) read t) goal a.2),
+        record { there = a.0; is = refl; place = i.place },
+      );
+    }

@@ -1,0 +1,7 @@
+pub mod Growing
+pub mod Taking
+pub mod Reaching
+pub mod Hearing
+pub mod Stepping
+pub mod LastLexemes
+pub mod Parsing

@@ -1,0 +1,308 @@
+-- What a lexeme does to frames, expressions and bounds is what the machine makes of it.
+use Rattle.std.proofs.Common.{◌≡◌, ℕ, ◌<◌, Bool, true, false, List, [], ◌∷◌, ◌++◌, length, refl, ap, sym, subst, ◌∙◌, Option, Some, None}
+use Rattle.std.specs.Prelude.{cond, reverse}
+use Rattle.std.proofs.lemmas.List.{reverse-append}
+use Rattle.tla_symbols.specs.declared.lexeme.LexKind.{LexKind}
+use Rattle.tla_symbols.specs.declared.lexeme.Mark.TheVariants as Mark
+use Rattle.tla_symbols.specs.declared.lexeme.Lexeme.{Lexeme}
+use Rattle.tla_tree.specs.declared.form.Form.{Form}
+use Rattle.tla_tree.specs.Arena as Arena
+use Rattle.tla_tree.specs.Arena.{tree_at}
+use Rattle.tla_tree.specs.Lexemes.{then}
+use Rattle.tla_tree.specs.Syntax.{Tree, Trees}
+use Rattle.expr_grammar.specs.Machine as Expressions
+use Rattle.expr_grammar.specs.Kinds.{is_right_bracket}
+use Rattle.expr_grammar.specs.Machine.{start, start_bounds, finish, finish_bounds}
+use Rattle.expr_grammar.specs.Following.{stops, closes_bounds, done_before, bounds_done_before}
+use Rattle.expr_parse.specs.declared.goal.Goal.{Goal}
+use Rattle.expr_parse.specs.declared.stack.Part.{Part}
+use Rattle.expr_parse.specs.Goals.{parts_of}
+use Rattle.expr_parse.specs.Standing.{Grows, IsPart}
+use Rattle.expr_parse.proofs.Growing.{grows-same, grows-on}
+use Rattle.unit_grammar.specs.declared.wait.Move.{Move}
+use Rattle.unit_grammar.specs.Tables.{move, after_part, after_expression, after_bounds}
+use Rattle.unit_grammar.specs.Units.{UnitTree}
+use Rattle.unit_grammar.specs.Machine as Machine
+use Rattle.unit_grammar.specs.Machine.{part_step, moved, finished, given, expression_step, bounds_step, bounds_before}
+use Rattle.unit_parse.specs.declared.frame.Frame.{Frame}
+use Rattle.unit_parse.specs.declared.reading.Reading.{Reading}
+use Rattle.unit_parse.specs.declared.reading.Heard.{Heard}
+use Rattle.unit_parse.specs.declared.state.Unfinished.{Unfinished}
+use Rattle.unit_parse.specs.declared.state.State.{State}
+use Rattle.unit_parse.specs.declared.step.Ended.{Ended}
+use Rattle.unit_parse.specs.Standing.{IsFrame, AreFrames, IsUnder, IsReading, IsFocus, IsState, IsMoved, Moves, Makes, Takes, Hears, EndsWhole, EndsMoving, IsEnded, Ends}
+use Rattle.unit_parse.proofs.Growing.{frame-grows, frames-grow, under-grows}
+
+-- nothing was added
+pub still : {nodes : List Arena.Node} {state : Option State} {st : Option Machine.State} → IsMoved nodes state st → Moves nodes nodes state st
+still {nodes = nodes} i = record { grows = grows-same nodes; is = i }
+
+pub part-moves : (nodes more : List Arena.Node) (unfinished : Unfinished) (held : Frame) (b : Machine.Begun) (f : Machine.Frame) (fs : List Machine.Frame) (d : ℕ) (us : List UnitTree) → IsUnder nodes unfinished b fs d us → Takes nodes more held f → Moves nodes more (Some (State.Part unfinished held)) (Some (Machine.state d us (Machine.Part b f fs)))
+part-moves nodes more unfinished held b f fs d us u t = record {
+  grows = t.grows;
+  is = (under-grows nodes more unfinished b fs d us t.grows u, t.is);
+}
+
+pub made-moves : (nodes more : List Arena.Node) (unfinished : Unfinished) (part : Part) (b : Machine.Begun) (fs : List Machine.Frame) (d : ℕ) (us : List UnitTree) (x : Tree) (spelled : List Lexeme) (state : Option State) (st : Option Machine.State) → IsUnder nodes unfinished b fs d us → Makes nodes more part x spelled → (IsUnder more unfinished b fs d us → IsPart more part x spelled → IsMoved more state st) → Moves nodes more state st
+made-moves nodes more unfinished part b fs d us x spelled state st u m k = record {
+  grows = m.grows;
+  is = k (under-grows nodes more unfinished b fs d us m.grows u) m.is;
+}
+
+-- an expression is not whole before its first lexeme
+start-not-done : (kind : LexKind) (x : Tree) → done_before (Some start) kind ≡ Some x → ⊥
+start-not-done kind x q = by (stops kind) q
+  where
+    by : (b : Bool) → cond b (finish (Some start)) None ≡ Some x → ⊥
+    by true e = cc
+    by false e = cc
+
+pub begin-going : (nodes more : List Arena.Node) (unfinished : Unfinished) (reading : Reading) (b : Machine.Begun) (fs : List Machine.Frame) (d : ℕ) (us : List UnitTree) (t : Lexeme) (heard : Heard) → heard ≡ Heard.Going → IsUnder nodes unfinished b fs d us → Hears nodes more reading Goal.Expression start [] t heard → Moves nodes more (Some (State.Expression unfinished reading)) (Machine.reading (Expressions.step start t) b fs (t ∷ []) d us)
+begin-going nodes more unfinished reading b fs d us t heard q u h =
+    let k : Hears nodes more reading Goal.Expression start [] t Heard.Going = subst (Hears nodes more reading Goal.Expression start [] t) q h in
+    rw k.is.1.steps (record {
+      grows = k.grows;
+      is = (under-grows nodes more unfinished b fs d us k.grows u, k.is.1.is);
+    })
+
+pub begin-refused : (nodes more : List Arena.Node) (reading : Reading) (b : Machine.Begun) (fs : List Machine.Frame) (d : ℕ) (us : List UnitTree) (t : Lexeme) (heard : Heard) → (heard ≡ Heard.Going → ⊥) → Hears nodes more reading Goal.Expression start [] t heard → Moves nodes more None (Machine.reading (Expressions.step start t) b fs (t ∷ []) d us)
+begin-refused nodes more reading b fs d us t Heard.Going q h = absurd (q refl)
+begin-refused nodes more reading b fs d us t (Heard.Done part) q h = absurd (start-not-done t.kind (tree_at more part.node) h.is.0)
+begin-refused nodes more reading b fs d us t Heard.Refused q h = rw h.is.1 (record { grows = h.grows; is = tt })
+
+-- ---- the frames that end
+
+abbrev DoesNotEnd : Move → Type 0
+DoesNotEnd to = (form : Form) → to ≡ Move.Ends form → ⊥
+
+moved-still : (to : Move) (b : Machine.Begun) (f : Machine.Frame) (fs : List Machine.Frame) (d : ℕ) (us : List UnitTree) (t : Lexeme) (go : Form → Option Machine.State) → DoesNotEnd to → moved to b f fs d us t go ≡ moved to b f fs d us t (λ form. None)
+moved-still (Move.Ends form) b f fs d us t go k = absurd (k form refl)
+moved-still _ b f fs d us t go k = refl
+
+step-still : (to : Move) (b : Machine.Begun) (f : Machine.Frame) (fs : List Machine.Frame) (d : ℕ) (us : List UnitTree) (t : Lexeme) → move f.wait t ≡ to → DoesNotEnd to → part_step fs b f d us t ≡ moved to b f fs d us t (λ form. None)
+step-still to b f [] d us t q k = ap (λ z. moved z b f [] d us t (λ form. finished b (Machine.node form f) d us t)) q ∙ moved-still to b f [] d us t _ k
+step-still to b f (g ∷ gs) d us t q k = ap (λ z. moved z b f (g ∷ gs) d us t (λ form. part_step gs b (Machine.taking g (Machine.node form f) f.read) d us t)) q ∙ moved-still to b f (g ∷ gs) d us t _ k
+
+step-whole : (form : Form) (b : Machine.Begun) (f : Machine.Frame) (d : ℕ) (us : List UnitTree) (t : Lexeme) → move f.wait t ≡ Move.Ends form → part_step [] b f d us t ≡ finished b (Machine.node form f) d us t
+step-whole form b f d us t q = ap (λ z. moved z b f [] d us t (λ x. finished b (Machine.node x f) d us t)) q
+
+step-ends : (form : Form) (b : Machine.Begun) (f g : Machine.Frame) (gs : List Machine.Frame) (d : ℕ) (us : List UnitTree) (t : Lexeme) → move f.wait t ≡ Move.Ends form → part_step (g ∷ gs) b f d us t ≡ part_step gs b (Machine.taking g (Machine.node form f) f.read) d us t
+step-ends form b f g gs d us t q = ap (λ z. moved z b f (g ∷ gs) d us t (λ x. part_step gs b (Machine.taking g (Machine.node x f) f.read) d us t)) q
+
+-- what is left of the step is the step
+pub record Goes (nodes more : List Arena.Node) (below : List Frame) (held : Frame) (f : Machine.Frame) (fs : List Machine.Frame) (t : Lexeme) : Type 0 where
+  pub frame : Machine.Frame
+  pub frames : List Machine.Frame
+  pub grows : Grows nodes more
+  pub is : IsFrame more held frame
+  pub are : AreFrames more (reverse below) frames
+  pub same : (b : Machine.Begun) → (d : ℕ) → (us : List UnitTree) → part_step fs b f d us t ≡ part_step frames b frame d us t
+
+pub goes-first : (nodes : List Arena.Node) (below : List Frame) (held : Frame) (f : Machine.Frame) (fs : List Machine.Frame) (t : Lexeme) → IsFrame nodes held f → AreFrames nodes (reverse below) fs → Goes nodes nodes below held f fs t
+goes-first nodes below held f fs t i a = record { frame = f; frames = fs; grows = grows-same nodes; is = i; are = a; same = λ b d us. refl }
+
+pub goes-moves : {nodes more : List Arena.Node} {below : List Frame} {held : Frame} {f : Machine.Frame} {fs : List Machine.Frame} {t : Lexeme} (to : Move) → to ≡ move held.wait t → DoesNotEnd to → Goes nodes more below held f fs t → Ends nodes more below (Ended.Moves held to) f fs t
+goes-moves {t = t} to q k g = record {
+  grows = g.grows;
+  is = record {
+    frame = g.frame;
+    frames = g.frames;
+    is = g.is;
+    below = g.are;
+    same = λ b d us. g.same b d us ∙ step-still to b g.frame g.frames d us t (sym (q ∙ ap (λ z. move z t) g.is.wait)) k;
+  };
+}
+
+pub goes-whole : {nodes more : List Arena.Node} {below : List Frame} {held : Frame} {f : Machine.Frame} {fs : List Machine.Frame} {t : Lexeme} (most : List Arena.Node) (below' : List Frame) (part : Part) (form : Form) → below ≡ [] → Move.Ends form ≡ move held.wait t → (g : Goes nodes more below held f fs t) → Makes more most part (Machine.node form g.frame) g.frame.read → Ends nodes most below' (Ended.Whole part) f fs t
+goes-whole {nodes = nodes} {more = more} {f = f} {fs = fs} {t = t} most below' part form e q g m = record {
+  grows = grows-on nodes more most g.grows m.grows;
+  is = record {
+    tree = Machine.node form g.frame;
+    spelled = g.frame.read;
+    is = m.is;
+    same = λ b d us. g.same b d us ∙ (ap (λ z. part_step z b g.frame d us t) (none g.frames (subst (λ z. AreFrames more (reverse z) g.frames) e g.are)) ∙ step-whole form b g.frame d us t (sym (q ∙ ap (λ z. move z t) g.is.wait)));
+  };
+}
+  where
+    none : (gs : List Machine.Frame) → AreFrames more [] gs → gs ≡ []
+    none [] a = refl
+    none (h ∷ hs) a = absurd a
+
+pub goes-on : {nodes more : List Arena.Node} {below : List Frame} {held : Frame} {f : Machine.Frame} {fs : List Machine.Frame} {t : Lexeme} (most : List Arena.Node) (below' : List Frame) (outer taken : Frame) (part : Part) (form : Form) → reverse below ≡ outer ∷ reverse below' → Move.Ends form ≡ move held.wait t → (g : Goes nodes more below held f fs t) → Makes more most part (Machine.node form g.frame) g.frame.read → ((h : Machine.Frame) → (x : Tree) → (b : List Lexeme) → IsFrame most outer h → IsPart most part x b → IsFrame most taken (Machine.frame (after_part outer.wait) (then h.parts x) (h.read ++ b))) → Goes nodes most below' taken f fs t
+goes-on {nodes = nodes} {more = more} {f = f} {fs = fs} {t = t} most below' outer taken part form e q g m k = by g.frames (subst (λ z. AreFrames more z g.frames) e g.are) (λ b d us. g.same b d us)
+  where
+    by : (gs : List Machine.Frame) → AreFrames more (outer ∷ reverse below') gs → ((b : Machine.Begun) → (d : ℕ) → (us : List UnitTree) → part_step fs b f d us t ≡ part_step gs b g.frame d us t) → Goes nodes most below' taken f fs t
+    by [] a same = absurd a
+    by (h ∷ hs) a same = record {
+      frame = Machine.taking h (Machine.node form g.frame) g.frame.read;
+      frames = hs;
+      grows = grows-on nodes more most g.grows m.grows;
+      is = subst (λ z. IsFrame most taken (Machine.frame (after_part z) (then h.parts (Machine.node form g.frame)) (h.read ++ g.frame.read))) a.0.wait (k h (Machine.node form g.frame) g.frame.read (frame-grows more most outer h m.grows a.0) m.is);
+      are = frames-grow more most _ hs m.grows a.1;
+      same = λ b d us. same b d us ∙ step-ends form b g.frame h hs d us t (sym (q ∙ ap (λ z. move z t) g.is.wait));
+    }
+
+pub popped : (old new : List Frame) (last : Frame) → old ≡ new ++ last ∷ [] → reverse old ≡ last ∷ reverse new
+popped old new last e = ap reverse e ∙ reverse-append new (last ∷ [])
+
+pub nothing-left : (old : List Frame) → length old ≡ 0 → old ≡ []
+nothing-left [] e = refl
+nothing-left (h ∷ hs) e = cc
+
+-- ---- the step, once the frames have ended
+
+pub whole-there : {nodes : List Arena.Node} {part : Part} {f : Machine.Frame} {fs : List Machine.Frame} {t : Lexeme} → EndsWhole nodes part f fs t → part.node < length nodes
+whole-there w = w.is.there
+
+pub ended-whole : (nodes more : List Arena.Node) (below : List Frame) (ended : Ended) (part : Part) (f : Machine.Frame) (fs : List Machine.Frame) (t : Lexeme) → ended ≡ Ended.Whole part → Ends nodes more below ended f fs t → Grows nodes more × EndsWhole more part f fs t
+ended-whole nodes more below ended part f fs t q e = (e.grows, subst (λ z. IsEnded more below z f fs t) q e.is)
+
+pub ended-moves : (nodes more : List Arena.Node) (below : List Frame) (ended : Ended) (held : Frame) (to : Move) (f : Machine.Frame) (fs : List Machine.Frame) (t : Lexeme) → ended ≡ Ended.Moves held to → Ends nodes more below ended f fs t → Grows nodes more × EndsMoving more below held to f fs t
+ended-moves nodes more below ended held to f fs t q e = (e.grows, subst (λ z. IsEnded more below z f fs t) q e.is)
+
+pub step-whole-is : (nodes more : List Arena.Node) (part : Part) (b : Machine.Begun) (f : Machine.Frame) (fs : List Machine.Frame) (d : ℕ) (us : List UnitTree) (t : Lexeme) (state : Option State) → Grows nodes more → (w : EndsWhole more part f fs t) → IsMoved more state (finished b w.tree d us t) → Moves nodes more state (part_step fs b f d us t)
+step-whole-is nodes more part b f fs d us t state g w i = record { grows = g; is = subst (IsMoved more state) (sym (w.same b d us)) i }
+
+pub step-moves-is : (nodes more most : List Arena.Node) (below : List Frame) (held : Frame) (to : Move) (b : Machine.Begun) (f : Machine.Frame) (fs : List Machine.Frame) (d : ℕ) (us : List UnitTree) (t : Lexeme) (state : Option State) → Grows nodes more → (w : EndsMoving more below held to f fs t) → Moves more most state (moved to b w.frame w.frames d us t (λ form. None)) → Moves nodes most state (part_step fs b f d us t)
+step-moves-is nodes more most below held to b f fs d us t state g w m = record {
+  grows = grows-on nodes more most g m.grows;
+  is = subst (IsMoved most state) (sym (w.same b d us)) m.is;
+}
+
+-- the unit that is read, once its frames have ended
+pub under-ended : (nodes more : List Arena.Node) (unfinished after : Unfinished) (b : Machine.Begun) (fs gs : List Machine.Frame) (d : ℕ) (us : List UnitTree) → after.reached ≡ unfinished.reached → after.begun ≡ unfinished.begun → Grows nodes more → IsUnder nodes unfinished b fs d us → AreFrames more (reverse after.below.items) gs → IsUnder more after b gs d us
+under-ended nodes more unfinished after b fs gs d us r s g u a =
+    let v = under-grows nodes more unfinished b fs d us g u in
+    record {
+      reached = rw r v.reached;
+      begun = rw s v.begun;
+      below = a;
+    }
+
+-- ---- an expression or bounds that are whole
+
+pub under-popped : (nodes : List Arena.Node) (unfinished after : Unfinished) (top : Frame) (b : Machine.Begun) (fs : List Machine.Frame) (d : ℕ) (us : List UnitTree) → after.reached ≡ unfinished.reached → after.begun ≡ unfinished.begun → reverse unfinished.below.items ≡ top ∷ reverse after.below.items → IsUnder nodes unfinished b fs d us → (g : Machine.Frame) × (gs : List Machine.Frame) × (fs ≡ g ∷ gs) × IsFrame nodes top g × IsUnder nodes after b gs d us
+under-popped nodes unfinished after top b fs d us r s e u = by fs (subst (λ z. AreFrames nodes z fs) e u.below)
+  where
+    by : (hs : List Machine.Frame) → AreFrames nodes (top ∷ reverse after.below.items) hs → (g : Machine.Frame) × (gs : List Machine.Frame) × (hs ≡ g ∷ gs) × IsFrame nodes top g × IsUnder nodes after b gs d us
+    by [] a = absurd a
+    by (g ∷ gs) a = (g, gs, refl, a.0, record { reached = rw r u.reached; begun = rw s u.begun; below = a.1 })
+
+pub under-none : (nodes : List Arena.Node) (unfinished : Unfinished) (b : Machine.Begun) (fs : List Machine.Frame) (d : ℕ) (us : List UnitTree) → unfinished.below.items ≡ [] → IsUnder nodes unfinished b fs d us → fs ≡ []
+under-none nodes unfinished b fs d us e u = by fs (subst (λ z. AreFrames nodes (reverse z) fs) e u.below)
+  where
+    by : (hs : List Machine.Frame) → AreFrames nodes [] hs → hs ≡ []
+    by [] a = refl
+    by (h ∷ hs) a = absurd a
+
+pub given-none : (nodes : List Arena.Node) (b : Machine.Begun) (fs : List Machine.Frame) (x : Tree) (spelled : List Lexeme) (d : ℕ) (us : List UnitTree) (t : Lexeme) (state : Option State) → fs ≡ [] → IsMoved nodes state (finished b x d us t) → Moves nodes nodes state (given fs b x spelled d us t)
+given-none nodes b fs x spelled d us t state e i = rw e (still i)
+
+pub given-frame : (nodes more : List Arena.Node) (b : Machine.Begun) (fs gs : List Machine.Frame) (g : Machine.Frame) (x : Tree) (spelled : List Lexeme) (d : ℕ) (us : List UnitTree) (t : Lexeme) (state : Option State) → fs ≡ g ∷ gs → Moves nodes more state (part_step gs b (Machine.frame (after_expression g.wait) (then g.parts x) (g.read ++ spelled)) d us t) → Moves nodes more state (given fs b x spelled d us t)
+given-frame nodes more b fs gs g x spelled d us t state e m = rw e m
+
+-- the frame that takes it waits for what the machine's does
+pub waits-as : (nodes : List Arena.Node) (taken top : Frame) (w : _) (g : Machine.Frame) (ps : Trees) (a : List Lexeme) → w ≡ after_expression top.wait → IsFrame nodes top g → IsFrame nodes taken (Machine.frame w ps a) → IsFrame nodes taken (Machine.frame (after_expression g.wait) ps a)
+waits-as nodes taken top w g ps a q i k = subst (λ z. IsFrame nodes taken (Machine.frame z ps a)) (q ∙ ap after_expression i.wait) k
+
+pub bounds-wait : (nodes : List Arena.Node) (taken top : Frame) (w : _) (g : Machine.Frame) (ps : Trees) (a : List Lexeme) → w ≡ after_bounds top.wait → IsFrame nodes top g → IsFrame nodes taken (Machine.frame w ps a) → IsFrame nodes taken (Machine.frame (after_bounds g.wait) ps a)
+bounds-wait nodes taken top w g ps a q i k = subst (λ z. IsFrame nodes taken (Machine.frame z ps a)) (q ∙ ap after_bounds i.wait) k
+
+-- ---- what the reader of expressions answered
+
+-- bounds are done before the same lexemes, alone and in a unit
+same-bounds : (st : Expressions.State) (kind : LexKind) → bounds_before (Some st) kind ≡ bounds_done_before (Some st) kind
+same-bounds st kind = ap (λ z. cond z (finish_bounds (Some st)) None) (closes kind)
+  where
+    closes : (k : LexKind) → is_right_bracket k ≡ closes_bounds k
+    closes (LexKind.Mark Mark.RightBracket) = refl
+    closes (LexKind.Mark _) = refl
+    closes _ = refl
+
+pub expression-going : (nodes more : List Arena.Node) (unfinished : Unfinished) (reading : Reading) (b : Machine.Begun) (fs : List Machine.Frame) (d : ℕ) (us : List UnitTree) (st : Expressions.State) (read : List Lexeme) (t : Lexeme) (heard : Heard) → heard ≡ Heard.Going → IsUnder nodes unfinished b fs d us → Hears nodes more reading Goal.Expression st read t heard → Moves nodes more (Some (State.Expression unfinished reading)) (expression_step (done_before (Some st) t.kind) b fs st read d us t)
+expression-going nodes more unfinished reading b fs d us st read t heard q u h =
+    let k : Hears nodes more reading Goal.Expression st read t Heard.Going = subst (Hears nodes more reading Goal.Expression st read t) q h in
+    let e : expression_step (done_before (Some st) t.kind) b fs st read d us t ≡ Some (Machine.state d us (Machine.Expression b fs k.is.1.state (read ++ t ∷ []))) =
+    ap (λ o. expression_step o b fs st read d us t) k.is.0 ∙ ap (λ o. Machine.reading o b fs (read ++ t ∷ []) d us) k.is.1.steps
+    in
+    record {
+      grows = k.grows;
+      is = subst (IsMoved more (Some (State.Expression unfinished reading))) (sym e) (under-grows nodes more unfinished b fs d us k.grows u, k.is.1.is);
+    }
+
+pub expression-refused : (nodes more : List Arena.Node) (reading : Reading) (b : Machine.Begun) (fs : List Machine.Frame) (d : ℕ) (us : List UnitTree) (st : Expressions.State) (read : List Lexeme) (t : Lexeme) (heard : Heard) → heard ≡ Heard.Refused → Hears nodes more reading Goal.Expression st read t heard → Moves nodes more None (expression_step (done_before (Some st) t.kind) b fs st read d us t)
+expression-refused nodes more reading b fs d us st read t heard q h =
+    let k : Hears nodes more reading Goal.Expression st read t Heard.Refused = subst (Hears nodes more reading Goal.Expression st read t) q h in
+    let e : expression_step (done_before (Some st) t.kind) b fs st read d us t ≡ None =
+    ap (λ o. expression_step o b fs st read d us t) k.is.0 ∙ ap (λ o. Machine.reading o b fs (read ++ t ∷ []) d us) k.is.1
+    in
+    record { grows = k.grows; is = subst (IsMoved more None) (sym e) tt }
+
+pub expression-done : (nodes more most : List Arena.Node) (reading : Reading) (part : Part) (b : Machine.Begun) (fs : List Machine.Frame) (d : ℕ) (us : List UnitTree) (st : Expressions.State) (read : List Lexeme) (t : Lexeme) (state : Option State) → Hears nodes more reading Goal.Expression st read t (Heard.Done part) → Moves more most state (given fs b (tree_at more part.node) read d us t) → Moves nodes most state (expression_step (done_before (Some st) t.kind) b fs st read d us t)
+expression-done nodes more most reading part b fs d us st read t state h m = record {
+  grows = grows-on nodes more most h.grows m.grows;
+  is = subst (IsMoved most state) (sym (ap (λ o. expression_step o b fs st read d us t) h.is.0)) m.is;
+}
+
+pub bounds-going : (nodes more : List Arena.Node) (unfinished : Unfinished) (held : Frame) (reading : Reading) (b : Machine.Begun) (f : Machine.Frame) (d : ℕ) (us : List UnitTree) (st : Expressions.State) (read : List Lexeme) (t : Lexeme) (heard : Heard) → heard ≡ Heard.Going → IsUnder nodes unfinished b [] d us → IsFrame nodes held f → Hears nodes more reading Goal.Bounds st read t heard → Moves nodes more (Some (State.Bounds unfinished held reading)) (bounds_step (bounds_before (Some st) t.kind) b f st read d us t)
+bounds-going nodes more unfinished held reading b f d us st read t heard q u i h =
+    let k : Hears nodes more reading Goal.Bounds st read t Heard.Going = subst (Hears nodes more reading Goal.Bounds st read t) q h in
+    let e : bounds_step (bounds_before (Some st) t.kind) b f st read d us t ≡ Some (Machine.state d us (Machine.Bounds b f k.is.1.state (read ++ t ∷ []))) =
+    ap (λ o. bounds_step o b f st read d us t) (same-bounds st t.kind ∙ k.is.0) ∙ ap (λ o. Machine.reading_bounds o b f (read ++ t ∷ []) d us) k.is.1.steps
+    in
+    record {
+      grows = k.grows;
+      is = subst (IsMoved more (Some (State.Bounds unfinished held reading))) (sym e) (under-grows nodes more unfinished b [] d us k.grows u, frame-grows nodes more held f k.grows i, k.is.1.is);
+    }
+
+pub bounds-refused : (nodes more : List Arena.Node) (reading : Reading) (b : Machine.Begun) (f : Machine.Frame) (d : ℕ) (us : List UnitTree) (st : Expressions.State) (read : List Lexeme) (t : Lexeme) (heard : Heard) → heard ≡ Heard.Refused → Hears nodes more reading Goal.Bounds st read t heard → Moves nodes more None (bounds_step (bounds_before (Some st) t.kind) b f st read d us t)
+bounds-refused nodes more reading b f d us st read t heard q h =
+    let k : Hears nodes more reading Goal.Bounds st read t Heard.Refused = subst (Hears nodes more reading Goal.Bounds st read t) q h in
+    let e : bounds_step (bounds_before (Some st) t.kind) b f st read d us t ≡ None =
+    ap (λ o. bounds_step o b f st read d us t) (same-bounds st t.kind ∙ k.is.0) ∙ ap (λ o. Machine.reading_bounds o b f (read ++ t ∷ []) d us) k.is.1
+    in
+    record { grows = k.grows; is = subst (IsMoved more None) (sym e) tt }
+
+pub bounds-done-is : (nodes more most : List Arena.Node) (reading : Reading) (part : Part) (b : Machine.Begun) (f : Machine.Frame) (d : ℕ) (us : List UnitTree) (st : Expressions.State) (read : List Lexeme) (t : Lexeme) (state : Option State) → Hears nodes more reading Goal.Bounds st read t (Heard.Done part) → Moves more most state (part_step [] b (Machine.frame (after_bounds f.wait) (parts_of (tree_at more part.node)) (f.read ++ read)) d us t) → Moves nodes most state (bounds_step (bounds_before (Some st) t.kind) b f st read d us t)
+bounds-done-is nodes more most reading part b f d us st read t state h m = record {
+  grows = grows-on nodes more most h.grows m.grows;
+  is = subst (IsMoved most state) (sym (ap (λ o. bounds_step o b f st read d us t) (same-bounds st t.kind ∙ h.is.0))) m.is;
+}
+
+pub heard-done : (nodes more : List Arena.Node) (reading : Reading) (goal : Goal) (st : Expressions.State) (read : List Lexeme) (t : Lexeme) (heard : Heard) (part : Part) → heard ≡ Heard.Done part → Hears nodes more reading goal st read t heard → Hears nodes more reading goal st read t (Heard.Done part)
+heard-done nodes more reading goal st read t heard part q h = subst (Hears nodes more reading goal st read t) q h
+
+-- ---- a state in code, by what it is
+
+pub as-part : (nodes : List Arena.Node) (state : State) (unfinished : Unfinished) (held : Frame) (st : Machine.State) → state ≡ State.Part unfinished held → IsState nodes state st → (b : Machine.Begun) × (f : Machine.Frame) × (fs : List Machine.Frame) × (st.focus ≡ Machine.Part b f fs) × IsUnder nodes unfinished b fs st.depth st.units × IsFrame nodes held f
+as-part nodes state unfinished held st q i = by st.focus (subst (λ z. IsFocus nodes z st.focus st.depth st.units) q i)
+  where
+    by : (focus : Machine.Focus) → IsFocus nodes (State.Part unfinished held) focus st.depth st.units → (b : Machine.Begun) × (f : Machine.Frame) × (fs : List Machine.Frame) × (focus ≡ Machine.Part b f fs) × IsUnder nodes unfinished b fs st.depth st.units × IsFrame nodes held f
+    by (Machine.Part b f fs) k = (b, f, fs, refl, k.0, k.1)
+    by (Machine.Stands due names) k = absurd k
+    by (Machine.Declared xs) k = absurd k
+    by (Machine.Expression b fs s a) k = absurd k
+    by (Machine.Bounds b f s a) k = absurd k
+
+pub as-expression : (nodes : List Arena.Node) (state : State) (unfinished : Unfinished) (reading : Reading) (st : Machine.State) → state ≡ State.Expression unfinished reading → IsState nodes state st → (b : Machine.Begun) × (fs : List Machine.Frame) × (s : Expressions.State) × (a : List Lexeme) × (st.focus ≡ Machine.Expression b fs s a) × IsUnder nodes unfinished b fs st.depth st.units × IsReading nodes reading Goal.Expression s a
+as-expression nodes state unfinished reading st q i = by st.focus (subst (λ z. IsFocus nodes z st.focus st.depth st.units) q i)
+  where
+    by : (focus : Machine.Focus) → IsFocus nodes (State.Expression unfinished reading) focus st.depth st.units → (b : Machine.Begun) × (fs : List Machine.Frame) × (s : Expressions.State) × (a : List Lexeme) × (focus ≡ Machine.Expression b fs s a) × IsUnder nodes unfinished b fs st.depth st.units × IsReading nodes reading Goal.Expression s a
+    by (Machine.Expression b fs s a) k = (b, fs, s, a, refl, k.0, k.1)
+    by (Machine.Stands due names) k = absurd k
+    by (Machine.Declared xs) k = absurd k
+    by (Machine.Part b f fs) k = absurd k
+    by (Machine.Bounds b f s a) k = absurd k
+
+pub as-bounds : (nodes : List Arena.Node) (state : State) (unfinished : Unfinished) (held : Frame) (reading : Reading) (st : Machine.State) → state ≡ State.Bounds unfinished held reading → IsState nodes state st → (b : Machine.Begun) × (f : Machine.Frame) × (s : Expressions.State) × (a : List Lexeme) × (st.focus ≡ Machine.Bounds b f s a) × IsUnder nodes unfinished b [] st.depth st.units × IsFrame nodes held f × IsReading nodes reading Goal.Bounds s a
+as-bounds nodes state unfinished held reading st q i = by st.focus (subst (λ z. IsFocus nodes z st.focus st.depth st.units) q i)
+  where
+    by : (focus : Machine.Focus) → IsFocus nodes (State.Bounds unfinished held reading) focus st.depth st.units → (b : Machine.Begun) × (f : Machine.Frame) × (s : Expressions.State) × (a : List Lexeme) × (focus ≡ Machine.Bounds b f s a) × IsUnder nodes unfinished b [] st.depth st.units × IsFrame nodes held f × IsReading nodes reading Goal.Bounds s a
+    by (Machine.Bounds b f s a) k = (b, f, s, a, refl, k.0, k.1, k.2)
+    by (Machine.Stands due names) k = absurd k
+    by (Machine.Declared xs) k = absurd k
+    by (Machine.Part b f fs) k = absurd k
+    by (Machine.Expression b fs s a) k = absurd k
+
+pub focus-moves : (nodes more : List Arena.Node) (state : Option State) (st : Machine.State) (focus : Machine.Focus) (t : Lexeme) → st.focus ≡ focus → Moves nodes more state (Machine.focus_step focus st.depth st.units t) → Moves nodes more state (Machine.step st t)
+focus-moves nodes more state st focus t q m = subst (λ z. Moves nodes more state (Machine.focus_step z st.depth st.units t)) (sym q) m

@@ -1,0 +1,60 @@
+// Expressions, and the bounds in heads of functions, as they are read in a unit.
+ghost use Rattle.std.specs.Prelude.{◌≡◌, List, [], IfOk};
+ghost use Rattle.tla_symbols.specs.declared.lexeme.Lexeme.{Lexeme};
+ghost use Rattle.tla_tree.specs.Arena.{Node};
+ghost use Rattle.expr_grammar.specs.Machine as expressions;
+ghost use Rattle.expr_parse.specs.Reading.{IsReady, start_of};
+ghost use Rattle.unit_parse.specs.Standing.{IsReading, Hears};
+
+use expr_parse::{ExprMachine, Goal, Part, Step, joined};
+use std::alloc::Global;
+use tla_symbols::{Lexeme, Span};
+use tla_tree::Tree;
+use tool_list::Memory;
+
+/// An expression, or bounds, of which some lexemes were read, and their place, if there are any.
+#[derive(Drop)]
+pub(crate) struct Reading {
+    pub(crate) machine: ExprMachine,
+    pub(crate) place: Option<Span>,
+}
+
+/// What a lexeme led to.
+#[derive(Clone, Copy)]
+pub(crate) enum Heard {
+    /// It goes on with what is read.
+    Going,
+    /// What stands before it is whole, and it is no part of it.
+    Done(Part),
+    Refused,
+}
+
+impl Reading {
+    /// Nothing was read.
+    pub(crate) fn new(alloc: Global, goal: Goal) -> Reading
+        ensures { (nodes : List Node) → IsReading nodes result goal (start_of goal) [] }
+    {
+        Reading {
+            machine: ExprMachine::new(alloc, goal),
+            place: None,
+        }
+    }
+
+    /// Reads a lexeme after those that were read.
+    pub(crate) fn hears(&mut self, tree: &mut Tree, lexeme: Lexeme) -> Result<Heard, Memory>
+        requires { IsReady tree.old self.old.machine }
+        ensures { IfOk result (λ heard. (goal : Goal) → (state : expressions.State) → (read : List Lexeme) → IsReading tree.old self.old goal state read → Hears tree.old tree.new self.new goal state read lexeme heard) }
+    {
+        match self.machine.step(&lexeme, &lexeme, tree)? {
+            Step::Going => {
+                self.place = joined(self.place, Some(lexeme.span));
+                Ok(Heard::Going)
+            }
+            Step::Done { node } => Ok(Heard::Done(Part {
+                node,
+                place: self.place,
+            })),
+            Step::Refused => Ok(Heard::Refused),
+        }
+    }
+}
