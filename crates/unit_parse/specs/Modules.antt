@@ -1,45 +1,12 @@
--- What a module in code is: its units with trees in place of the numbers of nodes; and what is answered where there is none.
-use Rattle.std.specs.Prelude.{◌≡◌, ◌<◌, ℕ, List, [], ◌∷◌, map, length}
-use Rattle.std.specs.List.{AllByRecursion}
+-- What a module in code is, and what is answered where there is none.
+pub use Rattle.unit_grammar.specs.UnitNodes.{unit_at, nodes_in, AreUnits}
+use Rattle.std.specs.Prelude.{◌≡◌, ◌<◌, List, [], length}
 use Rattle.tla_symbols.specs.declared.lexeme.Lexeme.{Lexeme}
-use Rattle.tla_tree.specs.Arena.{Node, AreThere, tree_at}
-use Rattle.tla_tree.specs.Syntax.{trees}
-use Rattle.tla_tree.specs.declared.unit.Unit.TheVariants as unit
 use Rattle.tla_tree.specs.declared.unit.ModuleTree.{ModuleTree}
-use Rattle.unit_grammar.specs.Units.{UnitTree, Variables, Constants, OperatorDefinition, FunctionDefinition, ModuleDefinition, Instance, Assumption, Theorem, Line, ModuleBegin, ModuleEnd, ModuleUnits}
+use Rattle.unit_grammar.specs.Units.{ModuleUnits}
 use Rattle.unit_grammar.specs.Heights.{module_height}
 use Rattle.unit_grammar.specs.FirstBad.{IsFirstBad}
 use Rattle.unit_parse.specs.declared.parse.ParseError.{ParseError}
-
--- the unit of the grammar, by the nodes of a tree
-abbrev pub unit_at : List Node → unit.the_data → UnitTree
-unit_at nodes (unit.Variables names) = Variables names
-unit_at nodes (unit.Constants declarations) = Constants (trees (map (tree_at nodes) declarations))
-unit_at nodes (unit.OperatorDefinition local node) = OperatorDefinition local (tree_at nodes node)
-unit_at nodes (unit.FunctionDefinition local node) = FunctionDefinition local (tree_at nodes node)
-unit_at nodes (unit.ModuleDefinition local node) = ModuleDefinition local (tree_at nodes node)
-unit_at nodes (unit.Instance local node) = Instance local (tree_at nodes node)
-unit_at nodes (unit.Assumption word name node) = Assumption word name (tree_at nodes node)
-unit_at nodes (unit.Theorem word name node) = Theorem word name (tree_at nodes node)
-unit_at nodes (unit.Line dashes) = Line dashes
-unit_at nodes (unit.ModuleBegin name extends) = ModuleBegin name extends
-unit_at nodes (unit.ModuleEnd closing) = ModuleEnd closing
-
--- the numbers that it holds
-abbrev pub nodes_in : unit.the_data → List ℕ
-nodes_in (unit.Constants declarations) = declarations
-nodes_in (unit.OperatorDefinition local node) = node ∷ []
-nodes_in (unit.FunctionDefinition local node) = node ∷ []
-nodes_in (unit.ModuleDefinition local node) = node ∷ []
-nodes_in (unit.Instance local node) = node ∷ []
-nodes_in (unit.Assumption word name node) = node ∷ []
-nodes_in (unit.Theorem word name node) = node ∷ []
-nodes_in _ = []
-
--- units whose nodes are there
-pub record AreUnits (nodes : List Node) (units : List unit.the_data) (found : List UnitTree) : Type 0 where
-  pub there : AllByRecursion (λ unit. AreThere nodes (nodes_in unit)) units
-  pub are : map (unit_at nodes) units ≡ found
 
 pub record IsModule (parsed : ModuleTree) (found : ModuleUnits) : Type 0 where
   pub name : parsed.name ≡ found.name
