@@ -1,3 +1,11 @@
+mod WithinUnits
+mod Within
+mod WithinTrees
+mod Passing
+mod ImportSamples
+mod Needs
+mod TreeWalk
+mod Scoping
 mod Lists
 mod Ways
 mod Reaching

@@ -1,17 +1,25 @@
-//! Which name needs which, and an order in which each stands behind what it needs.
+//! Which modules a module needs; and of names with what they need, an order in which each stands behind
+//! what it needs.
 //!
-//! Knows nothing of texts and trees: who puts a name says what it needs. No call goes deeper with the
-//! length of a chain of needs, and each takes time in proportion to the names and needs that were put.
+//! Knows nothing of how a text is read, and of where a needed module is found; `Graph` knows nothing of
+//! texts and trees. No call goes deeper with a tree or with the length of a chain of needs, and each
+//! takes time in proportion to the tree, or to the names and needs that were put.
 #![tactic(auto)]
 
 use tool_list::{Chars, Memory};
 
 mod components;
 mod graph;
+mod laws;
+mod needed;
+mod nesting;
 mod rows;
 mod search;
+mod trees;
 
 pub use graph::Graph;
+pub use laws::{names_lie, needs_in_order, passes_nested};
+pub use needed::imports;
 
 /// Why there is no order.
 #[derive(Drop)]

@@ -1,0 +1,122 @@
+-- Sample modules with what they need. Names are letters of one text; a place in it is a lexeme.
+use Rattle.std.proofs.Common.{◌≡◌, ℕ, zero, suc, ◌+◌, ◌<◌, ◌≤◌, List, [], ◌∷◌, ◌++◌, length, refl, slice_index, lit<, arith}
+use Rattle.std.specs.Prelude.{None, codes}
+use Rattle.tla_symbols.specs.declared.lexeme.LexKind.{LexKind}
+use Rattle.tla_symbols.specs.declared.lexeme.Lexeme.{Lexeme}
+use Rattle.tla_tree.specs.declared.form.Form.TheVariants as Form
+use Rattle.tla_tree.specs.Syntax.{Tree, Nil}
+use Rattle.tla_tree.specs.Lexemes.{built, one, two}
+use Rattle.unit_grammar.specs.Units.{UnitTree, OperatorDefinition, ModuleDefinition, Instance, ModuleBegin, ModuleEnd}
+use Rattle.std.specs.Str.{IsCharBoundary}
+use Rattle.tla_tree.specs.Arena as Arena
+use Rattle.tla_tree.specs.Arena.{tree_at, grown}
+use Rattle.tla_tree.specs.declared.unit.Unit.TheVariants as unit
+use Rattle.unit_grammar.specs.UnitNodes.{HasNodes, module_of}
+use Rattle.module_graph.specs.Imports.{imports_of, LiesIn, AreNamesPlaced}
+
+-- A, B, C and N at 0 to 3, and once more at 4 to 7
+abbrev pub text : List ℕ
+text = codes "ABCNABCN"
+
+abbrev pub at : ℕ → Lexeme
+at from = record { kind = LexKind.Name; span = record { start = from; end = from + 1 }; line = 0; col = from }
+
+-- the needs of A, as places
+abbrev needs : List ℕ → List UnitTree → List Lexeme
+needs extended units = imports_of text (record { name = at 0; extends = places extended; units = units })
+  where
+    places : List ℕ → List Lexeme
+    places [] = []
+    places (from ∷ rest) = at from ∷ places rest
+
+-- INSTANCE N, I == INSTANCE N, and a nested module's ends
+abbrev instance : ℕ → UnitTree
+instance from = Instance None (built (Form.Instance (at from)) Nil [])
+
+abbrev begin : ℕ → UnitTree
+begin from = ModuleBegin (at from) []
+
+abbrev end : UnitTree
+end = ModuleEnd (at 0)
+
+-- EXTENDS B, C | INSTANCE N
+all_in_order : needs (1 ∷ 2 ∷ []) (instance 3 ∷ []) ≡ at 1 ∷ at 2 ∷ at 3 ∷ []
+all_in_order = refl
+
+-- MODULE B EXTENDS N | INSTANCE C | end | INSTANCE B | INSTANCE C
+nested_answers : needs [] (ModuleBegin (at 1) (at 3 ∷ []) ∷ instance 2 ∷ end ∷ instance 5 ∷ instance 6 ∷ []) ≡ at 3 ∷ at 2 ∷ at 6 ∷ []
+nested_answers = refl
+
+-- INSTANCE B | MODULE B | end
+too_early : needs [] (instance 1 ∷ begin 5 ∷ end ∷ []) ≡ at 1 ∷ []
+too_early = refl
+
+-- MODULE B EXTENDS B | INSTANCE B | end
+not_itself : needs [] (ModuleBegin (at 1) (at 5 ∷ []) ∷ instance 5 ∷ end ∷ []) ≡ []
+not_itself = refl
+
+-- MODULE B | MODULE C | end | INSTANCE C | end | INSTANCE C
+seen_in_its_module_alone : needs [] (begin 1 ∷ begin 2 ∷ end ∷ instance 2 ∷ end ∷ instance 6 ∷ []) ≡ at 6 ∷ []
+seen_in_its_module_alone = refl
+
+-- MODULE B | end | MODULE C | INSTANCE B | end
+seen_inside : needs [] (begin 1 ∷ end ∷ begin 2 ∷ instance 5 ∷ end ∷ []) ≡ []
+seen_inside = refl
+
+-- MODULE B | end | MODULE C | MODULE B | end | end | INSTANCE B
+first_one_stays : needs [] (begin 1 ∷ end ∷ begin 2 ∷ begin 5 ∷ end ∷ end ∷ instance 5 ∷ []) ≡ []
+first_one_stays = refl
+
+-- MODULE B | MODULE B | end | end | INSTANCE B
+named_as_round_it : needs [] (begin 1 ∷ begin 5 ∷ end ∷ end ∷ instance 5 ∷ []) ≡ []
+named_as_round_it = refl
+
+-- EXTENDS A | MODULE A | INSTANCE A | end | INSTANCE A
+own_name : needs (0 ∷ []) (begin 4 ∷ instance 4 ∷ end ∷ instance 4 ∷ []) ≡ at 0 ∷ at 4 ∷ []
+own_name = refl
+
+-- U == LET B == INSTANCE B WITH x <- LET C == INSTANCE C IN x IN x | C == INSTANCE N
+abbrev let_of : Tree → Tree
+let_of definition = built Form.Let (two (built (Form.ModuleDefinition (at 0)) (one definition) []) (built Form.Identifier Nil [])) []
+
+inside_definitions : needs [] (OperatorDefinition None (built (Form.OperatorDefinition (at 0)) (one (let_of (built (Form.Instance (at 1)) (one (built (Form.Replacement (at 0)) (one (let_of (built (Form.Instance (at 2)) Nil []))) [])) []))) []) ∷ ModuleDefinition None (built (Form.ModuleDefinition (at 2)) (one (built (Form.Instance (at 3)) Nil [])) []) ∷ []) ≡ at 1 ∷ at 2 ∷ at 3 ∷ []
+inside_definitions = refl
+
+small : (i : ℕ) → slice_index text i < 128
+small zero = lit< tt
+small (suc zero) = lit< tt
+small (suc (suc zero)) = lit< tt
+small (suc (suc (suc zero))) = lit< tt
+small (suc (suc (suc (suc zero)))) = lit< tt
+small (suc (suc (suc (suc (suc zero))))) = lit< tt
+small (suc (suc (suc (suc (suc (suc zero)))))) = lit< tt
+small (suc (suc (suc (suc (suc (suc (suc zero))))))) = lit< tt
+small (suc (suc (suc (suc (suc (suc (suc (suc i)))))))) = lit< tt
+
+boundary : (i : ℕ) → i ≤ 8 → IsCharBoundary text i
+boundary i low = (low, λ inside large. absurd (omega (arith, large, small i)))
+
+lies : (i : ℕ) → i < 8 → LiesIn text (at i)
+lies i low = record { order = omega arith; start = boundary i (omega (arith, low)); end = boundary (i + 1) (omega (arith, low)) }
+
+abbrev pub node : ℕ → Arena.Node
+node from = record { form = Form.Instance (at from); span = (at from).span; children = [] }
+
+-- the sample of a test, as it is made step by step, meets what is asked of a module
+pub holds : (name : Lexeme) (extends : List Lexeme) (units : List unit.the_data) (nodes : List Arena.Node) (height : ℕ) (source : List ℕ)
+    → name ≡ at 0 → units ≡ unit.ModuleBegin (at 2) [] ∷ unit.Instance None 0 ∷ unit.ModuleEnd (at 0) ∷ unit.Instance None 1 ∷ [] → nodes ≡ node 3 ∷ node 6 ∷ [] → source ≡ text
+    → HasNodes (record { name = name; extends = extends; units = units; tree = nodes; height = height; source = source }) × AreNamesPlaced source (module_of (record { name = name; extends = extends; units = units; tree = nodes; height = height; source = source }))
+unfolding tree_at grown
+holds name extends units nodes height source is units_are nodes_are source_is =
+    rw (is, units_are, nodes_are, source_is) ((tt, ((lit< tt, tt), (tt, ((lit< tt, tt), tt)))), record { name = lies 0 (lit< tt); units = ((lies 2 (lit< tt), tt), ((lies 3 (lit< tt), tt), (tt, ((lies 6 (lit< tt), tt), tt)))) })
+
+pub units-made : (a b c d : unit.the_data) (first : List Lexeme) (none one two three four : List unit.the_data) (bare more : List Arena.Node)
+    → none ≡ [] → one ≡ none ++ a ∷ [] → two ≡ one ++ b ∷ [] → three ≡ two ++ c ∷ [] → four ≡ three ++ d ∷ []
+    → bare ≡ [] → more ≡ bare ++ node 3 ∷ [] → first ≡ []
+    → a ≡ unit.ModuleBegin (at 2) first → b ≡ unit.Instance None (length bare) → c ≡ unit.ModuleEnd (at 0) → d ≡ unit.Instance None (length more)
+    → four ≡ unit.ModuleBegin (at 2) [] ∷ unit.Instance None 0 ∷ unit.ModuleEnd (at 0) ∷ unit.Instance None 1 ∷ []
+units-made a b c d first none one two three four bare more e0 e1 e2 e3 e4 n0 n1 f ea eb ec ed =
+    rw (e4, e3, e2, e1, e0, ea, eb, ec, ed, n1, n0, f) refl
+
+pub nodes-made : (none one two : List Arena.Node) → none ≡ [] → one ≡ none ++ node 3 ∷ [] → two ≡ one ++ node 6 ∷ [] → two ≡ node 3 ∷ node 6 ∷ []
+nodes-made none one two e0 e1 e2 = rw (e2, e1, e0) refl
