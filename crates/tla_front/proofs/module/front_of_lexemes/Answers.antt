@@ -1,0 +1,35 @@
+use Rattle.std.proofs.Common.{◌<◌, ◌^◌, length, arith, subst, sym}
+use Rattle.tla_front.specs.FirstHigh.{BeginsFurther}
+use Rattle.tla_front.proofs.Reading.{bad-front, bad-placed}
+use Rattle.tla_front.proofs.TextEnds.{text-ends}
+use Rattle.tla_front.proofs.TextGrows.{text-further, few-lexemes}
+use Rattle.tla_front.proofs.module.front_of_lexemes.Goals as goal
+
+pub parse_module-requires-clause-ends : goal.parse_module-requires-clause-ends
+parse_module-requires-clause-ends c = text-ends c.reads_longest.ensures c.args.source.now c.args.lexemes.now c.requires.part
+
+pub parse_module-requires-clause-few : goal.parse_module-requires-clause-few
+parse_module-requires-clause-few c =
+    omega
+    (arith, c.requires.small, few-lexemes c.args.source.now c.args.lexemes.now (text-further c.reads_longest.ensures c.args.source.now c.args.lexemes.now c.requires.part) c.requires.placed)
+
+pub front_of_tree-requires-clause-further : goal.front_of_tree-requires-clause-further
+front_of_tree-requires-clause-further c =
+    subst (λ ls. BeginsFurther 0 ls) (sym c.as_slice.ensures) (text-further c.reads_longest.ensures c.args.source.now c.args.lexemes.now c.requires.part)
+
+pub front_of_tree-requires-clause-few : goal.front_of_tree-requires-clause-few
+front_of_tree-requires-clause-few c =
+    let few : length c.args.lexemes.now < 2 ^ 32 =
+    omega
+    (arith, c.requires.small, few-lexemes c.args.source.now c.args.lexemes.now (text-further c.reads_longest.ensures c.args.source.now c.args.lexemes.now c.requires.part) c.requires.placed) in
+    subst (λ ls. length ls < 2 ^ 32) (sym c.as_slice.ensures) few
+
+pub returns-in-Err-FirstBad-clause-fault : goal.returns-in-Err-FirstBad-clause-fault
+returns-in-Err-FirstBad-clause-fault c =
+    let h = rw c.in-Err-FirstBad.field-0-is at c.in-Err-FirstBad.ensures.err in
+    let behind = rw c.in-Err-FirstBad.index-is at c.bad_lexeme.ensures in
+    bad-front c.args.name.now c.args.source.now c.args.lexemes.now c.as_slice-in-Err-FirstBad.result.now c.in-Err-FirstBad.index c.bad_lexeme.result c.as_slice-in-Err-FirstBad.ensures h.1 behind
+
+pub returns-in-Err-FirstBad-clause-placed : goal.returns-in-Err-FirstBad-clause-placed
+returns-in-Err-FirstBad-clause-placed c =
+    bad-placed c.args.source.now c.args.lexemes.now c.as_slice-in-Err-FirstBad.result.now _ c.bad_lexeme.result c.as_slice-in-Err-FirstBad.ensures c.bad_lexeme.ensures c.requires.placed

@@ -1,0 +1,14 @@
+//! The front of a module: from its bytes to its tree.
+//!
+//! Answers the tree of a module, or the one fault that is found before its names are looked at.
+//! Knows nothing of other modules, and of what names mean.
+#![tactic(auto)]
+
+mod fault;
+mod high;
+mod module;
+mod name;
+#[cfg(test)]
+mod tests;
+
+pub use module::{FrontError, front, one_front};

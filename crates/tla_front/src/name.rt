@@ -1,0 +1,36 @@
+// How lexemes are spelled.
+ghost use Rattle.std.specs.Prelude.{◌≡◌, ◌≤◌, ◌↔◌, IsTrue, length, take, drop};
+ghost use Rattle.tla_front.specs.Fronts as fronts;
+
+use tla_symbols::Lexeme;
+
+fn first_bytes(bytes: &[u8], count: usize) -> &[u8]
+    requires { count ≤ length bytes.now }
+    ensures { result.now ≡ take count bytes.now }
+{
+    &bytes[..count]
+}
+
+fn skip(bytes: &[u8], count: usize) -> &[u8]
+    requires { count ≤ length bytes.now }
+    ensures { result.now ≡ drop count bytes.now }
+{
+    &bytes[count..]
+}
+
+// The bytes of a lexeme, in the text that it stands in.
+fn spelling(text: &[u8], lexeme: Lexeme) -> &[u8]
+    ensures { result.now ≡ fronts.spelling text.now lexeme }
+{
+    let start = lexeme.span.start as usize;
+    let len = (lexeme.span.end as usize).saturating_sub(start);
+    let rest = skip(text, start.min(text.len()));
+    first_bytes(rest, len.min(rest.len()))
+}
+
+/// Whether a lexeme of this text is spelled so.
+pub fn is_spelled(text: &str, lexeme: Lexeme, name: &str) -> bool
+    ensures { IsTrue result ↔ (fronts.spelling text.now lexeme ≡ name.now) }
+{
+    spelling(text.as_bytes(), lexeme) == name.as_bytes()
+}
