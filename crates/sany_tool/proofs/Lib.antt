@@ -1,9 +1,7 @@
-pub mod FormLemmas
-pub mod NameListForms
-pub mod NameListLemmas
+pub mod FrontLemmas
+pub mod NameLemmas
 pub mod ReadingLemmas
 pub mod RunLemmas
 pub mod SeenLemmas
-pub mod TextEndLemmas
 pub mod TextLemmas
 pub mod VerdictLemmas

@@ -7,8 +7,9 @@ use Rattle.std.specs.Borrow.{Bor}
 use Rattle.std.specs.BTreeSet.{BTreeSet}
 use Rattle.std.specs.Str.{bytes_eq}
 use Rattle.tla_symbols.specs.declared.lexeme.Lexeme.{Lexeme}
-use Rattle.sany_tool.specs.declared.diagnostic.Diagnostic.{Diagnostic}
-use Rattle.sany_tool.specs.Declarations.{already_there, faults_in, holds, spelling}
+use Rattle.tla_model.specs.declared.Diagnostic.{Diagnostic}
+use Rattle.tla_front.specs.Fronts.{spelling}
+use Rattle.sany_tool.specs.Declarations.{already_there, faults_in, holds}
 use Rattle.sany_tool.specs.Seen.{Knows, Notes, knows}
 
 or-false : (b : Bool) → (b || false) ≡ b

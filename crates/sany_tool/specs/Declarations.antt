@@ -1,13 +1,10 @@
 -- Which names may be declared.
-use Rattle.std.specs.Prelude.{ℕ, ◌-◌, List, [], ◌∷◌, ◌++◌, Bool, if◌then◌else◌, codes, take, drop}
+use Rattle.std.specs.Prelude.{ℕ, List, [], ◌∷◌, ◌++◌, Bool, if◌then◌else◌, codes}
 use Rattle.std.specs.List.{list_any}
 use Rattle.std.specs.Str.{bytes_eq}
 use Rattle.tla_symbols.specs.declared.lexeme.Lexeme.{Lexeme}
-use Rattle.sany_tool.specs.declared.diagnostic.Diagnostic.{Diagnostic}
-
--- the bytes of a lexeme
-abbrev pub spelling : List ℕ → Lexeme → List ℕ
-spelling text l = take (l.span.end - l.span.start) (drop l.span.start text)
+use Rattle.tla_model.specs.declared.Diagnostic.{Diagnostic}
+use Rattle.tla_front.specs.Fronts.{fault_of, spelling}
 
 -- the names that the context of every module begins with
 abbrev pub built_in_names : List (List ℕ)
@@ -19,7 +16,7 @@ holds context name = list_any (λ other. bytes_eq other name) context
 
 -- a symbol is already there
 abbrev pub already_there : Lexeme → Diagnostic
-already_there l = record { code = 402; span = l.span }
+already_there l = fault_of 402 l
 
 -- The faults of declarations in a context: each name that is there stays as it is and is a fault, and
 -- each other one is added.

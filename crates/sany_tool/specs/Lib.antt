@@ -1,7 +1,7 @@
 pub mod Answers
 pub mod Declarations
-pub mod FirstForm
-pub mod NameLists
+pub mod Fronts
+pub mod Names
 pub mod Output
 pub mod Program
 pub mod Reading

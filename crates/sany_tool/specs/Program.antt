@@ -1,22 +1,19 @@
 -- What the program writes and answers.
-use Rattle.std.specs.Prelude.{ℕ, zero, suc, ◌+◌, ◌-◌, ◌^◌, List, [], ◌∷◌, ◌++◌, length, Bool, true, false, ◌||◌, ◌&&◌, not, ◌==◌, nat_le, nat_lt, nat_eq, Option, Some, None, if◌then◌else◌, codes, take, is_none, sum_by}
+use Rattle.std.specs.Prelude.{ℕ, zero, suc, ◌+◌, ◌-◌, ◌^◌, List, [], ◌∷◌, ◌++◌, length, Bool, true, false, ◌||◌, ◌&&◌, not, ◌==◌, nat_lt, nat_eq, Option, Some, None, if◌then◌else◌, codes, take, is_none, sum_by}
 use Rattle.std.specs.List.{list_all, list_any, filter_map, ends_with, starts_with}
 use Rattle.std.specs.Option.{option_map}
 use Rattle.std.specs.Char.{is_ascii_alphanumeric, is_ascii_alphabetic}
-use Rattle.std.specs.Str.{bytes_eq, is_utf8}
+use Rattle.std.specs.Str.{bytes_eq}
 use Rattle.tool_io.specs.Folder.{Told, after_call, names_at, read_at}
 use Rattle.tla_symbols.specs.Spellings.{word_of, op_of}
 use Rattle.tla_symbols.specs.declared.lexeme.Lexeme.{Lexeme}
-use Rattle.tla_symbols.specs.declared.lexeme.LexKind.{LexKind}
-use Rattle.tla_lexeme.specs.ModulePart.{module_part}
-use Rattle.sany_tool.specs.declared.diagnostic.Diagnostic.{Diagnostic}
+use Rattle.tla_model.specs.declared.Diagnostic.{Diagnostic}
+use Rattle.tla_front.specs.Fronts.{Front, Tree, Fault, readable_len}
 use Rattle.sany_tool.specs.declared.files.File.{File}
-use Rattle.sany_tool.specs.declared.form.Form.{Form}
-use Rattle.sany_tool.specs.declared.front.Front.{Front}
 use Rattle.sany_tool.specs.declared.report.Verdict.{Verdict}
 use Rattle.sany_tool.specs.declared.check.Outcome.{Outcome}
-use Rattle.sany_tool.specs.Declarations.{spelling, faults_of}
-use Rattle.sany_tool.specs.FirstForm.{form_of}
+use Rattle.sany_tool.specs.Declarations.{faults_of}
+use Rattle.sany_tool.specs.Names.{names_of_module}
 use Rattle.sany_tool.specs.Report.{report, report_status}
 
 -- ---- the words
@@ -85,6 +82,14 @@ reads t folder (name ∷ names) = with_read name (read_at (after_call t) folder 
 abbrev pub files_of : Told → List ℕ → List File
 files_of t folder = reads (after_call t) folder (module_names (after_call t) folder)
 
+abbrev pub files_of_request : Told → Option (List ℕ) → List File
+files_of_request t None = []
+files_of_request t (Some folder) = files_of t folder
+
+-- the files that the words ask to check
+abbrev pub files_in : List (List ℕ) → Told → List File
+files_in words t = files_of_request t (folder_of words)
+
 -- ---- limits
 
 -- the most modules of a folder, and the most bytes of them all
@@ -108,90 +113,41 @@ is_over_request t (Some folder) = is_over_folder t folder
 abbrev pub is_over : List (List ℕ) → Told → Bool
 is_over words t = is_over_request t (folder_of words)
 
--- ---- the front of a module: what is found before its names are looked at
-
--- the greatest number that passes a test, of those up to a number; 0 where none does
-abbrev pub greatest : (ℕ → Bool) → ℕ → ℕ
-greatest p zero = zero
-greatest p (suc n) = if p (suc n) then suc n else greatest p n
-
--- how many bytes the longest front has that is UTF-8
-abbrev pub readable_len : List ℕ → ℕ
-readable_len bytes = greatest (λ n. is_utf8 (take n bytes)) (length bytes)
-
-abbrev pub fault_at : ℕ → ℕ → Front
-fault_at code offset = Front.Fault (record { code = code; span = record { start = offset; end = offset } })
-
-abbrev pub is_bad : LexKind → Bool
-is_bad LexKind.Bad = true
-is_bad _ = false
-
--- no lexeme, or a syntax fault at the text's end
-abbrev pub cut_short : Lexeme → Front
-cut_short l = Front.Fault (record { code = if is_bad l.kind then 201 else 202; span = l.span })
-
--- the module's name is not the file's
-abbrev pub misnamed : Lexeme → Front
-misnamed l = Front.Fault (record { code = 103; span = l.span })
-
-abbrev pub front_of_form : List ℕ → List ℕ → Form → Option Front
-front_of_form name text (Form.Lists found) =
-    Some (if bytes_eq (spelling text found.name) name then Front.Declares found.declared else misnamed found.name)
-front_of_form name text (Form.Cut last) = Some (cut_short last)
-front_of_form name text Form.Other = None
-
-abbrev pub front_of_part : List ℕ → List ℕ → Option (List Lexeme) → Option Front
-front_of_part name text None = Some (fault_at 102 0)
-front_of_part name text (Some lexemes) = front_of_form name text (form_of lexemes)
-
--- the most bytes of one text
-abbrev pub MOST_TEXT : ℕ
-MOST_TEXT = 2 ^ 20
-
-abbrev pub front_of_text : List ℕ → List ℕ → Option Front
-front_of_text name text = if nat_le (length text) MOST_TEXT then front_of_part name text (module_part text) else Some (fault_at 104 0)
-
--- The front of a module's bytes: its one front fault, or the names that it declares. There is none where
--- the form of the module is not built.
-abbrev pub front_of : List ℕ → List ℕ → Option Front
-front_of name bytes = if readable_len bytes == length bytes then front_of_text name bytes else Some (fault_at 101 (readable_len bytes))
-
 -- ---- the verdict on a module
 
-abbrev pub faults_of_front : List ℕ → Front → List Diagnostic
-faults_of_front text (Front.Fault fault) = fault ∷ []
-faults_of_front text (Front.Declares declared) = faults_of text declared
-
--- the text in which the faults of some bytes stand
+-- the text in which the faults of some bytes stand: the longest front of them that is one
 abbrev pub text_of : List ℕ → List ℕ
 text_of bytes = take (readable_len bytes) bytes
 
-abbrev pub verdict_of_front : List ℕ → List ℕ → Front → Verdict
-verdict_of_front name text front = record { name = name; text = text; faults = faults_of_front text front }
+abbrev pub verdict_with : List ℕ → List ℕ → List Diagnostic → Verdict
+verdict_with name text faults = record { name = name; text = text; faults = faults }
 
-abbrev pub verdict_of_found : List ℕ → List ℕ → Option Front → Option Verdict
-verdict_of_found name text found = option_map (λ front. verdict_of_front name text front) found
+-- the verdict on a module that declares these names, where its form is built
+abbrev pub verdict_of_names : List ℕ → List ℕ → Option (List Lexeme) → Option Verdict
+verdict_of_names name text declared = option_map (λ names. verdict_with name text (faults_of text names)) declared
 
-abbrev pub verdict_of : File → Option Verdict
-verdict_of f = verdict_of_found f.name (text_of f.bytes) (front_of f.name f.bytes)
+-- The verdict on a file with this front: its one front fault, or those of the names that it declares.
+abbrev pub verdict_of : File → Front → Option Verdict
+verdict_of f (Fault fault) = Some (verdict_with f.name (text_of f.bytes) (fault ∷ []))
+verdict_of f (Tree found) = verdict_of_names f.name (text_of f.bytes) (names_of_module found)
 
 abbrev pub and_then : Option Verdict → Option (List Verdict) → Option (List Verdict)
 and_then None verdicts = None
 and_then (Some v) None = None
 and_then (Some v) (Some vs) = Some (v ∷ vs)
 
--- the verdicts on the files of a folder, where the form of each is built
-abbrev pub verdicts_of : List File → Option (List Verdict)
-verdicts_of [] = Some []
-verdicts_of (f ∷ fs) = and_then (verdict_of f) (verdicts_of fs)
+-- the verdicts on files with these fronts, where the form of each is built
+abbrev pub verdicts_of : List File → List Front → Option (List Verdict)
+verdicts_of (f ∷ fs) (front ∷ fronts) = and_then (verdict_of f front) (verdicts_of fs fronts)
+verdicts_of files fronts = Some []
 
-abbrev pub check_count : Option Front → ℕ
-check_count (Some (Front.Declares declared)) = 1
-check_count _ = 0
+abbrev pub check_count : Front → ℕ
+check_count (Tree found) = 1
+check_count (Fault fault) = 0
 
 -- how many modules have no front fault, so that their names are checked
-abbrev pub checks_of : List File → ℕ
-checks_of files = sum_by (λ f. check_count (front_of f.name f.bytes)) files
+abbrev pub checks_of : List Front → ℕ
+checks_of fronts = sum_by check_count fronts
 
 -- ---- the outcome
 
@@ -213,32 +169,26 @@ abbrev pub outcome_of_verdicts : Option (List Verdict) → Outcome
 outcome_of_verdicts None = NOT_BUILT
 outcome_of_verdicts (Some verdicts) = reported verdicts
 
-abbrev pub outcome_of_files : List File → Outcome
-outcome_of_files files = outcome_of_verdicts (verdicts_of files)
+abbrev pub outcome_of_files : List File → List Front → Outcome
+outcome_of_files files fronts = outcome_of_verdicts (verdicts_of files fronts)
 
-abbrev pub outcome_of_request : Told → Option (List ℕ) → Outcome
-outcome_of_request t None = USAGE
-outcome_of_request t (Some folder) = outcome_of_files (files_of t folder)
+abbrev pub outcome_of_request : Told → List Front → Option (List ℕ) → Outcome
+outcome_of_request t fronts None = USAGE
+outcome_of_request t fronts (Some folder) = outcome_of_files (files_of t folder) fronts
 
--- what the program writes and answers for these words over this folder, where no limit is passed
-abbrev pub program : List (List ℕ) → Told → Outcome
-program words t = outcome_of_request t (folder_of words)
+-- What the program writes and answers for these words over this folder, whose files have these fronts, where no
+-- limit is passed.
+abbrev pub program : List (List ℕ) → Told → List Front → Outcome
+program words t fronts = outcome_of_request t fronts (folder_of words)
 
-abbrev pub lacks_form : Told → Option (List ℕ) → Bool
-lacks_form t None = false
-lacks_form t (Some folder) = is_none (verdicts_of (files_of t folder))
+-- a module has no front fault, and its form is not built
+abbrev pub lacks_form : Front → Bool
+lacks_form (Tree found) = is_none (names_of_module found)
+lacks_form (Fault fault) = false
 
--- the words ask to check a folder with a module of a form that is not built
-abbrev pub is_not_built : List (List ℕ) → Told → Bool
-is_not_built words t = lacks_form t (folder_of words)
-
-abbrev pub checks_of_request : Told → Option (List ℕ) → ℕ
-checks_of_request t None = 0
-checks_of_request t (Some folder) = checks_of (files_of t folder)
-
--- how many modules are checked
-abbrev pub checks : List (List ℕ) → Told → ℕ
-checks words t = checks_of_request t (folder_of words)
+-- some module is such
+abbrev pub is_not_built : List Front → Bool
+is_not_built fronts = list_any lacks_form fronts
 
 -- what a folder holds after so many calls
 abbrev pub after_calls : ℕ → Told → Told

@@ -4,7 +4,7 @@ use Rattle.std.specs.Fmt.{decimal}
 use Rattle.tla_text.specs.Places.{place_at}
 use Rattle.tla_text.specs.declared.Place.{Place}
 use Rattle.tla_text.specs.declared.Measure.TheVariants.{Characters}
-use Rattle.sany_tool.specs.declared.diagnostic.Diagnostic.{Diagnostic}
+use Rattle.tla_model.specs.declared.Diagnostic.{Diagnostic}
 use Rattle.sany_tool.specs.declared.report.Verdict.{Verdict}
 
 -- a place as it is shown, from 1, before some text

@@ -1,32 +1,36 @@
 // The verdicts on the modules of a folder.
-ghost use Rattle.std.specs.Prelude.{◌≡◌, ◌∷◌, [], ◌<◌, ◌≤◌, ◌^◌, IfOk, IfSome, OnOk, Some, true, nat_le, length, take};
+ghost use Rattle.std.specs.Prelude.{◌≡◌, ◌∷◌, [], ◌<◌, ◌≤◌, ◌^◌, IfOk, IfSome, OnOk, Some, true, is_none, nat_le, length, take};
 ghost use Rattle.std.specs.Bool.{OnTrue};
+ghost use Rattle.std.specs.List.{AllByRecursion};
 ghost use Rattle.std.specs.Str.{IsUtf8};
 ghost use Rattle.std.specs.Option.{option_map};
 ghost use Rattle.tool_io.specs.Causes.{HasCause};
+ghost use Rattle.tla_lexeme.specs.Spans.{IsPlaced};
+ghost use Rattle.tla_front.specs.Names.{IsUnitPlaced, units_of};
 ghost use Rattle.sany_tool.specs.Answers.{after_ticks, is_done};
 ghost use Rattle.sany_tool.specs.Declarations as declarations;
+ghost use Rattle.sany_tool.specs.Fronts.{OfFront, OfFronts};
+ghost use Rattle.sany_tool.specs.Names as names;
 ghost use Rattle.sany_tool.specs.Program as program;
 ghost use Rattle.sany_tool.specs.Reading as reading;
-ghost use Rattle.sany_tool.specs.Spans.{FaultsPlaced, FrontPlaced, LexemesPlaced, VerdictPlaced, VerdictsPlaced};
+ghost use Rattle.sany_tool.specs.Spans.{FaultsPlaced, LexemesPlaced, VerdictPlaced, VerdictsPlaced};
 
 use crate::declarations::faults_of;
-use crate::diagnostic::Diagnostic;
 use crate::files::{File, modules_of, read_files};
-use crate::front::{Front, fault_at, front_of_text};
+use crate::names::declared_names;
 use crate::report::{Verdict, report_on, report_status};
 use std::alloc::Global;
 use step_count::Steps;
+use tla_front::{FrontError, front};
+use tla_model::Diagnostic;
 use tla_symbols::Lexeme;
 use tla_text::{Text, TextError};
+use tla_tree::ModuleTree;
 use tool_io::{Folder, IoFault};
 use tool_list::{Chars, List, Memory};
 
 /// The most modules of a folder.
 const MOST_MODULES: usize = 1024;
-
-/// The bytes are not UTF-8.
-const NOT_UTF8: u16 = 101;
 
 /// What a run is to write, and its status.
 #[derive(Drop)]
@@ -43,77 +47,61 @@ fn lone_fault(alloc: Global, fault: Diagnostic) -> Result<List<Diagnostic>, Memo
     Ok(faults)
 }
 
-// The faults of names that a text declares.
-fn faults_of_names(
-    alloc: Global,
-    text: &Text,
-    declared: &[Lexeme],
-) -> Result<List<Diagnostic>, Memory>
-    requires { LexemesPlaced text.now declared.now }
-    ensures faults { IfOk result (λ faults. faults ≡ declarations.faults_of text.now declared.now) }
-    ensures placed { IfOk result (λ faults. FaultsPlaced text.now faults) }
-{
-    let faults = faults_of(alloc, text.bytes(), declared)?;
-    Ok(faults)
-}
-
-// The faults of a module by its front. One whose names are looked at is one check.
-fn faults_of_front<L>(
-    alloc: Global,
-    text: &Text,
-    front: Front,
-    steps: &mut Steps<L>,
-) -> Result<List<Diagnostic>, Memory>
-    requires { FrontPlaced text.now front }
-    ensures faults { IfOk result (λ faults. faults ≡ program.faults_of_front text.now front) }
-    ensures placed { IfOk result (λ faults. FaultsPlaced text.now faults) }
-    ensures ticks { IfOk result (λ faults. steps.new ≡ after_ticks (program.check_count (Some front)) steps.old) }
-{
-    match front {
-        Front::Fault(fault) => lone_fault(alloc, fault),
-        Front::Declares(declared) => {
-            steps.tick();
-            faults_of_names(alloc, text, declared.as_slice())
-        }
-    }
-}
-
-// The verdict on a text with this front.
-fn verdict_of_front<L>(
+// The verdict on a text with one front fault.
+fn verdict_of_fault(
     alloc: Global,
     name: &str,
     text: Text,
-    front: Front,
-    steps: &mut Steps<L>,
+    fault: Diagnostic,
 ) -> Result<Verdict, Memory>
-    requires { FrontPlaced text front }
-    ensures verdict { IfOk result (λ verdict. verdict ≡ program.verdict_of_front name.now text front) }
+    requires { IsPlaced text fault.span }
+    ensures verdict { IfOk result (λ verdict. verdict ≡ program.verdict_with name.now text (fault ∷ [])) }
     ensures placed { IfOk result (λ verdict. FaultsPlaced verdict.text verdict.faults) }
-    ensures ticks { IfOk result (λ verdict. steps.new ≡ after_ticks (program.check_count (Some front)) steps.old) }
 {
-    let faults = faults_of_front(alloc, &text, front, steps)?;
+    let faults = lone_fault(alloc, fault)?;
     let name = Chars::from_str(alloc, name)?;
     Ok(Verdict { name, text, faults })
 }
 
-// The verdict on bytes that are a text.
-fn verdict_of_text<L>(
+// The verdict on a text that declares these names.
+fn verdict_of_names(
     alloc: Global,
     name: &str,
     text: Text,
-    steps: &mut Steps<L>,
-) -> Result<Option<Verdict>, Memory>
-    ensures verdict { IfOk result (λ verdict. verdict ≡ program.verdict_of_found name.now text (program.front_of_text name.now text)) }
-    ensures placed { IfOk result (λ verdict. IfSome verdict VerdictPlaced) }
-    ensures ticks { IfOk result (λ verdict. steps.new ≡ after_ticks (program.check_count (program.front_of_text name.now text)) steps.old) }
+    declared: &[Lexeme],
+) -> Result<Verdict, Memory>
+    requires { LexemesPlaced text declared.now }
+    ensures verdict { IfOk result (λ verdict. verdict ≡ program.verdict_with name.now text (declarations.faults_of text declared.now)) }
+    ensures placed { IfOk result (λ verdict. FaultsPlaced verdict.text verdict.faults) }
 {
-    match front_of_text(alloc, name, &text)? {
-        Some(front) => Ok(Some(verdict_of_front(alloc, name, text, front, steps)?)),
-        None => Ok(None),
-    }
+    let faults = faults_of(alloc, text.bytes(), declared)?;
+    let name = Chars::from_str(alloc, name)?;
+    Ok(Verdict { name, text, faults })
 }
 
-// The longest front of some bytes that is a text.
+// The verdict on a text with this tree, which is one check. None where its form is not built.
+fn verdict_of_tree<L>(
+    alloc: Global,
+    name: &str,
+    text: Text,
+    tree: &ModuleTree,
+    steps: &mut Steps<L>,
+) -> Result<Option<Verdict>, Memory>
+    requires there { names.AreUnitsThere tree.now }
+    requires placed { AllByRecursion (IsUnitPlaced text) (units_of tree.now) }
+    ensures verdict { IfOk result (λ verdict. verdict ≡ program.verdict_of_names name.now text (names.names_beside tree.now.extends (units_of tree.now))) }
+    ensures placed { IfOk result (λ verdict. IfSome verdict VerdictPlaced) }
+    ensures ticks { IfOk result (λ verdict. IfSome verdict (λ _. steps.new ≡ after_ticks 1 steps.old)) }
+{
+    let Some(declared) = declared_names(alloc, tree)? else {
+        return Ok(None);
+    };
+    steps.tick();
+    let verdict = verdict_of_names(alloc, name, text, declared.as_slice())?;
+    Ok(Some(verdict))
+}
+
+// A front of some bytes that is a text.
 fn front_text(alloc: Global, bytes: &[u8], at: usize) -> Result<Text, Memory>
     requires fits { length bytes.now < 2 ^ 31 }
     requires within { at ≤ length bytes.now }
@@ -127,48 +115,37 @@ fn front_text(alloc: Global, bytes: &[u8], at: usize) -> Result<Text, Memory>
     }
 }
 
-// The verdict on bytes that are no text.
-fn verdict_of_bytes<L>(
-    alloc: Global,
-    name: &str,
-    bytes: &[u8],
-    at: usize,
-    steps: &mut Steps<L>,
-) -> Result<Verdict, Memory>
-    requires fits { length bytes.now < 2 ^ 31 }
-    requires within { at ≤ length bytes.now }
-    requires utf8 { IsUtf8 (take at bytes.now) }
-    ensures verdict { IfOk result (λ verdict. verdict ≡ program.verdict_of_front name.now (take at bytes.now) (program.fault_at 101 at)) }
-    ensures placed { IfOk result (λ verdict. FaultsPlaced verdict.text verdict.faults) }
-    ensures ticks { IfOk result (λ verdict. steps.new ≡ after_ticks 0 steps.old) }
+// The longest front of some bytes that is a text.
+fn readable(alloc: Global, bytes: &[u8]) -> Result<Text, Memory>
+    requires { length bytes.now < 2 ^ 31 }
+    ensures { IfOk result (λ text. text ≡ program.text_of bytes.now) }
 {
-    let text = front_text(alloc, bytes, at)?;
-    verdict_of_front(alloc, name, text, fault_at(NOT_UTF8, at as u32), steps)
+    match Text::read(alloc, bytes) {
+        Ok(text) => Ok(text),
+        Err(TextError::NotUtf8 { at }) => front_text(alloc, bytes, at as usize),
+        Err(TextError::Memory) => Err(Memory),
+    }
 }
 
-// The verdict on a file. None where its form is not built.
+// The verdict on a file, by its front. None where its form is not built.
 fn verdict_of<L>(
     alloc: Global,
     file: &File,
     steps: &mut Steps<L>,
 ) -> Result<Option<Verdict>, Memory>
     requires { length file.now.bytes < 2 ^ 31 }
-    ensures verdict { IfOk result (λ verdict. verdict ≡ program.verdict_of file.now) }
+    ensures verdict { IfOk result (λ verdict. OfFront file.now (λ found. verdict ≡ program.verdict_of file.now found)) }
     ensures placed { IfOk result (λ verdict. IfSome verdict VerdictPlaced) }
-    ensures ticks { IfOk result (λ verdict. steps.new ≡ after_ticks (program.check_count (program.front_of file.now.name file.now.bytes)) steps.old) }
+    ensures ticks { IfOk result (λ verdict. IfSome verdict (λ _. OfFront file.now (λ found. steps.new ≡ after_ticks (program.check_count found) steps.old))) }
 {
+    tla_front::one_front();
     let name = file.name.as_str();
     let bytes = file.bytes.as_slice();
-    match Text::read(alloc, bytes) {
-        Ok(text) => verdict_of_text(alloc, name, text, steps),
-        Err(TextError::NotUtf8 { at }) => Ok(Some(verdict_of_bytes(
-            alloc,
-            name,
-            bytes,
-            at as usize,
-            steps,
-        )?)),
-        Err(TextError::Memory) => Err(Memory),
+    let text = readable(alloc, bytes)?;
+    match front(alloc, name, bytes) {
+        Ok(tree) => verdict_of_tree(alloc, name, text, &tree, steps),
+        Err(FrontError::Fault(fault)) => Ok(Some(verdict_of_fault(alloc, name, text, fault)?)),
+        Err(FrontError::Memory) => Err(Memory),
     }
 }
 
@@ -179,9 +156,9 @@ fn verdicts_of<L>(
     steps: &mut Steps<L>,
 ) -> Result<Option<List<Verdict>>, Memory>
     requires { program.byte_count files.now ≤ program.MOST_BYTES }
-    ensures verdicts { IfOk result (λ verdicts. verdicts ≡ program.verdicts_of files.now) }
+    ensures verdicts { IfOk result (λ verdicts. OfFronts files.now (λ fronts. verdicts ≡ program.verdicts_of files.now fronts)) }
     ensures placed { IfOk result (λ verdicts. IfSome verdicts VerdictsPlaced) }
-    ensures ticks { IfOk result (λ verdicts. IfSome verdicts (λ _. steps.new ≡ after_ticks (program.checks_of files.now) steps.old)) }
+    ensures ticks { IfOk result (λ verdicts. IfSome verdicts (λ _. OfFronts files.now (λ fronts. steps.new ≡ after_ticks (program.checks_of fronts) steps.old))) }
 {
     let mut verdicts = List::new(alloc);
     for file in files {
@@ -221,9 +198,9 @@ fn outcome_of_files<L>(
     steps: &mut Steps<L>,
 ) -> Result<Outcome, Memory>
     requires { program.byte_count files.now ≤ program.MOST_BYTES }
-    ensures outcome { IfOk result (λ outcome. outcome ≡ program.outcome_of_files files.now) }
+    ensures outcome { IfOk result (λ outcome. OfFronts files.now (λ fronts. outcome ≡ program.outcome_of_files files.now fronts)) }
     ensures done { IfOk result (λ outcome. is_done outcome.status ≡ true) }
-    ensures ticks { IfOk result (λ outcome. OnTrue (nat_le outcome.status 1) (steps.new ≡ after_ticks (program.checks_of files.now) steps.old)) }
+    ensures ticks { IfOk result (λ outcome. OnTrue (nat_le outcome.status 1) (OfFronts files.now (λ fronts. steps.new ≡ after_ticks (program.checks_of fronts) steps.old))) }
 {
     match verdicts_of(alloc, files, steps)? {
         Some(verdicts) => reported(alloc, verdicts.as_slice()),
@@ -260,9 +237,10 @@ pub fn outcome_of_folder<F: Folder, L>(
     path: &str,
     steps: &mut Steps<L>,
 ) -> Result<Option<Outcome>, IoFault>
-    ensures outcome { IfOk result (λ outcome. IfSome (F.told folder.old) (λ t. outcome ≡ reading.outcome_within t path.now)) }
+    ensures outcome { IfOk result (λ outcome. IfSome (F.told folder.old) (λ t. OfFronts (program.files_of t path.now) (λ fronts. outcome ≡ reading.outcome_within t path.now fronts))) }
+    ensures limit { IfOk result (λ outcome. IfSome (F.told folder.old) (λ t. program.is_over_folder t path.now ≡ is_none outcome)) }
     ensures done { IfOk result (λ outcome. IfSome outcome (λ o. is_done o.status ≡ true)) }
-    ensures ticks { IfOk result (λ outcome. IfSome outcome (λ o. IfSome (F.told folder.old) (λ t. OnTrue (nat_le o.status 1) (steps.new ≡ after_ticks (program.checks_of (program.files_of t path.now)) steps.old)))) }
+    ensures ticks { IfOk result (λ outcome. IfSome outcome (λ o. IfSome (F.told folder.old) (λ t. OnTrue (nat_le o.status 1) (OfFronts (program.files_of t path.now) (λ fronts. steps.new ≡ after_ticks (program.checks_of fronts) steps.old))))) }
     ensures told { IfOk result (λ outcome. IfSome outcome (λ o. F.told folder.new ≡ option_map (λ t. program.told_after_request t (Some path.now)) (F.told folder.old))) }
     ensures cause { HasCause (F.fault_count folder.old) (F.fault_count folder.new) result }
 {

@@ -1,26 +1,15 @@
 // Laws of the definitions: of functions that do nothing the contracts state them.
-ghost use Rattle.std.specs.Prelude.{◌≡◌, ◌↔◌, ℕ, List, Some};
-ghost use Rattle.tla_symbols.specs.declared.lexeme.Lexeme.{Lexeme};
-ghost use Rattle.tla_lexeme.specs.ModulePart.{module_part};
-ghost use Rattle.sany_tool.specs.declared.form.Form.{Form};
-ghost use Rattle.sany_tool.specs.FirstForm.{form_of};
-ghost use Rattle.sany_tool.specs.NameLists.{DerivesModule, EndsOnce, IsReadAs};
+ghost use Rattle.std.specs.Prelude.{◌≡◌, ℕ, List};
+ghost use Rattle.tool_io.specs.Folder.{Told};
+ghost use Rattle.tla_front.specs.Fronts.{Front};
+ghost use Rattle.sany_tool.specs.declared.files.File.{File};
+ghost use Rattle.sany_tool.specs.Fronts.{AreFronts};
+ghost use Rattle.sany_tool.specs.Program.{files_in};
 
-/// A list of lexemes that the grammar of lists of names derives is read as one, with its name and the
-/// names that it declares. So no list is derived with others.
-pub fn reads_derived()
-    ensures { (lexemes declared : List Lexeme) → (name : Lexeme) → DerivesModule lexemes name declared → form_of lexemes ≡ Form.Lists (record { name = name; declared = declared }) }
-{}
-
-/// A list that ends once is read as lists of names exactly where the grammar derives it so, and else by
-/// its first bad lexeme: those before it begin a module of lists, and those up to it do not.
-pub fn reads_as_derived()
-    ensures { (lexemes : List Lexeme) → (form : Form) → EndsOnce lexemes → (form_of lexemes ≡ form) ↔ IsReadAs lexemes form }
-{}
-
-/// The lexemes of a text end once.
-pub fn texts_end_once()
-    ensures { (text : List ℕ) → (lexemes : List Lexeme) → module_part text ≡ Some lexemes → EndsOnce lexemes }
+/// The files that any words ask to check, of any folder, have one list of fronts; and no files have two.
+pub fn fronts_are_one()
+    ensures some { (words : List (List ℕ)) → (t : Told) → (fronts : List Front) × AreFronts (files_in words t) fronts }
+    ensures same { (files : List File) → (fronts other : List Front) → AreFronts files fronts → AreFronts files other → fronts ≡ other }
 {
-    tla_lexeme::reads_longest();
+    tla_front::one_front();
 }

@@ -7,11 +7,9 @@
 mod bytes;
 mod check;
 mod declarations;
-mod diagnostic;
 mod files;
-mod form;
-mod front;
 mod laws;
+mod names;
 mod output;
 mod report;
 mod run;

@@ -4,8 +4,8 @@ ghost use Rattle.sany_tool.specs.Report as report;
 ghost use Rattle.sany_tool.specs.Spans.{FaultsPlaced, VerdictsPlaced};
 ghost use Rattle.tla_lexeme.specs.Spans.{IsPlaced};
 
-use crate::diagnostic::Diagnostic;
 use std::alloc::{AllocError, Global};
+use tla_model::Diagnostic;
 use tla_text::Text;
 use tool_list::{Chars, List};
 

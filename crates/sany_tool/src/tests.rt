@@ -100,9 +100,22 @@ fn reports_on_one_module(rt: HostRuntime) -> Result<(), Fail> {
             "A refused\n  3:4-3:6 E402\n",
         ),
         ("", 0, "A accepted\n"),
+        ("----\nCONSTANT N\n-----", 0, "A accepted\n"),
+        (
+            "VARIABLE x\n----\nCONSTANT x",
+            1,
+            "A refused\n  4:10-4:11 E402\n",
+        ),
         ("CONSTANT\n;", 1, "A refused\n  3:1-3:2 E201\n"),
         ("CONSTANT c, (* *\n", 1, "A refused\n  2:13-2:15 E201\n"),
         ("CONSTANT c, c\n?", 1, "A refused\n  3:1-3:2 E201\n"),
+        ("CONSTANT WF_x", 1, "A refused\n  2:10-2:13 E202\n"),
+        ("CONSTANT c,", 1, "A refused\n  3:1-3:5 E202\n"),
+        ("CONSTANT 12", 1, "A refused\n  2:10-2:12 E202\n"),
+        ("A == 1\nB == LET C == 2", 1, "A refused\n  4:1-4:5 E202\n"),
+        ("f[x \\in S => T] == 1", 1, "A refused\n  2:11-2:13 E202\n"),
+        // A definition may begin so, as `f(_ + _) == 1` does.
+        ("VARIABLE x f(_)", 1, "A refused\n  2:15-2:16 E202\n"),
     ];
     for (units, status, lines) in rows {
         let text = format!(in alloc; "---- MODULE A ----\n{units}\n====\n")?;
@@ -117,7 +130,7 @@ fn reports_on_one_module(rt: HostRuntime) -> Result<(), Fail> {
 #[test]
 fn reports_front_faults(rt: HostRuntime) -> Result<(), Fail> {
     let alloc = rt.alloc();
-    let rows: [(&[u8], &str); 13] = [
+    let rows: [(&[u8], &str); 15] = [
         (b"", "  1:1-1:1 E102\n"),
         (b"MODULE A", "  1:1-1:1 E102\n"),
         (b"---- MODULE B ----\n====\n", "  1:13-1:14 E103\n"),
@@ -132,6 +145,8 @@ fn reports_front_faults(rt: HostRuntime) -> Result<(), Fail> {
             b"---- MODULE B ----\nCONSTANT c, c\n====\n",
             "  1:13-1:14 E103\n",
         ),
+        (b"---- MODULE B ----\nF == 1\n====\n", "  1:13-1:14 E103\n"),
+        (b"---- MODULE A\n====\n", "  2:1-2:5 E202\n"),
         (b"--- MODULE A ----\n====\n", "  1:1-1:1 E102\n"),
         (
             b"? \xc3\xa9\n-----MODULE A----\nVARIABLE x====\n? \xc3",
@@ -218,17 +233,53 @@ fn leaves_other_forms_alone(rt: HostRuntime) -> Result<(), Fail> {
     let alloc = rt.alloc();
     let rows = [
         "---- MODULE A ----\nF == 1\n====\n",
-        "---- MODULE A ----\nCONSTANT WF_x\n====\n",
-        "---- MODULE A ----\nCONSTANT c,\n====\n",
-        "---- MODULE A ----\nCONSTANT 12\n====\n",
-        "---- MODULE A ----\nCONSTANT G(_)\n====\n",
-        "---- MODULE A\n====\n",
-        "---- MODULE A ----\n----\n====\n",
+        "---- MODULE A ----\nf[x \\in 1] == x\n====\n",
+        "---- MODULE A ----\nCONSTANT c, G(_)\n====\n",
+        "---- MODULE A ----\nCONSTANT _ + _\n====\n",
+        "---- MODULE A ----\nVARIABLE x, x\nASSUME x\n====\n",
+        "---- MODULE A ----\nTHEOREM 1\n====\n",
+        "---- MODULE A ----\nINSTANCE C\n====\n",
+        "---- MODULE A ----\nI == INSTANCE C\n====\n",
+        "---- MODULE A ----\nEXTENDS C\n====\n",
+        "---- MODULE A ----\n---- MODULE C ----\n====\n====\n",
     ];
     for text in rows {
         let ran = check(alloc, &[("A.tla", text.as_bytes()), ("B.tla", b"")])?;
         assert_eq!(rt; ran.status, 9, "{text}");
         assert!(rt; ran.output.bytes().is_empty(), "{text}");
+    }
+    Ok(())
+}
+
+// `F == 1` with so many pairs of parentheses round the 1.
+fn high_module(alloc: Global, name: &str, pairs: usize) -> Result<String, Fail> {
+    let mut text = format!(in alloc; "---- MODULE {name} ----\nF == ")?;
+    for _ in 0..pairs {
+        text.push('(')?;
+    }
+    text.push('1')?;
+    for _ in 0..pairs {
+        text.push(')')?;
+    }
+    text.push_str("\n====\n")?;
+    Ok(text)
+}
+
+#[test]
+fn keeps_to_the_limit_of_heights(rt: HostRuntime) -> Result<(), Fail> {
+    let alloc = rt.alloc();
+    let high: &[u8] = b"A refused\n  2:1-2:2 E105\nmodules=1 refused=1\n";
+    let rows: [(&str, usize, u8, &[u8]); 3] = [
+        ("A", 999, 9, b""),
+        ("A", 1_000, 1, high),
+        // The name is looked at after that.
+        ("B", 1_000, 1, high),
+    ];
+    for (name, pairs, status, report) in rows {
+        let text = high_module(alloc, name, pairs)?;
+        let ran = check(alloc, &[("A.tla", text.as_bytes())])?;
+        assert_eq!(rt; ran.status, status, "{name} {pairs}");
+        assert_eq!(rt; ran.output.bytes(), report, "{name} {pairs}");
     }
     Ok(())
 }

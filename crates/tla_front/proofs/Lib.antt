@@ -4,3 +4,4 @@ pub mod HighUnits
 pub mod HighNodes
 pub mod OneFront
 pub mod Reading
+pub mod DeclaredNames

@@ -1,3 +1,4 @@
 pub mod Fronts
 pub mod Faults
 pub mod FirstHigh
+pub mod Names

@@ -1,6 +1,6 @@
 // From bytes to a tree.
 ghost use Rattle.std.specs.Prelude.{◌≡◌, ◌<◌, ◌≤◌, ◌^◌, ℕ, List, Some, None, length, take, IfOk, IfErr};
-ghost use Rattle.std.specs.List.{All};
+ghost use Rattle.std.specs.List.{All, AllByRecursion};
 ghost use Rattle.unit_grammar.specs.Units.{ModuleUnits};
 ghost use Rattle.unit_grammar.specs.FirstBad.{EndsOnce};
 ghost use Rattle.tla_lexeme.specs.Spans.{IsPlaced};
@@ -8,6 +8,7 @@ ghost use Rattle.tla_lexeme.specs.ModulePart.{module_part};
 ghost use Rattle.tla_front.specs.Fronts as fronts;
 ghost use Rattle.tla_front.specs.Fronts.{Front, IsFront, IsFrontOfLexemes, IsTree, readable_len};
 ghost use Rattle.tla_front.specs.FirstHigh.{BeginsFurther};
+ghost use Rattle.tla_front.specs.Names.{IsUnitPlaced, units_of};
 ghost use Rattle.tla_front.specs.Faults.{IsFrontFault, IsFaultPlaced, IsFaultBehind, IsFaultOfLexemes, IsRead, IsReadFront};
 
 use crate::fault::{
@@ -54,6 +55,7 @@ impl From<Memory> for FrontError {
 pub fn front(alloc: Global, name: &str, bytes: &[u8]) -> Result<ModuleTree, FrontError>
     requires { length bytes.now < 2 ^ 31 }
     ensures tree { IfOk result (λ tree. (found : ModuleUnits) × IsFront name.now bytes.now (Front.Tree found) × IsTree tree found bytes.now) }
+    ensures names { IfOk result (λ tree. AllByRecursion (IsUnitPlaced bytes.now) (units_of tree)) }
     ensures fault { IfErr result (λ error. IsFrontFault name.now bytes.now error) }
     ensures placed { IfErr result (λ error. IsFaultPlaced (take (readable_len bytes.now) bytes.now) error) }
 {
@@ -78,6 +80,7 @@ fn text_of(alloc: Global, source: &str) -> Result<Text, Memory>
 fn front_of_text(alloc: Global, name: &str, source: &str) -> Result<ModuleTree, FrontError>
     requires { length source.now < 2 ^ 31 }
     ensures tree { IfOk result (λ tree. (found : ModuleUnits) × IsFront name.now source.now (Front.Tree found) × IsTree tree found source.now) }
+    ensures names { IfOk result (λ tree. AllByRecursion (IsUnitPlaced source.now) (units_of tree)) }
     ensures fault { IfErr result (λ error. IsFrontFault name.now source.now error) }
     ensures placed { IfErr result (λ error. IsFaultPlaced source.now error) }
 {
@@ -102,6 +105,7 @@ fn front_of_lexemes(
     requires placed { All (λ l. IsPlaced source.now l.span) lexemes.now }
     requires small { length source.now ≤ fronts.MOST_TEXT }
     ensures tree { IfOk result (λ tree. IsReadFront name.now source.now lexemes.now tree) }
+    ensures names { IfOk result (λ tree. AllByRecursion (IsUnitPlaced source.now) (units_of tree)) }
     ensures fault { IfErr result (λ error. IsFaultOfLexemes name.now source.now lexemes.now error) }
     ensures placed { IfErr result (λ error. IsFaultPlaced source.now error) }
 {
@@ -136,6 +140,7 @@ fn front_of_tree(
     requires few { length lexemes.now < 2 ^ 32 }
     requires placed { All (λ l. IsPlaced source.now l.span) lexemes.now }
     ensures tree { IfOk result (λ tree. IsReadFront name.now source.now lexemes.now tree) }
+    ensures names { IfOk result (λ tree. AllByRecursion (IsUnitPlaced source.now) (units_of tree)) }
     ensures fault { IfErr result (λ error. IsFaultOfLexemes name.now source.now lexemes.now error) }
     ensures placed { IfErr result (λ error. IsFaultPlaced source.now error) }
 {

@@ -1,30 +1,35 @@
-use Rattle.std.proofs.Common.{◌≡◌, ◌∙◌, ap, sym, subst, IfOk}
-use Rattle.std.specs.Str.{IsUtf8}
-use Rattle.sany_tool.specs.Answers.{after_ticks}
-use Rattle.sany_tool.specs.Program.{check_count}
-use Rattle.sany_tool.proofs.TextLemmas.{verdict_of-text, front_of-read, verdict_of-bytes, front_of-bytes}
+use Rattle.std.proofs.Common.{◌≡◌, ◌∙◌, Some, sym, subst}
+use Rattle.std.specs.List.{AllByRecursion}
+use Rattle.tla_front.specs.Names.{IsUnitPlaced, units_of}
+use Rattle.tla_front.specs.Fronts.{Fault}
+use Rattle.sany_tool.specs.Program.{verdict_of as verdict_on}
+use Rattle.sany_tool.proofs.FrontLemmas.{of-front, fault-verdict, tree-text, tree-answer, tree-ticks}
 use Rattle.sany_tool.proofs.check.verdict_of.Goals as goal
+
+pub returns-in_ok-verdict_of_fault-in-Err-Fault-clause-verdict : goal.returns-in_ok-verdict_of_fault-in-Err-Fault-clause-verdict
+returns-in_ok-verdict_of_fault-in-Err-Fault-clause-verdict g c =
+    let is = rw c.in-Err-Fault.field-0-is at c.in-Err-Fault.ensures.fault in
+    of-front c.one_front.ensures.same c.args.file.now c.as_str-name.result.now c.as_slice-bytes.result.now (Fault c.in-Err-Fault.fault) c.as_str-name.ensures c.as_slice-bytes.ensures is
+    (λ front. Some (c.in_ok-verdict_of_fault-in-Err-Fault).field-0 ≡ verdict_on c.args.file.now front)
+    (fault-verdict c.args.file.now c.as_str-name.result.now c.as_slice-bytes.result.now c.in_ok-text.text c.in-Err-Fault.fault (c.in_ok-verdict_of_fault-in-Err-Fault).field-0
+    c.as_str-name.ensures c.as_slice-bytes.ensures c.in_ok-text.ensures (c.in_ok-verdict_of_fault-in-Err-Fault).ensures.verdict)
+
+pub verdict_of_tree-requires : goal.verdict_of_tree-requires
+verdict_of_tree-requires g c =
+    let read = c.in-Ok.ensures.tree in record {
+      there = read.2.units.there;
+      placed =
+          subst (λ text. AllByRecursion (IsUnitPlaced text) (units_of c.in-Ok.tree)) (sym (c.in_ok-text.ensures ∙ tree-text c.as_str-name.result.now c.as_slice-bytes.result.now read.0 read.1))
+          c.in-Ok.ensures.names;
+    }
 
 pub returns-in-Ok-clause-verdict : goal.returns-in-Ok-clause-verdict
 returns-in-Ok-clause-verdict g c =
-    subst (λ r. IfOk c.verdict_of_text.result (λ v. v ≡ r))
-    (verdict_of-text c.args.file.now c.as_str-name.result.now c.in-Ok.text c.as_str-name.ensures (c.in-Ok.ensures.0 ∙ c.as_slice-bytes.ensures) (subst IsUtf8 c.as_slice-bytes.ensures c.in-Ok.ensures.1))
-    c.verdict_of_text.ensures.verdict
+    let read = c.in-Ok.ensures.tree in
+    tree-answer c.one_front.ensures.same c.args.file.now c.as_str-name.result.now c.as_slice-bytes.result.now c.in_ok-text.text c.in-Ok.tree read.0 c.verdict_of_tree.result
+    c.as_str-name.ensures c.as_slice-bytes.ensures c.in_ok-text.ensures read.1 read.2 c.verdict_of_tree.ensures.verdict
 
 pub returns-in-Ok-clause-ticks : goal.returns-in-Ok-clause-ticks
 returns-in-Ok-clause-ticks g c =
-    subst (λ o. IfOk c.verdict_of_text.result (λ v. c.verdict_of_text.new.steps ≡ after_ticks (check_count o) c.args.steps.now))
-    (front_of-read c.args.file.now c.as_str-name.result.now c.in-Ok.text c.as_str-name.ensures (c.in-Ok.ensures.0 ∙ c.as_slice-bytes.ensures) (subst IsUtf8 c.as_slice-bytes.ensures c.in-Ok.ensures.1))
-    c.verdict_of_text.ensures.ticks
-
-pub returns-in_ok-verdict_of_bytes-in-Err-NotUtf8-clause-verdict : goal.returns-in_ok-verdict_of_bytes-in-Err-NotUtf8-clause-verdict
-returns-in_ok-verdict_of_bytes-in-Err-NotUtf8-clause-verdict g c =
-    let h = rw c.in-Err-NotUtf8.field-0-is at c.in-Err-NotUtf8.ensures in
-    verdict_of-bytes c.args.file.now c.as_str-name.result.now c.as_slice-bytes.result.now c.in-Err-NotUtf8.at c.in_ok-verdict_of_bytes-in-Err-NotUtf8.field-0
-    c.as_str-name.ensures c.as_slice-bytes.ensures h.0 h.1 (c.in_ok-verdict_of_bytes-in-Err-NotUtf8).ensures.verdict
-
-pub returns-in_ok-verdict_of_bytes-in-Err-NotUtf8-clause-ticks : goal.returns-in_ok-verdict_of_bytes-in-Err-NotUtf8-clause-ticks
-returns-in_ok-verdict_of_bytes-in-Err-NotUtf8-clause-ticks g c =
-    let h = rw c.in-Err-NotUtf8.field-0-is at c.in-Err-NotUtf8.ensures in
-    let none = front_of-bytes c.args.file.now c.as_str-name.result.now c.as_slice-bytes.result.now c.in-Err-NotUtf8.at c.as_str-name.ensures c.as_slice-bytes.ensures h.0 h.1 in
-    (c.in_ok-verdict_of_bytes-in-Err-NotUtf8).ensures.ticks ∙ ap (λ n. after_ticks n c.args.steps.now) (sym none)
+    tree-ticks c.one_front.ensures.same c.args.file.now c.as_str-name.result.now c.as_slice-bytes.result.now c.in-Ok.ensures.tree.0 c.verdict_of_tree.result c.args.steps.now c.verdict_of_tree.new.steps
+    c.as_str-name.ensures c.as_slice-bytes.ensures c.in-Ok.ensures.tree.1 c.verdict_of_tree.ensures.ticks
