@@ -1,0 +1,4 @@
+---- MODULE Queue ----
+CONSTANTS Value, Length
+VARIABLES items, LOCAL
+====

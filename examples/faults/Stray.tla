@@ -1,0 +1,3 @@
+---- MODULE Stray ----
+Name == "never closed
+====
