@@ -1,28 +1,17 @@
 // Which names may be declared.
 ghost use Rattle.std.specs.Prelude.{◌≡◌, IfOk, OnOk, [], map};
-ghost use Rattle.tla_front.specs.Fronts as fronts;
 ghost use Rattle.sany_tool.specs.Declarations as declarations;
 ghost use Rattle.sany_tool.specs.Seen.{Knows, Notes, knows};
 
-use crate::slices::{first, skip};
 use std::alloc::{AllocError, Global};
 use std::collections::BTreeSet;
+use tla_front::spelling;
 use tla_model::Diagnostic;
 use tla_symbols::Lexeme;
 use tool_list::{List, Memory};
 
 /// The code of a name that is already there.
 const ALREADY_THERE: u16 = 402;
-
-// The bytes of a lexeme.
-fn spelling<'a>(text: &'a [u8], lexeme: &Lexeme) -> &'a [u8]
-    ensures { result.now ≡ fronts.spelling text.now lexeme.now }
-{
-    let start = lexeme.span.start as usize;
-    let len = (lexeme.span.end as usize).saturating_sub(start);
-    let rest = skip(text, start.min(text.len()));
-    first(rest, len.min(rest.len()))
-}
 
 fn already_there(lexeme: &Lexeme) -> Diagnostic
     ensures { result ≡ declarations.already_there lexeme.now }
@@ -64,7 +53,7 @@ pub fn faults_of(
     let mut faults = List::new(alloc);
     let mut seen = built_in_names(alloc)?;
     for lexeme in declared {
-        if note(&mut seen, spelling(text, lexeme))? {
+        if note(&mut seen, spelling(text, *lexeme))? {
             faults.push(already_there(lexeme))?;
         }
     }

@@ -49,12 +49,12 @@ longest-from bytes at n e h =
     } in
     subst (λ k. IsLongestUtf8 bytes k) (sym e) longest
 
-readable_len-longest : (bytes : List ℕ) (at : ℕ) → IsLongestUtf8 bytes at → readable_len bytes ≡ at
+pub readable_len-longest : (bytes : List ℕ) (at : ℕ) → IsLongestUtf8 bytes at → readable_len bytes ≡ at
 readable_len-longest bytes at longest =
     greatest-is (λ n. is_utf8 (take n bytes)) at (length bytes) (is_utf8-from_IsUtf8 (take at bytes) longest.front) longest.fits (λ k lt le. no_longer bytes at k longest lt le)
 
 -- a text is read whole
-readable_len-text : (bytes : List ℕ) → IsUtf8 bytes → readable_len bytes ≡ length bytes
+pub readable_len-text : (bytes : List ℕ) → IsUtf8 bytes → readable_len bytes ≡ length bytes
 readable_len-text bytes text =
     greatest-is (λ n. is_utf8 (take n bytes)) (length bytes) (length bytes) (is_utf8-from_IsUtf8 (take (length bytes) bytes) (subst IsUtf8 (sym (take-length bytes)) text)) (omega arith) (λ k lt le. absurd (omega arith))
 

@@ -12,3 +12,4 @@ mod name;
 mod tests;
 
 pub use module::{FrontError, front, one_front};
+pub use name::spelling;

@@ -18,8 +18,8 @@ fn skip(bytes: &[u8], count: usize) -> &[u8]
     &bytes[count..]
 }
 
-// The bytes of a lexeme, in the text that it stands in.
-fn spelling(text: &[u8], lexeme: Lexeme) -> &[u8]
+/// The bytes of a lexeme, in the text that it stands in.
+pub fn spelling(text: &[u8], lexeme: Lexeme) -> &[u8]
     ensures { result.now ≡ fronts.spelling text.now lexeme }
 {
     let start = lexeme.span.start as usize;
