@@ -29,8 +29,8 @@ fn front_of(rt: &impl Abort, alloc: Global, text: &[u8]) -> Found {
 
 // Each of these texts has its front.
 fn finds(rt: &impl Abort, alloc: Global, rows: &[(&[u8], Found)]) {
-    for (text, front) in rows {
-        assert_eq!(rt; front_of(rt, alloc, *text), *front);
+    for (row, (text, front)) in rows.iter().enumerate() {
+        assert_eq!(rt; front_of(rt, alloc, *text), *front, "row {row}");
     }
 }
 
@@ -64,6 +64,7 @@ fn finds_heights(rt: &impl Abort, alloc: Global, unit: [&str; 5], end: u32) -> R
     }
     Ok(())
 }
+
 /// Declarations, `EXTENDS` and lines.
 static DECLARATIONS: [(&str, Found); 26] = [
     ("", Tree(0, 0)),
@@ -337,6 +338,35 @@ static UNITS: [(&str, &str, u32); 9] = [
     ("THEOREM ", "", 26),
 ];
 
+/// Where `@` is of height 1,000: what is too high is at fault where no lexeme is bad, whatever the
+/// module's name.
+static ORDER: [(&str, Found); 9] = [
+    ("---- MODULE A ----\nF == @\n====", Tree(1, 1000)),
+    ("---- MODULE A ----\nF == {@}\n====", Fault(105, 19, 20)),
+    ("---- MODULE B ----\nF == {@}\n====", Fault(105, 19, 20)),
+    ("---- MODULE B ----\nF == @\n====", Fault(103, 12, 13)),
+    (
+        "---- MODULE A ----\nF == {@}\n====\nF ==",
+        Fault(105, 19, 20),
+    ),
+    (
+        "---- MODULE A ----\nVARIABLE x\nLOCAL F == {@}\nG == {@}\n====",
+        Fault(105, 30, 35),
+    ),
+    (
+        "---- MODULE A ----\nVARIABLE x\n---- MODULE B ----\nF == 1\nG == @\n====\n====",
+        Fault(105, 30, 34),
+    ),
+    (
+        "---- MODULE A ----\nF == {@} =\n====",
+        Fault(202, 2028, 2032),
+    ),
+    (
+        "---- MODULE A ----\nF == {@} = ?\n====",
+        Fault(201, 2028, 2029),
+    ),
+];
+
 #[test]
 fn reads_units(rt: HostRuntime) -> Result<(), Fail> {
     let alloc = rt.alloc();
@@ -382,48 +412,14 @@ fn limits_nested_modules(rt: HostRuntime) -> Result<(), Fail> {
     Ok(())
 }
 
-// A unit that is too high is at fault where no lexeme is bad, whatever the module's name.
 #[test]
 fn orders_faults(rt: HostRuntime) -> Result<(), Fail> {
     let alloc = rt.alloc();
     let (opened, closed) = ("(".repeat(alloc, 999)?, ")".repeat(alloc, 999)?);
-    let high = format!(in alloc; "{opened}{{a}}{closed}")?;
-    let rows = [
-        (
-            format!(in alloc; "---- MODULE B ----\nF == {high}\n====")?,
-            Fault(105, 19, 20),
-        ),
-        (
-            format!(in alloc;
-                "---- MODULE A ----\nVARIABLE x\nLOCAL F == {high}\nG == {high}\n===="
-            )?,
-            Fault(105, 30, 35),
-        ),
-        (
-            format!(in alloc;
-                "---- MODULE A ----\n---- MODULE B ----\n====\n---- MODULE C ----\nF == 1\nG == {opened}a{closed}\n====\n===="
-            )?,
-            Fault(105, 43, 47),
-        ),
-        (
-            format!(in alloc; "---- MODULE A ----\nF == {high}\n====\nG ==")?,
-            Fault(105, 19, 20),
-        ),
-        (
-            format!(in alloc; "---- MODULE A ----\nF ==\n{high} =\n====")?,
-            Fault(202, 2028, 2032),
-        ),
-        (
-            format!(in alloc; "---- MODULE A ----\nF ==\n{high} = ?\n====")?,
-            Fault(201, 2028, 2029),
-        ),
-        (
-            format!(in alloc; "---- MODULE B ----\nF == {{\n====")?,
-            Fault(202, 26, 30),
-        ),
-    ];
-    for (text, front) in &rows {
-        assert_eq!(rt; front_of(&rt, alloc, text.as_bytes()), *front);
+    let high = format!(in alloc; "{opened}a{closed}")?;
+    for (text, front) in &ORDER {
+        let text = text.replace(alloc, "@", high.as_str())?;
+        assert_eq!(rt; front_of(&rt, alloc, text.as_bytes()), *front, "{text}");
     }
     Ok(())
 }
