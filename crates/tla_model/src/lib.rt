@@ -1,9 +1,22 @@
-//! What the calls on modules say of them.
+//! What the calls on modules say of them: what their names stand for, their faults, and what they export;
+//! and the imports of a module under their names.
 //!
 //! Knows nothing of how it is found.
 #![tactic(auto)]
 
 use tla_symbols::Span;
+
+mod bound;
+mod entity;
+mod face;
+mod ids;
+mod imported;
+
+pub use bound::{Bound, Implied};
+pub use entity::{Decl, Entity, Entry, Level, Name, Use};
+pub use face::{Definition, Face, Instance, Interface, Meaning, Part, Replacement};
+pub use ids::{Callee, DeclId, ModuleId, UnitId};
+pub use imported::{Import, Imported};
 
 /// A fault of a module: its code, and where it stands in the module's text, in bytes.
 #[derive(Clone, Copy, Debug, PartialEq, Eq)]
@@ -11,3 +24,6 @@ pub struct Diagnostic {
     pub code: u16,
     pub span: Span,
 }
+
+#[cfg(test)]
+mod tests;

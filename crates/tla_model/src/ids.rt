@@ -1,0 +1,41 @@
+// Names for what stands in texts: declarations and units, by where their text counts them.
+use tool_list::{Chars, List};
+
+/// A declaration: a declaring name in the text of a module.
+#[derive(Drop)]
+pub struct DeclId {
+    /// The module whose text declares the name.
+    pub module: Chars,
+    /// How many declaring names stand before it in that text.
+    pub place: u32,
+}
+
+/// An INSTANCE in the text of a module.
+#[derive(Drop)]
+pub struct UnitId {
+    /// The module whose text it stands in.
+    pub module: Chars,
+    /// How many words INSTANCE stand before it in that text.
+    pub place: u32,
+}
+
+/// A module, or a module that is nested in one.
+#[derive(Drop)]
+pub struct ModuleId {
+    /// The module whose text it is, or stands in.
+    pub module: Chars,
+    /// For a nested module, how many declaring names stand before its name in that text.
+    pub nested: Option<u32>,
+}
+
+/// What a name or a symbol calls.
+#[derive(Drop)]
+pub struct Callee {
+    /// The number of the prefix that is written before the last `!` of the name, in the order of the
+    /// text, from 1. It is 0 where there is none, and for each segment that is not the last.
+    pub instance: u32,
+    /// The declaration that the name resolves to.
+    pub decl: DeclId,
+    /// The INSTANCE units without a name through which the declaration came, in order.
+    pub via: List<UnitId>,
+}
