@@ -1,1 +1,4 @@
 mod Importing
+pub mod FaultPlaces
+mod NameSamples
+pub mod Ordering

@@ -1,7 +1,10 @@
 // What names stand for.
+ghost use Rattle.std.specs.Prelude.{◌≡◌, IfOk};
+
 use crate::ids::{Callee, DeclId};
+use std::alloc::Global;
 use tla_symbols::{Op, Span};
-use tool_list::{Chars, List};
+use tool_list::{Chars, List, Memory};
 
 /// What a name stands for. Orders are those of the parameters of a definition or of an instance: 0 for
 /// an expression, and the number of its places for an operator.
@@ -21,6 +24,36 @@ pub enum Entity {
     Bound { state: bool },
     /// A nested module. It is in no context, and stands among declarations alone.
     Module,
+}
+
+impl Entity {
+    /// The same entity. `Memory` comes where there was no room.
+    pub fn copied(&self, alloc: Global) -> Result<Entity, Memory>
+        ensures { IfOk result (λ copy. copy ≡ self.now) }
+    {
+        match self {
+            Entity::Constant { arity } => Ok(Entity::Constant { arity: *arity }),
+            Entity::Variable => Ok(Entity::Variable),
+            Entity::Definition { orders } => {
+                let orders = orders_copied(alloc, orders.as_slice())?;
+                Ok(Entity::Definition { orders })
+            }
+            Entity::Instance { orders } => {
+                let orders = orders_copied(alloc, orders.as_slice())?;
+                Ok(Entity::Instance { orders })
+            }
+            Entity::Parameter { arity } => Ok(Entity::Parameter { arity: *arity }),
+            Entity::Bound { state } => Ok(Entity::Bound { state: *state }),
+            Entity::Module => Ok(Entity::Module),
+        }
+    }
+}
+
+// The same orders.
+fn orders_copied(alloc: Global, orders: &[u32]) -> Result<List<u32>, Memory>
+    ensures { IfOk result (λ copy. copy ≡ orders.now) }
+{
+    Ok(List::from_vec(orders.iter().copied().collect(alloc)?))
 }
 
 /// The level of what a name means, as a user reads it.
@@ -65,10 +98,38 @@ pub enum Name {
     Symbol(Op),
 }
 
+impl Name {
+    /// The same name. `Memory` comes where there was no room.
+    pub fn copied(&self, alloc: Global) -> Result<Name, Memory>
+        ensures { IfOk result (λ copy. copy ≡ self.now) }
+    {
+        match self {
+            Name::Word(word) => {
+                let word = Chars::from_str(alloc, word.as_str())?;
+                Ok(Name::Word(word))
+            }
+            Name::Symbol(op) => Ok(Name::Symbol(*op)),
+        }
+    }
+}
+
 /// A name of a context, or one that a module exports, with what it stands for.
 #[derive(Drop)]
 pub struct Entry {
     pub name: Name,
     pub entity: Entity,
     pub callee: Callee,
+}
+
+impl Entry {
+    /// The same entry. `Memory` comes where there was no room.
+    pub fn copied(&self, alloc: Global) -> Result<Entry, Memory>
+        ensures { IfOk result (λ copy. copy ≡ self.now) }
+    {
+        Ok(Entry {
+            name: self.name.copied(alloc)?,
+            entity: self.entity.copied(alloc)?,
+            callee: self.callee.copied(alloc)?,
+        })
+    }
 }

@@ -41,7 +41,7 @@ pub struct Interface {
     /// The nodes of its definitions and instances.
     pub tree: Tree,
     /// What the names and symbols at these nodes stand for, in the order of the nodes.
-    pub meanings: List<Meaning>,
+    pub meanings: List<NodeMeaning>,
 }
 
 /// A definition in a module's text, those in a LET aside.
@@ -81,7 +81,7 @@ pub enum Replacement {
 
 /// What the name or symbol at a node stands for. No node has two.
 #[derive(Drop)]
-pub struct Meaning {
+pub struct NodeMeaning {
     pub node: u32,
     pub entity: Entity,
     pub callee: Callee,

@@ -1,5 +1,8 @@
 // Names for what stands in texts: declarations and units, by where their text counts them.
-use tool_list::{Chars, List};
+ghost use Rattle.std.specs.Prelude.{◌≡◌, IfOk};
+
+use std::alloc::Global;
+use tool_list::{Chars, List, Memory};
 
 /// A declaration: a declaring name in the text of a module.
 #[derive(Drop)]
@@ -10,6 +13,18 @@ pub struct DeclId {
     pub place: u32,
 }
 
+impl DeclId {
+    /// The same declaration. `Memory` comes where there was no room.
+    pub fn copied(&self, alloc: Global) -> Result<DeclId, Memory>
+        ensures { IfOk result (λ copy. copy ≡ self.now) }
+    {
+        Ok(DeclId {
+            module: Chars::from_str(alloc, self.module.as_str())?,
+            place: self.place,
+        })
+    }
+}
+
 /// An INSTANCE in the text of a module.
 #[derive(Drop)]
 pub struct UnitId {
@@ -17,6 +32,18 @@ pub struct UnitId {
     pub module: Chars,
     /// How many words INSTANCE stand before it in that text.
     pub place: u32,
+}
+
+impl UnitId {
+    /// The same unit. `Memory` comes where there was no room.
+    pub fn copied(&self, alloc: Global) -> Result<UnitId, Memory>
+        ensures { IfOk result (λ copy. copy ≡ self.now) }
+    {
+        Ok(UnitId {
+            module: Chars::from_str(alloc, self.module.as_str())?,
+            place: self.place,
+        })
+    }
 }
 
 /// A module, or a module that is nested in one.
@@ -38,4 +65,28 @@ pub struct Callee {
     pub decl: DeclId,
     /// The INSTANCE units without a name through which the declaration came, in order.
     pub via: List<UnitId>,
+}
+
+impl Callee {
+    /// The same callee. `Memory` comes where there was no room.
+    pub fn copied(&self, alloc: Global) -> Result<Callee, Memory>
+        ensures { IfOk result (λ copy. copy ≡ self.now) }
+    {
+        Ok(Callee {
+            instance: self.instance,
+            decl: self.decl.copied(alloc)?,
+            via: units_copied(alloc, self.via.as_slice())?,
+        })
+    }
+}
+
+// The same units, in order.
+fn units_copied(alloc: Global, units: &[UnitId]) -> Result<List<UnitId>, Memory>
+    ensures { IfOk result (λ copies. copies ≡ units.now) }
+{
+    let mut copies = List::new(alloc);
+    for unit in units {
+        copies.push(unit.copied(alloc)?)?;
+    }
+    Ok(copies)
 }

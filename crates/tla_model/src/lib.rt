@@ -11,12 +11,18 @@ mod entity;
 mod face;
 mod ids;
 mod imported;
+mod laws;
+mod names;
+mod order;
 
 pub use bound::{Bound, Implied};
 pub use entity::{Decl, Entity, Entry, Level, Name, Use};
-pub use face::{Definition, Face, Instance, Interface, Meaning, Part, Replacement};
+pub use face::{Definition, Face, Instance, Interface, NodeMeaning, Part, Replacement};
 pub use ids::{Callee, DeclId, ModuleId, UnitId};
 pub use imported::{Import, Imported};
+pub use laws::faults_at_lexemes;
+pub use names::{Binder, Binding, Finding, Meaning};
+pub use order::in_order;
 
 /// A fault of a module: its code, and where it stands in the module's text, in bytes.
 #[derive(Clone, Copy, Debug, PartialEq, Eq)]

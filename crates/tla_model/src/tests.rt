@@ -1,7 +1,10 @@
+ghost use Rattle.std.specs.Prelude.{◌<◌};
+
 use super::*;
 use std::alloc::Global;
 use std::sync::Arc;
 use std::test::Fail;
+use tla_symbols::Span;
 use tla_tree::Tree;
 use tool_list::{Chars, List, Memory};
 
@@ -80,5 +83,35 @@ fn crosses(rt: HostRuntime) -> Result<(), Fail> {
         faults: List::new(alloc),
     };
     crosses_threads(&bound);
+    Ok(())
+}
+
+// A fault over one byte.
+fn fault(code: u16, start: u32) -> Diagnostic
+    requires { start < 8 }
+{
+    Diagnostic {
+        code,
+        span: Span {
+            start,
+            end: start + 1,
+        },
+    }
+}
+
+#[test]
+fn puts_faults_in_order(rt: HostRuntime) -> Result<(), Fail> {
+    let alloc = rt.alloc();
+    let mut faults = List::new(alloc);
+    faults.push(fault(303, 5))?;
+    faults.push(fault(301, 2))?;
+    faults.push(fault(301, 5))?;
+    faults.push(fault(303, 5))?;
+    let found = in_order(faults);
+    let found = found.as_slice();
+    assert_eq!(rt; found.len(), 3);
+    assert_eq!(rt; found[0].span.start, 2);
+    assert_eq!(rt; found[1].code, 301);
+    assert_eq!(rt; found[2].code, 303);
     Ok(())
 }

@@ -1,0 +1,71 @@
+-- A module without INSTANCE with its names resolved.
+use Rattle.std.specs.Prelude.{◌≡◌, ◌↔◌, ◌<◌, ◌||◌, ◌&&◌, ℕ, Bool, true, List, [], ◌∷◌, ◌++◌, Some, map, nat_lt, nat_eq, slice_get, Contains}
+use Rattle.tla_symbols.specs.declared.lexeme.Lexeme.{Lexeme}
+use Rattle.tla_model.specs.declared.Diagnostic.{Diagnostic}
+use Rattle.tla_model.specs.declared.bound.Bound.{Bound}
+use Rattle.tla_model.specs.declared.entity.Decl.{Decl}
+use Rattle.tla_model.specs.declared.entity.Level.{Level}
+use Rattle.tla_model.specs.declared.entity.Use.{Use}
+use Rattle.tla_model.specs.declared.ids.Callee.{Callee}
+use Rattle.unit_grammar.specs.Units.{ModuleUnits}
+use Rattle.tla_model.specs.Entities.{Entity, Meaning, BuiltIn, Declared, Binder, Text, declaration, declaring}
+use Rattle.tla_model.specs.Exports.{Exports}
+use Rattle.tla_model.specs.Resolution.{Finding, Means, Unknown, Taken, Clashes, findings, text_of}
+
+-- the uses that mean a declaration, each with its entity and what it calls: those of built-in names are none
+pub record Resolved : Type 0 where
+  pub «use» : Use
+  pub entity : Entity
+  pub callee : Callee
+
+abbrev pub meant_by : Lexeme → Meaning → List Resolved
+meant_by l BuiltIn = []
+meant_by l (Declared entity callee) =
+    record { «use» = record { name = l.span; «module» = callee.decl.«module»; place = callee.decl.place; level = Level.Constant }; entity = entity; callee = callee } ∷ []
+
+abbrev pub resolved_at : Finding → List Resolved
+resolved_at (Means l meaning) = meant_by l meaning
+resolved_at (Unknown l) = []
+resolved_at (Taken l) = []
+resolved_at (Clashes l) = []
+
+abbrev pub resolved : List Finding → List Resolved
+resolved [] = []
+resolved (finding ∷ rest) = resolved_at finding ++ resolved rest
+
+-- the declarations of a text
+abbrev pub decls : Text → List Binder → List Decl
+decls text names = map (λ binder. record { id = declaration text binder.name; name = binder.name.span; entity = binder.entity }) names
+
+abbrev pub at : ℕ → Lexeme → List Diagnostic
+at code l = record { code = code; span = l.span } ∷ []
+
+abbrev pub fault : Finding → List Diagnostic
+fault (Means l meaning) = []
+fault (Unknown l) = at 401 l
+fault (Taken l) = at 402 l
+fault (Clashes l) = at 403 l
+
+abbrev pub faults : List Finding → List Diagnostic
+faults [] = []
+faults (finding ∷ rest) = fault finding ++ faults rest
+
+-- by the start, then the end, then the code
+abbrev pub is_before : Diagnostic → Diagnostic → Bool
+is_before a b =
+    nat_lt a.span.start b.span.start
+    || (nat_eq a.span.start b.span.start && (nat_lt a.span.end b.span.end || (nat_eq a.span.end b.span.end && nat_lt a.code b.code)))
+
+-- these diagnostics in order, each once
+pub record AreInOrder (all found : List Diagnostic) : Type 0 where
+  pub same : (fault : Diagnostic) → Contains found fault ↔ Contains all fault
+  pub ordered : (i j : ℕ) (a b : Diagnostic) → slice_get found i ≡ Some a → slice_get found j ≡ Some b → i < j → is_before a b ≡ true
+
+-- what the names of a module stand for, by what the files export that it names, and its source
+pub record IsBound (files : List ℕ → Exports) (source : List ℕ) (units : ModuleUnits) (bound : Bound) : Type 0 where
+  pub uses : bound.uses ≡ map (λ r. r.«use») (resolved (findings files source units))
+  pub entities : bound.entities ≡ map (λ r. r.entity) (resolved (findings files source units))
+  pub callees : bound.callees ≡ map (λ r. r.callee) (resolved (findings files source units))
+  pub implied : bound.implied ≡ []
+  pub decls : bound.decls ≡ decls (text_of source units) (declaring units.units)
+  pub faults : AreInOrder (faults (findings files source units)) bound.faults

@@ -1,0 +1,88 @@
+-- How lexemes are spelled in a text, and which lexemes a module holds.
+use Rattle.std.specs.Prelude.{ℕ, ◌-◌, ◌≤◌, List, [], ◌∷◌, ◌++◌, take, drop}
+use Rattle.std.specs.List.{AllByRecursion}
+use Rattle.std.specs.Str.{IsCharBoundary}
+use Rattle.tla_symbols.specs.declared.lexeme.Lexeme.{Lexeme}
+use Rattle.tla_tree.specs.declared.form.Form.TheVariants as Form
+use Rattle.tla_tree.specs.Syntax.{Tree, Trees, Node, Nil, Cons}
+use Rattle.unit_grammar.specs.Units.{UnitTree, Variables, Constants, OperatorDefinition, FunctionDefinition, ModuleDefinition, Instance, Assumption, Theorem, Line, ModuleBegin, ModuleEnd, ModuleUnits}
+
+-- the bytes of a lexeme
+abbrev pub spelled : List ℕ → Lexeme → List ℕ
+spelled text l = take (l.span.end - l.span.start) (drop l.span.start text)
+
+-- both ends of a lexeme stand at characters of the text, in this order
+pub record LiesIn (text : List ℕ) (l : Lexeme) : Type 0 where
+  pub order : l.span.start ≤ l.span.end
+  pub start : IsCharBoundary text l.span.start
+  pub end : IsCharBoundary text l.span.end
+
+-- ---- the lexemes of a module
+
+-- the lexeme that a form holds, if it holds one
+abbrev pub held : Form.the_data → List Lexeme
+held (Form.Number l) = l ∷ []
+held (Form.Text l) = l ∷ []
+held (Form.At l) = l ∷ []
+held (Form.Symbol l) = l ∷ []
+held (Form.Prefix l) = l ∷ []
+held (Form.Infix l) = l ∷ []
+held (Form.Postfix l) = l ∷ []
+held (Form.Quantifier l) = l ∷ []
+held (Form.BoundedQuantifier l) = l ∷ []
+held (Form.TemporalQuantifier l) = l ∷ []
+held (Form.FieldAccess l) = l ∷ []
+held (Form.Fairness l) = l ∷ []
+held (Form.JunctionList l) = l ∷ []
+held (Form.Segment l) = l ∷ []
+held (Form.Name l) = l ∷ []
+held (Form.Field l) = l ∷ []
+held (Form.FieldStep l) = l ∷ []
+held (Form.OperatorDefinition l) = l ∷ []
+held (Form.PrefixDefinition l) = l ∷ []
+held (Form.InfixDefinition l) = l ∷ []
+held (Form.PostfixDefinition l) = l ∷ []
+held (Form.FunctionDefinition l) = l ∷ []
+held (Form.ModuleDefinition l) = l ∷ []
+held (Form.Instance l) = l ∷ []
+held (Form.Replacement l) = l ∷ []
+held (Form.OperatorParameter l places) = l ∷ []
+held (Form.PrefixParameter l) = l ∷ []
+held (Form.InfixParameter l) = l ∷ []
+held (Form.PostfixParameter l) = l ∷ []
+held _ = []
+
+abbrev mutual
+  -- the lexemes that a tree holds
+  pub lexemes : Tree → List Lexeme
+  lexemes (Node form s parts) = held form ++ all_lexemes parts
+
+  pub all_lexemes : Trees → List Lexeme
+  all_lexemes Nil = []
+  all_lexemes (Cons x rest) = lexemes x ++ all_lexemes rest
+
+-- the lexemes that a unit holds, but for the words of units and their ends
+abbrev pub unit_lexemes : UnitTree → List Lexeme
+unit_lexemes (Variables names) = names
+unit_lexemes (Constants declarations) = all_lexemes declarations
+unit_lexemes (OperatorDefinition local x) = lexemes x
+unit_lexemes (FunctionDefinition local x) = lexemes x
+unit_lexemes (ModuleDefinition local x) = lexemes x
+unit_lexemes (Instance local x) = lexemes x
+unit_lexemes (Assumption word name x) = lexemes x
+unit_lexemes (Theorem word name x) = lexemes x
+unit_lexemes (Line dashes) = []
+unit_lexemes (ModuleBegin name extends) = name ∷ extends
+unit_lexemes (ModuleEnd closing) = []
+
+abbrev pub units_lexemes : List UnitTree → List Lexeme
+units_lexemes [] = []
+units_lexemes (unit ∷ units) = unit_lexemes unit ++ units_lexemes units
+
+-- the names and symbols of a module: its name, the names that it extends, and those that its units hold
+abbrev pub module_lexemes : ModuleUnits → List Lexeme
+module_lexemes units = units.name ∷ (units.extends ++ units_lexemes units.units)
+
+-- the names and symbols of a module lie in its text
+abbrev pub LexemesLie : List ℕ → ModuleUnits → Type 0
+LexemesLie text units = AllByRecursion (LiesIn text) (module_lexemes units)

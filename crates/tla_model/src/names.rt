@@ -1,0 +1,61 @@
+// What is found at the names of a text.
+ghost use Rattle.std.specs.Prelude.{◌≡◌, IfOk};
+
+use crate::entity::Entity;
+use crate::ids::Callee;
+use std::alloc::Global;
+use tla_symbols::Lexeme;
+use tool_list::Memory;
+
+/// What a name means.
+#[derive(Drop)]
+pub enum Meaning {
+    /// TRUE, FALSE, BOOLEAN or STRING.
+    BuiltIn,
+    /// A declaration, as the entity that it is.
+    Declared { entity: Entity, callee: Callee },
+}
+
+impl Meaning {
+    /// The same meaning.
+    pub fn copied(&self, alloc: Global) -> Result<Meaning, Memory>
+        ensures { IfOk result (λ copy. copy ≡ self.now) }
+    {
+        match self {
+            Meaning::BuiltIn => Ok(Meaning::BuiltIn),
+            Meaning::Declared { entity, callee } => Ok(Meaning::Declared {
+                entity: entity.copied(alloc)?,
+                callee: callee.copied(alloc)?,
+            }),
+        }
+    }
+}
+
+/// A declaring name with what it stands for.
+#[derive(Drop)]
+pub struct Binder {
+    pub name: Lexeme,
+    pub entity: Entity,
+}
+
+/// As what a name is declared or bound that is a part of a form.
+#[derive(Clone, Copy, Debug, PartialEq, Eq)]
+pub enum Binding {
+    Constant,
+    Parameter,
+    /// `state` is true of the names that `\AA` and `\EE` bind.
+    Bound { state: bool },
+}
+
+/// What is found at a name.
+#[derive(Drop)]
+pub enum Finding {
+    /// A use, and what it means.
+    Means { at: Lexeme, meaning: Meaning },
+    /// A use without a meaning.
+    Unknown { at: Lexeme },
+    /// A declaring name that is there already.
+    Taken { at: Lexeme },
+    /// A module that brings a name which is there with another meaning.
+    Clashes { at: Lexeme },
+}
