@@ -1,5 +1,5 @@
 -- The names that units declare stand where the lexemes of a text do.
-use Rattle.std.proofs.Common.{◌≡◌, ℕ, suc, ◌<◌, arith, List, [], ◌∷◌, ◌++◌, Option, refl, sym, subst}
+use Rattle.std.proofs.Common.{ℕ, suc, arith, List, [], ◌∷◌, ◌++◌, Option, sym, subst}
 use Rattle.std.specs.List.{All, AllByRecursion}
 use Rattle.tla_symbols.specs.declared.lexeme.Lexeme.{Lexeme}
 use Rattle.tla_lexeme.specs.Spans.{IsPlaced}
@@ -9,7 +9,7 @@ use Rattle.tla_tree.specs.Syntax.{Tree, Trees, Node}
 use Rattle.tla_tree.specs.Headings.{DerivesParameter, plain, of_places, prefix_symbol, infix_symbol, postfix_symbol, DerivesParameters, last_parameter, more_parameters}
 use Rattle.unit_grammar.specs.Units.{UnitTree, ModuleUnits, defined}
 use Rattle.unit_grammar.specs.Derivation.{SpellsNames, last_name, more_names, DerivesUnit, variables, constants, definition, instance, assumption, theorem, line, nested, DerivesUnits, no_units, more_units, DerivesModule, outermost}
-use Rattle.tla_front.specs.Fronts.{Tree as Whole, IsFrontOfLexemes, whole, IsTree}
+use Rattle.tla_front.specs.Fronts.{Tree as Whole, IsFrontOfLexemes, whole}
 use Rattle.tla_front.specs.Faults.{IsReadFront}
 use Rattle.tla_front.specs.Names.{IsLexemePlaced, IsNamePlaced, AreNamesPlaced, IsUnitPlaced, units_of}
 

@@ -5,3 +5,8 @@ pub mod HighNodes
 pub mod OneFront
 pub mod Reading
 pub mod DeclaredNames
+pub mod TextLies
+pub mod Held
+pub mod HeldTrees
+pub mod FewNames
+pub mod HeldUnits

@@ -3,6 +3,9 @@ ghost use Rattle.std.specs.Prelude.{◌≡◌, ◌<◌, ◌≤◌, ◌^◌, ℕ,
 ghost use Rattle.std.specs.List.{All, AllByRecursion};
 ghost use Rattle.unit_grammar.specs.Units.{ModuleUnits};
 ghost use Rattle.unit_grammar.specs.FirstBad.{EndsOnce};
+ghost use Rattle.unit_grammar.specs.UnitNodes.{module_of};
+ghost use Rattle.tla_model.specs.Entities.{declaring};
+ghost use Rattle.tla_model.specs.Lexemes.{LexemesLie, LiesIn};
 ghost use Rattle.tla_lexeme.specs.Spans.{IsPlaced};
 ghost use Rattle.tla_lexeme.specs.ModulePart.{module_part};
 ghost use Rattle.tla_front.specs.Fronts as fronts;
@@ -52,10 +55,13 @@ impl From<Memory> for FrontError {
 /// 101 where the bytes are not UTF-8, 104 where they are more than 2^20, 102 where no header begins a
 /// module, 201 or 202 at the first bad lexeme, 105 at the first unit that is higher than 1,000, and 103
 /// where the module has another name than its file. `Memory` comes where there is no room.
+/// The names and symbols of a tree lie in the bytes, and it declares fewer than 2^32 names.
 pub fn front(alloc: Global, name: &str, bytes: &[u8]) -> Result<ModuleTree, FrontError>
     requires { length bytes.now < 2 ^ 31 }
     ensures tree { IfOk result (λ tree. (found : ModuleUnits) × IsFront name.now bytes.now (Front.Tree found) × IsTree tree found bytes.now) }
     ensures names { IfOk result (λ tree. AllByRecursion (IsUnitPlaced bytes.now) (units_of tree)) }
+    ensures lexemes { IfOk result (λ tree. LexemesLie bytes.now (module_of tree)) }
+    ensures few { IfOk result (λ tree. length (declaring (module_of tree).units) < 2 ^ 32) }
     ensures fault { IfErr result (λ error. IsFrontFault name.now bytes.now error) }
     ensures placed { IfErr result (λ error. IsFaultPlaced (take (readable_len bytes.now) bytes.now) error) }
 {
@@ -81,6 +87,8 @@ fn front_of_text(alloc: Global, name: &str, source: &str) -> Result<ModuleTree, 
     requires { length source.now < 2 ^ 31 }
     ensures tree { IfOk result (λ tree. (found : ModuleUnits) × IsFront name.now source.now (Front.Tree found) × IsTree tree found source.now) }
     ensures names { IfOk result (λ tree. AllByRecursion (IsUnitPlaced source.now) (units_of tree)) }
+    ensures lexemes { IfOk result (λ tree. LexemesLie source.now (module_of tree)) }
+    ensures few { IfOk result (λ tree. length (declaring (module_of tree).units) < 2 ^ 32) }
     ensures fault { IfErr result (λ error. IsFrontFault name.now source.now error) }
     ensures placed { IfErr result (λ error. IsFaultPlaced source.now error) }
 {
@@ -106,6 +114,8 @@ fn front_of_lexemes(
     requires small { length source.now ≤ fronts.MOST_TEXT }
     ensures tree { IfOk result (λ tree. IsReadFront name.now source.now lexemes.now tree) }
     ensures names { IfOk result (λ tree. AllByRecursion (IsUnitPlaced source.now) (units_of tree)) }
+    ensures lexemes { IfOk result (λ tree. LexemesLie source.now (module_of tree)) }
+    ensures few { IfOk result (λ tree. length (declaring (module_of tree).units) < 2 ^ 32) }
     ensures fault { IfErr result (λ error. IsFaultOfLexemes name.now source.now lexemes.now error) }
     ensures placed { IfErr result (λ error. IsFaultPlaced source.now error) }
 {
@@ -139,8 +149,11 @@ fn front_of_tree(
     requires further { BeginsFurther 0 lexemes.now }
     requires few { length lexemes.now < 2 ^ 32 }
     requires placed { All (λ l. IsPlaced source.now l.span) lexemes.now }
+    requires lie { AllByRecursion (LiesIn source.now) lexemes.now }
     ensures tree { IfOk result (λ tree. IsReadFront name.now source.now lexemes.now tree) }
     ensures names { IfOk result (λ tree. AllByRecursion (IsUnitPlaced source.now) (units_of tree)) }
+    ensures lexemes { IfOk result (λ tree. LexemesLie source.now (module_of tree)) }
+    ensures few { IfOk result (λ tree. length (declaring (module_of tree).units) < 2 ^ 32) }
     ensures fault { IfErr result (λ error. IsFaultOfLexemes name.now source.now lexemes.now error) }
     ensures placed { IfErr result (λ error. IsFaultPlaced source.now error) }
 {

@@ -1,8 +1,11 @@
 use Rattle.std.proofs.Common.{◌<◌, ◌^◌, length, arith, subst, sym}
+use Rattle.std.specs.List.{AllByRecursion}
+use Rattle.tla_model.specs.Lexemes.{LiesIn}
 use Rattle.tla_front.specs.FirstHigh.{BeginsFurther}
 use Rattle.tla_front.proofs.Reading.{bad-front, bad-placed}
 use Rattle.tla_front.proofs.TextEnds.{text-ends}
 use Rattle.tla_front.proofs.TextGrows.{text-further, few-lexemes}
+use Rattle.tla_front.proofs.TextLies.{text-lies}
 use Rattle.tla_front.proofs.module.front_of_lexemes.Goals as goal
 
 pub parse_module-requires-clause-ends : goal.parse_module-requires-clause-ends
@@ -23,6 +26,10 @@ front_of_tree-requires-clause-few c =
     omega
     (arith, c.requires.small, few-lexemes c.args.source.now c.args.lexemes.now (text-further c.reads_longest.ensures c.args.source.now c.args.lexemes.now c.requires.part) c.requires.placed) in
     subst (λ ls. length ls < 2 ^ 32) (sym c.as_slice.ensures) few
+
+pub front_of_tree-requires-clause-lie : goal.front_of_tree-requires-clause-lie
+front_of_tree-requires-clause-lie c =
+    subst (λ ls. AllByRecursion (LiesIn c.args.source.now) ls) (sym c.as_slice.ensures) (text-lies c.reads_longest.ensures c.args.source.now c.args.lexemes.now c.requires.part c.requires.placed)
 
 pub returns-in-Err-FirstBad-clause-fault : goal.returns-in-Err-FirstBad-clause-fault
 returns-in-Err-FirstBad-clause-fault c =
