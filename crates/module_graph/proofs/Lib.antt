@@ -6,6 +6,8 @@ mod ImportSamples
 mod Needs
 mod TreeWalk
 mod Scoping
+mod Rounding
+mod Lexemes
 mod Lists
 mod Ways
 mod Reaching

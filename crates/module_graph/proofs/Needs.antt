@@ -24,7 +24,7 @@ mapped-at : {A B : Type 0} (P : B → Type 0) (f : A → B) (xs : List A) (i : �
 mapped-at P f xs i x all there is = all-at (λ x. P (f x)) xs i x (all-map P f xs all) there is
 
 -- the module names of a unit are among the names that are compared
-names-compared : (P : Lexeme → Type 0) (unit : UnitTree) → AllByRecursion P (compared unit) → AllByRecursion P (module_names unit)
+pub names-compared : (P : Lexeme → Type 0) (unit : UnitTree) → AllByRecursion P (compared unit) → AllByRecursion P (module_names unit)
 names-compared P (ModuleBegin name extends) all = all.1
 names-compared P (Variables names) all = all
 names-compared P (Constants declarations) all = all

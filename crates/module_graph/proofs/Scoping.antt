@@ -47,7 +47,7 @@ fronts-added names name numbers fall = by (list_any (bytes_eq name) names)
     by true = refl
     by false = fronts-append names (name ∷ []) (length names) numbers (omega arith) fall
 
-take-added : (names : List (List ℕ)) (name : List ℕ) → take (length names) (added names name) ≡ names
+pub take-added : (names : List (List ℕ)) (name : List ℕ) → take (length names) (added names name) ≡ names
 take-added names name = by (list_any (bytes_eq name) names)
   where
     by : (b : Bool) → take (length names) (if b then names else names ++ name ∷ []) ≡ names

@@ -62,15 +62,15 @@ module _ (text outermost : List ℕ) where
 pub imports-in : (text : List ℕ) (found : ModuleUnits) (lexemes : List Lexeme) → d.DerivesModule found lexemes → IsWithin (imports_of text found) lexemes
 imports-in text _ _ (d.outermost {n} {names} {a} {b} {units} c k us m) = both (extends-in k) (before (c ∷ []) (units-in text (spelled text n) us outside))
 
-all-left : {A : Type 0} (P : A → Type 0) (a b : List A) → AllByRecursion P (a ++ b) → AllByRecursion P a
+pub all-left : {A : Type 0} (P : A → Type 0) (a b : List A) → AllByRecursion P (a ++ b) → AllByRecursion P a
 all-left P [] b all = tt
 all-left P (x ∷ a) b all = (all.0, all-left P a b all.1)
 
-all-right : {A : Type 0} (P : A → Type 0) (a b : List A) → AllByRecursion P (a ++ b) → AllByRecursion P b
+pub all-right : {A : Type 0} (P : A → Type 0) (a b : List A) → AllByRecursion P (a ++ b) → AllByRecursion P b
 all-right P [] b all = all
 all-right P (x ∷ a) b all = all-right P a b all.1
 
-all-both : {A : Type 0} (P : A → Type 0) (a b : List A) → AllByRecursion P a → AllByRecursion P b → AllByRecursion P (a ++ b)
+pub all-both : {A : Type 0} (P : A → Type 0) (a b : List A) → AllByRecursion P a → AllByRecursion P b → AllByRecursion P (a ++ b)
 all-both P [] b all more = more
 all-both P (x ∷ a) b all more = (all.0, all-both P a b all.1 more)
 

@@ -3,17 +3,14 @@
 -- A module name stands for an earlier nested module of the module that it is in, or of one round that. The name of a
 -- nested module round it is that of no other module. A nested module with the name of the module of the text is never
 -- meant, so this name stays needed.
-use Rattle.std.specs.Prelude.{ℕ, ◌-◌, ◌≤◌, Bool, not, List, [], ◌∷◌, ◌++◌, take, drop, filter, if◌then◌else◌}
+use Rattle.std.specs.Prelude.{ℕ, Bool, true, false, not, List, [], ◌∷◌, ◌++◌, filter, if◌then◌else◌}
 use Rattle.std.specs.List.{list_any, AllByRecursion}
-use Rattle.std.specs.Str.{bytes_eq, IsCharBoundary}
+use Rattle.std.specs.Str.{bytes_eq}
 use Rattle.tla_symbols.specs.declared.lexeme.Lexeme.{Lexeme}
 use Rattle.tla_tree.specs.declared.form.Form.{Form}
 use Rattle.tla_tree.specs.Syntax.{Tree, Trees, Node, Nil, Cons}
+pub use Rattle.tla_model.specs.Lexemes.{spelled, LiesIn}
 use Rattle.unit_grammar.specs.Units.{UnitTree, OperatorDefinition, FunctionDefinition, ModuleDefinition, Instance, Assumption, Theorem, ModuleBegin, ModuleEnd, ModuleUnits}
-
--- the bytes of a lexeme
-abbrev pub spelled : List ℕ → Lexeme → List ℕ
-spelled text l = take (l.span.end - l.span.start) (drop l.span.start text)
 
 -- the name after INSTANCE, where a form has one
 abbrev pub instantiated : Form → List Lexeme
@@ -87,11 +84,35 @@ outside = record { taken = []; behind = [] }
 abbrev pub imports_of : List ℕ → ModuleUnits → List Lexeme
 imports_of text found = found.extends ++ imports_from text (spelled text found.name) outside found.units
 
--- both ends of a lexeme stand at characters of the text, in this order
-pub record LiesIn (text : List ℕ) (l : Lexeme) : Type 0 where
-  pub order : l.span.start ≤ l.span.end
-  pub start : IsCharBoundary text l.span.start
-  pub end : IsCharBoundary text l.span.end
+-- the names of the nested modules round the module names of a unit, innermost first, and of those behind it
+abbrev pub round_at : List ℕ → List (List ℕ) → UnitTree → List (List ℕ)
+round_at text round (ModuleBegin name extends) = spelled text name ∷ round
+round_at text [] (ModuleEnd closing) = []
+round_at text (name ∷ round) (ModuleEnd closing) = round
+round_at text round _ = round
+
+abbrev pub enclosing_from : List ℕ → List (List ℕ) → List UnitTree → List Lexeme
+enclosing_from text round [] = []
+enclosing_from text round (unit ∷ units) =
+    filter (λ name. list_any (bytes_eq (spelled text name)) (round_at text round unit)) (module_names unit)
+    ++ enclosing_from text (round_at text round unit) units
+
+-- the module names of the text that are those of nested modules round them, in the order of the text
+abbrev pub enclosing_of : List ℕ → ModuleUnits → List Lexeme
+enclosing_of text found = enclosing_from text [] found.units
+
+-- the names after INSTANCE of a unit
+abbrev pub instance_names : UnitTree → List Lexeme
+instance_names (ModuleBegin name extends) = []
+instance_names unit = module_names unit
+
+abbrev pub is_some_name : List Lexeme → Bool
+is_some_name [] = false
+is_some_name (name ∷ names) = true
+
+-- the word INSTANCE stands in the module
+abbrev pub holds_instance : ModuleUnits → Bool
+holds_instance found = list_any (λ unit. is_some_name (instance_names unit)) found.units
 
 -- the names that are compared: those of nested modules, and the module names
 abbrev pub compared : UnitTree → List Lexeme

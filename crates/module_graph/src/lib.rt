@@ -1,4 +1,5 @@
-//! Which modules a module needs; and of names with what they need, an order in which each stands behind
+//! Which modules a module needs, and which of its module names are those of nested modules round them;
+//! and of names with what they need, an order in which each stands behind
 //! what it needs.
 //!
 //! Knows nothing of how a text is read, and of where a needed module is found; `Graph` knows nothing of
@@ -8,17 +9,26 @@
 
 use tool_list::{Chars, Memory};
 
+mod around;
 mod components;
+mod enclosed;
 mod graph;
+mod holding;
 mod laws;
 mod needed;
 mod nesting;
 mod rows;
 mod search;
 mod trees;
+mod unit_names;
 
+pub use enclosed::enclosing;
 pub use graph::Graph;
-pub use laws::{names_lie, needs_in_order, passes_nested};
+pub use holding::holds_instance;
+pub use laws::{
+    enclosing_are_lexemes, imports_are_lexemes, lexemes_lie_names, names_lie, needs_in_order,
+    passes_nested,
+};
 pub use needed::imports;
 
 /// Why there is no order.

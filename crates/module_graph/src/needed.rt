@@ -1,64 +1,18 @@
 // The modules that a module needs.
 ghost use Rattle.std.specs.Prelude.{◌≡◌, ◌++◌, List as ListOf, IfOk, OnOk, filter};
 ghost use Rattle.std.specs.List.{AllByRecursion};
-ghost use Rattle.tla_tree.specs.Arena.{AreThere, Node};
-ghost use Rattle.unit_grammar.specs.UnitNodes.{HasNodes, module_of, nodes_in, unit_at};
+ghost use Rattle.tla_tree.specs.Arena.{Node};
+ghost use Rattle.unit_grammar.specs.UnitNodes.{HasNodes, module_of, unit_at};
 ghost use Rattle.module_graph.specs.Imports as names_of;
-ghost use Rattle.module_graph.specs.Imports.{AreNamesPlaced, LiesIn, compared, is_needed, imports_of, spelled};
-ghost use Rattle.module_graph.specs.Nestings.{IsNesting, scope_of, InstancesAt, begun_name};
+ghost use Rattle.module_graph.specs.Imports.{AreNamesPlaced, LiesIn, is_needed, imports_of};
+ghost use Rattle.module_graph.specs.Nestings.{IsNesting, scope_of, begun_name};
 
 use crate::nesting::Nesting;
-use crate::trees::instances;
+use crate::unit_names::{copied, module_names, spelled};
 use std::alloc::Global;
 use tla_symbols::Lexeme;
-use tla_tree::{ModuleTree, Tree, Unit};
+use tla_tree::{ModuleTree, Unit};
 use tool_list::{List, Memory};
-
-// The bytes of a lexeme.
-fn spelled<'a>(source: &'a str, lexeme: &Lexeme) -> &'a str
-    requires { LiesIn source.now lexeme.now }
-    ensures { result.now ≡ spelled source.now lexeme.now }
-{
-    &source[lexeme.span.start as usize..lexeme.span.end as usize]
-}
-
-fn copied(alloc: Global, names: &[Lexeme]) -> Result<List<Lexeme>, Memory>
-    ensures { IfOk result (λ copy. copy ≡ names.now) }
-{
-    Ok(List::from_vec(names.iter().copied().collect(alloc)?))
-}
-
-// The node of a unit in which instances may stand.
-fn node_of(unit: &Unit) -> Option<u32>
-    ensures { InstancesAt unit.now result }
-{
-    match unit {
-        Unit::OperatorDefinition { node, .. }
-        | Unit::FunctionDefinition { node, .. }
-        | Unit::ModuleDefinition { node, .. }
-        | Unit::Instance { node, .. }
-        | Unit::Assumption { node, .. }
-        | Unit::Theorem { node, .. } => Some(*node),
-        _ => None,
-    }
-}
-
-// The module names of a unit, in the order of the text.
-fn module_names(alloc: Global, tree: &Tree, unit: &Unit) -> Result<List<Lexeme>, Memory>
-    requires { AreThere tree.now (nodes_in unit.now) }
-    ensures { IfOk result (λ names. names ≡ names_of.module_names (unit_at tree.now unit.now)) }
-{
-    if let Unit::ModuleBegin { extends, .. } = unit {
-        return copied(alloc, extends.as_slice());
-    }
-    match node_of(unit) {
-        Some(node) => {
-            let names = instances(alloc, tree, node)?;
-            Ok(names)
-        }
-        None => Ok(List::new(alloc)),
-    }
-}
 
 // Goes over the begin or the end of a nested module, where a unit is one.
 fn pass(

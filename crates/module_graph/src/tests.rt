@@ -129,3 +129,12 @@ fn needs_what_no_nested_module_has(rt: HostRuntime) -> Result<(), Fail> {
     assert_eq!(rt; names[1].span.start, 3);
     Ok(())
 }
+
+#[test]
+fn finds_instances_and_what_is_round_them(rt: HostRuntime) -> Result<(), Fail> {
+    let alloc = rt.alloc();
+    let tree = sample(alloc)?;
+    assert!(rt; enclosing(alloc, &tree)?.is_empty());
+    assert!(rt; holds_instance(alloc, &tree)?);
+    Ok(())
+}
