@@ -1,0 +1,13 @@
+use Rattle.std.proofs.Common.{◌≡◌, ◌++◌, take}
+use Rattle.std.specs.Prelude.{map}
+use Rattle.tla_model.specs.Exports.{files_of}
+use Rattle.tla_model.specs.Resolution.{Place, found_from, read_all}
+use Rattle.unit_grammar.specs.UnitNodes.{unit_at}
+use Rattle.symbol_scope.specs.Rounds.{IsAt}
+use Rattle.symbol_scope.proofs.nesting.Nesting.read_all.Given as goal
+
+abbrev pub invariant-loop-unit : goal.invariant-loop-unit
+invariant-loop-unit l = record {
+  place : (place : Place) → IsAt l.initial.self place → IsAt l.self (read_all l.text (files_of l.imported) place (map (unit_at l.tree) (take l.unit-index l.units)));
+  findings : (place : Place) → IsAt l.initial.self place → l.findings ≡ l.initial.findings ++ found_from l.text (files_of l.imported) place (map (unit_at l.tree) (take l.unit-index l.units));
+}

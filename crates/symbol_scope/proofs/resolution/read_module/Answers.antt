@@ -1,0 +1,31 @@
+use Rattle.std.proofs.Common.{◌∙◌, ◌++◌, [], ap, subst}
+use Rattle.std.specs.Prelude.{map}
+use Rattle.tla_model.specs.Exports.{files_of}
+use Rattle.tla_model.specs.Lexemes.{LiesIn}
+use Rattle.tla_model.specs.Resolution.{all_clashing, begun, extends_all, found_from, read_all}
+use Rattle.unit_grammar.specs.UnitNodes.{unit_at}
+use Rattle.symbol_scope.specs.Rounds.{IsAt}
+use Rattle.symbol_scope.proofs.Onward.{units-lie}
+use Rattle.symbol_scope.proofs.resolution.read_module.Goals as goal
+
+pub read_all-requires-clause-lie : goal.read_all-requires-clause-lie
+read_all-requires-clause-lie c = units-lie (LiesIn c.args.text.now.source) c.args.tree.now c.as_slice-2.result.now c.as_slice-2.ensures c.requires.lie
+
+pub returns-clause-reading : goal.returns-clause-reading
+returns-clause-reading c =
+    let text = c.args.text.now in
+    let files = files_of c.args.imported.now in
+    let start = begun text files c.args.tree.now.extends in
+    let read = c.in_ok-extend_all.ensures.reading ∙ (λ i. extends_all text files (c.in_ok-reading.ensures i) (c.as_slice.ensures i)) in
+    let at = subst (λ r. IsAt c.new-nesting.result (record { here = r; round = [] })) read c.new-nesting.ensures in
+    (c.in_ok-read_all.ensures.place start at).same ∙ ap (λ units. (read_all text files start (map (unit_at c.args.tree.now.tree) units)).here) c.as_slice-2.ensures
+
+pub returns-clause-findings : goal.returns-clause-findings
+returns-clause-findings c =
+    let text = c.args.text.now in
+    let files = files_of c.args.imported.now in
+    let start = begun text files c.args.tree.now.extends in
+    let read = c.in_ok-extend_all.ensures.reading ∙ (λ i. extends_all text files (c.in_ok-reading.ensures i) (c.as_slice.ensures i)) in
+    let at = subst (λ r. IsAt c.new-nesting.result (record { here = r; round = [] })) read c.new-nesting.ensures in
+    let first = c.in_ok-extend_all.ensures.findings ∙ (λ i. c.new-findings.ensures i ++ all_clashing text files (c.in_ok-reading.ensures i) (c.as_slice.ensures i)) in
+    c.in_ok-read_all.ensures.findings start at ∙ (λ i. first i ++ found_from text files start (map (unit_at c.args.tree.now.tree) (c.as_slice-2.ensures i)))

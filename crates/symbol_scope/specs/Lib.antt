@@ -1,0 +1,12 @@
+pub mod Given
+pub mod Held
+pub mod Listed
+pub mod Nodes
+pub mod Collecting
+pub mod Places
+pub mod Lying
+pub mod Walking
+pub mod Readings
+pub mod Modules
+pub mod Rounds
+pub mod Plain

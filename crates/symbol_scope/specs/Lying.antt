@@ -1,0 +1,8 @@
+-- Names that lie in a text.
+use Rattle.std.specs.Prelude.{ℕ, List}
+use Rattle.std.specs.List.{AllByRecursion}
+use Rattle.tla_model.specs.declared.names.Binder.{Binder}
+use Rattle.tla_model.specs.Lexemes.{LiesIn}
+
+abbrev pub BindersLie : List ℕ → List Binder → Type 0
+BindersLie source binders = AllByRecursion (λ binder. LiesIn source binder.name) binders

@@ -1,0 +1,7 @@
+-- The module that is read in code, as that of the definitions.
+use Rattle.tla_model.specs.Resolution.{Reading}
+use Rattle.symbol_scope.specs.declared.reading.Reading.{Reading as Read}
+use Rattle.symbol_scope.specs.Readings.{as_read, modules_of}
+
+abbrev pub reading_of : Read → Reading
+reading_of read = as_read read.name.now (modules_of read.modules.entries) read.names

@@ -1,0 +1,59 @@
+-- The modules round the one that is read, in code: their names are the first ones of its tables.
+use Rattle.std.specs.Prelude.{◌≡◌, ◌≤◌, ◌++◌, if◌then◌else◌, ⊤, ℕ, List, [], ◌∷◌, None, Some, length, reverse, take}
+use Rattle.std.specs.Str.{bytes_eq}
+use Rattle.tla_model.specs.Contexts.{Context}
+use Rattle.tla_model.specs.Exports.{exports_of}
+use Rattle.tla_model.specs.declared.names.Finding.TheVariants.{Taken}
+use Rattle.tla_model.specs.Entities.{Text}
+use Rattle.tla_model.specs.Resolution.{Finding, Place, Reading, all_clashing, found_in, is_named, nested}
+use Rattle.unit_grammar.specs.Units.{UnitTree}
+use Rattle.tla_symbols.specs.declared.lexeme.Lexeme.{Lexeme}
+use Rattle.tla_model.specs.Tables.{added, empty}
+use Rattle.symbol_scope.specs.declared.nesting.Outer.{Outer}
+use Rattle.symbol_scope.specs.declared.nesting.Nesting.{Nesting}
+use Rattle.symbol_scope.specs.Held.{cut}
+use Rattle.symbol_scope.specs.Modules.{reading_of}
+use Rattle.symbol_scope.specs.Readings.{Files, ModuleNames, exported}
+
+-- a nested module of this title that begins
+abbrev pub begun_in : Reading → List ℕ → Reading
+begun_in reading title = record { name = title; context = reading.context; exports = empty; modules = added bytes_eq reading.modules title None }
+
+-- a module behind one that is nested in it
+abbrev pub behind : Reading → Reading → Reading
+behind inner outer = record outer { modules = added bytes_eq outer.modules inner.name (Some (exports_of inner.exports)) }
+
+pub record IsOuter (context : Context) (taken : ModuleNames) (outer : Outer) (reading : Reading) : Type 0 where
+  pub title : reading.name ≡ outer.name.now
+  pub shown : reading.exports ≡ exported outer.exports
+  pub names : reading.context ≡ cut context outer.mark
+  pub begins : reading.modules ≡ take outer.modules taken
+  pub words : outer.mark.words ≤ length context.words
+  pub symbols : outer.mark.symbols ≤ length context.symbols
+  pub within : outer.modules ≤ length taken
+
+-- the innermost one first
+abbrev pub AreRound : Context → ModuleNames → List Outer → List Reading → Type 0
+AreRound context taken [] [] = ⊤
+AreRound context taken (outer ∷ outers) (reading ∷ round) = IsOuter context taken outer reading × AreRound reading.context reading.modules outers round
+AreRound context taken _ _ = ⊥
+
+pub record IsAt (read : Nesting) (place : Place) : Type 0 where
+  pub same : reading_of read.here ≡ place.here
+  pub outside : AreRound place.here.context place.here.modules (reverse read.round.items) place.round
+
+-- behind a nested module
+abbrev pub left_by : Reading → List Reading → Place
+left_by inner [] = record { here = inner; round = [] }
+left_by inner (outer ∷ round) = record { here = behind inner outer; round = round }
+
+abbrev pub outside_of : Place → Place
+outside_of place = left_by place.here place.round
+
+-- what is found where a nested module begins
+abbrev pub begin_found : Text → Files → Reading → Lexeme → List Lexeme → List Finding
+begin_found text files reading name extends = (if is_named text files reading name then Taken name ∷ [] else []) ++ all_clashing text files (nested text files reading name) extends
+
+-- what is found in a unit of the module that is read
+abbrev pub found_here : Text → Files → Reading → UnitTree → List Finding
+found_here text files reading unit = found_in text files (record { here = reading; round = [] }) unit

@@ -1,0 +1,102 @@
+// Nested modules. The one that is read has all names of those round it, which stand before its own.
+ghost use Rattle.std.specs.Prelude.{◌≡◌, ◌∷◌, [], IfOk, OnOk};
+ghost use Rattle.tla_model.specs.Resolution.{Place, Reading as Read};
+ghost use Rattle.symbol_scope.specs.Modules.{reading_of};
+ghost use Rattle.symbol_scope.specs.Rounds.{IsAt, IsOuter, begun_in, behind, outside_of};
+
+use crate::exported::Exported;
+use crate::reading::{Reading, take_name};
+use crate::table::{Mark, NameTable};
+use std::alloc::Global;
+use std::mem;
+use tool_list::Memory;
+
+/// A module round the one that is read.
+#[derive(Drop)]
+pub struct Outer<'a> {
+    name: &'a str,
+    exports: NameTable<'a, Exported>,
+    // How many names and module names stand there.
+    mark: Mark,
+    modules: usize,
+}
+
+/// The module that is read, and those round it.
+#[derive(Drop)]
+pub struct Nesting<'a> {
+    pub here: Reading<'a>,
+    // The innermost one is the last.
+    pub round: Vec<Outer<'a>>,
+}
+
+impl<'a> Reading<'a> {
+    // Goes into a nested module.
+    fn enter(&mut self, alloc: Global, name: &'a str) -> Result<Outer<'a>, Memory>
+        ensures reading { OnOk result (reading_of self.new ≡ begun_in (reading_of self.old) name.now) }
+        ensures outer { IfOk result (λ outer. IsOuter (begun_in (reading_of self.old) name.now).context (begun_in (reading_of self.old) name.now).modules outer (reading_of self.old)) }
+    {
+        let mark = self.names.context.mark();
+        let modules = self.modules.len();
+        take_name(&mut self.modules, name, None)?;
+        let exports = mem::replace(&mut self.names.exports, NameTable::new(alloc));
+        let outer = Outer {
+            name: self.name,
+            exports,
+            mark,
+            modules,
+        };
+        self.name = name;
+        Ok(outer)
+    }
+
+    // Goes out of a nested module.
+    fn leave(&mut self, outer: Outer<'a>) -> Result<(), Memory>
+        ensures { OnOk result ((reading : Read) → IsOuter (reading_of self.old).context (reading_of self.old).modules outer.entry reading → reading_of self.new ≡ behind (reading_of self.old) reading) }
+    {
+        let Outer {
+            name,
+            exports,
+            mark,
+            modules,
+        } = outer;
+        let inner = mem::replace(&mut self.names.exports, exports);
+        let title = mem::replace(&mut self.name, name);
+        self.names.context.cut(mark);
+        self.modules.truncate(modules);
+        take_name(&mut self.modules, title, Some(inner))?;
+        Ok(())
+    }
+}
+
+impl<'a> Nesting<'a> {
+    /// A module that is in no other one.
+    pub fn new(alloc: Global, here: Reading<'a>) -> Nesting<'a>
+        ensures { IsAt result (record { here = reading_of here.entry; round = [] }) }
+    {
+        Nesting {
+            here,
+            round: Vec::new(alloc),
+        }
+    }
+
+    /// Goes into a nested module.
+    pub fn begin(&mut self, alloc: Global, name: &'a str) -> Result<(), Memory>
+        ensures reading { OnOk result (reading_of self.new.here ≡ begun_in (reading_of self.old.here) name.now) }
+        ensures place { OnOk result ((place : Place) → IsAt self.old place → IsAt self.new (record { here = begun_in place.here name.now; round = place.here ∷ place.round })) }
+    {
+        let outer = self.here.enter(alloc, name)?;
+        self.round.push(outer)?;
+        Ok(())
+    }
+
+    /// Goes out of a nested module, which can then be named unless its name is taken.
+    pub fn end(&mut self) -> Result<(), Memory>
+        ensures { OnOk result ((place : Place) → IsAt self.old place → IsAt self.new (outside_of place)) }
+    {
+        let Some(outer) = self.round.pop() else {
+            return Ok(());
+        };
+        self.here.leave(outer)?;
+        Ok(())
+    }
+}

@@ -1,0 +1,238 @@
+// A module that is read.
+ghost use Rattle.std.specs.Prelude.{◌≡◌, ◌<◌, length, false, ◌++◌, None, Some, IfOk, OnOk};
+ghost use Rattle.std.specs.List.{AllByRecursion};
+ghost use Rattle.std.specs.Str.{bytes_eq};
+ghost use Rattle.tla_tree.specs.Arena.{tree_at};
+ghost use Rattle.tla_model.specs.Contexts.{built_in};
+ghost use Rattle.tla_model.specs.Contexts as contexts;
+ghost use Rattle.tla_model.specs.Exports.{files_of};
+ghost use Rattle.tla_model.specs.Lexemes.{LiesIn, lexemes};
+ghost use Rattle.tla_model.specs.Resolution as resolution;
+ghost use Rattle.tla_model.specs.Tables as tables;
+ghost use Rattle.symbol_scope.specs.Held.{held};
+ghost use Rattle.symbol_scope.specs.Listed.{listed};
+ghost use Rattle.symbol_scope.specs.Lying.{BindersLie};
+ghost use Rattle.symbol_scope.specs.Readings as readings;
+ghost use Rattle.symbol_scope.specs.Readings.{IsBrought, modules_of, no_files};
+ghost use Rattle.symbol_scope.specs.Modules.{reading_of};
+
+use crate::exported::{Exported, Names};
+use crate::extend::{bring_import, bring_table};
+use crate::parts::defined;
+use crate::scopes::{Context, refuse};
+use crate::table::{NameTable, Named};
+use crate::text::ModuleText;
+use indexmap::IndexMap;
+use std::alloc::Global;
+use tla_model::{Binder, Finding, Imported, Meaning};
+use tla_symbols::Lexeme;
+use tla_tree::Tree;
+use tool_list::{List, Memory};
+
+/// Module names that are taken, and what those export that can be named.
+pub type Taken<'a> = IndexMap<&'a str, Option<NameTable<'a, Exported>>>;
+
+/// A module that is read.
+#[derive(Drop)]
+pub struct Reading<'a> {
+    pub name: &'a str,
+    pub names: Names<'a>,
+    pub modules: Taken<'a>,
+}
+
+/// The context before all names of a module.
+fn built_in(alloc: Global) -> Result<Context<'static>, Memory>
+    ensures { IfOk result (λ context. held context ≡ built_in) }
+{
+    let mut context = NameTable::new(alloc);
+    context.put(Named::Word("TRUE"), Some(Meaning::BuiltIn))?;
+    context.put(Named::Word("FALSE"), Some(Meaning::BuiltIn))?;
+    context.put(Named::Word("BOOLEAN"), Some(Meaning::BuiltIn))?;
+    context.put(Named::Word("STRING"), Some(Meaning::BuiltIn))?;
+    Ok(context)
+}
+
+/// Takes a module name, unless it is taken.
+pub fn take_name<'a>(
+    modules: &mut Taken<'a>,
+    name: &'a str,
+    exports: Option<NameTable<'a, Exported>>,
+) -> Result<(), Memory>
+    ensures { OnOk result (modules_of modules.new.entries ≡ tables.added bytes_eq (modules_of modules.old.entries) name.now (readings.taken_by exports.entry)) }
+{
+    if modules.contains_key(name) {
+        return Ok(());
+    }
+    modules.insert(name, exports)?;
+    Ok(())
+}
+
+// Puts the names that the module of a name brings, and answers whether one of them clashes.
+fn bring<'a>(
+    alloc: Global,
+    names: &mut Names<'a>,
+    modules: &Taken<'a>,
+    imported: &'a Imported,
+    name: &str,
+) -> Result<bool, Memory>
+    ensures { IfOk result (λ clash. IsBrought names.old names.new clash (resolution.exports_under (files_of imported.now) (tables.lookup bytes_eq (modules_of modules.now.entries) name.now) name.now)) }
+{
+    match modules.get(name) {
+        Some(Some(exports)) => {
+            let clash = bring_table(alloc, names, exports)?;
+            Ok(clash)
+        }
+        Some(None) => Ok(false),
+        None => {
+            let clash = bring_import(alloc, names, imported.get(name))?;
+            Ok(clash)
+        }
+    }
+}
+
+// The name that the tree below a node defines.
+fn definition(alloc: Global, tree: &Tree, node: u32) -> Result<Option<Binder>, Memory>
+    requires { node < length tree.now }
+    ensures { IfOk result (λ found. listed found ≡ resolution.definition (tree_at tree.now node)) }
+{
+    let found = defined(alloc, tree, node, tree.children(node))?;
+    Ok(found)
+}
+
+impl<'a> Reading<'a> {
+    /// A module before what it extends.
+    pub fn new(alloc: Global, text: &ModuleText<'a>) -> Result<Reading<'a>, Memory>
+        ensures { IfOk result (λ reading. reading_of reading ≡ resolution.unread text.now no_files) }
+    {
+        let name = text.file();
+        let mut modules = IndexMap::new(alloc);
+        take_name(&mut modules, name, None)?;
+        let names = Names {
+            context: built_in(alloc)?,
+            exports: NameTable::new(alloc),
+        };
+        Ok(Reading {
+            name,
+            names,
+            modules,
+        })
+    }
+
+    // Extends a module, and finds fault with one that clashes.
+    fn extend(
+        &mut self,
+        alloc: Global,
+        text: &ModuleText<'a>,
+        imported: &'a Imported,
+        name: Lexeme,
+        findings: &mut List<Finding>,
+    ) -> Result<(), Memory>
+        requires { LiesIn text.now.source name }
+        ensures reading { OnOk result (reading_of self.new ≡ resolution.extended (reading_of self.old) (resolution.brings text.now (files_of imported.now) (reading_of self.old) name)) }
+        ensures findings { OnOk result (findings.new ≡ findings.old ++ readings.clash_at text.now (files_of imported.now) (reading_of self.old) name) }
+    {
+        let clash = bring(
+            alloc,
+            &mut self.names,
+            &self.modules,
+            imported,
+            text.spelled(name),
+        )?;
+        if clash {
+            findings.push(Finding::Clashes { at: name })?;
+        }
+        Ok(())
+    }
+
+    /// Extends modules one after another, and finds fault with those that clash.
+    pub fn extend_all(
+        &mut self,
+        alloc: Global,
+        text: &ModuleText<'a>,
+        imported: &'a Imported,
+        names: &[Lexeme],
+        findings: &mut List<Finding>,
+    ) -> Result<(), Memory>
+        requires { AllByRecursion (LiesIn text.now.source) names.now }
+        ensures reading { OnOk result (reading_of self.new ≡ resolution.extends_all text.now (files_of imported.now) (reading_of self.old) names.now) }
+        ensures findings { OnOk result (findings.new ≡ findings.old ++ resolution.all_clashing text.now (files_of imported.now) (reading_of self.old) names.now) }
+    {
+        for name in names {
+            self.extend(alloc, text, imported, *name, findings)?;
+        }
+        Ok(())
+    }
+
+    /// Declares a name, unless it is there.
+    pub fn declare(
+        &mut self,
+        alloc: Global,
+        text: &ModuleText<'a>,
+        local: bool,
+        binder: Binder,
+    ) -> Result<(), Memory>
+        requires { LiesIn text.now.source binder.name }
+        ensures reading { OnOk result (reading_of self.new ≡ resolution.declare text.now no_files local (reading_of self.old) binder) }
+        ensures context { OnOk result (held self.new.names.context ≡ contexts.bind text.now (held self.old.names.context) binder) }
+    {
+        let name = text.name_of(binder.name);
+        if self.names.context.get(name).is_some() {
+            return Ok(());
+        }
+        let Binder {
+            name: lexeme,
+            entity,
+        } = binder;
+        let callee = text.own(alloc, lexeme)?;
+        self.names
+            .put(alloc, local, name, Exported { entity, callee })?;
+        Ok(())
+    }
+
+    /// Declares names that may be exported, one after another, and finds fault with those that are
+    /// taken.
+    pub fn declare_all(
+        &mut self,
+        alloc: Global,
+        text: &ModuleText<'a>,
+        binders: List<Binder>,
+        findings: &mut List<Finding>,
+    ) -> Result<(), Memory>
+        requires { BindersLie text.now.source binders }
+        ensures reading { OnOk result (reading_of self.new ≡ resolution.declare_all text.now no_files false (reading_of self.old) binders) }
+        ensures findings { OnOk result (findings.new ≡ findings.old ++ resolution.all_refused text.now (held self.old.names.context) binders) }
+    {
+        for binder in binders.into_vec() {
+            refuse(text, &self.names.context, binder.name, findings)?;
+            self.declare(alloc, text, false, binder)?;
+        }
+        Ok(())
+    }
+
+    /// Declares the name that a node defines.
+    pub fn define(
+        &mut self,
+        alloc: Global,
+        text: &ModuleText<'a>,
+        local: bool,
+        tree: &Tree,
+        node: u32,
+    ) -> Result<(), Memory>
+        requires node { node < length tree.now }
+        requires lie { AllByRecursion (LiesIn text.now.source) (lexemes (tree_at tree.now node)) }
+        ensures { OnOk result (reading_of self.new ≡ resolution.declare_all text.now no_files local (reading_of self.old) (resolution.definition (tree_at tree.now node))) }
+    {
+        if let Some(binder) = definition(alloc, tree, node)? {
+            self.declare(alloc, text, local, binder)?;
+        }
+        Ok(())
+    }
+
+    /// Whether a module name is taken.
+    pub fn is_named(&self, text: &ModuleText<'a>, name: Lexeme) -> bool
+        requires { LiesIn text.now.source name }
+        ensures { result ≡ resolution.is_named text.now no_files (reading_of self.now) name }
+    {
+        self.modules.contains_key(text.spelled(name))
+    }
+}

@@ -1,0 +1,115 @@
+// What the names of a module mean, and what it exports.
+ghost use Rattle.std.specs.Prelude.{◌≡◌, ◌++◌, IfOk};
+ghost use Rattle.tla_model.specs.Bindings.{IsBound};
+ghost use Rattle.tla_model.specs.Entities as entities;
+ghost use Rattle.tla_model.specs.Exports.{entries_of, files_of};
+ghost use Rattle.tla_model.specs.Lexemes.{LexemesLie};
+ghost use Rattle.tla_model.specs.Resolution as resolution;
+ghost use Rattle.tla_model.specs.Resolution.{exports_in};
+ghost use Rattle.unit_grammar.specs.UnitNodes.{HasNodes, module_of};
+ghost use Rattle.symbol_scope.specs.Given.{IsReadable};
+ghost use Rattle.symbol_scope.specs.Modules.{reading_of};
+
+use crate::bound::{declarations, sorted_out};
+use crate::declared::declaring;
+use crate::entries::listed_entries;
+use crate::nesting::Nesting;
+use crate::reading::Reading;
+use crate::text::{ModuleText, spelled};
+use std::alloc::Global;
+use tla_model::{Binder, Bound, Entry, Finding, Imported, in_order};
+use tla_tree::ModuleTree;
+use tool_list::{List, Memory};
+
+// The text of a module, by the names that it declares.
+fn text_of<'a>(
+    alloc: Global,
+    tree: &'a ModuleTree,
+    names: &[Binder],
+) -> Result<ModuleText<'a>, Memory>
+    requires readable { IsReadable tree.now }
+    requires names { names.now ≡ entities.declaring (module_of tree.now).units }
+    ensures { IfOk result (λ text. text ≡ resolution.text_of tree.now.source (module_of tree.now)) }
+{
+    let source = tree.source.as_str();
+    let file = spelled(source, tree.name);
+    ModuleText::new(alloc, file, source, names)
+}
+
+/// A module that was read, and what was found in it.
+#[derive(Drop)]
+struct ModuleRead<'a> {
+    reading: Reading<'a>,
+    findings: List<Finding>,
+}
+
+// Reads a module, over the modules that it names.
+fn read_module<'a>(
+    alloc: Global,
+    text: &ModuleText<'a>,
+    tree: &'a ModuleTree,
+    imported: &'a Imported,
+) -> Result<ModuleRead<'a>, Memory>
+    requires nodes { HasNodes tree.now }
+    requires lie { LexemesLie text.now.source (module_of tree.now) }
+    ensures reading { IfOk result (λ read. reading_of read.reading ≡ (resolution.read_all text.now (files_of imported.now) (resolution.begun text.now (files_of imported.now) tree.now.extends) (module_of tree.now).units).here) }
+    ensures findings { IfOk result (λ read. read.findings ≡ resolution.all_clashing text.now (files_of imported.now) (resolution.unread text.now (files_of imported.now)) tree.now.extends ++ resolution.found_from text.now (files_of imported.now) (resolution.begun text.now (files_of imported.now) tree.now.extends) (module_of tree.now).units) }
+{
+    let mut findings = List::new(alloc);
+    let mut reading = Reading::new(alloc, text)?;
+    reading.extend_all(
+        alloc,
+        text,
+        imported,
+        tree.extends.as_slice(),
+        &mut findings,
+    )?;
+    let mut nesting = Nesting::new(alloc, reading);
+    nesting.read_all(
+        alloc,
+        text,
+        imported,
+        &tree.tree,
+        tree.units.as_slice(),
+        &mut findings,
+    )?;
+    let Nesting { here, .. } = nesting;
+    Ok(ModuleRead {
+        reading: here,
+        findings,
+    })
+}
+
+/// What the names of a module without INSTANCE stand for, over the modules that it names. A module
+/// that is not accepted exports nothing. `Memory` comes where there was no room.
+pub fn resolve(alloc: Global, tree: &ModuleTree, imported: &Imported) -> Result<Bound, Memory>
+    requires { IsReadable tree.now }
+    ensures { IfOk result (λ bound. IsBound (files_of imported.now) tree.now.source (module_of tree.now) bound) }
+{
+    let names = declaring(alloc, tree)?;
+    let text = text_of(alloc, tree, names.as_slice())?;
+    let ModuleRead { findings, .. } = read_module(alloc, &text, tree, imported)?;
+    let found = sorted_out(alloc, findings)?;
+    let decls = declarations(alloc, &text, names)?;
+    Ok(Bound {
+        uses: found.uses,
+        entities: found.entities,
+        callees: found.callees,
+        implied: List::new(alloc),
+        decls,
+        faults: in_order(found.faults),
+    })
+}
+
+/// What a module without INSTANCE exports: identifiers first, then symbols, each in the order in
+/// which they came. `Memory` comes where there was no room.
+pub fn exports(alloc: Global, tree: &ModuleTree, imported: &Imported) -> Result<List<Entry>, Memory>
+    requires { IsReadable tree.now }
+    ensures { IfOk result (λ entries. entries_of entries ≡ exports_in (files_of imported.now) tree.now.source (module_of tree.now)) }
+{
+    let names = declaring(alloc, tree)?;
+    let text = text_of(alloc, tree, names.as_slice())?;
+    let module = read_module(alloc, &text, tree, imported)?;
+    let entries = listed_entries(alloc, &module.reading.names.exports)?;
+    Ok(entries)
+}
