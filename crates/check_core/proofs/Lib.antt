@@ -1,0 +1,4 @@
+mod Lying
+mod Holding
+mod Checking
+mod Standing

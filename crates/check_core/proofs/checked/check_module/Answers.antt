@@ -1,0 +1,26 @@
+use Rattle.std.proofs.Common.{◌∙◌, refl}
+use Rattle.std.proofs.lemmas.Result.{IfOk-weaker}
+use Rattle.unit_grammar.specs.UnitNodes.{module_of}
+use Rattle.check_core.proofs.Checking.{none-long, refused-checked, refused-face, resolved-checked, some-long}
+use Rattle.check_core.proofs.checked.check_module.Goals as goal
+
+pub imports-requires-clause-placed : goal.imports-requires-clause-placed
+imports-requires-clause-placed g c = c.lexemes_lie_names.ensures _ _ c.requires.readable.lie
+
+pub returns-then-not-is_empty-clause-checked : goal.returns-then-not-is_empty-clause-checked
+returns-then-not-is_empty-clause-checked g c =
+    IfOk-weaker c.refused.result _ _
+    (λ checked. refused-checked c.args.imported.now c.args.tree.now.source (module_of c.args.tree.now) c.in_ok-faults.faults checked c.in_ok-faults.ensures (some-long c.in_ok-faults.faults c.if-not-is_empty.ensures.1))
+    c.refused.ensures
+
+pub returns-then-not-is_empty-clause-face : goal.returns-then-not-is_empty-clause-face
+returns-then-not-is_empty-clause-face g c =
+    IfOk-weaker c.refused.result _ _
+    (λ checked. refused-face c.args.imported.now c.args.tree.now.source (module_of c.args.tree.now) c.in_ok-faults.faults checked (some-long c.in_ok-faults.faults c.if-not-is_empty.ensures.1))
+    c.refused.ensures
+
+pub returns-clause-checked : goal.returns-clause-checked
+returns-clause-checked g c =
+    IfOk-weaker c.resolved.result _ _
+    (λ checked. resolved-checked c.args.imported.now c.args.tree.now.source (module_of c.args.tree.now) checked (none-long c.in_ok-faults.faults (c.if-not-is_empty.ensures.0 refl) ∙ c.in_ok-faults.ensures))
+    c.resolved.ensures

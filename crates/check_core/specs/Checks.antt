@@ -1,0 +1,98 @@
+-- What is found of a module without INSTANCE, and what it exports, by what the modules are that it names.
+use Rattle.std.specs.Prelude.{◌≡◌, ℕ, List, [], ◌∷◌, ◌++◌, Option, Some, None, map}
+use Rattle.tla_symbols.specs.declared.lexeme.Lexeme.{Lexeme}
+use Rattle.tla_model.specs.declared.Diagnostic.{Diagnostic}
+use Rattle.tla_model.specs.declared.entity.Decl.{Decl}
+use Rattle.tla_model.specs.declared.entity.Use.{Use}
+use Rattle.tla_model.specs.declared.face.Part.{Part}
+use Rattle.tla_model.specs.declared.imported.Import.{Import}
+use Rattle.tla_model.specs.Bindings.{AreInOrder, at, decls, faults, resolved}
+use Rattle.tla_model.specs.Entities.{declaring}
+use Rattle.tla_model.specs.Exports.{Exports, face_exports}
+use Rattle.tla_model.specs.Imports.{Imports, import_of}
+use Rattle.tla_model.specs.Lexemes.{spelled}
+use Rattle.tla_model.specs.Resolution.{exports_in, findings, text_of}
+use Rattle.module_graph.specs.Imports.{enclosing_of, imports_of}
+use Rattle.unit_grammar.specs.Units.{ModuleUnits}
+use Rattle.std.specs.Arc.{arc_value}
+
+-- what a module is to one that names it
+pub data Given : Type 0 where
+  Unknown : Given
+  Cyclic : Given
+  Refused : Given
+  Accepted : (exports : Exports) → Given
+
+abbrev pub given_by : Option Import → Given
+given_by None = Unknown
+given_by (Some Import.Unknown) = Unknown
+given_by (Some Import.Cyclic) = Cyclic
+given_by (Some Import.Refused) = Refused
+given_by (Some (Import.Module face)) = Accepted (face_exports (arc_value face).parts)
+
+-- what the modules are that are imported under their names
+abbrev pub given_in : Imports → List ℕ → Given
+given_in imports name = given_by (import_of imports name)
+
+-- ---- faults of imports
+
+abbrev pub import_fault : Given → Lexeme → List Diagnostic
+import_fault Unknown l = at 301 l
+import_fault Cyclic l = at 302 l
+import_fault Refused l = at 303 l
+import_fault (Accepted exports) l = []
+
+abbrev pub faults_of_imports : (List ℕ → Given) → List ℕ → List Lexeme → List Diagnostic
+faults_of_imports given source [] = []
+faults_of_imports given source (l ∷ rest) = import_fault (given (spelled source l)) l ++ faults_of_imports given source rest
+
+abbrev pub cyclic_at : List Lexeme → List Diagnostic
+cyclic_at [] = []
+cyclic_at (l ∷ rest) = at 302 l ++ cyclic_at rest
+
+-- at the names of modules that are not accepted, and of nested modules round them
+abbrev pub import_faults : (List ℕ → Given) → List ℕ → ModuleUnits → List Diagnostic
+import_faults given source units = faults_of_imports given source (imports_of source units) ++ cyclic_at (enclosing_of source units)
+
+-- ---- the check
+
+-- what a module exports that is given
+abbrev pub exports_by : Given → Exports
+exports_by (Accepted exports) = exports
+exports_by _ = []
+
+abbrev pub files_given : (List ℕ → Given) → List ℕ → Exports
+files_given given name = exports_by (given name)
+
+-- all faults of imports, or else all faults of names
+abbrev pub or_else : List Diagnostic → List Diagnostic → List Diagnostic
+or_else [] others = others
+or_else (fault ∷ rest) others = fault ∷ rest
+
+abbrev pub all_faults : (List ℕ → Given) → List ℕ → ModuleUnits → List Diagnostic
+all_faults given source units = or_else (import_faults given source units) (faults (findings (files_given given) source units))
+
+-- uses and declarations, but for a module with faults of imports
+abbrev pub unless_any : {A : Type 0} → List Diagnostic → List A → List A
+unless_any [] items = items
+unless_any (fault ∷ rest) items = []
+
+abbrev pub all_uses : (List ℕ → Given) → List ℕ → ModuleUnits → List Use
+all_uses given source units = unless_any (import_faults given source units) (map (λ r. r.«use») (resolved (findings (files_given given) source units)))
+
+abbrev pub all_decls : (List ℕ → Given) → List ℕ → ModuleUnits → List Decl
+all_decls given source units = unless_any (import_faults given source units) (decls (text_of source units) (declaring units.units))
+
+-- a module that was checked
+pub record CheckedModule : Type 0 where
+  pub faults : List Diagnostic
+  pub uses : List Use
+  pub decls : List Decl
+  pub parts : List Part
+
+-- a module that was checked, by what the modules are that it names; it exports something where it is accepted
+pub record IsChecked (given : List ℕ → Given) (source : List ℕ) (units : ModuleUnits) (checked : CheckedModule) : Type 0 where
+  pub faults : AreInOrder (all_faults given source units) checked.faults
+  pub uses : checked.uses ≡ all_uses given source units
+  pub decls : checked.decls ≡ all_decls given source units
+  pub exports : checked.faults ≡ [] → face_exports checked.parts ≡ exports_in (files_given given) source units

@@ -1,0 +1,10 @@
+-- Faults by their codes.
+use Rattle.std.specs.Prelude.{ℕ, List, [], Option, Some, None}
+use Rattle.tla_symbols.specs.declared.lexeme.Lexeme.{Lexeme}
+use Rattle.tla_model.specs.declared.Diagnostic.{Diagnostic}
+use Rattle.tla_model.specs.Bindings.{at}
+
+-- the fault of this code at a name, if there is a code
+abbrev pub coded : Option ℕ → Lexeme → List Diagnostic
+coded None name = []
+coded (Some code) name = at code name

@@ -1,0 +1,5 @@
+pub mod Checks
+pub mod Codes
+pub mod Faces
+pub mod Outcomes
+pub mod Parts

@@ -1,0 +1,25 @@
+-- How a check ends: with faults of imports, or with names resolved.
+use Rattle.std.specs.Prelude.{◌≡◌, ℕ, List, [], map}
+use Rattle.tla_model.specs.declared.Diagnostic.{Diagnostic}
+use Rattle.tla_model.specs.Bindings.{AreInOrder, decls, faults, resolved}
+use Rattle.tla_model.specs.Entities.{declaring}
+use Rattle.tla_model.specs.Exports.{files_of}
+use Rattle.tla_model.specs.Imports.{Imports}
+use Rattle.tla_model.specs.Resolution.{findings, text_of}
+use Rattle.check_core.specs.Checks.{CheckedModule}
+use Rattle.check_core.specs.Faces.{IsFaceOf}
+use Rattle.unit_grammar.specs.Units.{ModuleUnits}
+
+-- with these faults of imports
+pub record IsRefused (all : List Diagnostic) (checked : CheckedModule) : Type 0 where
+  pub faults : AreInOrder all checked.faults
+  pub uses : checked.uses ≡ []
+  pub decls : checked.decls ≡ []
+  pub parts : checked.parts ≡ []
+
+-- with what its names stand for
+pub record IsResolved (imports : Imports) (source : List ℕ) (units : ModuleUnits) (checked : CheckedModule) : Type 0 where
+  pub faults : AreInOrder (faults (findings (files_of imports) source units)) checked.faults
+  pub uses : checked.uses ≡ map (λ r. r.«use») (resolved (findings (files_of imports) source units))
+  pub decls : checked.decls ≡ decls (text_of source units) (declaring units.units)
+  pub face : IsFaceOf imports source units checked.faults checked.parts

@@ -1,0 +1,161 @@
+// A module that was checked.
+ghost use Rattle.std.specs.Prelude.{◌≡◌, ◌+◌, ◌-◌, ◌^◌, min, IfOk};
+ghost use Rattle.unit_grammar.specs.UnitNodes.{module_of};
+ghost use Rattle.tla_model.specs.Lexemes.{spelled};
+ghost use Rattle.symbol_scope.specs.Given.{IsReadable};
+ghost use Rattle.module_graph.specs.Imports.{imports_of};
+ghost use Rattle.check_core.specs.Checks.{IsChecked, given_in};
+ghost use Rattle.check_core.specs.Faces.{IsFaceOf};
+ghost use Rattle.check_core.specs.Outcomes.{IsRefused, IsResolved};
+ghost use Rattle.std.specs.Arc.{arc_value};
+
+use crate::face::face;
+use crate::imports::import_faults;
+use module_graph::{imports, lexemes_lie_names};
+use std::alloc::Global;
+use std::marker::Model;
+use std::sync::Arc;
+use step_count::Steps;
+use symbol_scope::resolve;
+use tla_model::{Decl, Diagnostic, Face, Imported, Use, in_order};
+use tla_symbols::Lexeme;
+use tla_tree::ModuleTree;
+use tool_list::{List, Memory};
+
+/// What a check of a module found. Only `check_module` makes one. Contracts see its faults, uses and
+/// declarations, and the parts of its face.
+#[derive(Drop)]
+pub struct Checked {
+    faults: List<Diagnostic>,
+    uses: List<Use>,
+    decls: List<Decl>,
+    face: Arc<Face>,
+}
+
+impl Model for Checked {
+    ghost use Rattle.check_core.specs.Checks.{CheckedModule};
+    ghost use Rattle.std.specs.Arc.{arc_value};
+
+    ghost Value = { CheckedModule };
+
+    ghost view = { λ c. record { faults = c.faults; uses = c.uses; decls = c.decls; parts = (arc_value c.face).parts } };
+}
+
+impl Checked {
+    /// The faults of imports, or else those of names: by start, then end, then code. A module is
+    /// accepted where there is none.
+    pub fn faults(&self) -> &List<Diagnostic>
+        ensures { result.now ≡ self.now.faults }
+    {
+        &self.faults
+    }
+
+    /// The uses that mean a declaration, in the order of the text. There are none after a fault of an
+    /// import.
+    pub fn uses(&self) -> &List<Use>
+        ensures { result.now ≡ self.now.uses }
+    {
+        &self.uses
+    }
+
+    /// The names that the text declares, in its order. There are none after a fault of an import.
+    pub fn decls(&self) -> &List<Decl>
+        ensures { result.now ≡ self.now.decls }
+    {
+        &self.decls
+    }
+
+    /// What the module exports, where it is accepted.
+    pub fn face(&self) -> &Arc<Face>
+        ensures { (arc_value result.now).parts ≡ self.now.parts }
+    {
+        &self.face
+    }
+}
+
+// A module with faults of imports.
+fn refused(alloc: Global, faults: List<Diagnostic>) -> Result<Checked, Memory>
+    ensures { IfOk result (λ checked. IsRefused faults checked) }
+{
+    Ok(Checked {
+        faults: in_order(faults),
+        uses: List::new(alloc),
+        decls: List::new(alloc),
+        face: Arc::new(
+            alloc,
+            Face {
+                parts: List::new(alloc),
+            },
+        )?,
+    })
+}
+
+// The face of a module with these faults, by the names of the modules that it needs.
+fn face_of(
+    alloc: Global,
+    name: &str,
+    tree: &ModuleTree,
+    imported: &Imported,
+    needed: &[Lexeme],
+    faults: &[Diagnostic],
+) -> Result<Face, Memory>
+    requires readable { IsReadable tree.now }
+    requires name { spelled tree.now.source tree.now.name ≡ name.now }
+    requires needed { needed.now ≡ imports_of tree.now.source (module_of tree.now) }
+    ensures { IfOk result (λ face. IsFaceOf imported.now tree.now.source (module_of tree.now) faults.now face.parts) }
+{
+    if faults.is_empty() {
+        return face(alloc, name, tree, imported, needed);
+    }
+    Ok(Face {
+        parts: List::new(alloc),
+    })
+}
+
+// A module whose imports are accepted, by the names of the modules that it needs.
+fn resolved(
+    alloc: Global,
+    name: &str,
+    tree: &ModuleTree,
+    imported: &Imported,
+    needed: &[Lexeme],
+) -> Result<Checked, Memory>
+    requires readable { IsReadable tree.now }
+    requires name { spelled tree.now.source tree.now.name ≡ name.now }
+    requires needed { needed.now ≡ imports_of tree.now.source (module_of tree.now) }
+    ensures { IfOk result (λ checked. IsResolved imported.now tree.now.source (module_of tree.now) checked) }
+{
+    let bound = resolve(alloc, tree, imported)?;
+    let face = face_of(alloc, name, tree, imported, needed, bound.faults.as_slice())?;
+    Ok(Checked {
+        faults: bound.faults,
+        uses: bound.uses,
+        decls: bound.decls,
+        face: Arc::new(alloc, face)?,
+    })
+}
+
+/// Checks a module without INSTANCE over the modules that it names, which is one step. An accepted
+/// module has its face, and another one a face of no parts. `Memory` comes where there was no room.
+pub fn check_module<L>(
+    alloc: Global,
+    name: &str,
+    tree: &ModuleTree,
+    imported: &Imported,
+    steps: &mut Steps<L>,
+) -> Result<Checked, Memory>
+    requires readable { IsReadable tree.now }
+    requires name { spelled tree.now.source tree.now.name ≡ name.now }
+    ensures checked { IfOk result (λ checked. IsChecked (given_in imported.now) tree.now.source (module_of tree.now) checked) }
+    ensures face { IfOk result (λ checked. IsFaceOf imported.now tree.now.source (module_of tree.now) checked.faults checked.parts) }
+    ensures tick { steps.new ≡ min (steps.old + 1) (2 ^ 64 - 1) }
+{
+    steps.tick();
+    lexemes_lie_names();
+    let needed = imports(alloc, tree)?;
+    let faults = import_faults(alloc, tree, imported, needed.as_slice())?;
+    if !faults.is_empty() {
+        return refused(alloc, faults);
+    }
+    resolved(alloc, name, tree, imported, needed.as_slice())
+}

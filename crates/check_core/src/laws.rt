@@ -1,0 +1,31 @@
+// What follows from the definitions alone.
+ghost use Rattle.std.specs.Prelude.{◌≡◌, [], ℕ, List, map, Contains};
+ghost use Rattle.std.specs.List.{All};
+ghost use Rattle.unit_grammar.specs.Units.{ModuleUnits};
+ghost use Rattle.tla_model.specs.declared.Diagnostic.{Diagnostic};
+ghost use Rattle.tla_model.specs.Bindings.{AreInOrder};
+ghost use Rattle.tla_model.specs.Lexemes.{module_lexemes};
+ghost use Rattle.check_core.specs.Checks.{Given, all_faults};
+
+use module_graph::{enclosing_are_lexemes, imports_are_lexemes};
+use tla_model::faults_at_lexemes;
+
+/// Diagnostics have one order.
+pub fn one_order()
+    ensures { (all found other : List Diagnostic) → AreInOrder all found → AreInOrder all other → found ≡ other }
+{}
+
+/// Where there are no diagnostics, there are none in order, and the other way round.
+pub fn none_in_order()
+    ensures none { (found : List Diagnostic) → AreInOrder [] found → found ≡ [] }
+    ensures any { (all : List Diagnostic) → AreInOrder all [] → all ≡ [] }
+{}
+
+/// Each fault of a module stands at a name or a symbol that the module holds.
+pub fn faults_stand_at_lexemes()
+    ensures { (given : List ℕ → Given) → (source : List ℕ) → (units : ModuleUnits) → All (λ fault. Contains (map (λ l. l.span) (module_lexemes units)) fault.span) (all_faults given source units) }
+{
+    imports_are_lexemes();
+    enclosing_are_lexemes();
+    faults_at_lexemes();
+}

@@ -1,0 +1,17 @@
+//! The check of one module.
+//!
+//! Answers the faults of a module past its front, its uses and declarations, and what it exports. Knows
+//! nothing of scopes, and of where other modules come from.
+#![tactic(auto)]
+
+mod checked;
+mod face;
+mod imports;
+mod laws;
+mod parts;
+
+pub use checked::{Checked, check_module};
+pub use laws::{faults_stand_at_lexemes, none_in_order, one_order};
+
+#[cfg(test)]
+mod tests;
