@@ -1,0 +1,235 @@
+-- What is answered on the files of a family.
+use Rattle.std.proofs.Common.{◌≡◌, ◌<◌, ◌≤◌, ◌^◌, ◌-◌, min, ℕ, zero, suc, ◌+◌, List, [], ◌∷◌, ◌++◌, Option, Some, None, Result, Ok, Err, IfOk, refl, sym, ap, ◌∙◌, map, filter, not, take, length, get_or, arith, true, false, Bool, ◌||◌, ⊎_elim, inl, inr, subst}
+use Rattle.std.specs.Prelude.{◌⊎◌, Contains, slice_get, sum_by}
+use Rattle.std.specs.List.{All, AllZip, list_any}
+use Rattle.std.proofs.Math.Seq.{take-length}
+use Rattle.std.proofs.lemmas.Bool.{both_ways}
+use Rattle.std.proofs.lemmas.List.Elements.{Contains-append_left}
+use Rattle.std.proofs.lemmas.Option.{slice_get-get_or}
+use Rattle.tool_list.specs.declared.Memory.{Memory}
+use Rattle.tla_lexeme.specs.Spans.{IsPlaced}
+use Rattle.tla_symbols.specs.declared.lexeme.Lexeme.{Lexeme}
+use Rattle.tla_model.specs.declared.Diagnostic.{Diagnostic}
+use Rattle.tla_model.specs.Exports.{Exports}
+use Rattle.tla_model.specs.Lexemes.{LexemesLie, module_lexemes}
+use Rattle.tla_front.specs.Fronts.{Front, Tree, Fault, IsFront, read}
+use Rattle.unit_grammar.specs.Units.{ModuleUnits}
+use Rattle.unit_grammar.specs.UnitNodes.{module_of}
+use Rattle.module_graph.specs.Imports.{holds_instance}
+use Rattle.check_core.specs.Checks.{Given, all_faults}
+use Rattle.family_check.specs.Family.{Member, Diagnosed, IsDiagnosed, is_there}
+use Rattle.family_check.specs.Modules.{Entry, IsEntry, IsModule, IsReading, AreModules, tree_count, reading_holds_instance}
+use Rattle.family_check.specs.Outcomes.{AreOutcomes, IsSaid, IsSomeModule, Says, after_ticks, faults_of, trees_in}
+use Rattle.family_check.specs.Tables.{entry_of}
+use Rattle.family_check.specs.Verdicts.{AreFronts, AreVerdicts, HoldsInstance, IsStepped, IsVerdict, IsVerdictPlaced, check_count, checks_of, built_in_members, family_of, member_of, text_of}
+use Rattle.family_check.specs.declared.outcomes.Outcome.{Outcome}
+use Rattle.family_check.specs.declared.outcomes.Outcome.TheVariants as outcome
+use Rattle.family_check.specs.declared.read.Reading.TheVariants as reading
+use Rattle.family_check.specs.declared.verdict.File.{File}
+use Rattle.family_check.specs.declared.verdict.Verdict.{Verdict}
+use Rattle.family_check.proofs.Lists.{at-contains, behind, contains-at, here, maps, zip-left, zip-right}
+use Rattle.family_check.proofs.Members.{AreOneEach, member-there}
+use Rattle.family_check.proofs.OneVerdict.{HasNoOther, IsCheckedOf, Found, of_fault, of_tree, found-of, fault-same, tree-same, tree-no-fault}
+use Rattle.family_check.proofs.Checking.{ticks-within}
+use Rattle.family_check.proofs.Lying.{span-placed}
+use Rattle.family_check.proofs.Sums.{sum-map}
+
+all-by : {A : Type 0} (P : A → Type 0) (xs : List A) → ((x : A) → Contains xs x → P x) → All P xs
+all-by P xs f = λ k d l. f (get_or xs k d) (at-contains xs k (get_or xs k d) (slice_get-get_or xs k d l))
+
+all-at : {A : Type 0} (P : A → Type 0) (xs : List A) (x : A) → All P xs → Contains xs x → P x
+all-at P xs x all h = subst P h.2 (all h.0 x h.1)
+
+pub modules-some : (family : List Member) (entries : List Entry) → AreModules family entries → All (λ (entry : Entry). IsSomeModule entry.0 entry.1) entries
+modules-some family entries are = all-by (λ (entry : Entry). IsSomeModule entry.0 entry.1) entries (λ e h. let m = zip-right IsEntry family entries e are h in (m.0.bytes, (m.2).is))
+
+-- ---- verdicts
+
+zip-map : {A B : Type 0} (R S : A → B → Type 0) (xs : List A) (ys : List B) → ((x : A) (y : B) → Contains xs x → R x y → S x y) → AllZip R xs ys → AllZip S xs ys
+zip-map R S [] [] f h = tt
+zip-map R S [] (y ∷ ys) f h = absurd h
+zip-map R S (x ∷ xs) [] f h = absurd h
+zip-map R S (x ∷ xs) (y ∷ ys) f h = (f x y (here x xs) h.0, zip-map R S xs ys (λ a b c. f a b (behind x xs a c)) h.1)
+
+says-faults : (faults : List Diagnostic) (exports : Exports) (o : outcome.the_data) → Says faults exports o → faults_of (Some o) ≡ faults
+says-faults faults exports (outcome.Refused found) h = h.0
+says-faults faults exports (outcome.Accepted face) h = sym h.0
+
+file-there : (files : List File) (f : File) → Contains files f → Contains (family_of files) (member_of f)
+file-there files f h = Contains-append_left (map member_of files) (filter (λ m. not (is_there (map member_of files) m.name)) built_in_members) (member_of f) (maps member_of files f h)
+
+verdict-of : (files : List File) (outcomes : List (List ℕ × Outcome)) → AreOutcomes (family_of files) outcomes → (f : File) (v : Verdict) → Contains files f → IsSaid outcomes f v → IsVerdict (family_of files) f v
+verdict-of files outcomes are f v h said =
+    let o = are f.name (member-there (family_of files) f.name (member_of f) (file-there files f h) refl) in
+    record {
+      name = said.name;
+      text = said.text;
+      found = (o.2).found;
+      diagnosed = (o.2).diagnosed;
+      faults = said.faults ∙ (ap faults_of o.1 ∙ says-faults (o.2).found.faults (o.2).found.exports o.0 (o.2).says);
+    }
+
+pub verdicts-are : (files : List File) (outcomes : List (List ℕ × Outcome)) (verdicts : List Verdict) → AreOutcomes (family_of files) outcomes → AllZip (IsSaid outcomes) files verdicts → AreVerdicts files verdicts
+verdicts-are files outcomes verdicts are said = zip-map (IsSaid outcomes) (IsVerdict (family_of files)) files verdicts (verdict-of files outcomes are) said
+
+-- ---- places
+
+abbrev pub FaultsAtLexemes : Type 0
+FaultsAtLexemes = (given : List ℕ → Given) → (source : List ℕ) → (units : ModuleUnits) → All (λ fault. Contains (map (λ l. l.span) (module_lexemes units)) fault.span) (all_faults given source units)
+
+tree-text : {name bytes : List ℕ} {found : ModuleUnits} → IsFront name bytes (Tree found) → text_of bytes ≡ bytes
+tree-text {name} {bytes} (read whole few part front) = ap (λ n. take n bytes) whole ∙ take-length bytes
+
+module _ (one : HasNoOther) (law : FaultsAtLexemes) (family : List Member) (m : Member) where
+  fault-placed : (name : List ℕ) (r : reading.the_data) (fault : Diagnostic) → name ≡ m.name → IsReading name m.bytes r → IsFront m.name m.bytes (Fault fault) → IsPlaced (text_of m.bytes) fault.span
+  fault-placed name (reading.Tree tree) fault named is front = absurd (tree-no-fault (one m.name m.bytes (Tree (module_of tree)) (Fault fault) (subst (λ n. IsFront n m.bytes (Tree (module_of tree))) named is.front) front))
+  fault-placed name (reading.Fault f) fault named is front =
+      let same : f ≡ fault = fault-same (one m.name m.bytes (Fault f) (Fault fault) (subst (λ n. IsFront n m.bytes (Fault f)) named is.0) front) in
+      subst (λ (x : Diagnostic). IsPlaced (text_of m.bytes) x.span) same is.1
+
+  tree-lies : (name : List ℕ) (r : reading.the_data) (units : ModuleUnits) → name ≡ m.name → IsReading name m.bytes r → IsFront m.name m.bytes (Tree units) → LexemesLie m.bytes units
+  tree-lies name (reading.Fault f) units named is front = absurd (tree-no-fault (one m.name m.bytes (Tree units) (Fault f) front (subst (λ n. IsFront n m.bytes (Fault f)) named is.0)))
+  tree-lies name (reading.Tree tree) units named is front =
+      let same : module_of tree ≡ units = tree-same (one m.name m.bytes (Tree (module_of tree)) (Tree units) (subst (λ n. IsFront n m.bytes (Tree (module_of tree))) named is.front) front) in
+      subst (λ (u : ModuleUnits). LexemesLie m.bytes u) same (subst (λ s. LexemesLie s (module_of tree)) is.source is.readable.lie)
+
+  tree-placed : (units : ModuleUnits) (d : Diagnosed family) → IsFront m.name m.bytes (Tree units) → LexemesLie m.bytes units → IsCheckedOf family m units d → (fault : Diagnostic) → Contains d.faults fault → IsPlaced (text_of m.bytes) fault.span
+  tree-placed units d front lie k fault h =
+      let listed : Contains k.list fault = subst (λ (x : Diagnosed family). Contains x.faults fault) k.is h in
+      let all : Contains (all_faults k.given m.bytes units) fault = (k.ordered.same fault).0 listed in
+      subst (λ t. IsPlaced t fault.span) (sym (tree-text front)) (span-placed m.bytes units fault.span lie (all-at (λ (f : Diagnostic). Contains (map (λ (x : Lexeme). x.span) (module_lexemes units)) f.span) (all_faults k.given m.bytes units) fault (law k.given m.bytes units) all))
+
+module _ (one : HasNoOther) (law : FaultsAtLexemes) (family : List Member) (distinct : AreOneEach family) (entries : List Entry) (are : AreModules family entries) where
+  found-placed : (m : Member) (d : Diagnosed family) → Contains family m → Found family m.name d → (fault : Diagnostic) → Contains d.faults fault → IsPlaced (text_of m.bytes) fault.span
+  found-placed m d there (of_fault m' fault' there' named' front' is) fault h =
+      let same : m' ≡ m = distinct m' m there' there named' in
+      let front : IsFront m.name m.bytes (Fault fault') = subst (λ (x : Member). IsFront x.name x.bytes (Fault fault')) same front' in
+      let e = zip-left IsEntry family entries m are there in
+      let at : fault' ≡ fault = one-fault fault' fault (subst (λ (x : Diagnosed family). Contains x.faults fault) is h) in
+      subst (λ (x : Diagnostic). IsPlaced (text_of m.bytes) x.span) at (fault-placed one law family m (e.0).0 (e.0).1.reading fault' (e.2).named (e.2).is.reading front)
+    where
+      one-fault : (x y : Diagnostic) → Contains (x ∷ []) y → x ≡ y
+      one-fault x y (zero, l, s) = s
+      one-fault x y (suc i, l, s) = absurd (omega (arith, l))
+  found-placed m d there (of_tree m' units there' named' front' k) fault h =
+      let same : m' ≡ m = distinct m' m there' there named' in
+      let front : IsFront m.name m.bytes (Tree units) = subst (λ (x : Member). IsFront x.name x.bytes (Tree units)) same front' in
+      let e = zip-left IsEntry family entries m are there in
+      tree-placed one law family m units d front (tree-lies one law family m (e.0).0 (e.0).1.reading units (e.2).named (e.2).is.reading front) (subst (λ (x : Member). IsCheckedOf family x units d) same k) fault h
+
+-- the faults of verdicts stand in their texts
+pub verdicts-placed : HasNoOther → FaultsAtLexemes → (files : List File) (entries : List Entry) (verdicts : List Verdict) → AreOneEach (family_of files) → AreModules (family_of files) entries → AreVerdicts files verdicts → All IsVerdictPlaced verdicts
+verdicts-placed one law files entries verdicts distinct are said = all-by IsVerdictPlaced verdicts (λ v h.
+    let f = zip-right (IsVerdict (family_of files)) files verdicts v said h in
+    let is : IsVerdict (family_of files) f.0 v = f.2 in
+    all-by (λ (fault : Diagnostic). IsPlaced v.text fault.span) v.faults (λ fault c.
+    subst (λ t. IsPlaced t fault.span) (sym is.text)
+    (found-placed one law (family_of files) distinct entries are (member_of f.0) is.found (file-there files f.0 f.1) (found-of is.diagnosed) fault (subst (λ fs. Contains fs fault) is.faults c))))
+
+-- ---- steps
+
+front_of : reading.the_data → Front
+front_of (reading.Tree tree) = Tree (module_of tree)
+front_of (reading.Fault fault) = Fault fault
+
+front-is : (name bytes : List ℕ) (r : reading.the_data) → IsReading name bytes r → IsFront name bytes (front_of r)
+unfolding front_of
+front-is name bytes (reading.Tree tree) is = is.front
+front-is name bytes (reading.Fault fault) is = is.0
+
+front-count : (r : reading.the_data) → check_count (front_of r) ≡ tree_count r
+unfolding front_of
+front-count (reading.Tree tree) = refl
+front-count (reading.Fault fault) = refl
+
+fronts-are : (family : List Member) (entries : List Entry) → AreModules family entries → AreFronts family (map (λ (e : Entry). front_of e.1.reading) entries)
+fronts-are [] [] h = tt
+fronts-are [] (e ∷ entries) h = absurd h
+fronts-are (m ∷ family) [] h = absurd h
+fronts-are (m ∷ family) (e ∷ entries) h =
+    (subst (λ n. IsFront n m.bytes (front_of e.1.reading)) h.0.named (front-is e.0 m.bytes e.1.reading h.0.is.reading), fronts-are family entries h.1)
+
+pub steps-are : (files : List File) (entries : List Entry) (old new : ℕ) → AreModules (family_of files) entries → old < 2 ^ 64 → new ≡ after_ticks (trees_in entries) old → IsStepped files old new
+steps-are files entries old new are few ticks =
+    let front : Entry → Front = λ (e : Entry). front_of e.1.reading in
+    let count : checks_of (map front entries) ≡ trees_in entries = sum-map check_count front (λ (e : Entry). tree_count e.1.reading) entries (λ e h. front-count e.1.reading) in
+    let l : old ≤ 2 ^ 64 - 1 = omega (arith, few) in
+    record {
+      fronts = map front entries;
+      are = fronts-are (family_of files) entries are;
+      steps = ticks ∙ (ticks-within (trees_in entries) old l ∙ ap (λ n. min (old + n) (2 ^ 64 - 1)) (sym count));
+    }
+
+-- ---- INSTANCE
+
+pub any-here : (entries : List Entry) (i : ℕ) (e : Entry) → slice_get entries i ≡ Some e → reading_holds_instance e.1.reading ≡ true → list_any (λ (x : Entry). reading_holds_instance x.1.reading) entries ≡ true
+any-here [] zero e h t = cc
+any-here [] (suc i) e h t = cc
+any-here (x ∷ xs) zero e h t = let s : x ≡ e = cc in ap (λ b. b || list_any (λ (z : Entry). reading_holds_instance z.1.reading) xs) (ap (λ (z : Entry). reading_holds_instance z.1.reading) s ∙ t)
+any-here (x ∷ xs) (suc i) e h t = or-second (reading_holds_instance x.1.reading) (list_any (λ (z : Entry). reading_holds_instance z.1.reading) xs) (any-here xs i e h t)
+  where
+    or-second : (a b : Bool) → b ≡ true → (a || b) ≡ true
+    or-second true b e = refl
+    or-second false b e = e
+
+none-more : (entries : List Entry) (i : ℕ) (e : Entry) → slice_get entries i ≡ Some e → list_any (λ (x : Entry). reading_holds_instance x.1.reading) (take i entries) ≡ false → reading_holds_instance e.1.reading ≡ false → list_any (λ (x : Entry). reading_holds_instance x.1.reading) (take (suc i) entries) ≡ false
+none-more [] zero e h n f = cc
+none-more [] (suc i) e h n f = cc
+none-more (x ∷ xs) zero e h n f = let s : x ≡ e = cc in ap (λ b. b || false) (ap (λ (z : Entry). reading_holds_instance z.1.reading) s ∙ f)
+none-more (x ∷ xs) (suc i) e h n f = or-none (reading_holds_instance x.1.reading) (list_any (λ (z : Entry). reading_holds_instance z.1.reading) (take i xs)) (list_any (λ (z : Entry). reading_holds_instance z.1.reading) (take (suc i) xs)) n (λ m. none-more xs i e h m f)
+  where
+    or-none : (a b d : Bool) → (a || b) ≡ false → (b ≡ false → d ≡ false) → (a || d) ≡ false
+    or-none true b d e k = cc
+    or-none false b d e k = k e
+
+pub none-further : (entries : List Entry) (i : ℕ) (e : Entry) → slice_get entries i ≡ Some e → list_any (λ (x : Entry). reading_holds_instance x.1.reading) (take i entries) ≡ false → reading_holds_instance e.1.reading ≡ false → list_any (λ (x : Entry). reading_holds_instance x.1.reading) (take (i + 1) entries) ≡ false
+none-further entries i e h n f = let k : i + 1 ≡ suc i = omega arith in ap (λ j. list_any (λ (x : Entry). reading_holds_instance x.1.reading) (take j entries)) k ∙ none-more entries i e h n f
+
+reading-holds : (files : List File) (m : Member) (name : List ℕ) (r : reading.the_data) → Contains (family_of files) m → name ≡ m.name → IsReading name m.bytes r → reading_holds_instance r ≡ true → HoldsInstance files
+reading-holds files m name (reading.Tree tree) there named is t = record { member = m; found = module_of tree; there = there; front = subst (λ n. IsFront n m.bytes (Tree (module_of tree))) named is.front; holds = t }
+reading-holds files m name (reading.Fault fault) there named is t = cc
+
+holds-reading : HasNoOther → (m : Member) (name : List ℕ) (r : reading.the_data) (found : ModuleUnits) → name ≡ m.name → IsReading name m.bytes r → IsFront m.name m.bytes (Tree found) → holds_instance found ≡ true → reading_holds_instance r ≡ true
+holds-reading one m name (reading.Tree tree) found named is front t =
+    let same : found ≡ module_of tree = tree-same (one m.name m.bytes (Tree found) (Tree (module_of tree)) front (subst (λ n. IsFront n m.bytes (Tree (module_of tree))) named is.front)) in
+    ap holds_instance (sym same) ∙ t
+holds-reading one m name (reading.Fault fault) found named is front t = absurd (tree-no-fault (one m.name m.bytes (Tree found) (Fault fault) front (subst (λ n. IsFront n m.bytes (Fault fault)) named is.0)))
+
+any-some : (entries : List Entry) → list_any (λ (x : Entry). reading_holds_instance x.1.reading) entries ≡ true → (e : Entry) × Contains entries e × (reading_holds_instance e.1.reading ≡ true)
+any-some [] t = cc
+any-some (x ∷ xs) t = by (reading_holds_instance x.1.reading) refl (any-some xs) t
+  where
+    by : (b : Bool) → reading_holds_instance x.1.reading ≡ b → (list_any (λ (z : Entry). reading_holds_instance z.1.reading) xs ≡ true → (e : Entry) × Contains xs e × (reading_holds_instance e.1.reading ≡ true)) → (b || list_any (λ (z : Entry). reading_holds_instance z.1.reading) xs) ≡ true → (e : Entry) × Contains (x ∷ xs) e × (reading_holds_instance e.1.reading ≡ true)
+    by true h rest k = (x, here x xs, h)
+    by false h rest k = let r = rest k in (r.0, behind x xs r.0 r.1, r.2)
+
+pub instance-held : (files : List File) (entries : List Entry) → AreModules (family_of files) entries → list_any (λ (x : Entry). reading_holds_instance x.1.reading) entries ≡ true → HoldsInstance files
+instance-held files entries are t =
+    let e = any-some entries t in
+    let m = zip-right IsEntry (family_of files) entries e.0 are e.1 in
+    reading-holds files m.0 (e.0).0 (e.0).1.reading m.1 (m.2).named (m.2).is.reading e.2
+
+pub instance-none : HasNoOther → (files : List File) (entries : List Entry) → AreModules (family_of files) entries → list_any (λ (x : Entry). reading_holds_instance x.1.reading) entries ≡ false → HoldsInstance files → ⊥
+instance-none one files entries are f h =
+    let e = zip-left IsEntry (family_of files) entries h.member are h.there in
+    let t = holds-reading one h.member (e.0).0 (e.0).1.reading h.found (e.2).named (e.2).is.reading h.front h.holds in
+    let k = contains-at entries e.0 e.1 in
+    both_ways (list_any (λ (x : Entry). reading_holds_instance x.1.reading) entries) f (any-here entries k.0 e.0 k.1 t)
+
+-- ---- answers
+
+pub verdicts-answer : (files : List File) (outcomes : List (List ℕ × Outcome)) (r : Result (List Verdict) Memory) → AreOutcomes (family_of files) outcomes → IfOk r (AllZip (IsSaid outcomes) files) → IfOk r (AreVerdicts files)
+verdicts-answer files outcomes (Ok verdicts) are said = verdicts-are files outcomes verdicts are said
+verdicts-answer files outcomes (Err e) are said = tt
+
+pub placed-answer : HasNoOther → FaultsAtLexemes → (files : List File) (entries : List Entry) (outcomes : List (List ℕ × Outcome)) (r : Result (List Verdict) Memory) → AreOneEach (family_of files) → AreModules (family_of files) entries → AreOutcomes (family_of files) outcomes →
+    IfOk r (AllZip (IsSaid outcomes) files) → IfOk r (All IsVerdictPlaced)
+placed-answer one law files entries outcomes (Ok verdicts) distinct modules are said = verdicts-placed one law files entries verdicts distinct modules (verdicts-are files outcomes verdicts are said)
+placed-answer one law files entries outcomes (Err e) distinct modules are said = tt
+
+pub steps-answer : (files : List File) (entries : List Entry) (old new count : ℕ) (r : Result (List Verdict) Memory) → AreModules (family_of files) entries → count < 2 ^ 64 → count ≡ old → new ≡ after_ticks (trees_in entries) old → IfOk r (λ _. IsStepped files old new)
+steps-answer files entries old new count (Ok verdicts) are few is ticks = steps-are files entries old new are (subst (λ n. n < 2 ^ 64) is few) ticks
+steps-answer files entries old new count (Err e) are few is ticks = tt
+
+pub some-at : (entries : List Entry) (i : ℕ) (e : Entry) → slice_get entries i ≡ Some e → All (λ (entry : Entry). IsSomeModule entry.0 entry.1) entries → IsSomeModule e.0 e.1
+some-at entries i e h all = all-at (λ (entry : Entry). IsSomeModule entry.0 entry.1) entries e all (at-contains entries i e h)

@@ -1,0 +1,16 @@
+pub mod Names
+pub mod Lists
+pub mod Graphs
+pub mod Members
+pub mod OneVerdict
+pub mod Tabling
+pub mod Lying
+pub mod Reading
+pub mod BuiltIn
+pub mod Texts
+pub mod Bridging
+pub mod Importing
+pub mod Sums
+pub mod Checking
+pub mod Once
+pub mod Answering

@@ -1,0 +1,46 @@
+-- Members and their names.
+use Rattle.std.proofs.Common.{◌≡◌, ◌<◌, ℕ, zero, suc, List, [], ◌∷◌, ◌++◌, Option, Some, None, refl, sym, ap, ◌∙◌, map, filter, length, arith, true, false, Bool, not, ◌||◌, ⊎_elim, inl, inr, subst}
+use Rattle.std.specs.Prelude.{◌⊎◌, Contains, slice_get}
+use Rattle.std.specs.List.{list_any}
+use Rattle.std.specs.Str.{bytes_eq}
+use Rattle.std.proofs.lemmas.Bool.{cases_Bool}
+use Rattle.std.proofs.lemmas.List.Elements.{Contains-append_cases}
+use Rattle.family_check.proofs.Names.{same-name, name-itself}
+use Rattle.family_check.proofs.Lists.{at-same, behind, contains-at, in-filter, mapped, none-there}
+use Rattle.family_check.specs.Family.{Member, is_there, over, AreMembersDistinct}
+use Rattle.family_check.specs.Verdicts.{AreDistinct, built_in_members, built_in_names, family_of, member_of}
+use Rattle.family_check.specs.Modules.{built_in}
+use Rattle.family_check.specs.declared.verdict.File.{File}
+
+-- a name that is there is that of a member
+pub there-member : (members : List Member) (name : List ℕ) → is_there members name ≡ true → (m : Member) × Contains members m × (m.name ≡ name)
+there-member [] name e = cc
+there-member (m ∷ members) name e = ⊎_elim
+    (λ (t : bytes_eq name m.name ≡ true). (m, (0, omega arith, refl), sym (same-name name m.name t)))
+    (λ (f : bytes_eq name m.name ≡ false).
+    let r = there-member members name (sym (ap (λ b. b || is_there members name) f) ∙ e) in
+    (r.0, behind m members r.0 r.1, r.2))
+    (cases_Bool (bytes_eq name m.name))
+
+-- and that of a member is there
+pub member-there : (members : List Member) (name : List ℕ) (m : Member) → Contains members m → m.name ≡ name → is_there members name ≡ true
+member-there [] name m h e = absurd (none-there m h)
+member-there (a ∷ members) name m (zero, l, s) e = ap (λ b. b || is_there members name) (name-itself name a.name (sym (ap (λ (x : Member). x.name) s ∙ e)))
+member-there (a ∷ members) name m (suc i, l, s) e = ⊎_elim
+    (λ (t : bytes_eq name a.name ≡ true). ap (λ b. b || is_there members name) t)
+    (λ (f : bytes_eq name a.name ≡ false). ap (λ b. b || is_there members name) f ∙ member-there members name m (i, omega (arith, l), s) e)
+    (cases_Bool (bytes_eq name a.name))
+
+-- a file hides the built-in module of its name
+pub not-hidden : (files : List Member) (a b : Member) → Contains files a → not (is_there files b.name) ≡ true → a.name ≡ b.name → ⊥
+not-hidden files a b h n e = let k : not true ≡ true = sym (ap not (member-there files b.name a h e)) ∙ n in cc
+
+-- members of one name are one
+abbrev pub AreOneEach : List Member → Type 0
+AreOneEach family = (a b : Member) → Contains family a → Contains family b → a.name ≡ b.name → a ≡ b
+
+pub one-each : (family : List Member) → AreMembersDistinct family → AreOneEach family
+one-each family distinct a b ha hb e =
+    let i = contains-at family a ha in
+    let j = contains-at family b hb in
+    at-same family j.0 a b (ap (slice_get family) (sym (distinct i.0 j.0 a b i.1 j.1 e)) ∙ i.1) j.1

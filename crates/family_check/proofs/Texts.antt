@@ -1,0 +1,15 @@
+-- The longest front of some bytes that is a text.
+use Rattle.std.proofs.Common.{◌≡◌, ℕ, List, take, sym, ap, ◌∙◌}
+use Rattle.std.proofs.Math.Seq.{take-length}
+use Rattle.std.specs.Str.{IsUtf8}
+use Rattle.tla_text.specs.Places.{IsLongestUtf8}
+use Rattle.tla_front.proofs.Reading.{readable_len-longest, readable_len-text}
+use Rattle.family_check.specs.Verdicts.{text_of}
+
+-- the text of bytes that are one
+pub text_of-text : (bytes text : List ℕ) → text ≡ bytes → IsUtf8 bytes → text ≡ text_of bytes
+text_of-text bytes text is utf8 = is ∙ (sym (take-length bytes) ∙ ap (λ n. take n bytes) (sym (readable_len-text bytes utf8)))
+
+-- and of bytes that are none
+pub text_of-longest : (bytes text : List ℕ) (at : ℕ) → text ≡ take at bytes → IsLongestUtf8 bytes at → text ≡ text_of bytes
+text_of-longest bytes text at is longest = is ∙ ap (λ n. take n bytes) (sym (readable_len-longest bytes at longest))

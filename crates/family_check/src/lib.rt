@@ -1,0 +1,21 @@
+//! The check of a whole family of modules.
+//!
+//! Answers the verdicts on files of modules, over the built-in ones: each module is checked behind
+//! all that it needs. Knows nothing of folders, and of how a report looks.
+#![tactic(auto)]
+
+mod family;
+mod imports;
+mod laws;
+mod order;
+mod outcomes;
+mod read;
+mod table;
+mod verdict;
+
+pub use family::check_family;
+pub use laws::{names_differ, one_verdict};
+pub use verdict::{File, Verdict};
+
+#[cfg(test)]
+mod tests;
