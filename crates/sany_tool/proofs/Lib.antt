@@ -1,7 +1,6 @@
-pub mod FrontLemmas
-pub mod NameLemmas
+pub mod DistinctLemmas
+pub mod FamilyLemmas
+pub mod NamedLemmas
 pub mod ReadingLemmas
 pub mod RunLemmas
-pub mod SeenLemmas
-pub mod TextLemmas
 pub mod VerdictLemmas

@@ -1,113 +1,80 @@
--- Verdicts that are found one after another.
-use Rattle.std.proofs.Common.{◌≡◌, ℕ, suc, zero, ◌+◌, ◌<◌, ◌≤◌, List, [], ◌∷◌, ◌++◌, length, take, drop, get_or, Option, Some, None, refl, sym, ap, ◌∙◌, append_assoc, arith, add-one, drop-cons, subst}
-use Rattle.std.specs.List.{All}
-use Rattle.std.proofs.lemmas.List.{take_all}
-use Rattle.std.proofs.lemmas.List.Elements.{All-nil, All-cons, All-append}
-use Rattle.std.proofs.lemmas.List.Sums.{sum_by_more}
-use Rattle.tla_symbols.specs.declared.lexeme.Lexeme.{Lexeme}
-use Rattle.tla_lexeme.specs.Spans.{IsPlaced}
-use Rattle.tla_model.specs.declared.Diagnostic.{Diagnostic}
-use Rattle.tla_front.specs.Fronts.{Front, Fault, fault_at, spelling}
-use Rattle.sany_tool.specs.declared.files.File.{File}
-use Rattle.sany_tool.specs.declared.report.Verdict.{Verdict}
-use Rattle.sany_tool.specs.Answers.{after_ticks, ticked}
-use Rattle.sany_tool.specs.Declarations.{already_there, built_in_names, faults_in, faults_of, holds}
-use Rattle.sany_tool.specs.Program.{and_then, check_count, checks_of, verdict_of, verdicts_of}
-use Rattle.sany_tool.specs.Fronts.{AreFronts, OfFront, OfFronts}
-use Rattle.sany_tool.specs.Spans.{FaultsPlaced, LexemesPlaced, VerdictsPlaced}
-use Rattle.sany_tool.proofs.FrontLemmas.{front-at, fronts-length}
-use Rattle.std.proofs.Common.{⊎_elim, true, false}
-use Rattle.std.proofs.lemmas.Bool.{cases_Bool}
+-- Lists of verdicts, and what is to be written of them.
+use Rattle.std.proofs.Common.{◌≡◌, ℕ, List, [], ◌∷◌, Option, Some, None, IfSome, Result, Ok, Err, IfOk, refl, sym, ap, ◌∙◌, subst, if◌then◌else◌, Bool, true, false, nat_lt, length}
+use Rattle.std.specs.Prelude.{◌↔◌}
+use Rattle.std.specs.List.{AllZip}
+use Rattle.tool_list.specs.declared.Memory.{Memory}
+use Rattle.tool_io.specs.Folder.{Told, after_call}
+use Rattle.family_check.specs.Family.{Member, Diagnosed, IsDiagnosed}
+use Rattle.family_check.specs.Verdicts.{AreDistinct, AreVerdicts, HoldsInstance, IsVerdict, family_of}
+use Rattle.family_check.specs.declared.verdict.File.{File}
+use Rattle.family_check.specs.declared.verdict.Verdict.{Verdict}
+use Rattle.sany_tool.specs.declared.check.Outcome.{Outcome}
+use Rattle.sany_tool.specs.Program.{MOST_BYTES, MOST_MODULES, NOT_BUILT, byte_count, files_of, module_names, outcome_of_verdicts, reported}
+use Rattle.sany_tool.specs.Reading.{files_within}
+use Rattle.sany_tool.specs.Verdicts.{IsOutcome, OfVerdicts, not_built, told}
+use Rattle.sany_tool.proofs.FamilyLemmas.{AreMembersDistinct, family-distinct}
 
--- a front that stands where there is none
-abbrev pub no_front : Front
-no_front = Fault (fault_at 0 0)
+-- of a module of a family one thing is found
+abbrev pub IsFoundOnce : Type 0
+IsFoundOnce = (family : List Member) → AreMembersDistinct family → (name : List ℕ) (found other : Diagnosed family) → IsDiagnosed family name found → IsDiagnosed family name other → found ≡ other
 
--- verdicts, and then those that follow, if there are all of them
-abbrev pub onto : List Verdict → Option (List Verdict) → Option (List Verdict)
-onto verdicts None = None
-onto verdicts (Some more) = Some (verdicts ++ more)
+one-verdict : IsFoundOnce → (family : List Member) → AreMembersDistinct family → (f : File) (v w : Verdict) → IsVerdict family f v → IsVerdict family f w → v ≡ w
+one-verdict once family distinct f v w is other =
+    let same = once family distinct f.name is.found other.found is.diagnosed other.diagnosed in
+    let faults : v.faults ≡ w.faults = is.faults ∙ (ap (λ (d : Diagnosed family). d.faults) same ∙ sym other.faults) in
+    let name : v.name ≡ w.name = is.name ∙ sym other.name in
+    let text : v.text ≡ w.text = is.text ∙ sym other.text in
+    λ i. record { name = name i; text = text i; faults = faults i }
 
-onto-first : (more : Option (List Verdict)) → onto [] more ≡ more
-onto-first None = refl
-onto-first (Some more) = refl
+one-list : IsFoundOnce → (family : List Member) → AreMembersDistinct family → (files : List File) (vs ws : List Verdict) → AllZip (IsVerdict family) files vs → AllZip (IsVerdict family) files ws → vs ≡ ws
+one-list once family distinct [] [] [] h k = refl
+one-list once family distinct [] (v ∷ vs) ws h k = absurd h
+one-list once family distinct [] [] (w ∷ ws) h k = absurd k
+one-list once family distinct (f ∷ fs) [] ws h k = absurd h
+one-list once family distinct (f ∷ fs) (v ∷ vs) [] h k = absurd k
+one-list once family distinct (f ∷ fs) (v ∷ vs) (w ∷ ws) h k = λ i. one-verdict once family distinct f v w h.0 k.0 i ∷ one-list once family distinct fs vs ws h.1 k.1 i
 
-pub verdicts-init : (found : List Verdict) (files : List File) → found ≡ [] → OfFronts files (λ fronts. onto found (verdicts_of files fronts) ≡ verdicts_of files fronts)
-verdicts-init found files e = λ fronts are. ap (λ f. onto f (verdicts_of files fronts)) e ∙ onto-first (verdicts_of files fronts)
+-- files have no two lists of verdicts
+pub verdicts-one : IsFoundOnce → (files : List File) → AreDistinct files → (vs ws : List Verdict) → AreVerdicts files vs → AreVerdicts files ws → vs ≡ ws
+verdicts-one once files distinct vs ws h k = one-list once (family_of files) (family-distinct files distinct) files vs ws h k
 
-onto-and_then : (found : List Verdict) (v : Verdict) (more : Option (List Verdict)) → onto (found ++ v ∷ []) more ≡ onto found (and_then (Some v) more)
-onto-and_then found v None = refl
-onto-and_then found v (Some more) = ap (λ vs. Some vs) (append_assoc found (v ∷ []) more)
+-- ---- outcomes
 
-onto-none : (found : List Verdict) (more : Option (List Verdict)) → onto found (and_then None more) ≡ None
-onto-none found more = refl
+-- nothing where the word INSTANCE is held
+module _ (files : List File) (o : Outcome) (holds : HoldsInstance files) (is : o ≡ NOT_BUILT) where
+  pub none-outcome : IsOutcome files o
+  none-outcome = subst (λ x. IsOutcome files x) (sym is) (not_built holds)
 
-verdicts_at : (files : List File) (fronts : List Front) (i : ℕ) (d : File) (e : Front) → AreFronts files fronts → i < length files →
-    verdicts_of (drop i files) (drop i fronts) ≡ and_then (verdict_of (get_or files i d) (get_or fronts i e)) (verdicts_of (drop (i + 1) files) (drop (i + 1) fronts))
-verdicts_at files fronts i d e are lt =
-    let lt' : i < length fronts = omega (arith, fronts-length files fronts are) in
-    rw (add-one, drop-cons files i d, drop-cons fronts i e) refl
+  pub none-only : OfVerdicts files (λ verdicts. o ≡ outcome_of_verdicts verdicts)
+  none-only = record { none = λ h. is; some = λ no vs are. absurd (no holds) }
 
--- one more verdict
-pub verdicts-more : (found : List Verdict) (v : Verdict) (files : List File) (i : ℕ) (d : File) → i < length files →
-    OfFront (get_or files i d) (λ front. Some v ≡ verdict_of (get_or files i d) front) →
-    OfFronts files (λ fronts. onto found (verdicts_of (drop i files) (drop i fronts)) ≡ verdicts_of files fronts) →
-    OfFronts files (λ fronts. onto (found ++ v ∷ []) (verdicts_of (drop (i + 1) files) (drop (i + 1) fronts)) ≡ verdicts_of files fronts)
-verdicts-more found v files i d lt one inv = λ fronts are.
-    onto-and_then found v (verdicts_of (drop (i + 1) files) (drop (i + 1) fronts))
-    ∙ (ap (λ o. onto found (and_then o (verdicts_of (drop (i + 1) files) (drop (i + 1) fronts)))) (one (get_or fronts i no_front) (front-at files fronts i d no_front are lt))
-    ∙ (ap (λ o. onto found o) (sym (verdicts_at files fronts i d no_front are lt)) ∙ inv fronts are))
+-- and else the report
+module _ (files : List File) (o : Outcome) (vs : List Verdict) (no : HoldsInstance files → ⊥) (are : AreVerdicts files vs) (is : o ≡ reported vs) where
+  pub some-outcome : IsOutcome files o
+  some-outcome = subst (λ x. IsOutcome files x) (sym is) (told vs no are)
 
--- one that is not there
-pub verdicts-none : (found : List Verdict) (files : List File) (i : ℕ) (d : File) → i < length files →
-    OfFront (get_or files i d) (λ front. None ≡ verdict_of (get_or files i d) front) →
-    OfFronts files (λ fronts. onto found (verdicts_of (drop i files) (drop i fronts)) ≡ verdicts_of files fronts) →
-    OfFronts files (λ fronts. None ≡ verdicts_of files fronts)
-verdicts-none found files i d lt one inv = λ fronts are.
-    ap (λ o. onto found (and_then o (verdicts_of (drop (i + 1) files) (drop (i + 1) fronts)))) (one (get_or fronts i no_front) (front-at files fronts i d no_front are lt))
-    ∙ (ap (λ o. onto found o) (sym (verdicts_at files fronts i d no_front are lt)) ∙ inv fronts are)
+  pub some-only : ((ws : List Verdict) → AreVerdicts files ws → vs ≡ ws) → OfVerdicts files (λ verdicts. o ≡ outcome_of_verdicts verdicts)
+  some-only one = record { none = λ h. absurd (no h); some = λ h ws are'. is ∙ ap (λ xs. reported xs) (one ws are') }
 
-pub after_ticks-sum : (n m steps : ℕ) → after_ticks (n + m) steps ≡ after_ticks m (after_ticks n steps)
-after_ticks-sum zero m steps = let e : 0 + m ≡ m = omega arith in ap (λ k. after_ticks k steps) e
-after_ticks-sum (suc n) m steps = let e : suc n + m ≡ suc (n + m) = omega arith in ap (λ k. after_ticks k steps) e ∙ after_ticks-sum n m (ticked steps)
+-- what is answered where there is a report
+pub if_ok-outcome : (files : List File) (found : Option (List Verdict)) (vs : List Verdict) (r : Result Outcome Memory) → found ≡ Some vs → ((found ≡ None) ↔ HoldsInstance files) → IfSome found (AreVerdicts files) →
+    IfOk r (λ o. o ≡ reported vs) → IfOk r (IsOutcome files)
+if_ok-outcome files found vs (Err e) is none are h = tt
+if_ok-outcome files found vs (Ok o) is none are h =
+    let free : HoldsInstance files → ⊥ = λ holds. (let no : found ≡ None = none.1 holds in absurd (cc)) in
+    some-outcome files o vs free (subst (λ f. IfSome f (AreVerdicts files)) is are) h
 
-pub ticks-more : (files : List File) (i : ℕ) (d : File) (before old new : ℕ) → i < length files →
-    OfFronts files (λ fronts. old ≡ after_ticks (checks_of (take i fronts)) before) → OfFront (get_or files i d) (λ front. new ≡ after_ticks (check_count front) old) →
-    OfFronts files (λ fronts. new ≡ after_ticks (checks_of (take (i + 1) fronts)) before)
-ticks-more files i d before old new lt isold isnew = λ fronts are.
-    let lt' : i < length fronts = omega (arith, fronts-length files fronts are) in
-    isnew (get_or fronts i no_front) (front-at files fronts i d no_front are lt)
-    ∙ (ap (λ s. after_ticks (check_count (get_or fronts i no_front)) s) (isold fronts are)
-    ∙ (sym (after_ticks-sum (checks_of (take i fronts)) (check_count (get_or fronts i no_front)) before)
-    ∙ ap (λ n. after_ticks n before) (sym (sum_by_more check_count fronts i no_front lt'))))
+-- ---- files within the limits
 
--- the last one
-pub ticks-whole : (files : List File) (i : ℕ) (before new : ℕ) → length files ≤ i → OfFronts files (λ fronts. new ≡ after_ticks (checks_of (take i fronts)) before) →
-    OfFronts files (λ fronts. new ≡ after_ticks (checks_of fronts) before)
-ticks-whole files i before new le is = λ fronts are.
-    let le' : length fronts ≤ i = omega (arith, fronts-length files fronts are) in
-    is fronts are ∙ ap (λ xs. after_ticks (checks_of xs) before) (take_all i fronts le')
+some_within : (many large : Bool) (files found : List File) → Some found ≡ (if many then None else (if large then None else Some files)) → found ≡ files
+some_within true large files found e = absurd (cc)
+some_within false true files found e = absurd (cc)
+some_within false false files found e = cc
 
-pub placed-more : (found : List Verdict) (v : Verdict) → VerdictsPlaced found → FaultsPlaced v.text v.faults → VerdictsPlaced (found ++ v ∷ [])
-placed-more found v h here =
-    All-append (λ (x : Verdict). FaultsPlaced x.text x.faults) found (v ∷ []) h (All-cons (λ (x : Verdict). FaultsPlaced x.text x.faults) v [] here (All-nil (λ (x : Verdict). FaultsPlaced x.text x.faults)))
+files_within-some : (t : Told) (path : List ℕ) (found : List File) → Some found ≡ files_within t path → found ≡ files_of t path
+files_within-some t path found e = some_within (nat_lt MOST_MODULES (length (module_names (after_call t) path))) (nat_lt MOST_BYTES (byte_count (files_of t path))) (files_of t path) found e
 
-tail_of : (P : Lexeme → Type 0) (l : Lexeme) (ls : List Lexeme) → All P (l ∷ ls) → All P ls
-tail_of P l ls h = λ k d lt. h (suc k) d (omega arith)
-
-head_of : (P : Lexeme → Type 0) (l : Lexeme) (ls : List Lexeme) → All P (l ∷ ls) → P l
-head_of P l ls h = h 0 l (omega arith)
-
--- the faults of declared names that stand in a text stand there too
-faults_in-placed : (text : List ℕ) (context : List (List ℕ)) (ls : List Lexeme) → LexemesPlaced text ls → FaultsPlaced text (faults_in text context ls)
-faults_in-placed text context [] h = λ k d lt. absurd (omega arith)
-faults_in-placed text context (l ∷ ls) h =
-    let rest = tail_of (λ x. IsPlaced text x.span) l ls h in
-    ⊎_elim
-    (λ (there : holds context (spelling text l) ≡ true).
-    rw there (All-cons (λ (f : Diagnostic). IsPlaced text f.span) (already_there l) (faults_in text context ls) (head_of (λ x. IsPlaced text x.span) l ls h) (faults_in-placed text context ls rest)))
-    (λ (new : holds context (spelling text l) ≡ false). rw new (faults_in-placed text (context ++ spelling text l ∷ []) ls rest))
-    (cases_Bool (holds context (spelling text l)))
-
-pub faults_of-placed : (text : List ℕ) (declared : List Lexeme) (faults : List Diagnostic) → LexemesPlaced text declared → faults ≡ faults_of text declared → FaultsPlaced text faults
-faults_of-placed text declared faults h e = subst (λ x. FaultsPlaced text x) (sym e) (faults_in-placed text built_in_names declared h)
+-- what holds of the files that were read holds of the folder's
+pub of_folder : (P : List File → Type 0) (holds : Option Told) (path : List ℕ) (files : List File) → IfSome holds (λ t. Some files ≡ files_within t path) → P files → IfSome holds (λ t. P (files_of t path))
+of_folder P None path files is p = tt
+of_folder P (Some t) path files is p = subst P (files_within-some t path files is) p

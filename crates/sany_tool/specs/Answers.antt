@@ -1,5 +1,5 @@
 -- How a run answers.
-use Rattle.std.specs.Prelude.{zero, suc, ◌+◌, ◌-◌, ◌^◌, min, ◌≡◌, ◌≢◌, ℕ, List, ◌++◌, Bool, ◌||◌, ◌==◌, Option}
+use Rattle.std.specs.Prelude.{◌≡◌, ◌≢◌, ℕ, List, ◌++◌, Bool, ◌||◌, ◌==◌, Option}
 use Rattle.std.specs.Bool.{OnFalse}
 use Rattle.std.specs.Io.KnownBytes.{Appends}
 use Rattle.tool_io.specs.Causes.{Rose}
@@ -13,7 +13,7 @@ is_fault status = status == 3 || status == 5 || status == 6
 abbrev pub is_cut_short : ℕ → Bool
 is_cut_short status = is_fault status || status == 7
 
--- a report was written, or the form is not built
+-- a report was written, or some module holds the word INSTANCE
 abbrev pub is_done : ℕ → Bool
 is_done status = status == 0 || status == 1 || status == 9
 
@@ -33,12 +33,3 @@ pub record Answers (outcome : Outcome) (status : ℕ) (old new : Option (List �
 pub record TellsFault (fault status before now : ℕ) : Type 0 where
   pub rose : status ≡ fault → Rose before now
   pub stays : status ≢ fault → now ≡ before
-
--- the count after one check
-abbrev pub ticked : ℕ → ℕ
-ticked steps = min (steps + 1) (2 ^ 64 - 1)
-
--- the count after so many checks
-abbrev pub after_ticks : ℕ → ℕ → ℕ
-after_ticks zero steps = steps
-after_ticks (suc n) steps = after_ticks n (ticked steps)

@@ -1,11 +1,8 @@
 pub mod Answers
-pub mod Declarations
-pub mod Fronts
-pub mod Names
 pub mod Output
 pub mod Program
 pub mod Reading
 pub mod Report
-pub mod Seen
 pub mod Spans
 pub mod Texts
+pub mod Verdicts

@@ -1,19 +1,13 @@
 -- What the program writes and answers.
 use Rattle.std.specs.Prelude.{ℕ, zero, suc, ◌+◌, ◌-◌, ◌^◌, List, [], ◌∷◌, ◌++◌, length, Bool, true, false, ◌||◌, ◌&&◌, not, ◌==◌, nat_lt, nat_eq, Option, Some, None, if◌then◌else◌, codes, take, is_none, sum_by}
 use Rattle.std.specs.List.{list_all, list_any, filter_map, ends_with, starts_with}
-use Rattle.std.specs.Option.{option_map}
 use Rattle.std.specs.Char.{is_ascii_alphanumeric, is_ascii_alphabetic}
 use Rattle.std.specs.Str.{bytes_eq}
 use Rattle.tool_io.specs.Folder.{Told, after_call, names_at, read_at}
 use Rattle.tla_symbols.specs.Spellings.{word_of, op_of}
-use Rattle.tla_symbols.specs.declared.lexeme.Lexeme.{Lexeme}
-use Rattle.tla_model.specs.declared.Diagnostic.{Diagnostic}
-use Rattle.tla_front.specs.Fronts.{Front, Tree, Fault, readable_len}
-use Rattle.sany_tool.specs.declared.files.File.{File}
-use Rattle.sany_tool.specs.declared.report.Verdict.{Verdict}
+use Rattle.family_check.specs.declared.verdict.File.{File}
+use Rattle.family_check.specs.declared.verdict.Verdict.{Verdict}
 use Rattle.sany_tool.specs.declared.check.Outcome.{Outcome}
-use Rattle.sany_tool.specs.Declarations.{faults_of}
-use Rattle.sany_tool.specs.Names.{names_of_module}
 use Rattle.sany_tool.specs.Report.{report, report_status}
 
 -- ---- the words
@@ -113,42 +107,6 @@ is_over_request t (Some folder) = is_over_folder t folder
 abbrev pub is_over : List (List ℕ) → Told → Bool
 is_over words t = is_over_request t (folder_of words)
 
--- ---- the verdict on a module
-
--- the text in which the faults of some bytes stand: the longest front of them that is one
-abbrev pub text_of : List ℕ → List ℕ
-text_of bytes = take (readable_len bytes) bytes
-
-abbrev pub verdict_with : List ℕ → List ℕ → List Diagnostic → Verdict
-verdict_with name text faults = record { name = name; text = text; faults = faults }
-
--- the verdict on a module that declares these names, where its form is built
-abbrev pub verdict_of_names : List ℕ → List ℕ → Option (List Lexeme) → Option Verdict
-verdict_of_names name text declared = option_map (λ names. verdict_with name text (faults_of text names)) declared
-
--- The verdict on a file with this front: its one front fault, or those of the names that it declares.
-abbrev pub verdict_of : File → Front → Option Verdict
-verdict_of f (Fault fault) = Some (verdict_with f.name (text_of f.bytes) (fault ∷ []))
-verdict_of f (Tree found) = verdict_of_names f.name (text_of f.bytes) (names_of_module found)
-
-abbrev pub and_then : Option Verdict → Option (List Verdict) → Option (List Verdict)
-and_then None verdicts = None
-and_then (Some v) None = None
-and_then (Some v) (Some vs) = Some (v ∷ vs)
-
--- the verdicts on files with these fronts, where the form of each is built
-abbrev pub verdicts_of : List File → List Front → Option (List Verdict)
-verdicts_of (f ∷ fs) (front ∷ fronts) = and_then (verdict_of f front) (verdicts_of fs fronts)
-verdicts_of files fronts = Some []
-
-abbrev pub check_count : Front → ℕ
-check_count (Tree found) = 1
-check_count (Fault fault) = 0
-
--- how many modules have no front fault, so that their names are checked
-abbrev pub checks_of : List Front → ℕ
-checks_of fronts = sum_by check_count fronts
-
 -- ---- the outcome
 
 abbrev pub silent : ℕ → Outcome
@@ -158,7 +116,7 @@ silent status = record { status = status; bytes = [] }
 abbrev pub USAGE : Outcome
 USAGE = silent 2
 
--- The program does not handle the form of some module as yet.
+-- The program does not handle the word INSTANCE as yet.
 abbrev pub NOT_BUILT : Outcome
 NOT_BUILT = silent 9
 
@@ -169,26 +127,14 @@ abbrev pub outcome_of_verdicts : Option (List Verdict) → Outcome
 outcome_of_verdicts None = NOT_BUILT
 outcome_of_verdicts (Some verdicts) = reported verdicts
 
-abbrev pub outcome_of_files : List File → List Front → Outcome
-outcome_of_files files fronts = outcome_of_verdicts (verdicts_of files fronts)
+abbrev pub outcome_of_request : Option (List ℕ) → Option (List Verdict) → Outcome
+outcome_of_request None verdicts = USAGE
+outcome_of_request (Some folder) verdicts = outcome_of_verdicts verdicts
 
-abbrev pub outcome_of_request : Told → List Front → Option (List ℕ) → Outcome
-outcome_of_request t fronts None = USAGE
-outcome_of_request t fronts (Some folder) = outcome_of_files (files_of t folder) fronts
-
--- What the program writes and answers for these words over this folder, whose files have these fronts, where no
--- limit is passed.
-abbrev pub program : List (List ℕ) → Told → List Front → Outcome
-program words t fronts = outcome_of_request t fronts (folder_of words)
-
--- a module has no front fault, and its form is not built
-abbrev pub lacks_form : Front → Bool
-lacks_form (Tree found) = is_none (names_of_module found)
-lacks_form (Fault fault) = false
-
--- some module is such
-abbrev pub is_not_built : List Front → Bool
-is_not_built fronts = list_any lacks_form fronts
+-- What the program writes and answers for these words, where no limit is passed: of the verdicts on the files that
+-- they ask to check, or of none where some module holds the word INSTANCE.
+abbrev pub program : List (List ℕ) → Option (List Verdict) → Outcome
+program words verdicts = outcome_of_request (folder_of words) verdicts
 
 -- what a folder holds after so many calls
 abbrev pub after_calls : ℕ → Told → Told

@@ -3,10 +3,12 @@ ghost use Rattle.std.specs.Prelude.{◌≡◌, ◌++◌, ◌+◌, ◌≤◌, [],
 ghost use Rattle.std.specs.Option.{option_copied, option_map};
 ghost use Rattle.tool_io.specs.Causes.{HasCause};
 ghost use Rattle.tool_io.specs.Folder.{after_call, read_at};
+ghost use Rattle.family_check.specs.Verdicts.{AreDistinct};
 ghost use Rattle.sany_tool.specs.Program as program;
 ghost use Rattle.sany_tool.specs.Reading as reading;
 
 use crate::bytes::{all_word_bytes, has_letter, is_fair};
+use family_check::File;
 use std::alloc::Global;
 use tla_symbols::{op_of, word_of};
 use tool_io::{Folder, IoFault};
@@ -17,13 +19,6 @@ const MOST: u64 = (1 << 25) + 1;
 
 /// The most bytes of all files of a folder.
 const MOST_BYTES: u64 = 1 << 25;
-
-/// A module file, by the name of its module.
-#[derive(Drop)]
-pub struct File {
-    pub name: Chars,
-    pub bytes: List<u8>,
-}
 
 #[tactic(auto, unfolding(crate::specs::Program::is_identifier))]
 fn is_identifier(name: &[u8]) -> bool
@@ -124,7 +119,9 @@ pub fn read_files<F: Folder>(
     path: &str,
     names: &[Chars],
 ) -> Result<Option<List<File>>, IoFault>
+    requires { reading.AreNamesDistinct names.now }
     ensures files { IfOk result (λ found. IfSome (F.told folder.old) (λ t. found ≡ reading.within (program.reads t path.now names.now))) }
+    ensures distinct { IfOk result (λ found. IfSome found AreDistinct) }
     ensures small { IfOk result (λ found. IfSome found (λ files. program.byte_count files ≤ program.MOST_BYTES)) }
     ensures told { IfOk result (λ found. IfSome found (λ files. F.told folder.new ≡ option_map (program.after_calls (length names.now)) (F.told folder.old))) }
     ensures cause { HasCause (F.fault_count folder.old) (F.fault_count folder.new) result }

@@ -6,13 +6,19 @@
 
 mod bytes;
 mod check;
-mod declarations;
+#[cfg(test)]
+mod family_tests;
 mod files;
 mod laws;
-mod names;
+#[cfg(test)]
+mod limit_tests;
+#[cfg(test)]
+mod name_tests;
 mod output;
 mod report;
 mod run;
+#[cfg(test)]
+mod scope_tests;
 mod slices;
 #[cfg(test)]
 mod tests;

@@ -1,21 +1,15 @@
 // The report on some modules.
 ghost use Rattle.std.specs.Prelude.{◌≡◌, ◌++◌, ◌∷◌, [], IfOk, string_bytes, true, nat_le, count_by};
+ghost use Rattle.std.specs.List.{All};
+ghost use Rattle.family_check.specs.Verdicts.{IsVerdictPlaced};
 ghost use Rattle.sany_tool.specs.Report as report;
-ghost use Rattle.sany_tool.specs.Spans.{FaultsPlaced, VerdictsPlaced};
+ghost use Rattle.sany_tool.specs.Spans.{FaultsPlaced};
 ghost use Rattle.tla_lexeme.specs.Spans.{IsPlaced};
 
+use family_check::Verdict;
 use std::alloc::{AllocError, Global};
 use tla_model::Diagnostic;
 use tla_text::Text;
-use tool_list::{Chars, List};
-
-/// What was found of a module. It is accepted exactly where there are no faults.
-#[derive(Drop)]
-pub struct Verdict {
-    pub name: Chars,
-    pub text: Text,
-    pub faults: List<Diagnostic>,
-}
 
 fn fault_line(alloc: Global, text: &Text, fault: &Diagnostic) -> Result<String, AllocError>
     requires { IsPlaced text.now fault.now.span }
@@ -73,7 +67,7 @@ fn module_lines(alloc: Global, verdict: &Verdict) -> Result<String, AllocError>
 }
 
 fn lines_of(alloc: Global, verdicts: &[Verdict]) -> Result<String, AllocError>
-    requires { VerdictsPlaced verdicts.now }
+    requires { All IsVerdictPlaced verdicts.now }
     ensures { IfOk result (λ lines. string_bytes lines ≡ report.lines_of verdicts.now) }
 {
     let mut lines = String::new(alloc);
@@ -109,7 +103,7 @@ fn summary(alloc: Global, count: usize, refused: usize) -> Result<String, AllocE
 
 /// The report on modules, in order of their names.
 pub fn report_on(alloc: Global, verdicts: &[Verdict]) -> Result<String, AllocError>
-    requires { VerdictsPlaced verdicts.now }
+    requires { All IsVerdictPlaced verdicts.now }
     ensures { IfOk result (λ text. string_bytes text ≡ report.report verdicts.now) }
 {
     let mut text = lines_of(alloc, verdicts)?;

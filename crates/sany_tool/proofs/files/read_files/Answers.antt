@@ -1,5 +1,6 @@
 use Rattle.std.proofs.Common.{◌≡◌, ◌∙◌, ◌+◌, ◌-◌, ◌^◌, ◌++◌, [], min, ap, sym}
 use Rattle.sany_tool.specs.Program.{with_read}
+use Rattle.sany_tool.proofs.NamedLemmas.{named-more, distinct-more}
 use Rattle.sany_tool.proofs.ReadingLemmas.{reads-more, reads-over, told-more, count-more}
 use Rattle.sany_tool.proofs.files.read_files.Goals as goal
 
@@ -23,6 +24,12 @@ loop-name-preserved g c =
           reads-more (g.F.Folder.told c.args.folder.now) (g.F.Folder.told c.loop-name.folder) (g.F.Folder.told c.read_module.new.folder) c.args.path.now c.args.names.now
           c.loop-name.name-index c.name-item.result c.as_str.result.now c.in_ok-bytes.bytes c.loop-name.files c.add_file.new.files c.loop-name-test.true
           (c.as_str.ensures ∙ c.name-item.is) inv.told read.goes inv.files read.bytes added;
+      named =
+          named-more c.args.names.now c.loop-name.name-index c.name-item.result c.as_str.result.now c.in_ok-bytes.bytes c.loop-name.files c.add_file.new.files c.loop-name-test.true
+          (c.as_str.ensures ∙ c.name-item.is) added inv.named;
+      distinct =
+          distinct-more c.args.names.now c.loop-name.name-index c.name-item.result c.as_str.result.now c.in_ok-bytes.bytes c.loop-name.files c.add_file.new.files c.loop-name-test.true
+          (c.as_str.ensures ∙ c.name-item.is) added inv.named c.requires inv.distinct;
       total =
           count-more c.loop-name.files c.add_file.new.files c.as_str.result.now c.in_ok-bytes.bytes c.loop-name.total c.saturating_add-total.result added inv.total
           (c.saturating_add-total.ensures ∙ ap (λ n. min (c.loop-name.total + n) (2 ^ 64 - 1)) c.read_len.ensures) c.if-total-gt-MOST_BYTES.false;

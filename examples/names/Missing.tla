@@ -1,0 +1,4 @@
+---- MODULE Missing ----
+EXTENDS Doubler, Halver
+Half == Double(count) / 4
+====
