@@ -1,5 +1,5 @@
 // What a lexeme does where a part or a lexeme is due.
-ghost use Rattle.std.specs.Prelude.{◌≡◌, ℕ, List, [], ◌∷◌, ◌++◌, Option, Some, None, IsTrue, ◌<◌, ◌-◌, ◌^◌, IfOk};
+ghost use Rattle.std.specs.Prelude.{◌≡◌, ◌↔◌, ℕ, List, [], ◌∷◌, ◌++◌, Option, Some, None, IsTrue, ◌<◌, ◌-◌, ◌^◌, IfOk};
 ghost use Rattle.tla_symbols.specs.declared.lexeme.Lexeme.{Lexeme};
 ghost use Rattle.tla_tree.specs.Arena.{Node};
 ghost use Rattle.tla_tree.specs.Syntax as syntax;
@@ -141,7 +141,7 @@ fn end(stack: &mut Stack, tree: &mut Tree, frame: Frame, lexeme: Lexeme) -> Resu
 
 /// Whether there is room to count one place more of an operator's parameter.
 fn counts(wait: Wait) -> bool
-    ensures { IsTrue result → tables.places_of wait < 2 ^ 32 - 1 }
+    ensures { IsTrue result ↔ tables.places_of wait < 2 ^ 32 - 1 }
 {
     match wait {
         Wait::Places(_, places) => places < u32::MAX,
