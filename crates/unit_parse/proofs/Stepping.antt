@@ -29,7 +29,7 @@ use Rattle.unit_parse.specs.declared.reading.Reading.{Reading}
 use Rattle.unit_parse.specs.declared.reading.Heard.{Heard}
 use Rattle.unit_parse.specs.declared.state.Unfinished.{Unfinished}
 use Rattle.unit_parse.specs.declared.state.State.{State}
-use Rattle.unit_parse.specs.declared.step.Ended.{Ended}
+use Rattle.unit_parse.specs.declared.parts.Ended.{Ended}
 use Rattle.unit_parse.specs.Standing.{IsFrame, AreFrames, IsUnder, IsReading, IsFocus, IsState, IsMoved, Moves, Makes, Takes, Hears, EndsWhole, EndsMoving, IsEnded, Ends}
 use Rattle.unit_parse.proofs.Growing.{frame-grows, frames-grow, under-grows}
 

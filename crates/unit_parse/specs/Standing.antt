@@ -23,7 +23,7 @@ use Rattle.unit_parse.specs.declared.reading.Heard.{Heard}
 use Rattle.unit_parse.specs.declared.state.Begun.{Begun}
 use Rattle.unit_parse.specs.declared.state.Unfinished.{Unfinished}
 use Rattle.unit_parse.specs.declared.state.State.{State}
-use Rattle.unit_parse.specs.declared.step.Ended.{Ended}
+use Rattle.unit_parse.specs.declared.parts.Ended.{Ended}
 use Rattle.unit_parse.specs.Modules.{AreUnits}
 
 -- the nodes with these numbers are there, and are these trees

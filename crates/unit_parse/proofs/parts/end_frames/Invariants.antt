@@ -1,0 +1,14 @@
+use Rattle.std.proofs.Common.{List, length}
+use Rattle.std.specs.Prelude.{reverse}
+use Rattle.unit_grammar.specs.Machine.{Frame}
+use Rattle.unit_parse.specs.Standing.{IsFrame, AreFrames}
+use Rattle.unit_parse.proofs.Stepping.{Goes}
+use Rattle.unit_parse.proofs.parts.end_frames.Given as goal
+
+abbrev pub invariant-loop-frame : goal.invariant-loop-frame
+invariant-loop-frame l = record {
+  goes : (f : Frame) → (fs : List Frame) → IsFrame l.initial.tree l.fn.innermost f → AreFrames l.initial.tree (reverse l.initial.below.items) fs → Goes l.initial.tree l.tree l.below.items l.frame f fs l.lexeme;
+}
+
+abbrev pub decreases-loop-frame : goal.decreases-loop-frame
+decreases-loop-frame l = length l.below.items

@@ -1,0 +1,113 @@
+// Where a whole part goes: into its unit, or to the frame that waits for it.
+ghost use Rattle.std.specs.Prelude.{◌≡◌, ◌<◌, ℕ, List, [], ◌∷◌, length, IfOk};
+ghost use Rattle.tla_symbols.specs.declared.lexeme.Lexeme.{Lexeme};
+ghost use Rattle.tla_tree.specs.Arena as arena;
+ghost use Rattle.tla_tree.specs.Arena.{tree_at};
+ghost use Rattle.tla_tree.specs.Syntax as syntax;
+ghost use Rattle.expr_parse.specs.Standing.{IsPart};
+ghost use Rattle.unit_grammar.specs.Units as units;
+ghost use Rattle.unit_grammar.specs.Machine as machine;
+ghost use Rattle.unit_parse.specs.Modules.{AreUnits};
+ghost use Rattle.unit_parse.specs.Standing.{IsBegun, IsReached, IsUnder, IsMoved};
+
+use crate::due::{after_declared, after_unit};
+use crate::frame::then;
+use crate::reached::Reached;
+use crate::state::{Begun, State, Unfinished};
+use expr_parse::Part;
+use tla_symbols::Lexeme;
+use tla_tree::{Form, Tree, Unit};
+use tool_list::Memory;
+use unit_tables::after_part;
+
+/// The unit of a definition, by its form.
+fn defined(tree: &Tree, local: Option<Lexeme>, node: u32) -> Unit
+    requires { node < length tree.now }
+    ensures { AreUnits tree.now (result ∷ []) (units.defined local (tree_at tree.now node) ∷ []) }
+{
+    match tree.form(node) {
+        Form::FunctionDefinition(_) => Unit::FunctionDefinition { local, node },
+        Form::ModuleDefinition(_) => Unit::ModuleDefinition { local, node },
+        _ => Unit::OperatorDefinition { local, node },
+    }
+}
+
+/// A whole part of a unit, before a lexeme.
+pub(crate) fn finish(
+    reached: Reached,
+    begun: Begun,
+    tree: &Tree,
+    part: Part,
+    lexeme: Lexeme,
+) -> Result<Option<State>, Memory>
+    requires { part.node < length tree.now }
+    ensures { IfOk result (λ moved. (depth : ℕ) → (us : List units.UnitTree) → (b : machine.Begun) → (x : syntax.Tree) → (spelled : List Lexeme) → IsReached tree.now reached depth us → IsBegun tree.now begun b → IsPart tree.now part x spelled → IsMoved tree.now moved (machine.finished b x depth us lexeme)) }
+{
+    let node = part.node;
+    match begun {
+        Begun::Constants(declarations) => {
+            let declarations = then(declarations, node)?;
+            let state = after_declared(reached, declarations, lexeme)?;
+            Ok(state)
+        }
+        Begun::Definition(local) => {
+            let state = after_unit(reached, defined(tree, local, node), lexeme)?;
+            Ok(state)
+        }
+        Begun::Instance(local) => {
+            let state = after_unit(reached, Unit::Instance { local, node }, lexeme)?;
+            Ok(state)
+        }
+        Begun::Assumption(word) => {
+            let state = after_unit(
+                reached,
+                Unit::Assumption {
+                    word,
+                    name: None,
+                    node,
+                },
+                lexeme,
+            )?;
+            Ok(state)
+        }
+        Begun::Theorem(word) => {
+            let state = after_unit(
+                reached,
+                Unit::Theorem {
+                    word,
+                    name: None,
+                    node,
+                },
+                lexeme,
+            )?;
+            Ok(state)
+        }
+    }
+}
+
+/// A whole part of a unit, with its last lexeme: declarations of constants may end so.
+fn conclude(reached: Reached, begun: Begun, node: u32) -> Result<Option<State>, Memory>
+    ensures { IfOk result (λ moved. (nodes : List arena.Node) → (depth : ℕ) → (us : List units.UnitTree) → (b : machine.Begun) → (x : syntax.Tree) → (spelled : List Lexeme) → (part : Part) → IsReached nodes reached depth us → IsBegun nodes begun b → part.node ≡ node → IsPart nodes part x spelled → IsMoved nodes moved (machine.concluded b x depth us)) }
+{
+    match begun {
+        Begun::Constants(declarations) => {
+            let declarations = then(declarations, node)?;
+            Ok(Some(State::Declared(reached, declarations)))
+        }
+        _ => Ok(None),
+    }
+}
+
+/// A frame has ended with its last lexeme, and the one below takes its part.
+pub(crate) fn shut(unfinished: Unfinished, part: Part) -> Result<Option<State>, Memory>
+    ensures { IfOk result (λ moved. (nodes : List arena.Node) → (depth : ℕ) → (us : List units.UnitTree) → (b : machine.Begun) → (fs : List machine.Frame) → (x : syntax.Tree) → (spelled : List Lexeme) → IsUnder nodes unfinished b fs depth us → IsPart nodes part x spelled → IsMoved nodes moved (machine.shut b fs x spelled depth us)) }
+{
+    let mut unfinished = unfinished;
+    let Some(frame) = unfinished.below.pop() else {
+        let state = conclude(unfinished.reached, unfinished.begun, part.node)?;
+        return Ok(state);
+    };
+    let wait = after_part(frame.wait);
+    let frame = frame.takes(wait, part)?;
+    Ok(Some(State::Part(unfinished, frame)))
+}
