@@ -10,13 +10,12 @@ ghost use Rattle.check_core.specs.Faces.{IsFace, IsOwn, interfaces, with_import,
 ghost use Rattle.check_core.specs.Faces as entry_of;
 ghost use Rattle.check_core.specs.Parts.{AreParts, held_by};
 
-use crate::imports::spelled;
 use crate::parts::Parts;
 use module_graph::imports_are_lexemes;
 use std::alloc::Global;
 use std::sync::Arc;
 use symbol_scope::exports;
-use tla_model::{Entity, Entry, Face, Import, Imported, Interface, ModuleId};
+use tla_model::{Entity, Entry, Face, Import, Imported, Interface, ModuleId, spelled};
 use tla_symbols::Lexeme;
 use tla_tree::{ModuleTree, Tree};
 use tool_list::{Chars, List, Memory};

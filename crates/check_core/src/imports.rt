@@ -2,7 +2,7 @@
 ghost use Rattle.std.specs.Prelude.{◌≡◌, ◌++◌, IfOk, OnOk, option_copied};
 ghost use Rattle.std.specs.List.{AllByRecursion};
 ghost use Rattle.tla_symbols.specs.declared.lexeme.Lexeme.{Lexeme as Name};
-ghost use Rattle.tla_model.specs.Lexemes.{LiesIn, spelled};
+ghost use Rattle.tla_model.specs.Lexemes.{LiesIn};
 ghost use Rattle.unit_grammar.specs.UnitNodes.{module_of};
 ghost use Rattle.module_graph.specs.Imports.{imports_of};
 ghost use Rattle.symbol_scope.specs.Given.{IsReadable};
@@ -12,18 +12,10 @@ ghost use Rattle.check_core.specs.Codes.{coded};
 
 use module_graph::{enclosing, imports_are_lexemes, lexemes_lie_names};
 use std::alloc::Global;
-use tla_model::{Diagnostic, Import, Imported};
+use tla_model::{Diagnostic, Import, Imported, spelled};
 use tla_symbols::Lexeme;
 use tla_tree::ModuleTree;
 use tool_list::{List, Memory};
-
-/// The bytes of a lexeme.
-pub fn spelled<'a>(source: &'a str, lexeme: &Lexeme) -> &'a str
-    requires { LiesIn source.now lexeme.now }
-    ensures { result.now ≡ spelled source.now lexeme.now }
-{
-    &source[lexeme.span.start as usize..lexeme.span.end as usize]
-}
 
 // The code of the fault of an import, if it has one.
 fn code_of(import: Option<&Import>) -> Option<u16>

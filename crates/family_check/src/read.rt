@@ -23,7 +23,7 @@ use module_graph::{imports, imports_are_lexemes, lexemes_lie_names};
 use std::alloc::Global;
 use std_modules::std_text;
 use tla_front::{FrontError, front};
-use tla_model::Diagnostic;
+use tla_model::{Diagnostic, spelled};
 use tla_symbols::Lexeme;
 use tla_tree::ModuleTree;
 use tool_list::{Chars, List, Memory};
@@ -64,14 +64,6 @@ fn read_front(alloc: Global, name: &str, bytes: &[u8]) -> Result<ModuleTree, Fro
     ensures placed { IfErr result (λ error. IsFaultPlaced (take (readable_len bytes.now) bytes.now) error) }
 {
     front(alloc, name, bytes)
-}
-
-// The bytes of a lexeme.
-fn spelled<'a>(source: &'a str, lexeme: &Lexeme) -> &'a str
-    requires { lexemes_of.LiesIn source.now lexeme.now }
-    ensures { result.now ≡ lexemes_of.spelled source.now lexeme.now }
-{
-    &source[lexeme.span.start as usize..lexeme.span.end as usize]
 }
 
 // The bytes of lexemes.

@@ -8,8 +8,9 @@ ghost use Rattle.module_graph.specs.Nestings.{begun_name};
 ghost use Rattle.module_graph.specs.Rounds.{AreAround, is_enclosed};
 
 use crate::around::Around;
-use crate::unit_names::{module_names, spelled};
+use crate::unit_names::module_names;
 use std::alloc::Global;
+use tla_model::spelled;
 use tla_symbols::Lexeme;
 use tla_tree::{ModuleTree, Unit};
 use tool_list::{List, Memory};

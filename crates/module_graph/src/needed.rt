@@ -8,8 +8,9 @@ ghost use Rattle.module_graph.specs.Imports.{AreNamesPlaced, LiesIn, is_needed, 
 ghost use Rattle.module_graph.specs.Nestings.{IsNesting, scope_of, begun_name};
 
 use crate::nesting::Nesting;
-use crate::unit_names::{copied, module_names, spelled};
+use crate::unit_names::{copied, module_names};
 use std::alloc::Global;
+use tla_model::spelled;
 use tla_symbols::Lexeme;
 use tla_tree::{ModuleTree, Unit};
 use tool_list::{List, Memory};

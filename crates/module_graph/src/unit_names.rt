@@ -3,7 +3,6 @@ ghost use Rattle.std.specs.Prelude.{◌≡◌, IfOk};
 ghost use Rattle.tla_tree.specs.Arena.{AreThere};
 ghost use Rattle.unit_grammar.specs.UnitNodes.{nodes_in, unit_at};
 ghost use Rattle.module_graph.specs.Imports as names_of;
-ghost use Rattle.module_graph.specs.Imports.{LiesIn, spelled};
 ghost use Rattle.module_graph.specs.Nestings.{InstancesAt};
 
 use crate::trees::instances;
@@ -11,14 +10,6 @@ use std::alloc::Global;
 use tla_symbols::Lexeme;
 use tla_tree::{Tree, Unit};
 use tool_list::{List, Memory};
-
-/// The bytes of a lexeme.
-pub fn spelled<'a>(source: &'a str, lexeme: &Lexeme) -> &'a str
-    requires { LiesIn source.now lexeme.now }
-    ensures { result.now ≡ spelled source.now lexeme.now }
-{
-    &source[lexeme.span.start as usize..lexeme.span.end as usize]
-}
 
 /// The same names. `Memory` comes where there was no room.
 pub fn copied(alloc: Global, names: &[Lexeme]) -> Result<List<Lexeme>, Memory>

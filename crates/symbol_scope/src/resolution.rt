@@ -15,9 +15,9 @@ use crate::declared::declaring;
 use crate::entries::listed_entries;
 use crate::nesting::Nesting;
 use crate::reading::Reading;
-use crate::text::{ModuleText, spelled};
+use crate::text::ModuleText;
 use std::alloc::Global;
-use tla_model::{Binder, Bound, Entry, Finding, Imported, in_order};
+use tla_model::{Binder, Bound, Entry, Finding, Imported, in_order, spelled};
 use tla_tree::ModuleTree;
 use tool_list::{List, Memory};
 
@@ -32,7 +32,7 @@ fn text_of<'a>(
     ensures { IfOk result (λ text. text ≡ resolution.text_of tree.now.source (module_of tree.now)) }
 {
     let source = tree.source.as_str();
-    let file = spelled(source, tree.name);
+    let file = spelled(source, &tree.name);
     ModuleText::new(alloc, file, source, names)
 }
 

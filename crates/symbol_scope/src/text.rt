@@ -9,7 +9,7 @@ use crate::table::Named;
 use indexmap::IndexMap;
 use std::alloc::Global;
 use std::marker::Model;
-use tla_model::{Binder, Callee, DeclId, Meaning};
+use tla_model::{Binder, Callee, DeclId, Meaning, spelled};
 use tla_symbols::{LexKind, Lexeme};
 use tool_list::{Chars, List, Memory};
 
@@ -34,14 +34,6 @@ impl<'a> Model for ModuleText<'a> {
     ghost view = { λ t. record { file = t.file.now; source = t.source.now; starts = t.starts.items } };
 
     ghost invariant = { λ t. AreNoted t.places.entries t.starts.items };
-}
-
-/// The bytes of a lexeme in a text.
-pub fn spelled(source: &str, lexeme: Lexeme) -> &str
-    requires { LiesIn source.now lexeme }
-    ensures { result.now ≡ spelled_in source.now lexeme }
-{
-    &source[lexeme.span.start as usize..lexeme.span.end as usize]
 }
 
 // Appends where a declaring name begins, and notes its place unless another one begins there.
@@ -89,7 +81,7 @@ impl<'a> ModuleText<'a> {
         requires { LiesIn self.now.source lexeme }
         ensures { result.now ≡ spelled_in self.now.source lexeme }
     {
-        spelled(self.source, lexeme)
+        spelled(self.source, &lexeme)
     }
 
     /// The name that a lexeme is.

@@ -14,6 +14,7 @@ mod imported;
 mod laws;
 mod names;
 mod order;
+mod spelling;
 
 pub use bound::{Bound, Implied};
 pub use entity::{Decl, Entity, Entry, Level, Name, Use};
@@ -23,6 +24,7 @@ pub use imported::{Import, Imported};
 pub use laws::faults_at_lexemes;
 pub use names::{Binder, Binding, Finding, Meaning};
 pub use order::in_order;
+pub use spelling::spelled;
 
 /// A fault of a module: its code, and where it stands in the module's text, in bytes.
 #[derive(Clone, Copy, Debug, PartialEq, Eq)]
