@@ -10,7 +10,7 @@ use Rattle.tla_tree.specs.declared.unit.ModuleTree.{ModuleTree}
 use Rattle.tla_symbols.specs.declared.lexeme.Lexeme.{Lexeme}
 use Rattle.tla_model.specs.Entities.{declaring}
 use Rattle.tla_model.specs.Lexemes.{LexemesLie, spelled}
-use Rattle.tla_front.specs.Fronts.{Tree, Fault, IsFront, IsFrontOfLexemes, IsTree, spelling, whole, read}
+use Rattle.tla_front.specs.Fronts.{Tree, Fault, IsFront, IsFrontOfLexemes, IsTree, whole, read}
 use Rattle.unit_grammar.specs.Units.{ModuleUnits}
 use Rattle.unit_grammar.specs.UnitNodes.{module_of}
 use Rattle.std_modules.specs.StdTexts.{std_text}
@@ -27,10 +27,10 @@ use Rattle.family_check.proofs.Tabling.{entry-found, entry-none, entry-some}
 
 -- ---- trees
 
-front-of-lexemes-named : {name bytes : List ℕ} {lexemes : List Lexeme} {found : ModuleUnits} → IsFrontOfLexemes name bytes lexemes (Tree found) → spelling bytes found.name ≡ name
+front-of-lexemes-named : {name bytes : List ℕ} {lexemes : List Lexeme} {found : ModuleUnits} → IsFrontOfLexemes name bytes lexemes (Tree found) → spelled bytes found.name ≡ name
 front-of-lexemes-named (whole d low named) = named
 
-front-named : {name bytes : List ℕ} {found : ModuleUnits} → IsFront name bytes (Tree found) → spelling bytes found.name ≡ name
+front-named : {name bytes : List ℕ} {found : ModuleUnits} → IsFront name bytes (Tree found) → spelled bytes found.name ≡ name
 front-named (read full few part front) = front-of-lexemes-named front
 
 -- a tree that was read is that of its bytes

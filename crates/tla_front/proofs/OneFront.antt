@@ -7,11 +7,12 @@ use Rattle.std.specs.Str.{bytes_eq, is_utf8}
 use Rattle.tla_symbols.specs.declared.lexeme.Lexeme.{Lexeme}
 use Rattle.tla_lexeme.specs.Longest.{ReadsLongest}
 use Rattle.tla_lexeme.specs.ModulePart.{module_part}
+use Rattle.tla_model.specs.Lexemes.{spelled}
 use Rattle.unit_grammar.specs.Units.{ModuleUnits}
 use Rattle.unit_grammar.specs.Derivation.{DerivesModule}
 use Rattle.unit_grammar.specs.FirstBad.{IsDerivable, Begins, IsFirstBad, EndsOnce}
 use Rattle.unit_grammar.specs.Heights.{module_height}
-use Rattle.tla_front.specs.Fronts.{Front, Tree, Fault, fault_at, fault_of, greatest, readable_len, spelling, syntax_code, MOST_TEXT, MOST_HEIGHT, IsFirstHigh, IsFrontOfLexemes, bad, high, misnamed, whole, IsFront, not_utf8, too_large, no_header, read}
+use Rattle.tla_front.specs.Fronts.{Front, Tree, Fault, fault_at, fault_of, greatest, readable_len, syntax_code, MOST_TEXT, MOST_HEIGHT, IsFirstHigh, IsFrontOfLexemes, bad, high, misnamed, whole, IsFront, not_utf8, too_large, no_header, read}
 use Rattle.tla_front.specs.FirstHigh.{BeginsFurther}
 use Rattle.tla_front.proofs.HighUnits.{some-high, high-module, one-high}
 use Rattle.tla_front.proofs.TextEnds.{text-ends}
@@ -37,9 +38,9 @@ some-module name text lexemes found d =
     (λ (tall : MOST_HEIGHT < module_height found). let first : (t : Lexeme) × IsFirstHigh found lexemes t = some-high d tall in (Fault (fault_of 105 first.0), high d first.1))
     (λ (low : module_height found ≤ MOST_HEIGHT).
     ⊎_elim
-    (λ (same : bytes_eq (spelling text found.name) name ≡ true). (Tree found, whole d low ((bytes_eq-Decides (spelling text found.name) name).0 same)))
-    (λ (other : bytes_eq (spelling text found.name) name ≡ false). (Fault (fault_of 103 found.name), misnamed d low (λ e. both_ways (bytes_eq (spelling text found.name) name) other ((bytes_eq-Decides (spelling text found.name) name).1 e))))
-    (cases_Bool (bytes_eq (spelling text found.name) name)))
+    (λ (same : bytes_eq (spelled text found.name) name ≡ true). (Tree found, whole d low ((bytes_eq-Decides (spelled text found.name) name).0 same)))
+    (λ (other : bytes_eq (spelled text found.name) name ≡ false). (Fault (fault_of 103 found.name), misnamed d low (λ e. both_ways (bytes_eq (spelled text found.name) name) other ((bytes_eq-Decides (spelled text found.name) name).1 e))))
+    (cases_Bool (bytes_eq (spelled text found.name) name)))
     (cases_lt MOST_HEIGHT (module_height found))
 
 some-bad : (name text : List ℕ) (lexemes : List Lexeme) (index : ℕ) → index < length lexemes → IsFirstBad lexemes index → (front : Front) × IsFrontOfLexemes name text lexemes front
@@ -134,10 +135,10 @@ same-lexemes law name text lexemes further (high {found = found} {t = t} d h) (w
 same-lexemes law name text lexemes further (misnamed {found = found} d low n) (bad f e) = absurd (f.refused (found, d))
 same-lexemes law name text lexemes further (misnamed {found = found} d low n) (high {found = other} {t = u} e k) = absurd (never-high law lexemes other found u e d k low)
 same-lexemes law name text lexemes further (misnamed {found = found} d low n) (misnamed {found = other} e low' m) = ap (λ (f : ModuleUnits). Fault (fault_of 103 f.name)) (law found other lexemes d e)
-same-lexemes law name text lexemes further (misnamed {found = found} d low n) (whole {found = other} e low' m) = absurd (n (ap (λ (f : ModuleUnits). spelling text f.name) (law found other lexemes d e) ∙ m))
+same-lexemes law name text lexemes further (misnamed {found = found} d low n) (whole {found = other} e low' m) = absurd (n (ap (λ (f : ModuleUnits). spelled text f.name) (law found other lexemes d e) ∙ m))
 same-lexemes law name text lexemes further (whole {found = found} d low n) (bad f e) = absurd (f.refused (found, d))
 same-lexemes law name text lexemes further (whole {found = found} d low n) (high {found = other} {t = u} e k) = absurd (never-high law lexemes other found u e d k low)
-same-lexemes law name text lexemes further (whole {found = found} d low n) (misnamed {found = other} e low' m) = absurd (m (ap (λ (f : ModuleUnits). spelling text f.name) (sym (law found other lexemes d e)) ∙ n))
+same-lexemes law name text lexemes further (whole {found = found} d low n) (misnamed {found = other} e low' m) = absurd (m (ap (λ (f : ModuleUnits). spelled text f.name) (sym (law found other lexemes d e)) ∙ n))
 same-lexemes law name text lexemes further (whole {found = found} d low n) (whole {found = other} e low' m) = ap (λ (f : ModuleUnits). Tree f) (law found other lexemes d e)
 
 some-same : (o : Option (List Lexeme)) (ls ms : List Lexeme) → o ≡ Some ls → o ≡ Some ms → ls ≡ ms

@@ -13,11 +13,12 @@ use Rattle.tla_symbols.specs.declared.lexeme.Lexeme.{Lexeme}
 use Rattle.tla_lexeme.specs.ModulePart.{module_part}
 use Rattle.tla_lexeme.specs.Spans.{IsPlaced}
 use Rattle.tla_model.specs.declared.Diagnostic.{Diagnostic}
+use Rattle.tla_model.specs.Lexemes.{spelled}
 use Rattle.tla_tree.specs.declared.unit.ModuleTree.{ModuleTree}
 use Rattle.unit_grammar.specs.Units.{ModuleUnits}
 use Rattle.unit_grammar.specs.Derivation.{BeginsModule, alone, extending, DerivesModule, outermost}
 use Rattle.unit_grammar.specs.FirstBad.{IsFirstBad}
-use Rattle.tla_front.specs.Fronts.{Front, Fault, Tree, fault_at, fault_of, greatest, readable_len, spelling, syntax_code, MOST_TEXT, MOST_HEIGHT, IsFirstHigh, IsFrontOfLexemes, bad, high, misnamed, whole, IsFront, not_utf8, too_large, no_header, read, IsTree}
+use Rattle.tla_front.specs.Fronts.{Front, Fault, Tree, fault_at, fault_of, greatest, readable_len, syntax_code, MOST_TEXT, MOST_HEIGHT, IsFirstHigh, IsFrontOfLexemes, bad, high, misnamed, whole, IsFront, not_utf8, too_large, no_header, read, IsTree}
 use Rattle.tla_front.specs.declared.module.FrontError.{FrontError}
 use Rattle.tla_front.specs.Faults.{IsFaultBehind, IsFrontFault, IsFaultOfLexemes, IsRead, IsHigh, IsReadFront}
 
@@ -122,18 +123,18 @@ read-fault name text lexemes (Err FrontError.Memory) utf8 small part h = tt
 pub high-front : (name text : List ℕ) (tree : ModuleTree) (lexemes : List Lexeme) (t : Lexeme) (fault : Diagnostic) → IsHigh tree lexemes t → fault ≡ fault_of 105 t → IsFrontOfLexemes name text lexemes (Fault fault)
 high-front name text tree lexemes t fault h e = subst (λ f. IsFrontOfLexemes name text lexemes (Fault f)) (sym e) (high h.1 h.3)
 
-pub misnamed-front : (name text : List ℕ) (tree : ModuleTree) (lexemes : List Lexeme) (fault : Diagnostic) → IsRead tree lexemes → tree.height ≤ MOST_HEIGHT → spelling text tree.name ≢ name → fault ≡ fault_of 103 tree.name → IsFrontOfLexemes name text lexemes (Fault fault)
+pub misnamed-front : (name text : List ℕ) (tree : ModuleTree) (lexemes : List Lexeme) (fault : Diagnostic) → IsRead tree lexemes → tree.height ≤ MOST_HEIGHT → spelled text tree.name ≢ name → fault ≡ fault_of 103 tree.name → IsFrontOfLexemes name text lexemes (Fault fault)
 misnamed-front name text tree lexemes fault h low other e =
     let found : ModuleUnits = h.0 in
     let named : tree.name ≡ found.name = h.2.name in
     subst (λ f. IsFrontOfLexemes name text lexemes (Fault f)) (ap (fault_of 103) (sym named) ∙ sym e)
-    (misnamed h.1 (subst (λ n. n ≤ MOST_HEIGHT) h.2.height low) (subst (λ (n : Lexeme). spelling text n ≢ name) named other))
+    (misnamed h.1 (subst (λ n. n ≤ MOST_HEIGHT) h.2.height low) (subst (λ (n : Lexeme). spelled text n ≢ name) named other))
 
-pub whole-front : (name text : List ℕ) (tree made : ModuleTree) (lexemes : List Lexeme) → IsRead tree lexemes → tree.height ≤ MOST_HEIGHT → spelling text tree.name ≡ name → made ≡ record tree { source = text } → IsReadFront name text lexemes made
+pub whole-front : (name text : List ℕ) (tree made : ModuleTree) (lexemes : List Lexeme) → IsRead tree lexemes → tree.height ≤ MOST_HEIGHT → spelled text tree.name ≡ name → made ≡ record tree { source = text } → IsReadFront name text lexemes made
 whole-front name text tree made lexemes h low same e =
     let found : ModuleUnits = h.0 in
     let named : tree.name ≡ found.name = h.2.name in
-    let front : IsFrontOfLexemes name text lexemes (Tree found) = whole h.1 (subst (λ n. n ≤ MOST_HEIGHT) h.2.height low) (subst (λ (n : Lexeme). spelling text n ≡ name) named same) in
+    let front : IsFrontOfLexemes name text lexemes (Tree found) = whole h.1 (subst (λ n. n ≤ MOST_HEIGHT) h.2.height low) (subst (λ (n : Lexeme). spelled text n ≡ name) named same) in
     let is : IsTree (record tree { source = text }) found text = record { name = named; extends = h.2.extends; units = h.2.units; height = h.2.height; source = refl } in
     subst (λ (m : ModuleTree). IsReadFront name text lexemes m) (sym e) (found, front, is)
 

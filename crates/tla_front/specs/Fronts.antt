@@ -1,11 +1,12 @@
 -- The front of a module: its tree, or the one fault that is found before its names are looked at.
-use Rattle.std.specs.Prelude.{◌≡◌, ◌≢◌, ◌<◌, ◌≤◌, ◌^◌, ℕ, zero, suc, ◌-◌, List, [], ◌∷◌, ◌++◌, length, take, drop, Bool, if◌then◌else◌, Some, None}
+use Rattle.std.specs.Prelude.{◌≡◌, ◌≢◌, ◌<◌, ◌≤◌, ◌^◌, ℕ, zero, suc, List, [], ◌∷◌, ◌++◌, length, take, drop, Bool, if◌then◌else◌, Some, None}
 use Rattle.std.specs.Str.{is_utf8}
 use Rattle.tla_symbols.specs.declared.lexeme.LexKind.{LexKind}
 use Rattle.tla_symbols.specs.declared.lexeme.Lexeme.{Lexeme}
 use Rattle.tla_lexeme.specs.ModulePart.{module_part}
 use Rattle.tla_tree.specs.declared.unit.ModuleTree.{ModuleTree}
 use Rattle.tla_model.specs.declared.Diagnostic.{Diagnostic}
+use Rattle.tla_model.specs.Lexemes.{spelled}
 use Rattle.unit_grammar.specs.Units.{UnitTree, ModuleUnits}
 use Rattle.unit_grammar.specs.Derivation.{BeginsModule, DerivesUnit, DerivesUnits, DerivesModule, first}
 use Rattle.unit_grammar.specs.FirstBad.{IsFirstBad}
@@ -41,10 +42,6 @@ MOST_TEXT = 2 ^ 20
 abbrev pub MOST_HEIGHT : ℕ
 MOST_HEIGHT = 1000
 
--- the bytes of a lexeme
-abbrev pub spelling : List ℕ → Lexeme → List ℕ
-spelling text l = take (l.span.end - l.span.start) (drop l.span.start text)
-
 -- no lexeme begins, or the lexeme begins nothing that may stand there
 abbrev pub syntax_code : LexKind → ℕ
 syntax_code LexKind.Bad = 201
@@ -78,10 +75,10 @@ pub data IsFrontOfLexemes (name text : List ℕ) (lexemes : List Lexeme) : Front
       → DerivesModule found lexemes → IsFirstHigh found lexemes t
       → IsFrontOfLexemes name text lexemes (Fault (fault_of 105 t))
   misnamed : {found : ModuleUnits}
-      → DerivesModule found lexemes → module_height found ≤ MOST_HEIGHT → spelling text found.name ≢ name
+      → DerivesModule found lexemes → module_height found ≤ MOST_HEIGHT → spelled text found.name ≢ name
       → IsFrontOfLexemes name text lexemes (Fault (fault_of 103 found.name))
   whole : {found : ModuleUnits}
-      → DerivesModule found lexemes → module_height found ≤ MOST_HEIGHT → spelling text found.name ≡ name
+      → DerivesModule found lexemes → module_height found ≤ MOST_HEIGHT → spelled text found.name ≡ name
       → IsFrontOfLexemes name text lexemes (Tree found)
 
 -- the front of some bytes, for a file of this name: the first of these faults, or the module

@@ -12,4 +12,3 @@ mod name;
 mod tests;
 
 pub use module::{FrontError, front, one_front};
-pub use name::spelling;

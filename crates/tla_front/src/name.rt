@@ -1,6 +1,6 @@
 // How lexemes are spelled.
 ghost use Rattle.std.specs.Prelude.{◌≡◌, ◌≤◌, ◌↔◌, IsTrue, length, take, drop};
-ghost use Rattle.tla_front.specs.Fronts as fronts;
+ghost use Rattle.tla_model.specs.Lexemes.{spelled};
 
 use tla_symbols::Lexeme;
 
@@ -18,9 +18,9 @@ fn skip(bytes: &[u8], count: usize) -> &[u8]
     &bytes[count..]
 }
 
-/// The bytes of a lexeme, in the text that it stands in.
-pub fn spelling(text: &[u8], lexeme: Lexeme) -> &[u8]
-    ensures { result.now ≡ fronts.spelling text.now lexeme }
+// The bytes of a lexeme, in the text that it stands in.
+fn spelling(text: &[u8], lexeme: Lexeme) -> &[u8]
+    ensures { result.now ≡ spelled text.now lexeme }
 {
     let start = lexeme.span.start as usize;
     let len = (lexeme.span.end as usize).saturating_sub(start);
@@ -30,7 +30,7 @@ pub fn spelling(text: &[u8], lexeme: Lexeme) -> &[u8]
 
 /// Whether a lexeme of this text is spelled so.
 pub fn is_spelled(text: &str, lexeme: Lexeme, name: &str) -> bool
-    ensures { IsTrue result ↔ (fronts.spelling text.now lexeme ≡ name.now) }
+    ensures { IsTrue result ↔ (spelled text.now lexeme ≡ name.now) }
 {
     spelling(text.as_bytes(), lexeme) == name.as_bytes()
 }
