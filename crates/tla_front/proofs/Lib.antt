@@ -4,7 +4,6 @@ pub mod HighUnits
 pub mod HighNodes
 pub mod OneFront
 pub mod Reading
-pub mod DeclaredNames
 pub mod TextLies
 pub mod Held
 pub mod HeldTrees

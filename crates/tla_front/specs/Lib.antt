@@ -1,4 +1,3 @@
 pub mod Fronts
 pub mod Faults
 pub mod FirstHigh
-pub mod Names

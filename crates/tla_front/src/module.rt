@@ -11,7 +11,6 @@ ghost use Rattle.tla_lexeme.specs.ModulePart.{module_part};
 ghost use Rattle.tla_front.specs.Fronts as fronts;
 ghost use Rattle.tla_front.specs.Fronts.{Front, IsFront, IsFrontOfLexemes, IsTree, readable_len};
 ghost use Rattle.tla_front.specs.FirstHigh.{BeginsFurther};
-ghost use Rattle.tla_front.specs.Names.{IsUnitPlaced, units_of};
 ghost use Rattle.tla_front.specs.Faults.{IsFrontFault, IsFaultPlaced, IsFaultBehind, IsFaultOfLexemes, IsRead, IsReadFront};
 
 use crate::fault::{
@@ -59,7 +58,6 @@ impl From<Memory> for FrontError {
 pub fn front(alloc: Global, name: &str, bytes: &[u8]) -> Result<ModuleTree, FrontError>
     requires { length bytes.now < 2 ^ 31 }
     ensures tree { IfOk result (λ tree. (found : ModuleUnits) × IsFront name.now bytes.now (Front.Tree found) × IsTree tree found bytes.now) }
-    ensures names { IfOk result (λ tree. AllByRecursion (IsUnitPlaced bytes.now) (units_of tree)) }
     ensures lexemes { IfOk result (λ tree. LexemesLie bytes.now (module_of tree)) }
     ensures few { IfOk result (λ tree. length (declaring (module_of tree).units) < 2 ^ 32) }
     ensures fault { IfErr result (λ error. IsFrontFault name.now bytes.now error) }
@@ -86,7 +84,6 @@ fn text_of(alloc: Global, source: &str) -> Result<Text, Memory>
 fn front_of_text(alloc: Global, name: &str, source: &str) -> Result<ModuleTree, FrontError>
     requires { length source.now < 2 ^ 31 }
     ensures tree { IfOk result (λ tree. (found : ModuleUnits) × IsFront name.now source.now (Front.Tree found) × IsTree tree found source.now) }
-    ensures names { IfOk result (λ tree. AllByRecursion (IsUnitPlaced source.now) (units_of tree)) }
     ensures lexemes { IfOk result (λ tree. LexemesLie source.now (module_of tree)) }
     ensures few { IfOk result (λ tree. length (declaring (module_of tree).units) < 2 ^ 32) }
     ensures fault { IfErr result (λ error. IsFrontFault name.now source.now error) }
@@ -113,7 +110,6 @@ fn front_of_lexemes(
     requires placed { All (λ l. IsPlaced source.now l.span) lexemes.now }
     requires small { length source.now ≤ fronts.MOST_TEXT }
     ensures tree { IfOk result (λ tree. IsReadFront name.now source.now lexemes.now tree) }
-    ensures names { IfOk result (λ tree. AllByRecursion (IsUnitPlaced source.now) (units_of tree)) }
     ensures lexemes { IfOk result (λ tree. LexemesLie source.now (module_of tree)) }
     ensures few { IfOk result (λ tree. length (declaring (module_of tree).units) < 2 ^ 32) }
     ensures fault { IfErr result (λ error. IsFaultOfLexemes name.now source.now lexemes.now error) }
@@ -151,7 +147,6 @@ fn front_of_tree(
     requires placed { All (λ l. IsPlaced source.now l.span) lexemes.now }
     requires lie { AllByRecursion (LiesIn source.now) lexemes.now }
     ensures tree { IfOk result (λ tree. IsReadFront name.now source.now lexemes.now tree) }
-    ensures names { IfOk result (λ tree. AllByRecursion (IsUnitPlaced source.now) (units_of tree)) }
     ensures lexemes { IfOk result (λ tree. LexemesLie source.now (module_of tree)) }
     ensures few { IfOk result (λ tree. length (declaring (module_of tree).units) < 2 ^ 32) }
     ensures fault { IfErr result (λ error. IsFaultOfLexemes name.now source.now lexemes.now error) }

@@ -1,6 +1,5 @@
 use Rattle.std.proofs.lemmas.Bool.{both_ways}
 use Rattle.tla_front.proofs.Reading.{high-front, high-placed, misnamed-front, misnamed-placed, whole-front}
-use Rattle.tla_front.proofs.DeclaredNames.{read-names}
 use Rattle.tla_front.proofs.HeldUnits.{read-lie, read-few}
 use Rattle.tla_front.proofs.module.front_of_tree.Goals as goal
 
@@ -26,11 +25,6 @@ returns-then-not-is_spelled-clause-placed c =
 pub returns-clause-tree : goal.returns-clause-tree
 returns-clause-tree c =
     whole-front c.args.name.now c.args.source.now c.args.tree c.in_ok-whole.whole c.args.lexemes.now c.requires.read c.if-tree-gt-MOST_HEIGHT.false (c.is_spelled.ensures.0 c.if-not-is_spelled.false) c.in_ok-whole.ensures
-
-pub returns-clause-names : goal.returns-clause-names
-returns-clause-names c =
-    let read = whole-front c.args.name.now c.args.source.now c.args.tree c.in_ok-whole.whole c.args.lexemes.now c.requires.read c.if-tree-gt-MOST_HEIGHT.false (c.is_spelled.ensures.0 c.if-not-is_spelled.false) c.in_ok-whole.ensures in
-    read-names c.args.name.now c.args.source.now c.args.lexemes.now c.in_ok-whole.whole read c.requires.placed
 
 pub returns-clause-lexemes : goal.returns-clause-lexemes
 returns-clause-lexemes c =
