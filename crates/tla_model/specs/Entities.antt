@@ -30,7 +30,6 @@ abbrev pub name_of : List ℕ → Lexeme → Named
 name_of source l = name_by (spelled source l) l.kind
 
 -- what is built in, or an entity with the declaration that is called
-
 abbrev pub Meaning : Type 0
 Meaning = meaning.the_data
 
@@ -47,8 +46,6 @@ abbrev pub same_meaning : Meaning → Meaning → Bool
 same_meaning BuiltIn BuiltIn = true
 same_meaning (Declared e a) (Declared f b) = same_decl a.decl b.decl && same_units a.via b.via
 same_meaning _ _ = false
-
--- a declaring name with what it stands for
 
 -- ---- what a form declares or binds
 

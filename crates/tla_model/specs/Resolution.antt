@@ -20,7 +20,6 @@ pub use Rattle.tla_model.specs.declared.names.Finding.TheVariants.{Means, Unknow
 
 -- what is found at a name: a use with its meaning or without one, a declaring name that is there already, or a module
 -- that brings a name which is there with another meaning
-
 abbrev pub Finding : Type 0
 Finding = finding.the_data
 
