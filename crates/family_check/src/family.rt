@@ -57,6 +57,7 @@ fn verdicts_on<L>(
 {
     tla_front::one_front();
     faults_stand_at_lexemes();
+    // The proof needs that a count is below 2^64.
     let _count = steps.count();
     let plan = plan_of(alloc, modules)?;
     let outcomes = check_all(alloc, modules, &plan, steps)?;
