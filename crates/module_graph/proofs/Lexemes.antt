@@ -8,7 +8,8 @@ use Rattle.tla_tree.specs.declared.form.Form.TheVariants as Form
 use Rattle.tla_tree.specs.Syntax.{Tree, Trees, Node, Nil, Cons}
 use Rattle.tla_model.specs.Lexemes.{LexemesLie, held, lexemes, all_lexemes, unit_lexemes, units_lexemes, module_lexemes}
 use Rattle.unit_grammar.specs.Units.{UnitTree, Variables, Constants, OperatorDefinition, FunctionDefinition, ModuleDefinition, Instance, Assumption, Theorem, Line, ModuleBegin, ModuleEnd, ModuleUnits}
-use Rattle.module_graph.specs.Imports.{Scope, LiesIn, AreNamesPlaced, instantiated, instances, instances_in, module_names, compared, is_needed, scope_at, imports_from, imports_of, outside, round_at, enclosing_from, enclosing_of, spelled}
+use Rattle.tla_model.specs.ModuleNames.{instantiated, instances, instances_in, module_names}
+use Rattle.module_graph.specs.Imports.{Scope, LiesIn, AreNamesPlaced, compared, is_needed, scope_at, imports_from, imports_of, outside, round_at, enclosing_from, enclosing_of, spelled}
 use Rattle.module_graph.specs.Rounds.{is_enclosed}
 use Rattle.module_graph.proofs.Needs.{names-compared}
 use Rattle.module_graph.proofs.WithinUnits.{all-left, all-right, all-both}

@@ -8,7 +8,8 @@ use Rattle.tla_tree.specs.Arena.{Node}
 use Rattle.unit_grammar.specs.Units.{UnitTree, Variables, Constants, OperatorDefinition, FunctionDefinition, ModuleDefinition, Instance, Assumption, Theorem, Line, ModuleBegin, ModuleEnd}
 use Rattle.unit_grammar.specs.UnitNodes.{unit_at}
 use Rattle.module_graph.specs.Nestings.{begun_name}
-use Rattle.module_graph.specs.Imports.{LiesIn, module_names, compared}
+use Rattle.tla_model.specs.ModuleNames.{module_names}
+use Rattle.module_graph.specs.Imports.{LiesIn, compared}
 
 -- what holds for all holds for the one at a place
 all-at : {A : Type 0} (P : A → Type 0) (xs : List A) (i : ℕ) (x : A) → AllByRecursion P xs → i < length xs → x ≡ get_or xs i x → P x

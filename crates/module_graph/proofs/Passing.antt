@@ -6,7 +6,8 @@ use Rattle.tla_tree.specs.declared.form.Form.TheVariants as Form
 use Rattle.tla_tree.specs.Syntax.{Tree, Node}
 use Rattle.unit_grammar.specs.Units.{UnitTree, ModuleBegin, ModuleEnd, defined}
 use Rattle.unit_grammar.specs.Derivation.{DerivesUnit, variables, constants, definition, instance, assumption, theorem, line, nested, DerivesUnits, no_units, more_units}
-use Rattle.module_graph.specs.Imports.{Scope, spelled, taken_behind, begun, ended, scope_at, is_needed, module_names, imports_from}
+use Rattle.tla_model.specs.ModuleNames.{module_names}
+use Rattle.module_graph.specs.Imports.{Scope, spelled, taken_behind, begun, ended, scope_at, is_needed, imports_from}
 
 module _ (text outermost : List ℕ) where
   -- the scope behind units

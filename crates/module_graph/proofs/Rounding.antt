@@ -12,7 +12,8 @@ use Rattle.tla_symbols.specs.declared.lexeme.Lexeme.{Lexeme}
 use Rattle.tla_tree.specs.Arena.{Node}
 use Rattle.tla_tree.specs.declared.unit.Unit.TheVariants as unit
 use Rattle.unit_grammar.specs.UnitNodes.{unit_at}
-use Rattle.module_graph.specs.Imports.{added, enclosing_from, module_names, round_at}
+use Rattle.tla_model.specs.ModuleNames.{module_names}
+use Rattle.module_graph.specs.Imports.{added, enclosing_from, round_at}
 use Rattle.module_graph.specs.Rounds.{AreAround, outer, each_once, left_behind, is_enclosed}
 use Rattle.module_graph.proofs.Scoping.{any-bytes, take-added}
 

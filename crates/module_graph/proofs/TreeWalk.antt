@@ -7,7 +7,7 @@ use Rattle.tla_symbols.specs.declared.lexeme.Lexeme.{Lexeme}
 use Rattle.tla_tree.specs.Arena.{Node as ArenaNode, AreThere, node_at, tree_at}
 use Rattle.tla_tree.specs.Syntax.{Tree, Trees, Node, Nil, Cons, trees}
 use Rattle.tla_tree.proofs.Nodes.{tree_at-node, before-there}
-use Rattle.module_graph.specs.Imports.{instantiated, instances, instances_in}
+use Rattle.tla_model.specs.ModuleNames.{instantiated, instances, instances_in}
 
 -- how many nodes trees have
 abbrev mutual

@@ -8,7 +8,7 @@ use Rattle.tla_tree.specs.Syntax.{Tree, Trees, Nil, Cons}
 use Rattle.tla_tree.specs.Lexemes.{then}
 use Rattle.tla_tree.specs.Headings as h
 use Rattle.tla_tree.specs.Derivation as d
-use Rattle.module_graph.specs.Imports.{instantiated, instances, instances_in}
+use Rattle.tla_model.specs.ModuleNames.{instantiated, instances, instances_in}
 use Rattle.module_graph.specs.Within.{IsWithin, none, other, next}
 use Rattle.module_graph.proofs.Within.{both, before, last}
 

@@ -7,7 +7,8 @@ use Rattle.tla_tree.specs.declared.form.Form.TheVariants as Form
 use Rattle.tla_tree.specs.Syntax.{Tree, Node}
 use Rattle.unit_grammar.specs.Units.{UnitTree, Instance, Assumption, Theorem, ModuleEnd, ModuleUnits, defined}
 use Rattle.unit_grammar.specs.Derivation as d
-use Rattle.module_graph.specs.Imports.{Scope, spelled, begun, outside, is_needed, module_names, instances, imports_from, imports_of, compared, LiesIn, AreNamesPlaced}
+use Rattle.tla_model.specs.ModuleNames.{module_names, instances}
+use Rattle.module_graph.specs.Imports.{Scope, spelled, begun, outside, is_needed, imports_from, imports_of, compared, LiesIn, AreNamesPlaced}
 use Rattle.module_graph.specs.Within.{IsWithin, none, other, next}
 use Rattle.module_graph.proofs.Within.{after, both, before, last, filtered, all-within}
 use Rattle.module_graph.proofs.WithinTrees.{expression-in, definition-in, instance-in}

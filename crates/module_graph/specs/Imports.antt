@@ -10,32 +10,8 @@ use Rattle.tla_symbols.specs.declared.lexeme.Lexeme.{Lexeme}
 use Rattle.tla_tree.specs.declared.form.Form.{Form}
 use Rattle.tla_tree.specs.Syntax.{Tree, Trees, Node, Nil, Cons}
 pub use Rattle.tla_model.specs.Lexemes.{spelled, LiesIn}
+use Rattle.tla_model.specs.ModuleNames.{module_names}
 use Rattle.unit_grammar.specs.Units.{UnitTree, OperatorDefinition, FunctionDefinition, ModuleDefinition, Instance, Assumption, Theorem, ModuleBegin, ModuleEnd, ModuleUnits}
-
--- the name after INSTANCE, where a form has one
-abbrev pub instantiated : Form → List Lexeme
-instantiated (Form.Instance name) = name ∷ []
-instantiated _ = []
-
--- the names after INSTANCE in a tree, in the order of the text
-abbrev mutual
-  pub instances : Tree → List Lexeme
-  instances (Node form span parts) = instantiated form ++ instances_in parts
-
-  pub instances_in : Trees → List Lexeme
-  instances_in Nil = []
-  instances_in (Cons tree rest) = instances tree ++ instances_in rest
-
--- the module names of a unit: those that a nested module extends, or those of instances
-abbrev pub module_names : UnitTree → List Lexeme
-module_names (ModuleBegin name extends) = extends
-module_names (OperatorDefinition local x) = instances x
-module_names (FunctionDefinition local x) = instances x
-module_names (ModuleDefinition local x) = instances x
-module_names (Instance local x) = instances x
-module_names (Assumption word name x) = instances x
-module_names (Theorem word name x) = instances x
-module_names _ = []
 
 -- names and one more; one that is there already stays where it is
 abbrev pub added : List (List ℕ) → List ℕ → List (List ℕ)
@@ -100,19 +76,6 @@ enclosing_from text round (unit ∷ units) =
 -- the module names of the text that are those of nested modules round them, in the order of the text
 abbrev pub enclosing_of : List ℕ → ModuleUnits → List Lexeme
 enclosing_of text found = enclosing_from text [] found.units
-
--- the names after INSTANCE of a unit
-abbrev pub instance_names : UnitTree → List Lexeme
-instance_names (ModuleBegin name extends) = []
-instance_names unit = module_names unit
-
-abbrev pub is_some_name : List Lexeme → Bool
-is_some_name [] = false
-is_some_name (name ∷ names) = true
-
--- the word INSTANCE stands in the module
-abbrev pub holds_instance : ModuleUnits → Bool
-holds_instance found = list_any (λ unit. is_some_name (instance_names unit)) found.units
 
 -- the names that are compared: those of nested modules, and the module names
 abbrev pub compared : UnitTree → List Lexeme

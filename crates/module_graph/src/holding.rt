@@ -2,8 +2,8 @@
 ghost use Rattle.std.specs.Prelude.{◌≡◌, IfOk};
 ghost use Rattle.tla_tree.specs.Arena.{AreThere};
 ghost use Rattle.unit_grammar.specs.UnitNodes.{HasNodes, module_of, nodes_in, unit_at};
-ghost use Rattle.module_graph.specs.Imports.{instance_names, is_some_name};
-ghost use Rattle.module_graph.specs.Imports as module_names;
+ghost use Rattle.tla_model.specs.ModuleNames.{instance_names, is_some_name};
+ghost use Rattle.tla_model.specs.ModuleNames as module_names;
 
 use crate::trees::instances;
 use crate::unit_names::node_of;

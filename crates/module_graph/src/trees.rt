@@ -1,7 +1,7 @@
 // The names after INSTANCE in a tree.
 ghost use Rattle.std.specs.Prelude.{◌≡◌, ◌<◌, ◌++◌, IfOk, OnOk, length, reverse};
 ghost use Rattle.tla_tree.specs.Arena.{tree_at};
-ghost use Rattle.module_graph.specs.Imports as names_of;
+ghost use Rattle.tla_model.specs.ModuleNames as names_of;
 
 use std::alloc::Global;
 use tla_symbols::Lexeme;

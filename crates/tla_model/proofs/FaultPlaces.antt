@@ -9,17 +9,23 @@ use Rattle.tla_symbols.specs.declared.lexeme.Span.{Span}
 use Rattle.tla_symbols.specs.declared.op.Op.TheVariants as Op
 use Rattle.tla_tree.specs.declared.form.Form.TheVariants as Form
 use Rattle.tla_tree.specs.Syntax.{Tree, Trees, Node, Nil, Cons}
-use Rattle.unit_grammar.specs.Units.{UnitTree, Variables, Constants, OperatorDefinition, FunctionDefinition, Assumption, Theorem, ModuleBegin, ModuleUnits}
+use Rattle.unit_grammar.specs.Units.{UnitTree, Variables, Constants, OperatorDefinition, FunctionDefinition, ModuleDefinition, Instance, Assumption, Theorem, ModuleBegin, ModuleUnits}
 use Rattle.tla_model.specs.declared.Diagnostic.{Diagnostic}
+use Rattle.tla_model.specs.declared.ids.DeclId.{DeclId}
 use Rattle.tla_model.specs.Bindings.{faults}
 use Rattle.tla_model.specs.Contexts.{Context, bind, bind_all, meaning_of}
 use Rattle.tla_model.specs.declared.names.Binding.TheVariants as as_binding
 use Rattle.tla_model.specs.Entities.{Meaning, Binding, Binder, Text, binding_in, binding_of, bound_as, all_placed, placed, defined, follows_first, is_group, name_of, declared_in, declared_round, declared_among, variables}
-use Rattle.tla_model.specs.Exports.{Exports}
+use Rattle.tla_model.specs.Exports.{Exports, Outside, exports_by}
+use Rattle.tla_model.specs.Instances as i
 use Rattle.tla_model.specs.Lexemes.{held, lexemes, all_lexemes, unit_lexemes, units_lexemes, module_lexemes}
+use Rattle.tla_model.specs.Modules as m
+use Rattle.tla_model.specs.Modules.{Reading, Place, text_of}
 use Rattle.tla_model.specs.Resolution as r
-use Rattle.tla_model.specs.Resolution.{Finding, Means, Unknown, Taken, Clashes, Reading, Place, findings, text_of}
-use Rattle.tla_model.specs.Tables.{Symbol, has}
+use Rattle.tla_model.specs.Resolution.{Around, Position, findings}
+use Rattle.tla_model.specs.Scopes as s
+use Rattle.tla_model.specs.Scopes.{Finding, Means, Unknown, Taken, Clashes, InstanceClashes, NotReplaceable, ReplacedTwice, Unreplaced, Implied}
+use Rattle.tla_model.specs.Tables.{Named, Symbol, has, is_among}
 
 all-left : {A : Type 0} (P : A → Type 0) (a b : List A) → AllByRecursion P (a ++ b) → AllByRecursion P a
 all-left P [] b all = tt
@@ -46,6 +52,11 @@ module _ (P : Lexeme → Type 0) where
   Stands (Unknown l) = P l
   Stands (Taken l) = P l
   Stands (Clashes l) = P l
+  Stands (InstanceClashes l) = P l
+  Stands (NotReplaceable l) = P l
+  Stands (ReplacedTwice l) = P l
+  Stands (Unreplaced l) = P l
+  Stands (Implied l parameter meaning) = P l
 
   abbrev Binds : Binder → Type 0
   Binds binder = P binder.name
@@ -78,30 +89,30 @@ module _ (P : Lexeme → Type 0) where
 
   all-placed-at : (parts : Trees) → AllByRecursion P (all_lexemes parts) → AllByRecursion Places (all_placed parts)
   all-placed-at Nil all = tt
-  all-placed-at (Cons (Node form s parts) rest) all =
+  all-placed-at (Cons (Node form span parts) rest) all =
       let here : AllByRecursion P (held form ++ all_lexemes parts) = all-left P (held form ++ all_lexemes parts) (all_lexemes rest) all in
       all-both Places (placed form) (all_placed rest) (placed-at form (all-left P (held form) (all_lexemes parts) here)) (all-placed-at rest (all-right P (held form ++ all_lexemes parts) (all_lexemes rest) all))
 
-  names-at : (group : Bool) (parts : Trees) → AllByRecursion P (all_lexemes parts) → AllByRecursion Places (r.names_in group parts)
+  names-at : (group : Bool) (parts : Trees) → AllByRecursion P (all_lexemes parts) → AllByRecursion Places (s.names_in group parts)
   names-at true parts all = all-placed-at parts all
   names-at false parts all = tt
 
-  grouped-at : (parts : Trees) → AllByRecursion P (all_lexemes parts) → AllByRecursion Places (r.all_grouped parts)
+  grouped-at : (parts : Trees) → AllByRecursion P (all_lexemes parts) → AllByRecursion Places (s.all_grouped parts)
   grouped-at Nil all = tt
-  grouped-at (Cons (Node form s parts) rest) all =
+  grouped-at (Cons (Node form span parts) rest) all =
       let here : AllByRecursion P (held form ++ all_lexemes parts) = all-left P (held form ++ all_lexemes parts) (all_lexemes rest) all in
-      all-both Places (r.names_in (is_group form) parts) (r.all_grouped rest) (names-at (is_group form) parts (all-right P (held form) (all_lexemes parts) here))
+      all-both Places (s.names_in (is_group form) parts) (s.all_grouped rest) (names-at (is_group form) parts (all-right P (held form) (all_lexemes parts) here))
       (grouped-at rest (all-right P (held form ++ all_lexemes parts) (all_lexemes rest) all))
 
-  binders-at : (form : Form.the_data) (parts : Trees) → AllByRecursion P (all_lexemes parts) → AllByRecursion Binds (r.binders form parts)
+  binders-at : (form : Form.the_data) (parts : Trees) → AllByRecursion P (all_lexemes parts) → AllByRecursion Binds (s.binders form parts)
   binders-at form parts all =
-      all-either Binds (is_group form) [] (bound_as (binding_of form) (all_placed parts ++ r.all_grouped parts)) tt
-      (bound-at (binding_of form) (all_placed parts ++ r.all_grouped parts) (all-both Places (all_placed parts) (r.all_grouped parts) (all-placed-at parts all) (grouped-at parts all)))
+      all-either Binds (is_group form) [] (bound_as (binding_of form) (all_placed parts ++ s.all_grouped parts)) tt
+      (bound-at (binding_of form) (all_placed parts ++ s.all_grouped parts) (all-both Places (all_placed parts) (s.all_grouped parts) (all-placed-at parts all) (grouped-at parts all)))
 
   -- the names that a part declares
   mutual
     declared-at : (binding : Binding) (x : Tree) → AllByRecursion P (lexemes x) → AllByRecursion Binds (declared_in binding x)
-    declared-at binding (Node form s parts) all =
+    declared-at binding (Node form span parts) all =
         let own : AllByRecursion P (held form) = all-left P (held form) (all_lexemes parts) all in
         let inner : AllByRecursion P (all_lexemes parts) = all-right P (held form) (all_lexemes parts) all in
         all-both Binds (bound_as binding (placed form)) (if follows_first form then declared_round form parts else defined form parts ++ declared_among (binding_in binding form) parts)
@@ -126,133 +137,182 @@ module _ (P : Lexeme → Type 0) where
 
   -- ---- what is found in trees
 
-  module _ (text : Text) where
-    refused-at : (context : Context) (l : Lexeme) → P l → AllByRecursion Stands (r.refused text context l)
+  module _ (text : Text) (around : Around) where
+    refused-at : (context : Context) (l : Lexeme) → P l → AllByRecursion Stands (s.refused text context l)
     refused-at context l p = all-either Stands (has context (name_of text.source l)) (Taken l ∷ []) [] (p, tt) tt
 
-    all-refused-at : (context : Context) (binders : List Binder) → AllByRecursion Binds binders → AllByRecursion Stands (r.all_refused text context binders)
+    all-refused-at : (context : Context) (binders : List Binder) → AllByRecursion Binds binders → AllByRecursion Stands (s.all_refused text context binders)
     all-refused-at context [] all = tt
     all-refused-at context (binder ∷ rest) all =
-        all-both Stands (r.refused text context binder.name) (r.all_refused text (bind text context binder) rest) (refused-at context binder.name all.0) (all-refused-at (bind text context binder) rest all.1)
+        all-both Stands (s.refused text context binder.name) (s.all_refused text (bind text context binder) rest) (refused-at context binder.name all.0) (all-refused-at (bind text context binder) rest all.1)
 
-    found-at : (l : Lexeme) (meaning : Option Meaning) → P l → AllByRecursion Stands (r.found l meaning)
+    found-at : (l : Lexeme) (meaning : Option Meaning) → P l → AllByRecursion Stands (s.found l meaning)
     found-at l None p = (p, tt)
     found-at l (Some meaning) p = (p, tt)
 
-    used-at : (context : Context) (l : Lexeme) (op : Op.the_data) → P l → AllByRecursion Stands (r.used_as context l op)
-    used-at context l op p = all-either Stands (r.is_free op) (r.found l (meaning_of context (Symbol op))) [] (found-at l (meaning_of context (Symbol op)) p) tt
+    used-at : (context : Context) (l : Lexeme) (op : Op.the_data) → P l → AllByRecursion Stands (s.used_as context l op)
+    used-at context l op p = all-either Stands (s.is_free op) (s.found l (meaning_of context (Symbol op))) [] (found-at l (meaning_of context (Symbol op)) p) tt
 
-    symbol-at : (context : Context) (which : Op.the_data → Op.the_data) (l : Lexeme) (kind : LexKind.the_data) → P l → AllByRecursion Stands (r.symbol context which l kind)
+    symbol-at : (context : Context) (which : Op.the_data → Op.the_data) (l : Lexeme) (kind : LexKind.the_data) → P l → AllByRecursion Stands (s.symbol context which l kind)
     symbol-at context which l (LexKind.Sym op) p = used-at context l (which op) p
     symbol-at context which l _ p = tt
 
+    replaced-at : (l : Lexeme) (again : Bool) (parameter : Option Meaning) → P l → AllByRecursion Stands (i.replaced_as l again parameter)
+    replaced-at l again None p = (p, tt)
+    replaced-at l again (Some parameter) p = (p, all-either Stands again (ReplacedTwice l ∷ []) [] (p, tt) tt)
+
+    implied-as-at : (l : Lexeme) (parameter : Meaning) (meaning : Option Meaning) → P l → AllByRecursion Stands (i.implied_as l parameter meaning)
+    implied-as-at l parameter None p = (p, tt)
+    implied-as-at l parameter (Some meaning) p = (p, tt)
+
+    implied-at : (context : Context) (l : Lexeme) (written : List Named) (parameters : Exports) → P l → AllByRecursion Stands (i.implied context l written parameters)
+    implied-at context l written [] p = tt
+    implied-at context l written (parameter ∷ rest) p =
+        all-both Stands (if is_among written parameter.0 then [] else i.implied_as l parameter.1 (meaning_of context parameter.0)) (i.implied context l written rest)
+        (all-either Stands (is_among written parameter.0) [] (i.implied_as l parameter.1 (meaning_of context parameter.0)) tt (implied-as-at l parameter.1 (meaning_of context parameter.0) p)) (implied-at context l written rest p)
+
     -- a form that declares or binds names, by what is found in its parts
     with-names : (context : Context) (form : Form.the_data) (parts : Trees) → AllByRecursion P (held form ++ all_lexemes parts)
-        → AllByRecursion Stands (r.walk_sets text (r.reserved text context form parts) parts) → AllByRecursion Stands (r.walk_rest text (r.scope text context form parts) parts)
-        → AllByRecursion Stands (r.all_refused text context (defined form parts) ++ r.walk_sets text (r.reserved text context form parts) parts ++ r.all_refused text (r.inside text context form parts) (r.binders form parts) ++ r.walk_rest text (r.scope text context form parts) parts)
+        → AllByRecursion Stands (r.walk_sets text around (s.reserved text context form parts) parts) → AllByRecursion Stands (r.walk_rest text around (s.scope text context form parts) parts)
+        → AllByRecursion Stands (s.all_refused text context (defined form parts) ++ r.walk_sets text around (s.reserved text context form parts) parts ++ s.all_refused text (s.inside text context form parts) (s.binders form parts) ++ r.walk_rest text around (s.scope text context form parts) parts)
     with-names context form parts all sets rest =
-        let names : List Finding = r.all_refused text context (defined form parts) in
-        let among : List Finding = r.walk_sets text (r.reserved text context form parts) parts in
-        let bound : List Finding = r.all_refused text (r.inside text context form parts) (r.binders form parts) in
-        all-three Stands (names ++ among) bound (r.walk_rest text (r.scope text context form parts) parts)
+        let names : List Finding = s.all_refused text context (defined form parts) in
+        let among : List Finding = r.walk_sets text around (s.reserved text context form parts) parts in
+        let bound : List Finding = s.all_refused text (s.inside text context form parts) (s.binders form parts) in
+        all-three Stands (names ++ among) bound (r.walk_rest text around (s.scope text context form parts) parts)
         (all-both Stands names among (all-refused-at context (defined form parts) (defined-at form parts (all-left P (held form) (all_lexemes parts) all))) sets)
-        (all-refused-at (r.inside text context form parts) (r.binders form parts) (binders-at form parts (all-right P (held form) (all_lexemes parts) all))) rest
+        (all-refused-at (s.inside text context form parts) (s.binders form parts) (binders-at form parts (all-right P (held form) (all_lexemes parts) all))) rest
 
     mutual
-      walk-at : (context : Context) (x : Tree) → AllByRecursion P (lexemes x) → AllByRecursion Stands (r.walk text context x)
-      walk-at context (Node Form.Identifier s parts) all = segments-at context parts all
-      walk-at context (Node (Form.Symbol l) s parts) all = symbol-at context (r.itself) l l.kind all.0
-      walk-at context (Node (Form.Prefix l) s parts) all =
-          all-both Stands (r.symbol context r.prefixed l l.kind) (r.walk_each text context parts) (symbol-at context r.prefixed l l.kind all.0) (each-at context parts all.1)
-      walk-at context (Node (Form.Infix l) s parts) all = round-walk-at context l parts all.0 all.1
-      walk-at context (Node (Form.Postfix l) s parts) all =
-          all-both Stands (r.walk_each text context parts) (r.symbol context r.itself l l.kind) (each-at context parts all.1) (symbol-at context r.itself l l.kind all.0)
-      walk-at context (Node Form.Let s parts) all = chain-at context parts all
-      walk-at context (Node Form.SetImage s parts) all =
-          all-three Stands (r.all_refused text context (r.binders Form.SetImage parts)) (r.walk_rest text (bind_all text context (r.binders Form.SetImage parts)) parts) (r.walk_sets text context parts)
-          (all-refused-at context (r.binders Form.SetImage parts) (binders-at Form.SetImage parts all)) (rest-at (bind_all text context (r.binders Form.SetImage parts)) parts all) (sets-at context parts all)
-      walk-at context (Node form s parts) all =
-          with-names context form parts all (sets-at (r.reserved text context form parts) parts (all-right P (held form) (all_lexemes parts) all)) (rest-at (r.scope text context form parts) parts (all-right P (held form) (all_lexemes parts) all))
+      walk-at : (context : Context) (x : Tree) → AllByRecursion P (lexemes x) → AllByRecursion Stands (r.walk text around context x)
+      walk-at context (Node Form.Identifier span parts) all = segments-at context parts all
+      walk-at context (Node (Form.Symbol l) span parts) all = symbol-at context (s.itself) l l.kind all.0
+      walk-at context (Node (Form.Prefix l) span parts) all =
+          all-both Stands (s.symbol context s.prefixed l l.kind) (r.walk_each text around context parts) (symbol-at context s.prefixed l l.kind all.0) (each-at context parts all.1)
+      walk-at context (Node (Form.Infix l) span parts) all = round-walk-at context l parts all.0 all.1
+      walk-at context (Node (Form.Postfix l) span parts) all =
+          all-both Stands (r.walk_each text around context parts) (s.symbol context s.itself l l.kind) (each-at context parts all.1) (symbol-at context s.itself l l.kind all.0)
+      walk-at context (Node Form.Let span parts) all = chain-at context parts all
+      walk-at context (Node (Form.Instance l) span parts) all =
+          all-both Stands (r.replaced text around context (r.replaceable text around l) [] parts) (i.implied context l (i.left_sides text.source parts) (r.replaceable text around l))
+          (replacements-at context (r.replaceable text around l) [] parts all.1) (implied-at context l (i.left_sides text.source parts) (r.replaceable text around l) all.0)
+      walk-at context (Node Form.SetImage span parts) all =
+          all-three Stands (s.all_refused text context (s.binders Form.SetImage parts)) (r.walk_rest text around (bind_all text context (s.binders Form.SetImage parts)) parts) (r.walk_sets text around context parts)
+          (all-refused-at context (s.binders Form.SetImage parts) (binders-at Form.SetImage parts all)) (rest-at (bind_all text context (s.binders Form.SetImage parts)) parts all) (sets-at context parts all)
+      walk-at context (Node form span parts) all =
+          with-names context form parts all (sets-at (s.reserved text context form parts) parts (all-right P (held form) (all_lexemes parts) all)) (rest-at (s.scope text context form parts) parts (all-right P (held form) (all_lexemes parts) all))
 
-      each-at : (context : Context) (parts : Trees) → AllByRecursion P (all_lexemes parts) → AllByRecursion Stands (r.walk_each text context parts)
+      each-at : (context : Context) (parts : Trees) → AllByRecursion P (all_lexemes parts) → AllByRecursion Stands (r.walk_each text around context parts)
       each-at context Nil all = tt
       each-at context (Cons x rest) all =
-          all-both Stands (r.walk text context x) (r.walk_each text context rest) (walk-at context x (all-left P (lexemes x) (all_lexemes rest) all)) (each-at context rest (all-right P (lexemes x) (all_lexemes rest) all))
+          all-both Stands (r.walk text around context x) (r.walk_each text around context rest) (walk-at context x (all-left P (lexemes x) (all_lexemes rest) all)) (each-at context rest (all-right P (lexemes x) (all_lexemes rest) all))
 
-      round-walk-at : (context : Context) (l : Lexeme) (parts : Trees) → P l → AllByRecursion P (all_lexemes parts) → AllByRecursion Stands (r.walk_round text context l parts)
-      round-walk-at context l Nil p all = symbol-at context r.itself l l.kind p
+      round-walk-at : (context : Context) (l : Lexeme) (parts : Trees) → P l → AllByRecursion P (all_lexemes parts) → AllByRecursion Stands (r.walk_round text around context l parts)
+      round-walk-at context l Nil p all = symbol-at context s.itself l l.kind p
       round-walk-at context l (Cons x rest) p all =
-          all-three Stands (r.walk text context x) (r.symbol context r.itself l l.kind) (r.walk_each text context rest) (walk-at context x (all-left P (lexemes x) (all_lexemes rest) all)) (symbol-at context r.itself l l.kind p)
+          all-three Stands (r.walk text around context x) (s.symbol context s.itself l l.kind) (r.walk_each text around context rest) (walk-at context x (all-left P (lexemes x) (all_lexemes rest) all)) (symbol-at context s.itself l l.kind p)
           (each-at context rest (all-right P (lexemes x) (all_lexemes rest) all))
 
-      chain-at : (context : Context) (parts : Trees) → AllByRecursion P (all_lexemes parts) → AllByRecursion Stands (r.walk_chain text context parts)
+      chain-at : (context : Context) (parts : Trees) → AllByRecursion P (all_lexemes parts) → AllByRecursion Stands (r.walk_chain text around context parts)
       chain-at context Nil all = tt
       chain-at context (Cons x rest) all =
-          all-both Stands (r.walk text context x) (r.walk_chain text (r.behind text context x) rest) (walk-at context x (all-left P (lexemes x) (all_lexemes rest) all))
-          (chain-at (r.behind text context x) rest (all-right P (lexemes x) (all_lexemes rest) all))
+          all-both Stands (r.walk text around context x) (r.walk_chain text around (s.behind text context x) rest) (walk-at context x (all-left P (lexemes x) (all_lexemes rest) all))
+          (chain-at (s.behind text context x) rest (all-right P (lexemes x) (all_lexemes rest) all))
 
-      sets-at : (context : Context) (parts : Trees) → AllByRecursion P (all_lexemes parts) → AllByRecursion Stands (r.walk_sets text context parts)
+      sets-at : (context : Context) (parts : Trees) → AllByRecursion P (all_lexemes parts) → AllByRecursion Stands (r.walk_sets text around context parts)
       sets-at context Nil all = tt
-      sets-at context (Cons (Node form s parts) rest) all =
-          all-both Stands (if r.has_set form then r.walk text context (Node form s parts) else []) (r.walk_sets text context rest)
-          (all-either Stands (r.has_set form) (r.walk text context (Node form s parts)) [] (walk-at context (Node form s parts) (all-left P (lexemes (Node form s parts)) (all_lexemes rest) all)) tt)
-          (sets-at context rest (all-right P (lexemes (Node form s parts)) (all_lexemes rest) all))
+      sets-at context (Cons (Node form span parts) rest) all =
+          all-both Stands (if s.has_set form then r.walk text around context (Node form span parts) else []) (r.walk_sets text around context rest)
+          (all-either Stands (s.has_set form) (r.walk text around context (Node form span parts)) [] (walk-at context (Node form span parts) (all-left P (lexemes (Node form span parts)) (all_lexemes rest) all)) tt)
+          (sets-at context rest (all-right P (lexemes (Node form span parts)) (all_lexemes rest) all))
 
-      rest-at : (context : Context) (parts : Trees) → AllByRecursion P (all_lexemes parts) → AllByRecursion Stands (r.walk_rest text context parts)
+      rest-at : (context : Context) (parts : Trees) → AllByRecursion P (all_lexemes parts) → AllByRecursion Stands (r.walk_rest text around context parts)
       rest-at context Nil all = tt
-      rest-at context (Cons (Node form s parts) rest) all =
-          all-both Stands (if r.has_set form then [] else r.walk text context (Node form s parts)) (r.walk_rest text context rest)
-          (all-either Stands (r.has_set form) [] (r.walk text context (Node form s parts)) tt (walk-at context (Node form s parts) (all-left P (lexemes (Node form s parts)) (all_lexemes rest) all)))
-          (rest-at context rest (all-right P (lexemes (Node form s parts)) (all_lexemes rest) all))
+      rest-at context (Cons (Node form span parts) rest) all =
+          all-both Stands (if s.has_set form then [] else r.walk text around context (Node form span parts)) (r.walk_rest text around context rest)
+          (all-either Stands (s.has_set form) [] (r.walk text around context (Node form span parts)) tt (walk-at context (Node form span parts) (all-left P (lexemes (Node form span parts)) (all_lexemes rest) all)))
+          (rest-at context rest (all-right P (lexemes (Node form span parts)) (all_lexemes rest) all))
 
-      segments-at : (context : Context) (parts : Trees) → AllByRecursion P (all_lexemes parts) → AllByRecursion Stands (r.segments text context parts)
+      replacements-at : (context : Context) (parameters : Exports) (before : List Named) (parts : Trees) → AllByRecursion P (all_lexemes parts) → AllByRecursion Stands (r.replaced text around context parameters before parts)
+      replacements-at context parameters before Nil all = tt
+      replacements-at context parameters before (Cons (Node (Form.Replacement l) span right) rest) all =
+          all-three Stands (i.replaced_as l (is_among before (name_of text.source l)) (i.entry_of parameters (name_of text.source l))) (r.walk_each text around context right) (r.replaced text around context parameters (name_of text.source l ∷ before) rest)
+          (replaced-at l (is_among before (name_of text.source l)) (i.entry_of parameters (name_of text.source l)) all.0)
+          (each-at context right (all-left P (all_lexemes right) (all_lexemes rest) all.1)) (replacements-at context parameters (name_of text.source l ∷ before) rest (all-right P (all_lexemes right) (all_lexemes rest) all.1))
+      replacements-at context parameters before (Cons (Node form span parts) rest) all =
+          replacements-at context parameters before rest (all-right P (held form ++ all_lexemes parts) (all_lexemes rest) all)
+
+      segments-at : (context : Context) (parts : Trees) → AllByRecursion P (all_lexemes parts) → AllByRecursion Stands (r.segments text around context parts)
       segments-at context Nil all = tt
-      segments-at context (Cons (Node (Form.Segment l) s arguments) rest) all =
-          let known : Bool = is_some (meaning_of context (name_of text.source l)) in
-          all-three Stands (r.found l (meaning_of context (name_of text.source l))) (r.walk_each text context arguments) (if known then r.unfound text context rest else []) (found-at l (meaning_of context (name_of text.source l)) all.0)
-          (each-at context arguments (all-left P (all_lexemes arguments) (all_lexemes rest) all.1)) (all-either Stands known (r.unfound text context rest) [] (unfound-at context rest (all-right P (all_lexemes arguments) (all_lexemes rest) all.1)) tt)
-      segments-at context (Cons (Node _ s arguments) rest) all = tt
+      segments-at context (Cons (Node (Form.Segment l) span arguments) rest) all =
+          let meaning : Option Meaning = meaning_of context (name_of text.source l) in
+          let onward : List Finding = r.path text around context (r.path_number text around l) (r.behind_name text around meaning) rest in
+          all-three Stands (s.found l meaning) (r.walk_each text around context arguments) (if is_some meaning then onward else []) (found-at l meaning all.0)
+          (each-at context arguments (all-left P (all_lexemes arguments) (all_lexemes rest) all.1))
+          (all-either Stands (is_some meaning) onward [] (path-at context (r.path_number text around l) (r.behind_name text around meaning) rest (all-right P (all_lexemes arguments) (all_lexemes rest) all.1)) tt)
+      segments-at context (Cons (Node _ span arguments) rest) all = tt
 
-      unfound-at : (context : Context) (parts : Trees) → AllByRecursion P (all_lexemes parts) → AllByRecursion Stands (r.unfound text context parts)
-      unfound-at context Nil all = tt
-      unfound-at context (Cons (Node (Form.Segment l) s arguments) rest) all = (all.0, each-at context arguments (all-left P (all_lexemes arguments) (all_lexemes rest) all.1))
-      unfound-at context (Cons (Node _ s arguments) rest) all = tt
+      path-at : (context : Context) (number : ℕ) (held_behind : Exports) (parts : Trees) → AllByRecursion P (all_lexemes parts) → AllByRecursion Stands (r.path text around context number held_behind parts)
+      path-at context number held_behind Nil all = tt
+      path-at context number held_behind (Cons (Node (Form.Segment l) span arguments) rest) all =
+          let meaning : Option Meaning = i.entry_of held_behind (name_of text.source l) in
+          let onward : List Finding = r.path text around context number (r.behind_name text around meaning) rest in
+          all-three Stands (s.found l (i.called_by number rest meaning)) (r.walk_each text around context arguments) (if is_some meaning then onward else []) (found-at l (i.called_by number rest meaning) all.0)
+          (each-at context arguments (all-left P (all_lexemes arguments) (all_lexemes rest) all.1))
+          (all-either Stands (is_some meaning) onward [] (path-at context number (r.behind_name text around meaning) rest (all-right P (all_lexemes arguments) (all_lexemes rest) all.1)) tt)
+      path-at context number held_behind (Cons (Node _ span arguments) rest) all = tt
 
-    -- ---- what is found in modules
+  -- ---- what is found in modules
 
-    module _ (files : List ℕ → Exports) where
-      clashing-at : (reading : Reading) (names : List Lexeme) → AllByRecursion P names → AllByRecursion Stands (r.all_clashing text files reading names)
-      clashing-at reading [] all = tt
-      clashing-at reading (l ∷ rest) all =
-          let brings : Bool = r.brings_clash reading (r.brings text files reading l) in
-          all-both Stands (if brings then Clashes l ∷ [] else []) (r.all_clashing text files (r.extended reading (r.brings text files reading l)) rest) (all-either Stands brings (Clashes l ∷ []) [] (all.0, tt) tt)
-          (clashing-at (r.extended reading (r.brings text files reading l)) rest all.1)
+  module _ (text : Text) (files : List ℕ → Outside) where
+    clashing-at : (reading : Reading) (names : List Lexeme) → AllByRecursion P names → AllByRecursion Stands (m.all_clashing text (exports_by files) reading names)
+    clashing-at reading [] all = tt
+    clashing-at reading (l ∷ rest) all =
+        let brings : Bool = m.brings_clash reading (m.brings text (exports_by files) reading l) in
+        all-both Stands (if brings then Clashes l ∷ [] else []) (m.all_clashing text (exports_by files) (m.extended reading (m.brings text (exports_by files) reading l)) rest) (all-either Stands brings (Clashes l ∷ []) [] (all.0, tt) tt)
+        (clashing-at (m.extended reading (m.brings text (exports_by files) reading l)) rest all.1)
 
-      unit-at : (place : Place) (unit : UnitTree) → AllByRecursion P (unit_lexemes unit) → AllByRecursion Stands (r.found_in text files place unit)
-      unit-at place (Variables names) all = all-refused-at place.here.context (variables names) (variables-at names all)
-      unit-at place (Constants declarations) all = all-refused-at place.here.context (r.constants declarations) (among-at as_binding.Constant declarations all)
-      unit-at place (OperatorDefinition local x) all = walk-at place.here.context x all
-      unit-at place (FunctionDefinition local x) all = walk-at place.here.context x all
-      unit-at place (Assumption word name x) all = walk-at place.here.context x all
-      unit-at place (Theorem word name x) all = walk-at place.here.context x all
-      unit-at place (ModuleBegin name extends) all =
-          let taken : Bool = r.is_named text files place.here name in
-          all-both Stands (if taken then Taken name ∷ [] else []) (r.all_clashing text files (r.nested text files place.here name) extends) (all-either Stands taken (Taken name ∷ []) [] (all.0, tt) tt)
-          (clashing-at (r.nested text files place.here name) extends all.1)
-      unit-at place _ all = tt
+    module _ (words : List ℕ) (behind : DeclId → Exports) (paths : List ℕ) where
+      abbrev round : Position → Around
+      round position = r.surround text files words behind paths position
 
-      units-at : (place : Place) (units : List UnitTree) → AllByRecursion P (units_lexemes units) → AllByRecursion Stands (r.found_from text files place units)
-      units-at place [] all = tt
-      units-at place (unit ∷ units) all =
-          all-both Stands (r.found_in text files place unit) (r.found_from text files (r.after text files place unit) units) (unit-at place unit (all-left P (unit_lexemes unit) (units_lexemes units) all))
-          (units-at (r.after text files place unit) units (all-right P (unit_lexemes unit) (units_lexemes units) all))
+      clash-at : (position : Position) (x : Tree) → AllByRecursion P (lexemes x) → AllByRecursion Stands (r.clash_by text files words position x)
+      clash-at position (Node (Form.Instance l) span parts) all =
+          let clashes : Bool = m.brings_clash position.place.here (r.instance_brings text files words position (Node (Form.Instance l) span parts)) in
+          all-either Stands clashes (InstanceClashes l ∷ []) [] (all.0, tt) tt
+      clash-at position (Node form span parts) all = tt
 
-  pub findings-at : (files : List ℕ → Exports) (source : List ℕ) (units : ModuleUnits) → AllByRecursion P (module_lexemes units) → AllByRecursion Stands (findings files source units)
+      unit-at : (position : Position) (unit : UnitTree) → AllByRecursion P (unit_lexemes unit) → AllByRecursion Stands (r.found_in text files words behind paths position unit)
+      unit-at position (Variables names) all = all-refused-at text (round position) position.place.here.context (variables names) (variables-at names all)
+      unit-at position (Constants declarations) all = all-refused-at text (round position) position.place.here.context (m.constants declarations) (among-at as_binding.Constant declarations all)
+      unit-at position (OperatorDefinition local x) all = walk-at text (round position) position.place.here.context x all
+      unit-at position (FunctionDefinition local x) all = walk-at text (round position) position.place.here.context x all
+      unit-at position (ModuleDefinition local x) all = walk-at text (round position) position.place.here.context x all
+      unit-at position (Instance local x) all =
+          all-both Stands (r.walk text (round position) position.place.here.context x) (r.clash_by text files words position x) (walk-at text (round position) position.place.here.context x all) (clash-at position x all)
+      unit-at position (Assumption word name x) all = walk-at text (round position) position.place.here.context x all
+      unit-at position (Theorem word name x) all = walk-at text (round position) position.place.here.context x all
+      unit-at position (ModuleBegin name extends) all =
+          let taken : Bool = m.is_named text (exports_by files) position.place.here name in
+          all-both Stands (if taken then Taken name ∷ [] else []) (m.all_clashing text (exports_by files) (m.nested text (exports_by files) position.place.here name) extends) (all-either Stands taken (Taken name ∷ []) [] (all.0, tt) tt)
+          (clashing-at (m.nested text (exports_by files) position.place.here name) extends all.1)
+      unit-at position _ all = tt
+
+      units-at : (position : Position) (units : List UnitTree) → AllByRecursion P (units_lexemes units) → AllByRecursion Stands (r.found_from text files words behind paths position units)
+      units-at position [] all = tt
+      units-at position (unit ∷ units) all =
+          all-both Stands (r.found_in text files words behind paths position unit) (r.found_from text files words behind paths (r.after text files words position unit) units) (unit-at position unit (all-left P (unit_lexemes unit) (units_lexemes units) all))
+          (units-at (r.after text files words position unit) units (all-right P (unit_lexemes unit) (units_lexemes units) all))
+
+  pub findings-at : (files : List ℕ → Outside) (source : List ℕ) (units : ModuleUnits) → AllByRecursion P (module_lexemes units) → AllByRecursion Stands (findings files source units)
   findings-at files source units all =
       let text : Text = text_of source units in
-      all-both Stands (r.all_clashing text files (r.unread text files) units.extends) (r.found_from text files (r.begun text files units.extends) units.units)
-      (clashing-at text files (r.unread text files) units.extends (all-left P units.extends (units_lexemes units.units) all.1))
-      (units-at text files (r.begun text files units.extends) units.units (all-right P units.extends (units_lexemes units.units) all.1))
+      let words : List ℕ = r.words_of units in
+      let behind : DeclId → Exports = r.behind_all files source units in
+      let first : Position = r.first files source units in
+      all-both Stands (m.all_clashing text (exports_by files) (m.unread text (exports_by files)) units.extends) (r.found_from text files words behind (i.paths_in units.units) first units.units)
+      (clashing-at text files (m.unread text (exports_by files)) units.extends (all-left P units.extends (units_lexemes units.units) all.1))
+      (units-at text files words behind (i.paths_in units.units) first units.units (all-right P units.extends (units_lexemes units.units) all.1))
 
 -- ---- faults
 
@@ -266,6 +326,11 @@ module _ (P : Span → Type 0) where
   faults-of (Unknown l ∷ rest) all = (all.0, faults-of rest all.1)
   faults-of (Taken l ∷ rest) all = (all.0, faults-of rest all.1)
   faults-of (Clashes l ∷ rest) all = (all.0, faults-of rest all.1)
+  faults-of (InstanceClashes l ∷ rest) all = (all.0, faults-of rest all.1)
+  faults-of (NotReplaceable l ∷ rest) all = (all.0, faults-of rest all.1)
+  faults-of (ReplacedTwice l ∷ rest) all = (all.0, faults-of rest all.1)
+  faults-of (Unreplaced l ∷ rest) all = (all.0, faults-of rest all.1)
+  faults-of (Implied l parameter meaning ∷ rest) all = faults-of rest all.1
 
   by-place : (faults : List Diagnostic) → AllByRecursion (λ (f : Diagnostic). P f.span) faults → All (λ (f : Diagnostic). P f.span) faults
   by-place [] all k d lt = absurd (omega (arith, lt))
@@ -273,14 +338,14 @@ module _ (P : Span → Type 0) where
   by-place (f ∷ rest) all (suc k) d lt = by-place rest all.1 k d (omega (arith, lt))
 
   -- what holds of the places of a module's lexemes holds of those of its faults
-  pub faults-at : (files : List ℕ → Exports) (source : List ℕ) (units : ModuleUnits) → AllByRecursion At (module_lexemes units) → All (λ (f : Diagnostic). P f.span) (faults (findings files source units))
+  pub faults-at : (files : List ℕ → Outside) (source : List ℕ) (units : ModuleUnits) → AllByRecursion At (module_lexemes units) → All (λ (f : Diagnostic). P f.span) (faults (findings files source units))
   faults-at files source units all = by-place (faults (findings files source units)) (faults-of (findings files source units) (findings-at At files source units all))
 
 spans-there : (ls : List Lexeme) (spans : List Span) → All (Contains spans) (map (λ (l : Lexeme). l.span) ls) → AllByRecursion (λ (l : Lexeme). Contains spans l.span) ls
 spans-there [] spans all = tt
 spans-there (l ∷ ls) spans all = (all 0 l.span (omega arith), spans-there ls spans (λ k d lt. all (suc k) d (omega (arith, lt))))
 
-pub faults-there : (files : List ℕ → Exports) (source : List ℕ) (units : ModuleUnits) → All (λ f. Contains (map (λ l. l.span) (module_lexemes units)) f.span) (faults (findings files source units))
+pub faults-there : (files : List ℕ → Outside) (source : List ℕ) (units : ModuleUnits) → All (λ f. Contains (map (λ l. l.span) (module_lexemes units)) f.span) (faults (findings files source units))
 faults-there files source units =
     let spans : List Span = map (λ (l : Lexeme). l.span) (module_lexemes units) in
     faults-at (λ span. Contains spans span) files source units (spans-there (module_lexemes units) spans (All-contains_itself spans))

@@ -16,126 +16,132 @@ use Rattle.tla_model.specs.declared.entity.Entity.TheVariants as entity
 use Rattle.tla_model.specs.declared.ids.Callee.{Callee}
 use Rattle.tla_model.specs.Bindings.{Resolved, faults, resolved}
 use Rattle.tla_model.specs.Entities.{Meaning, BuiltIn, Declared, Binder, declaring}
-use Rattle.tla_model.specs.Exports.{Exports}
-use Rattle.tla_model.specs.Resolution.{Finding, Means, Unknown, Taken, Clashes, begun, exports_in, findings, read_all, text_of}
+use Rattle.tla_model.specs.Exports.{Exports, Outside, nothing, parameters_in}
+use Rattle.tla_model.specs.Modules.{text_of}
+use Rattle.tla_model.specs.Resolution.{exports_in, findings, first, read_all}
+use Rattle.tla_model.specs.Scopes.{Finding, Means, Unknown, Taken, Clashes}
 use Rattle.tla_model.specs.Tables.{Word, Symbol, lookup}
 
 -- ---- lexemes and trees
 
-abbrev word : ℕ → ℕ → Lexeme
+abbrev pub word : ℕ → ℕ → Lexeme
 word from to = record { kind = LexKind.Name; span = record { start = from; end = to }; line = 0; col = from }
 
-abbrev at : ℕ → Lexeme
+abbrev pub at : ℕ → Lexeme
 at from = word from (from + 1)
 
-abbrev sign : Op.the_data → ℕ → Lexeme
+abbrev pub sign : Op.the_data → ℕ → Lexeme
 sign op from = record { kind = LexKind.Sym op; span = record { start = from; end = from + 1 }; line = 0; col = from }
 
-abbrev three : Tree → Tree → Tree → Trees
+abbrev pub three : Tree → Tree → Tree → Trees
 three x y z = Cons x (two y z)
 
 -- 1, and a name with arguments or with none
-abbrev number : Tree
+abbrev pub number : Tree
 number = built (Form.Number (at 0)) Nil []
 
-abbrev segment : ℕ → Trees → Tree
+abbrev pub segment : ℕ → Trees → Tree
 segment from arguments = built (Form.Segment (at from)) arguments []
 
-abbrev identifier : Trees → Tree
+abbrev pub identifier : Trees → Tree
 identifier segments = built Form.Identifier segments []
 
-abbrev call : ℕ → Trees → Tree
+abbrev pub call : ℕ → Trees → Tree
 call from arguments = identifier (one (segment from arguments))
 
-abbrev bare : ℕ → Tree
+abbrev pub bare : ℕ → Tree
 bare from = call from Nil
 
 -- a name where it is declared or bound, and `x \in e`
-abbrev name : ℕ → Tree
+abbrev pub name : ℕ → Tree
 name from = built (Form.Name (at from)) Nil []
 
-abbrev bound : ℕ → Tree → Tree
+abbrev pub bound : ℕ → Tree → Tree
 bound from set = built Form.Bound (two (name from) set) []
 
 -- `\E`, and `\EE` of one name
-abbrev exists : Trees → Tree
+abbrev pub exists : Trees → Tree
 exists parts = built (Form.BoundedQuantifier (at 0)) parts []
 
-abbrev hidden : ℕ → Tree → Tree
+abbrev pub hidden : ℕ → Tree → Tree
 hidden from body = built (Form.TemporalQuantifier (at 0)) (two (built Form.Names (one (name from)) []) body) []
 
-abbrev let_in : Trees → Tree
+abbrev pub let_in : Trees → Tree
 let_in parts = built Form.Let parts []
 
-abbrev infix_of : Op.the_data → ℕ → Tree
+abbrev pub infix_of : Op.the_data → ℕ → Tree
 infix_of op from = built (Form.Infix (sign op from)) (two number number) []
 
 -- ---- units
 
-abbrev operator_of : ℕ → Trees → Tree
+abbrev pub operator_of : ℕ → Trees → Tree
 operator_of from parts = built (Form.OperatorDefinition (at from)) parts []
 
-abbrev operator : ℕ → Trees → UnitTree
+abbrev pub operator : ℕ → Trees → UnitTree
 operator from parts = OperatorDefinition None (operator_of from parts)
 
 -- `F == e`, and `F == 1`
-abbrev define : ℕ → Tree → UnitTree
+abbrev pub define : ℕ → Tree → UnitTree
 define from body = operator from (one body)
 
-abbrev defined : ℕ → UnitTree
+abbrev pub defined : ℕ → UnitTree
 defined from = define from number
 
-abbrev function : ℕ → Trees → UnitTree
+abbrev pub function : ℕ → Trees → UnitTree
 function from parts = FunctionDefinition None (built (Form.FunctionDefinition (at from)) parts [])
 
 -- `x + y == e`
-abbrev infix_defined : ℕ → Tree → UnitTree
+abbrev pub infix_defined : ℕ → Tree → UnitTree
 infix_defined from body = OperatorDefinition None (built (Form.InfixDefinition (sign Op.Plus (from + 1))) (three (name from) (name (from + 2)) body) [])
 
-abbrev constant : ℕ → UnitTree
+abbrev pub constant : ℕ → UnitTree
 constant from = Constants (one (name from))
 
-abbrev begin : ℕ → UnitTree
+abbrev pub begin : ℕ → UnitTree
 begin from = ModuleBegin (at from) []
 
-abbrev end : UnitTree
+abbrev pub end : UnitTree
 end = ModuleEnd (at 0)
 
-abbrev module_with : List Lexeme → List UnitTree → ModuleUnits
+abbrev pub module_with : List Lexeme → List UnitTree → ModuleUnits
 module_with extends units = record { name = at 0; extends = extends; units = units }
 
 -- ---- what names mean
 
-abbrev callee : List ℕ → ℕ → Callee
+abbrev pub callee : List ℕ → ℕ → Callee
 callee file place = record { instance = 0; decl = record { «module» = file; place = place }; via = [] }
 
-abbrev brought : List ℕ → Meaning
+abbrev pub brought : List ℕ → Meaning
 brought file = Declared (entity.Constant 0) (callee file 0)
 
-abbrev files : List ℕ → Exports
-files file =
-    if bytes_eq file (codes "A") then (Word (codes "x"), brought (codes "A")) ∷ []
-    else if bytes_eq file (codes "C") then (Word (codes "x"), brought (codes "A")) ∷ []
-    else if bytes_eq file (codes "B") then (Word (codes "x"), brought (codes "B")) ∷ []
-    else []
+-- a module that exports these, and no instance
+abbrev pub module_of : Exports → Outside
+module_of exports = record { exports = exports; parameters = parameters_in exports; behind = λ decl. [] }
 
-abbrev own : entity.the_data → ℕ → Meaning
+abbrev files : List ℕ → Outside
+files file =
+    if bytes_eq file (codes "A") then module_of ((Word (codes "x"), brought (codes "A")) ∷ [])
+    else if bytes_eq file (codes "C") then module_of ((Word (codes "x"), brought (codes "A")) ∷ [])
+    else if bytes_eq file (codes "B") then module_of ((Word (codes "x"), brought (codes "B")) ∷ [])
+    else nothing
+
+abbrev pub own : entity.the_data → ℕ → Meaning
 own what place = Declared what (callee (codes "M") place)
 
 -- a use of what M declares, by how many names stand before the declaring one
-abbrev means : ℕ → entity.the_data → ℕ → Finding
+abbrev pub means : ℕ → entity.the_data → ℕ → Finding
 means from what place = Means (at from) (own what place)
 
-abbrev unknown : ℕ → Finding
+abbrev pub unknown : ℕ → Finding
 unknown from = Unknown (at from)
 
-abbrev taken : ℕ → Finding
+abbrev pub taken : ℕ → Finding
 taken from = Taken (at from)
 
-abbrev value : entity.the_data
+abbrev pub value : entity.the_data
 value = entity.Definition []
 
-abbrev bound_name : entity.the_data
+abbrev pub bound_name : entity.the_data
 bound_name = entity.Bound false
 
 -- what is found in a module that extends these
@@ -332,7 +338,7 @@ clash_with_a_name_round_it = refl
 
 -- what the nested module of a name exports behind these units
 abbrev nested_exports : List Lexeme → List ℕ → List UnitTree → List ℕ → Option (Option Exports)
-nested_exports extends text units file = lookup bytes_eq (read_all (text_of text (module_with extends units)) files (begun (text_of text (module_with extends units)) files extends) units).here.modules file
+nested_exports extends text units file = lookup bytes_eq (read_all (text_of text (module_with extends units)) files [] (first files text (module_with extends units)) units).place.here.modules file
 
 -- EXTENDS A | MODULE N EXTENDS C | F == 1 | end
 nested_exports_what_it_brings : nested_exports (at 1 ∷ []) (codes "MANCF") (ModuleBegin (at 2) (at 3 ∷ []) ∷ defined 4 ∷ end ∷ []) (codes "N") ≡ Some (Some ((Word (codes "x"), brought (codes "A")) ∷ (Word (codes "F"), own value 1) ∷ []))

@@ -1,13 +1,16 @@
--- What modules export, and where it comes from for the imported ones: from their faces.
-use Rattle.std.specs.Prelude.{ℕ, List, [], ◌∷◌, ◌++◌, Option, Some}
+-- What modules are to those that name them, and where it comes from for the imported ones: from their faces.
+use Rattle.std.specs.Prelude.{ℕ, Bool, true, false, List, [], ◌∷◌, ◌++◌, Option, Some, None, filter, slice_get}
 use Rattle.tla_symbols.specs.declared.op.Op.{Op}
+use Rattle.tla_model.specs.declared.entity.Entity.TheVariants as entity
 use Rattle.tla_model.specs.declared.entity.Entry.{Entry}
 use Rattle.tla_model.specs.declared.entity.Name.TheVariants as name
+use Rattle.tla_model.specs.declared.face.Instance.{Instance}
 use Rattle.tla_model.specs.declared.face.Part.{Part}
+use Rattle.tla_model.specs.declared.ids.DeclId.{DeclId}
 use Rattle.tla_model.specs.declared.imported.Import.{Import}
 use Rattle.tla_model.specs.Imports.{Imports, import_of}
-use Rattle.tla_model.specs.Tables.{Table, Named, Word, Symbol}
-use Rattle.tla_model.specs.Entities.{Meaning, Declared}
+use Rattle.tla_model.specs.Tables.{Table, Named, Word, Symbol, lookup}
+use Rattle.tla_model.specs.Entities.{Entity, Meaning, BuiltIn, Declared, same_decl}
 use Rattle.std.specs.Arc.{arc_value}
 
 -- names with what they mean outside the module
@@ -18,6 +21,60 @@ abbrev pub named : name.the_data → Named
 named (name.Word bytes) = Word bytes
 named (name.Symbol op) = Symbol op
 
+-- ---- kinds of entries
+
+abbrev pub stands_for_parameter : Entity → Bool
+stands_for_parameter (entity.Constant arity) = true
+stands_for_parameter entity.Variable = true
+stands_for_parameter _ = false
+
+abbrev pub stands_behind : Entity → Bool
+stands_behind (entity.Definition orders) = true
+stands_behind (entity.Instance orders) = true
+stands_behind _ = false
+
+abbrev pub is_meant : (Entity → Bool) → Meaning → Bool
+is_meant which BuiltIn = false
+is_meant which (Declared entity callee) = which entity
+
+-- the declared constants and variables among entries: INSTANCE replaces them
+abbrev pub parameters_in : Exports → Exports
+parameters_in entries = filter (λ entry. is_meant stands_for_parameter entry.1) entries
+
+-- the definitions and instances among entries: they stand behind an instance, and INSTANCE without a name brings them
+abbrev pub carried : Exports → Exports
+carried entries = filter (λ entry. is_meant stands_behind entry.1) entries
+
+-- ---- what a module is to one that names it
+
+abbrev pub or_none : Option Exports → Exports
+or_none None = []
+or_none (Some exports) = exports
+
+-- instances by their declarations, with what stands behind them
+abbrev pub Behind : Type 0
+Behind = List (DeclId × Exports)
+
+-- what stands behind the instance of a declaration; what has nothing behind it is no instance
+abbrev pub behind_in : Behind → DeclId → Exports
+behind_in behind decl = or_none (lookup same_decl behind decl)
+
+-- what it exports, the constants and variables that it declares or extends, and what stands behind the instances that it
+-- reaches, by their declarations
+pub record Outside : Type 0 where
+  pub exports : Exports
+  pub parameters : Exports
+  pub behind : DeclId → Exports
+
+abbrev pub nothing : Outside
+nothing = record { exports = []; parameters = []; behind = λ decl. [] }
+
+-- what the modules export
+abbrev pub exports_by : (List ℕ → Outside) → List ℕ → Exports
+exports_by files name = (files name).exports
+
+-- ---- faces
+
 abbrev pub entries_of : List Entry → Exports
 entries_of [] = []
 entries_of (entry ∷ rest) = (named entry.name, Declared entry.entity entry.callee) ∷ entries_of rest
@@ -27,13 +84,51 @@ abbrev pub face_exports : List Part → Exports
 face_exports [] = []
 face_exports (part ∷ parts) = entries_of (arc_value part.interface).exports
 
-abbrev pub import_exports : Option Import → Exports
-import_exports (Some (Import.Module face)) = face_exports (arc_value face).parts
-import_exports _ = []
+abbrev pub face_parameters : List Part → Exports
+face_parameters [] = []
+face_parameters (part ∷ parts) = entries_of (arc_value part.interface).parameters
 
--- what the imported module of a name exports
-abbrev pub files_of : Imports → List ℕ → Exports
-files_of imports name = import_exports (import_of imports name)
+-- what a part exports, if there is one
+abbrev pub part_shows : Option Part → Exports
+part_shows None = []
+part_shows (Some part) = entries_of (arc_value part.interface).exports
+
+-- what the part at a place exports
+abbrev pub part_exports : List Part → Option ℕ → Exports
+part_exports parts None = []
+part_exports parts (Some place) = part_shows (slice_get parts place)
+
+-- under the name of an instance, what stands behind it; one without a name has nothing behind it
+abbrev pub under : Option DeclId → Exports → Behind
+under None exports = []
+under (Some decl) exports = (decl, exports) ∷ []
+
+-- behind the instances of a part, whose modules have these places among the parts
+abbrev pub part_behind : List Part → List ℕ → List Instance → Behind
+part_behind parts places [] = []
+part_behind parts places (instance ∷ rest) = under instance.name (carried (part_exports parts (slice_get places instance.«module»))) ++ part_behind parts places rest
+
+abbrev pub parts_behind : List Part → List Part → Behind
+parts_behind all [] = []
+parts_behind all (part ∷ rest) = part_behind all part.places (arc_value part.interface).instances ++ parts_behind all rest
+
+abbrev pub face_outside : List Part → Outside
+face_outside parts = record { exports = face_exports parts; parameters = face_parameters parts; behind = behind_in (parts_behind parts parts) }
+
+abbrev pub import_outside : Option Import → Outside
+import_outside (Some (Import.Module face)) = face_outside (arc_value face).parts
+import_outside _ = nothing
+
+-- the instances that an import brings
+abbrev pub import_behind : Option Import → Behind
+import_behind (Some (Import.Module face)) = parts_behind (arc_value face).parts (arc_value face).parts
+import_behind _ = []
+
+-- the imported module of a name
+abbrev pub files_of : Imports → List ℕ → Outside
+files_of imports name = import_outside (import_of imports name)
+
+-- ---- tables as lists
 
 -- a table as a list: identifiers, then symbols
 abbrev pub of_words : List (List ℕ × Meaning) → Exports

@@ -1,8 +1,13 @@
 pub mod Imports
 pub mod Tables
+pub mod Lexemes
+pub mod ModuleNames
 pub mod Entities
 pub mod Contexts
 pub mod Exports
+pub mod Scopes
+pub mod Modules
+pub mod Instances
 pub mod Resolution
+pub mod Substitutions
 pub mod Bindings
-pub mod Lexemes

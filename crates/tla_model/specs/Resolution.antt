@@ -1,100 +1,41 @@
--- What the names of a module without INSTANCE mean, and the faults of its names.
-use Rattle.std.specs.Prelude.{ℕ, Bool, true, false, not, ◌||◌, List, [], ◌∷◌, ◌++◌, Option, Some, None, is_some, if◌then◌else◌, map}
+-- What the names of a module mean, what it is to others, and the faults of its names.
+use Rattle.std.specs.Prelude.{ℕ, suc, false, List, [], ◌∷◌, ◌++◌, Option, Some, None, is_some, if◌then◌else◌, map}
 use Rattle.std.specs.Str.{bytes_eq}
-use Rattle.tla_symbols.specs.declared.lexeme.LexKind.TheVariants as LexKind
 use Rattle.tla_symbols.specs.declared.lexeme.Lexeme.{Lexeme}
-use Rattle.tla_symbols.specs.declared.op.Op.TheVariants as Op
-use Rattle.tla_symbols.specs.declared.place.Fix.TheVariants.{Prefix, Infix, Postfix}
-use Rattle.tla_symbols.specs.Symbols.{is_definable}
 use Rattle.tla_tree.specs.declared.form.Form.TheVariants as Form
 use Rattle.tla_tree.specs.Syntax.{Tree, Trees, Node, Nil, Cons}
-use Rattle.unit_grammar.specs.Units.{UnitTree, Variables, Constants, OperatorDefinition, FunctionDefinition, Assumption, Theorem, ModuleBegin, ModuleEnd, ModuleUnits}
-use Rattle.tla_model.specs.declared.names.Binding.TheVariants as as_binding
-use Rattle.tla_model.specs.declared.names.Finding.TheVariants as finding
-use Rattle.tla_model.specs.Tables.{Table, Named, Symbol, added, empty, find, has, lookup, put}
-use Rattle.tla_model.specs.Entities.{Meaning, Binder, Text, entity_of, binding_of, bound_as, all_placed, defined, is_group, meant, name_of, same_meaning, declared_among, declaring, variables}
+use Rattle.unit_grammar.specs.Units.{UnitTree, Variables, Constants, OperatorDefinition, FunctionDefinition, ModuleDefinition, Instance, Assumption, Theorem, ModuleBegin, ModuleEnd, ModuleUnits}
+use Rattle.tla_model.specs.declared.ids.DeclId.{DeclId}
+use Rattle.tla_model.specs.declared.ids.UnitId.{UnitId}
+use Rattle.tla_model.specs.Tables.{Named, is_among, lookup}
+use Rattle.tla_model.specs.Entities.{Meaning, Text, declaration, defined, name_of, place_in, same_decl, variables}
+use Rattle.tla_model.specs.Contexts.{Context, bind_all, meaning_of}
+use Rattle.tla_model.specs.Exports.{Behind, Exports, Outside, carried, exports_by, exports_of, nothing, or_none, parameters_in}
+use Rattle.tla_model.specs.Instances.{all_named_instances, brought_by, called_by, either, entry_of, first_of, found_behind, implied, left_sides, own_parameters, paths_in, replaced_as, unit_trees}
 use Rattle.tla_model.specs.Lexemes.{spelled}
-use Rattle.tla_model.specs.Contexts.{Context, bind, bind_all, built_in, meaning_of, reserve_all}
-use Rattle.tla_model.specs.Exports.{Exports, exports_of}
-pub use Rattle.tla_model.specs.declared.names.Finding.TheVariants.{Means, Unknown, Taken, Clashes}
+use Rattle.tla_model.specs.ModuleNames.{instances_from, names_of}
+use Rattle.tla_model.specs.Modules.{Place, Reading, all_clashing, begun, brings_clash, constants, declare_all, definition, entered, is_named, joined, left, nested, text_of, unread}
+use Rattle.tla_model.specs.Scopes.{Finding, InstanceClashes, Taken, all_refused, behind, binders, found, has_set, inside, itself, prefixed, reserved, scope, symbol}
 
--- what is found at a name: a use with its meaning or without one, a declaring name that is there already, or a module
--- that brings a name which is there with another meaning
-abbrev pub Finding : Type 0
-Finding = finding.the_data
+-- ---- expressions and definitions
 
--- ---- the names that a form binds
+-- what is known round a unit: the modules by their names, what stands behind instances, and where paths begin
+pub record Around : Type 0 where
+  pub named : List ℕ → Outside
+  pub behind : DeclId → Exports
+  pub paths : List ℕ
 
--- the names of a group, from those of its parts
-abbrev pub names_in : Bool → Trees → List (Lexeme × ℕ)
-names_in true parts = all_placed parts
-names_in false parts = []
+module _ (text : Text) (around : Around) where
+  -- the parameters of the module of a name
+  abbrev pub replaceable : Lexeme → Exports
+  replaceable l = (around.named (spelled text.source l)).parameters
 
-abbrev pub all_grouped : Trees → List (Lexeme × ℕ)
-all_grouped Nil = []
-all_grouped (Cons (Node form s parts) rest) = names_in (is_group form) parts ++ all_grouped rest
+  -- paths are counted from 1, in the order of the text
+  abbrev pub path_number : Lexeme → ℕ
+  path_number l = suc (place_in around.paths l.span.start)
 
--- the names that a form binds for its parts, one by one or in groups; a group binds none itself
-abbrev pub binders : Form.the_data → Trees → List Binder
-binders form parts = if is_group form then [] else bound_as (binding_of form) (all_placed parts ++ all_grouped parts)
-
--- a set of a bound stands outside the scope of the names of its list
-abbrev pub has_set : Form.the_data → Bool
-has_set Form.Bound = true
-has_set Form.TupleBound = true
-has_set _ = false
-
--- ---- where symbols and names are used
-
--- a symbol that means what a module defines it to be
-abbrev pub is_free : Op.the_data → Bool
-is_free op = is_definable op Prefix || is_definable op Infix || is_definable op Postfix
-
--- minus before its operand is the symbol `-.`
-abbrev pub prefixed : Op.the_data → Op.the_data
-prefixed Op.Minus = Op.Negative
-prefixed op = op
-
-abbrev pub itself : Op.the_data → Op.the_data
-itself op = op
-
-abbrev pub found : Lexeme → Option Meaning → List Finding
-found l None = Unknown l ∷ []
-found l (Some meaning) = Means l meaning ∷ []
-
-abbrev pub used_as : Context → Lexeme → Op.the_data → List Finding
-used_as context l op = if is_free op then found l (meaning_of context (Symbol op)) else []
-
--- a use of a symbol, unless it is built in
-abbrev pub symbol : Context → (Op.the_data → Op.the_data) → Lexeme → LexKind.the_data → List Finding
-symbol context which l (LexKind.Sym op) = used_as context l (which op)
-symbol context which l _ = []
-
-module _ (text : Text) where
-  -- a declaring name where it is taken
-  abbrev pub refused : Context → Lexeme → List Finding
-  refused context l = if has context (name_of text.source l) then Taken l ∷ [] else []
-
-  abbrev pub all_refused : Context → List Binder → List Finding
-  all_refused context [] = []
-  all_refused context (binder ∷ rest) = refused context binder.name ++ all_refused (bind text context binder) rest
-
-  -- the name being defined is taken in its parameters and its body
-  abbrev pub reserved : Context → Form.the_data → Trees → Context
-  reserved context form parts = reserve_all text context (defined form parts)
-
-  -- in the body a function's name is a bound name
-  abbrev pub inside : Context → Form.the_data → Trees → Context
-  inside context (Form.FunctionDefinition l) parts = bind text context (record { name = l; entity = entity_of (as_binding.Bound false) 0 })
-  inside context form parts = reserved context form parts
-
-  -- the context of what is in the scope of a form's names
-  abbrev pub scope : Context → Form.the_data → Trees → Context
-  scope context form parts = bind_all text (inside context form parts) (binders form parts)
-
-  -- behind a definition
-  abbrev pub behind : Context → Tree → Context
-  behind context (Node form s parts) = bind_all text context (defined form parts)
+  abbrev pub behind_name : Option Meaning → Exports
+  behind_name meaning = found_behind around.behind meaning
 
   abbrev mutual
     -- what is found in a tree, in the order of the text
@@ -105,13 +46,14 @@ module _ (text : Text) where
     walk context (Node (Form.Infix l) s parts) = walk_round context l parts
     walk context (Node (Form.Postfix l) s parts) = walk_each context parts ++ symbol context itself l l.kind
     walk context (Node Form.Let s parts) = walk_chain context parts
+    walk context (Node (Form.Instance l) s parts) = replaced context (replaceable l) [] parts ++ implied context l (left_sides text.source parts) (replaceable l)
     walk context (Node Form.SetImage s parts) =
-        all_refused context (binders Form.SetImage parts) ++ walk_rest (bind_all text context (binders Form.SetImage parts)) parts ++ walk_sets context parts
+        all_refused text context (binders Form.SetImage parts) ++ walk_rest (bind_all text context (binders Form.SetImage parts)) parts ++ walk_sets context parts
     walk context (Node form s parts) =
-        all_refused context (defined form parts)
-        ++ walk_sets (reserved context form parts) parts
-        ++ all_refused (inside context form parts) (binders form parts)
-        ++ walk_rest (scope context form parts) parts
+        all_refused text context (defined form parts)
+        ++ walk_sets (reserved text context form parts) parts
+        ++ all_refused text (inside text context form parts) (binders form parts)
+        ++ walk_rest (scope text context form parts) parts
 
     pub walk_each : Context → Trees → List Finding
     walk_each context Nil = []
@@ -125,7 +67,7 @@ module _ (text : Text) where
     -- each definition is in the context behind it
     pub walk_chain : Context → Trees → List Finding
     walk_chain context Nil = []
-    walk_chain context (Cons x rest) = walk context x ++ walk_chain (behind context x) rest
+    walk_chain context (Cons x rest) = walk context x ++ walk_chain (behind text context x) rest
 
     -- the sets among the parts, and the others
     pub walk_sets : Context → Trees → List Finding
@@ -136,157 +78,152 @@ module _ (text : Text) where
     walk_rest context Nil = []
     walk_rest context (Cons (Node form s parts) rest) = (if has_set form then [] else walk context (Node form s parts)) ++ walk_rest context rest
 
-    -- no name is an instance here, so a second segment is found in none, and later ones are not looked at
+    -- each left side, and then what stands for it; those before it are known
+    pub replaced : Context → Exports → List Named → Trees → List Finding
+    replaced context parameters before Nil = []
+    replaced context parameters before (Cons (Node (Form.Replacement l) s right) rest) =
+        replaced_as l (is_among before (name_of text.source l)) (entry_of parameters (name_of text.source l)) ++ walk_each context right
+        ++ replaced context parameters (name_of text.source l ∷ before) rest
+    replaced context parameters before (Cons _ rest) = replaced context parameters before rest
+
+    -- the first segment of a path, and those behind it, unless it means nothing
     pub segments : Context → Trees → List Finding
     segments context Nil = []
     segments context (Cons (Node (Form.Segment l) s arguments) rest) =
         found l (meaning_of context (name_of text.source l)) ++ walk_each context arguments
-        ++ (if is_some (meaning_of context (name_of text.source l)) then unfound context rest else [])
+        ++ (if is_some (meaning_of context (name_of text.source l)) then path context (path_number l) (behind_name (meaning_of context (name_of text.source l))) rest else [])
     segments context (Cons _ rest) = []
 
-    pub unfound : Context → Trees → List Finding
-    unfound context Nil = []
-    unfound context (Cons (Node (Form.Segment l) s arguments) rest) = Unknown l ∷ walk_each context arguments
-    unfound context (Cons _ rest) = []
+    -- a further segment, by the number of its path and what stands behind the segment before it
+    pub path : Context → ℕ → Exports → Trees → List Finding
+    path context number held Nil = []
+    path context number held (Cons (Node (Form.Segment l) s arguments) rest) =
+        found l (called_by number rest (entry_of held (name_of text.source l))) ++ walk_each context arguments
+        ++ (if is_some (entry_of held (name_of text.source l)) then path context number (behind_name (entry_of held (name_of text.source l))) rest else [])
+    path context number held (Cons _ rest) = []
+
+-- ---- units
+
+-- a module that is read, and the parameters of the modules that are nested in it or round it, the latest first
+pub record Position : Type 0 where
+  pub place : Place
+  pub nested : List (List ℕ × Exports)
+
+-- behind a nested module, whose parameters are known unless its name is taken
+abbrev pub with_nested : List (List ℕ × Exports) → Reading → List Reading → List (List ℕ × Exports)
+with_nested nested inner [] = nested
+with_nested nested inner (outer ∷ round) =
+    if is_some (lookup bytes_eq outer.modules inner.name) then nested
+    else (inner.name, own_parameters outer.context (exports_of inner.exports)) ∷ nested
+
+-- a module is read over files, and the words INSTANCE of its text stand before module names that begin here
+module _ (text : Text) (files : List ℕ → Outside) (words : List ℕ) where
+  -- a nested module that can be named, or else the file; the name of a module round this place means none
+  abbrev pub module_under : List (List ℕ × Exports) → Option (Option Exports) → List ℕ → Outside
+  module_under nested None name = files name
+  module_under nested (Some None) name = nothing
+  module_under nested (Some (Some exports)) name = record { exports = exports; parameters = or_none (lookup bytes_eq nested name); behind = λ decl. [] }
+
+  abbrev pub module_named : Position → List ℕ → Outside
+  module_named position name = module_under position.nested (lookup bytes_eq position.place.here.modules name) name
+
+  -- an INSTANCE, by the name of its module
+  abbrev pub unit_of : Lexeme → UnitId
+  unit_of l = record { «module» = text.file; place = place_in words l.span.start }
+
+  -- the entries that an INSTANCE without a name brings
+  abbrev pub instance_brings : Position → Tree → Exports
+  instance_brings position (Node (Form.Instance l) s parts) = brought_by (unit_of l) (module_named position (spelled text.source l))
+  instance_brings position _ = []
+
+  abbrev pub clash_by : Position → Tree → List Finding
+  clash_by position (Node (Form.Instance l) s parts) =
+      if brings_clash position.place.here (instance_brings position (Node (Form.Instance l) s parts)) then InstanceClashes l ∷ [] else []
+  clash_by position _ = []
+
+  -- the module that is read, changed
+  abbrev pub at_here : Position → Reading → Position
+  at_here position reading = record position { place = record { here = reading; round = position.place.round } }
+
+  abbrev pub after : Position → UnitTree → Position
+  after position (Variables names) = at_here position (declare_all text (exports_by files) false position.place.here (variables names))
+  after position (Constants declarations) = at_here position (declare_all text (exports_by files) false position.place.here (constants declarations))
+  after position (OperatorDefinition local x) = at_here position (declare_all text (exports_by files) (is_some local) position.place.here (definition x))
+  after position (FunctionDefinition local x) = at_here position (declare_all text (exports_by files) (is_some local) position.place.here (definition x))
+  after position (ModuleDefinition local x) = at_here position (declare_all text (exports_by files) (is_some local) position.place.here (definition x))
+  after position (Instance local x) = at_here position (joined (is_some local) position.place.here (instance_brings position x))
+  after position (ModuleBegin name extends) = record position { place = entered text (exports_by files) position.place name extends }
+  after position (ModuleEnd closing) = record { place = left text (exports_by files) position.place.here position.place.round; nested = with_nested position.nested position.place.here position.place.round }
+  after position _ = position
+
+  abbrev pub read_all : Position → List UnitTree → Position
+  read_all position [] = position
+  read_all position (unit ∷ units) = read_all (after position unit) units
+
+  -- what stands behind the instances that a unit names
+  abbrev pub behind_unit : Position → UnitTree → Behind
+  behind_unit position unit =
+      map (λ instance. (declaration text instance.0, carried (module_named position (spelled text.source instance.1)).exports)) (all_named_instances (unit_trees unit))
+
+  abbrev pub behind_units : Position → List UnitTree → Behind
+  behind_units position [] = []
+  behind_units position (unit ∷ units) = behind_unit position unit ++ behind_units (after position unit) units
+
+  -- what is found, by what stands behind instances and where paths begin
+  module _ (held : DeclId → Exports) (paths : List ℕ) where
+    abbrev pub surround : Position → Around
+    surround position = record { named = module_named position; behind = held; paths = paths }
+
+    abbrev pub found_in : Position → UnitTree → List Finding
+    found_in position (Variables names) = all_refused text position.place.here.context (variables names)
+    found_in position (Constants declarations) = all_refused text position.place.here.context (constants declarations)
+    found_in position (OperatorDefinition local x) = walk text (surround position) position.place.here.context x
+    found_in position (FunctionDefinition local x) = walk text (surround position) position.place.here.context x
+    found_in position (ModuleDefinition local x) = walk text (surround position) position.place.here.context x
+    found_in position (Instance local x) = walk text (surround position) position.place.here.context x ++ clash_by position x
+    found_in position (Assumption word name x) = walk text (surround position) position.place.here.context x
+    found_in position (Theorem word name x) = walk text (surround position) position.place.here.context x
+    found_in position (ModuleBegin name extends) =
+        (if is_named text (exports_by files) position.place.here name then Taken name ∷ [] else []) ++ all_clashing text (exports_by files) (nested text (exports_by files) position.place.here name) extends
+    found_in position _ = []
+
+    abbrev pub found_from : Position → List UnitTree → List Finding
+    found_from position [] = []
+    found_from position (unit ∷ units) = found_in position unit ++ found_from (after position unit) units
 
 -- ---- modules
 
--- a module that is read: its name, its context, what it exports so far, and the names of modules that are taken there:
--- those of nested modules that can be named, with what they export, and those of this module and of the ones round it
-pub record Reading : Type 0 where
-  pub name : List ℕ
-  pub context : Context
-  pub exports : Table Meaning
-  pub modules : List (List ℕ × Option Exports)
+-- where the module names behind INSTANCE begin
+abbrev pub words_of : ModuleUnits → List ℕ
+words_of units = map (λ l. l.span.start) (instances_from units.units)
 
--- the name is there with another meaning
-abbrev pub differs : Option (Option Meaning) → Meaning → Bool
-differs None meaning = false
-differs (Some None) meaning = true
-differs (Some (Some other)) meaning = not (same_meaning other meaning)
+module _ (files : List ℕ → Outside) (source : List ℕ) (units : ModuleUnits) where
+  abbrev pub text : Text
+  text = text_of source units
 
-abbrev pub clashes : Context → Named × Meaning → Bool
-clashes context entry = differs (find context entry.0) entry.1
+  -- behind what it extends
+  abbrev pub first : Position
+  first = record { place = begun text (exports_by files) units.extends; nested = [] }
 
--- the module with one more entry that it may export
-abbrev pub with_entry : Bool → Reading → Named → Meaning → Reading
-with_entry local reading name meaning =
-    record reading { context = put reading.context name (Some meaning); exports = if local then reading.exports else put reading.exports name meaning }
+  -- what stands behind an instance that files reach
+  abbrev pub behind_files : List Lexeme → DeclId → Exports
+  behind_files [] decl = []
+  behind_files (l ∷ rest) decl = first_of ((files (spelled source l)).behind decl) (behind_files rest decl)
 
--- the module with the entries that another one brings
-abbrev pub extended : Reading → Exports → Reading
-extended reading [] = reading
-extended reading (entry ∷ rest) = extended (if clashes reading.context entry then reading else with_entry false reading entry.0 entry.1) rest
+  -- what stands behind an instance: one of the text, or one that the modules reach which it names
+  abbrev pub behind_all : DeclId → Exports
+  behind_all decl = either (lookup same_decl (behind_units text files (words_of units) first units.units) decl) (behind_files (names_of units) decl)
 
--- some entry that is brought clashes with those before
-abbrev pub brings_clash : Reading → Exports → Bool
-brings_clash reading [] = false
-brings_clash reading (entry ∷ rest) = clashes reading.context entry || brings_clash (if clashes reading.context entry then reading else with_entry false reading entry.0 entry.1) rest
+  -- what is found in a module, by what the files are that its names mean
+  abbrev pub findings : List Finding
+  findings =
+      all_clashing text (exports_by files) (unread text (exports_by files)) units.extends
+      ++ found_from text files (words_of units) behind_all (paths_in units.units) first units.units
 
--- what the nested module of a name exports, or else the file
-abbrev pub exports_under : (List ℕ → Exports) → Option (Option Exports) → List ℕ → Exports
-exports_under files None name = files name
-exports_under files (Some None) name = []
-exports_under files (Some (Some exports)) name = exports
+  -- what it exports
+  abbrev pub exports_in : Exports
+  exports_in = exports_of (read_all text files (words_of units) first units.units).place.here.exports
 
-abbrev pub definition : Tree → List Binder
-definition (Node form s parts) = defined form parts
-
-abbrev pub constants : Trees → List Binder
-constants declarations = declared_among as_binding.Constant declarations
-
--- the innermost module that is read, and those round it
-pub record Place : Type 0 where
-  pub here : Reading
-  pub round : List Reading
-
-module _ (text : Text) (files : List ℕ → Exports) where
-  abbrev pub brings : Reading → Lexeme → Exports
-  brings reading l = exports_under files (lookup bytes_eq reading.modules (spelled text.source l)) (spelled text.source l)
-
-  abbrev pub extends_all : Reading → List Lexeme → Reading
-  extends_all reading [] = reading
-  extends_all reading (l ∷ rest) = extends_all (extended reading (brings reading l)) rest
-
-  abbrev pub all_clashing : Reading → List Lexeme → List Finding
-  all_clashing reading [] = []
-  all_clashing reading (l ∷ rest) =
-      (if brings_clash reading (brings reading l) then Clashes l ∷ [] else []) ++ all_clashing (extended reading (brings reading l)) rest
-
-  -- a declaration or a definition of the module; LOCAL ones are not exported
-  abbrev pub declare : Bool → Reading → Binder → Reading
-  declare local reading binder =
-      if has reading.context (name_of text.source binder.name) then reading
-      else with_entry local reading (name_of text.source binder.name) (meant text binder)
-
-  abbrev pub declare_all : Bool → Reading → List Binder → Reading
-  declare_all local reading [] = reading
-  declare_all local reading (binder ∷ rest) = declare_all local (declare local reading binder) rest
-
-  -- a nested module may not have the name of one round it or of one that can be named
-  abbrev pub is_named : Reading → Lexeme → Bool
-  is_named reading name = is_some (lookup bytes_eq reading.modules (spelled text.source name))
-
-  -- a nested module before what it extends: it begins with the context round it
-  abbrev pub nested : Reading → Lexeme → Reading
-  nested reading name =
-      record { name = spelled text.source name; context = reading.context; exports = empty; modules = added bytes_eq reading.modules (spelled text.source name) None }
-
-  abbrev pub entered : Place → Lexeme → List Lexeme → Place
-  entered place name extends = record { here = extends_all (nested place.here name) extends; round = place.here ∷ place.round }
-
-  -- behind a nested module, which can be named unless its name is taken
-  abbrev pub left : Reading → List Reading → Place
-  left inner [] = record { here = inner; round = [] }
-  left inner (outer ∷ round) =
-      record { here = record outer { modules = added bytes_eq outer.modules inner.name (Some (exports_of inner.exports)) }; round = round }
-
-  abbrev pub after : Place → UnitTree → Place
-  after place (Variables names) = record place { here = declare_all false place.here (variables names) }
-  after place (Constants declarations) = record place { here = declare_all false place.here (constants declarations) }
-  after place (OperatorDefinition local x) = record place { here = declare_all (is_some local) place.here (definition x) }
-  after place (FunctionDefinition local x) = record place { here = declare_all (is_some local) place.here (definition x) }
-  after place (ModuleBegin name extends) = entered place name extends
-  after place (ModuleEnd closing) = left place.here place.round
-  after place _ = place
-
-  abbrev pub found_in : Place → UnitTree → List Finding
-  found_in place (Variables names) = all_refused text place.here.context (variables names)
-  found_in place (Constants declarations) = all_refused text place.here.context (constants declarations)
-  found_in place (OperatorDefinition local x) = walk text place.here.context x
-  found_in place (FunctionDefinition local x) = walk text place.here.context x
-  found_in place (Assumption word name x) = walk text place.here.context x
-  found_in place (Theorem word name x) = walk text place.here.context x
-  found_in place (ModuleBegin name extends) =
-      (if is_named place.here name then Taken name ∷ [] else []) ++ all_clashing (nested place.here name) extends
-  found_in place _ = []
-
-  abbrev pub found_from : Place → List UnitTree → List Finding
-  found_from place [] = []
-  found_from place (unit ∷ units) = found_in place unit ++ found_from (after place unit) units
-
-  abbrev pub read_all : Place → List UnitTree → Place
-  read_all place [] = place
-  read_all place (unit ∷ units) = read_all (after place unit) units
-
-  -- a module before what it extends
-  abbrev pub unread : Reading
-  unread = record { name = text.file; context = built_in; exports = empty; modules = (text.file, None) ∷ [] }
-
-  abbrev pub begun : List Lexeme → Place
-  begun extends = record { here = extends_all unread extends; round = [] }
-
-abbrev pub text_of : List ℕ → ModuleUnits → Text
-text_of source units =
-    record { file = spelled source units.name; source = source; starts = map (λ binder. binder.name.span.start) (declaring units.units) }
-
--- what is found in a module, by what the files export that its names mean
-abbrev pub findings : (List ℕ → Exports) → List ℕ → ModuleUnits → List Finding
-findings files source units =
-    all_clashing (text_of source units) files (unread (text_of source units) files) units.extends
-    ++ found_from (text_of source units) files (begun (text_of source units) files units.extends) units.units
-
--- what it exports
-abbrev pub exports_in : (List ℕ → Exports) → List ℕ → ModuleUnits → Exports
-exports_in files source units =
-    exports_of (read_all (text_of source units) files (begun (text_of source units) files units.extends) units.units).here.exports
+  -- what it is to others
+  abbrev pub outside_in : Outside
+  outside_in = record { exports = exports_in; parameters = parameters_in exports_in; behind = behind_all }

@@ -1,5 +1,5 @@
 -- Tables of names: each name once, with what stands under it. What first took a name stays there.
-use Rattle.std.specs.Prelude.{ℕ, Bool, List, [], ◌∷◌, ◌++◌, Option, Some, None, is_some, if◌then◌else◌}
+use Rattle.std.specs.Prelude.{ℕ, Bool, false, ◌||◌, List, [], ◌∷◌, ◌++◌, Option, Some, None, is_some, if◌then◌else◌}
 use Rattle.std.specs.Str.{bytes_eq}
 use Rattle.tla_symbols.specs.declared.op.Op.{Op}
 use Rattle.tla_symbols.specs.contracts.op.Op as op
@@ -12,6 +12,15 @@ pub data Named : Type 0 where
 
 abbrev pub same_symbol : Op → Op → Bool
 same_symbol a b = sameb op.the_type a b
+
+abbrev pub same_named : Named → Named → Bool
+same_named (Word a) (Word b) = bytes_eq a b
+same_named (Symbol a) (Symbol b) = same_symbol a b
+same_named _ _ = false
+
+abbrev pub is_among : List Named → Named → Bool
+is_among [] name = false
+is_among (other ∷ rest) name = same_named name other || is_among rest name
 
 -- the value under a key, if there is one
 abbrev pub lookup : {K V : Type 0} → (K → K → Bool) → List (K × V) → K → Option V

@@ -21,7 +21,7 @@ pub use entity::{Decl, Entity, Entry, Level, Name, Use};
 pub use face::{Definition, Face, Instance, Interface, NodeMeaning, Part, Replacement};
 pub use ids::{Callee, DeclId, ModuleId, UnitId};
 pub use imported::{Import, Imported};
-pub use laws::faults_at_lexemes;
+pub use laws::{faults_at_lexemes, replaced_by_declaration};
 pub use names::{Binder, Binding, Finding, Meaning};
 pub use order::in_order;
 pub use spelling::spelled;

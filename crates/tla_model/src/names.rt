@@ -51,11 +51,42 @@ pub enum Binding {
 #[derive(Drop)]
 pub enum Finding {
     /// A use, and what it means.
-    Means { at: Lexeme, meaning: Meaning },
+    Means {
+        at: Lexeme,
+        meaning: Meaning,
+    },
     /// A use without a meaning.
-    Unknown { at: Lexeme },
+    Unknown {
+        at: Lexeme,
+    },
     /// A declaring name that is there already.
-    Taken { at: Lexeme },
-    /// A module that brings a name which is there with another meaning.
-    Clashes { at: Lexeme },
+    Taken {
+        at: Lexeme,
+    },
+    /// A module that is extended, and brings a name which is there with another meaning.
+    Clashes {
+        at: Lexeme,
+    },
+    /// The same of a module of an INSTANCE without a name.
+    InstanceClashes {
+        at: Lexeme,
+    },
+    /// The left side of a replacement that is no parameter of the module.
+    NotReplaceable {
+        at: Lexeme,
+    },
+    /// The left side of a replacement whose parameter is replaced before it.
+    ReplacedTwice {
+        at: Lexeme,
+    },
+    /// The module of an INSTANCE, which has a parameter that nothing replaces.
+    Unreplaced {
+        at: Lexeme,
+    },
+    /// The module of an INSTANCE, which has a parameter that is replaced by what its name means.
+    Implied {
+        at: Lexeme,
+        parameter: Meaning,
+        meaning: Meaning,
+    },
 }

@@ -1,5 +1,5 @@
 use Rattle.std.proofs.Common.{◌∙◌, ap, ◌++◌}
-use Rattle.module_graph.specs.Imports.{instantiated}
+use Rattle.tla_model.specs.ModuleNames.{instantiated}
 use Rattle.module_graph.proofs.TreeWalk.{IsTaken, taken, names-taken}
 use Rattle.module_graph.proofs.trees.instances.Goals as goal
 

@@ -1,6 +1,6 @@
 use Rattle.std.proofs.Common.{◌≡◌, ◌++◌}
 use Rattle.tla_tree.specs.Arena.{tree_at}
-use Rattle.module_graph.specs.Imports.{instances}
+use Rattle.tla_model.specs.ModuleNames.{instances}
 use Rattle.module_graph.proofs.TreeWalk.{AreDue, due_names, due_size}
 use Rattle.module_graph.proofs.trees.instances.Given as goal
 

@@ -1,0 +1,58 @@
+-- The names of modules in a text: behind EXTENDS and INSTANCE.
+use Rattle.std.specs.Prelude.{Bool, true, false, List, [], ◌∷◌, ◌++◌}
+use Rattle.std.specs.List.{list_any}
+use Rattle.tla_symbols.specs.declared.lexeme.Lexeme.{Lexeme}
+use Rattle.tla_tree.specs.declared.form.Form.{Form}
+use Rattle.tla_tree.specs.Syntax.{Tree, Trees, Node, Nil, Cons}
+use Rattle.unit_grammar.specs.Units.{UnitTree, OperatorDefinition, FunctionDefinition, ModuleDefinition, Instance, Assumption, Theorem, ModuleBegin, ModuleUnits}
+
+-- the name after INSTANCE, where a form has one
+abbrev pub instantiated : Form → List Lexeme
+instantiated (Form.Instance name) = name ∷ []
+instantiated _ = []
+
+-- the names after INSTANCE in a tree, in the order of the text
+abbrev mutual
+  pub instances : Tree → List Lexeme
+  instances (Node form span parts) = instantiated form ++ instances_in parts
+
+  pub instances_in : Trees → List Lexeme
+  instances_in Nil = []
+  instances_in (Cons tree rest) = instances tree ++ instances_in rest
+
+-- the module names of a unit: those that a nested module extends, or those of instances
+abbrev pub module_names : UnitTree → List Lexeme
+module_names (ModuleBegin name extends) = extends
+module_names (OperatorDefinition local x) = instances x
+module_names (FunctionDefinition local x) = instances x
+module_names (ModuleDefinition local x) = instances x
+module_names (Instance local x) = instances x
+module_names (Assumption word name x) = instances x
+module_names (Theorem word name x) = instances x
+module_names _ = []
+
+-- the names after INSTANCE of a unit
+abbrev pub instance_names : UnitTree → List Lexeme
+instance_names (ModuleBegin name extends) = []
+instance_names unit = module_names unit
+
+abbrev pub is_some_name : List Lexeme → Bool
+is_some_name [] = false
+is_some_name (name ∷ names) = true
+
+-- the word INSTANCE stands in the module
+abbrev pub holds_instance : ModuleUnits → Bool
+holds_instance found = list_any (λ unit. is_some_name (instance_names unit)) found.units
+
+-- the names of modules in a text, in its order
+abbrev pub names_from : List UnitTree → List Lexeme
+names_from [] = []
+names_from (unit ∷ units) = module_names unit ++ names_from units
+
+abbrev pub names_of : ModuleUnits → List Lexeme
+names_of found = found.extends ++ names_from found.units
+
+-- the names behind INSTANCE in a text, in its order
+abbrev pub instances_from : List UnitTree → List Lexeme
+instances_from [] = []
+instances_from (unit ∷ units) = instance_names unit ++ instances_from units
