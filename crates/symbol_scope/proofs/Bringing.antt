@@ -4,7 +4,7 @@ use Rattle.std.specs.Prelude.{slice_get}
 use Rattle.tla_model.specs.Tables.{Named}
 use Rattle.tla_model.specs.Entities.{Meaning}
 use Rattle.tla_model.specs.Exports.{Exports}
-use Rattle.tla_model.specs.Resolution.{Reading, brings_clash, clashes, extended, with_entry}
+use Rattle.tla_model.specs.Modules.{Reading, brings_clash, clashes, extended, with_entry}
 use Rattle.symbol_scope.specs.declared.exported.Exported.{Exported}
 use Rattle.symbol_scope.specs.declared.exported.Names.{Names}
 use Rattle.symbol_scope.specs.Held.{held}

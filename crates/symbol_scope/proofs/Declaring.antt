@@ -1,17 +1,17 @@
 -- Declaring names, from what is due.
-use Rattle.std.proofs.Common.{◌≡◌, ℕ, zero, suc, ◌+◌, ◌-◌, ◌<◌, ◌≤◌, min, List, [], ◌∷◌, ◌++◌, Bool, true, false, length, take, drop, reverse, append_assoc, refl, ap, sym, subst, ◌∙◌, arith, true≢false}
+use Rattle.std.proofs.Common.{◌≡◌, ℕ, zero, suc, ◌+◌, ◌<◌, List, [], ◌∷◌, ◌++◌, Bool, true, false, length, take, drop, reverse, append_assoc, refl, ap, sym, subst, ◌∙◌, arith, true≢false}
 use Rattle.std.specs.Prelude.{map, if◌then◌else◌}
 use Rattle.std.specs.List.{AllByRecursion}
 use Rattle.std.proofs.lemmas.List.{append-nil, map-append, reverse-append}
 use Rattle.tla_tree.specs.declared.form.Form.TheVariants as Form
 use Rattle.tla_tree.specs.Arena.{Node as ArenaNode, AreThere, node_at, tree_at}
-use Rattle.tla_tree.specs.Syntax.{Tree, Trees, Node, Nil, Cons, trees}
+use Rattle.tla_tree.specs.Syntax.{Node, Nil, Cons, trees}
 use Rattle.tla_tree.proofs.Nodes.{before-there}
 use Rattle.tla_model.specs.declared.names.Binder.{Binder}
-use Rattle.tla_model.specs.Entities.{Binding, binding_in, binding_of, bound_as, declared_among, declared_in, declared_round, defined as defined_by, follows_first, is_group, placed}
+use Rattle.tla_model.specs.Entities.{Binding, binding_in, binding_of, bound_as, declared_among, declared_in, declared_round, defined as defined_by, follows_first, placed}
 use Rattle.symbol_scope.specs.declared.declared.Due.TheVariants as due
 use Rattle.symbol_scope.specs.Nodes.{form_at, parts_at, defined_at}
-use Rattle.symbol_scope.specs.Collecting.{Due, AreDue, IsThere, IsOpened, IsTaken, all_due, all_size, due_of, lead, names_of, node_of, size, size_of, sizes, stack}
+use Rattle.symbol_scope.specs.Collecting.{Due, AreDue, IsOpened, IsTaken, all_due, all_size, due_of, lead, names_of, size, sizes, stack}
 use Rattle.symbol_scope.proofs.Nodewise.{tree-at}
 
 regroup : {A : Type 0} (a b c d e : List A) → (a ++ (b ++ (c ++ d))) ++ e ≡ a ++ (b ++ (c ++ (d ++ e)))

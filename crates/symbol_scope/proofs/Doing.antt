@@ -1,21 +1,22 @@
 -- What is found by what is due.
-use Rattle.std.proofs.Common.{◌≡◌, ℕ, ◌+◌, ◌<◌, List, [], ◌∷◌, ◌++◌, Bool, true, false, length, append_assoc, refl, ap, sym, subst, ◌∙◌, cond}
+use Rattle.std.proofs.Common.{◌≡◌, ℕ, ◌<◌, List, [], ◌∷◌, ◌++◌, Bool, true, false, length, append_assoc, refl, ap, sym, ◌∙◌}
 use Rattle.std.specs.Prelude.{map, filter, if◌then◌else◌}
-use Rattle.std.specs.List.{AllByRecursion}
-use Rattle.tla_tree.specs.Arena.{Node as ArenaNode, AreThere, node_at, tree_at}
-use Rattle.tla_tree.specs.Syntax.{Tree, Trees, Node, Nil, Cons, trees}
+use Rattle.tla_tree.specs.Arena.{Node as ArenaNode, AreThere, tree_at}
+use Rattle.tla_tree.specs.Syntax.{Tree, Trees, Node, Cons, trees}
 use Rattle.tla_tree.proofs.Nodes.{tree_at-form}
 use Rattle.tla_symbols.specs.declared.lexeme.Lexeme.{Lexeme}
 use Rattle.tla_model.specs.declared.names.Binder.{Binder}
 use Rattle.tla_model.specs.declared.names.Binding.TheVariants as binding
 use Rattle.tla_model.specs.Contexts.{Context, bind, bind_all}
 use Rattle.tla_model.specs.Entities.{Text, entity_of}
-use Rattle.tla_model.specs.Resolution.{Finding, all_refused, behind, definition, has_set, reserved, walk, walk_chain, walk_each, walk_rest, walk_sets}
+use Rattle.tla_model.specs.Scopes.{Finding, all_refused, behind, has_set}
+use Rattle.tla_model.specs.Modules.{definition}
+use Rattle.symbol_scope.specs.WithoutInstances.{walk, walk_chain, walk_each, walk_rest, walk_sets}
 use Rattle.symbol_scope.specs.declared.tasks.Task.TheVariants as task
-use Rattle.symbol_scope.specs.Held.{cut, mark_of}
-use Rattle.symbol_scope.specs.Nodes.{binders_at, defined_at, form_at, parts_at}
-use Rattle.symbol_scope.specs.Walking.{Task, Outcome, chain, emit, is_chosen, run, same, visits}
-use Rattle.symbol_scope.proofs.Scoping.{Grows, cut-grown, grows-bind, grows-bind_all, grows-refl, grows-reserve_all, grows-trans}
+use Rattle.symbol_scope.specs.Held.{mark_of}
+use Rattle.symbol_scope.specs.Nodes.{binders_at, form_at}
+use Rattle.symbol_scope.specs.Walking.{Task, Outcome, chain, emit, is_chosen, run, visits}
+use Rattle.symbol_scope.proofs.Scoping.{Grows, cut-grown, grows-bind, grows-bind_all, grows-refl, grows-trans}
 
 pub emit-append : (a b : List Finding) (o : Outcome) → emit (a ++ b) o ≡ emit a (emit b o)
 emit-append a b o = let e = append_assoc a b o.findings in λ i. record { findings = e i; context = o.context }

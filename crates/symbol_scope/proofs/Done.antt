@@ -1,26 +1,27 @@
 -- A node is visited by what is due of it.
-use Rattle.std.proofs.Common.{◌≡◌, ℕ, ◌+◌, ◌<◌, ◌≤◌, List, [], ◌∷◌, ◌++◌, Bool, true, false, length, append_assoc, refl, ap, sym, subst, ◌∙◌, arith}
+use Rattle.std.proofs.Common.{◌≡◌, ℕ, ◌+◌, ◌<◌, ◌≤◌, List, [], ◌∷◌, ◌++◌, Bool, true, false, append_assoc, refl, ap, sym, subst, ◌∙◌, arith}
 use Rattle.std.specs.Prelude.{map, filter}
 use Rattle.std.specs.List.{AllByRecursion}
 use Rattle.std.proofs.lemmas.List.{append-nil}
 use Rattle.tla_symbols.specs.declared.lexeme.Lexeme.{Lexeme}
 use Rattle.tla_tree.specs.declared.form.Form.TheVariants as Form
 use Rattle.tla_tree.specs.Arena.{Node as ArenaNode, AreThere, node_at, tree_at}
-use Rattle.tla_tree.specs.Syntax.{Tree, Trees, Node, Nil, Cons, trees}
-use Rattle.tla_model.specs.Contexts.{Context, bind, bind_all}
+use Rattle.tla_tree.specs.Syntax.{Trees, Node, trees}
+use Rattle.tla_model.specs.Contexts.{Context, bind_all}
 use Rattle.tla_model.specs.Entities.{Text}
 use Rattle.tla_model.specs.Lexemes.{LiesIn, all_lexemes, held, lexemes}
-use Rattle.tla_model.specs.Resolution.{Finding, all_refused, has_set, itself, prefixed, reserved, symbol, walk, walk_each, walk_rest, walk_round, walk_sets}
+use Rattle.tla_model.specs.Scopes.{Finding, all_refused, has_set, itself, prefixed, reserved, symbol}
+use Rattle.symbol_scope.specs.WithoutInstances.{walk, walk_each, walk_rest, walk_round, walk_sets}
 use Rattle.symbol_scope.specs.declared.tasks.Task.TheVariants as task
 use Rattle.symbol_scope.specs.declared.tasks.Naming.TheVariants as how
 use Rattle.symbol_scope.specs.declared.table.Mark.{Mark}
 use Rattle.symbol_scope.specs.Held.{mark_of}
 use Rattle.symbol_scope.specs.Nodes.{IsWhole, binders_at, defined_at, form_at, parts_at}
-use Rattle.symbol_scope.specs.Walking.{Task, Outcome, AreReady, AreSegments, IsDone, IsNode, IsReady, all_size, between_tasks, chain, emit, function_name, function_tasks, image_tasks, in_scope, is_chosen, naming, run, scope_tasks, size, size_of, sizes, visits, with_sets}
+use Rattle.symbol_scope.specs.Walking.{Task, AreReady, AreSegments, IsDone, IsNode, IsReady, all_size, between_tasks, chain, emit, function_tasks, image_tasks, in_scope, is_chosen, naming, run, scope_tasks, size, size_of, sizes, visits, with_sets}
 use Rattle.symbol_scope.proofs.Doing.{each-run, emit-append, first-run, function-run, order-run, scope-run, sets-run}
 use Rattle.symbol_scope.proofs.Scoping.{grows-refl, grows-reserve_all}
-use Rattle.symbol_scope.proofs.Lies.{all-left, all-right, all-both, parts-lie, held-lies}
-use Rattle.symbol_scope.proofs.Shapes.{in_function, walk-bare, walk-before, walk-behind, walk-between, walk-function, walk-last, walk-order, walk-path, walk-plain, function-name}
+use Rattle.symbol_scope.proofs.Lies.{all-left, all-right, all-both, parts-lie}
+use Rattle.symbol_scope.proofs.Shapes.{walk-bare, walk-before, walk-behind, walk-between, walk-function, walk-last, walk-order, walk-path, walk-plain, function-name}
 
 assoc4 : {A : Type 0} (d s b r : List A) → d ++ s ++ b ++ r ≡ d ++ (s ++ b ++ r)
 assoc4 d s b r = ap (λ z. z ++ r) (append_assoc d s b) ∙ append_assoc d (s ++ b) r

@@ -3,7 +3,7 @@ use Rattle.std.proofs.Common.{◌≡◌, ℕ, suc, ◌+◌, ◌<◌, Bool, true,
 use Rattle.std.specs.Prelude.{is_some, if◌then◌else◌, ◌&&◌, not}
 use Rattle.tla_model.specs.declared.names.Meaning.TheVariants.{BuiltIn, Declared}
 use Rattle.tla_model.specs.Entities.{Meaning, same_meaning, same_units}
-use Rattle.tla_model.specs.Resolution.{differs}
+use Rattle.tla_model.specs.Modules.{differs}
 use Rattle.tla_model.specs.Tables.{Named, Table, Word, Symbol, added, lookup, put, same_symbol}
 use Rattle.tla_model.specs.declared.ids.Callee.{Callee}
 use Rattle.tla_model.specs.declared.ids.UnitId.{UnitId}

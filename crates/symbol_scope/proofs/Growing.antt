@@ -9,7 +9,7 @@ use Rattle.tla_model.specs.declared.names.Binder.{Binder}
 use Rattle.tla_model.specs.Contexts.{Context}
 use Rattle.tla_model.specs.Entities.{Meaning, Text, meant, name_of}
 use Rattle.tla_model.specs.Exports.{Exports, exports_of}
-use Rattle.tla_model.specs.Resolution.{Place, Reading, brings, clashes, declare, declare_all, extended, extends_all, with_entry}
+use Rattle.tla_model.specs.Modules.{Place, Reading, brings, clashes, declare, declare_all, extended, extends_all, with_entry}
 use Rattle.tla_model.specs.Tables.{Named, Word, Symbol, added, has, lookup, same_symbol}
 use Rattle.symbol_scope.specs.declared.exported.Exported.{Exported}
 use Rattle.symbol_scope.specs.declared.table.Mark.{Mark}

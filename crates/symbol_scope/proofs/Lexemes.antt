@@ -8,7 +8,7 @@ use Rattle.tla_tree.specs.Syntax.{Tree, Trees, Node, Nil, Cons}
 use Rattle.tla_model.specs.declared.names.Binder.{Binder}
 use Rattle.tla_model.specs.Entities.{Binding, binding_in, binding_of, bound_as, declared_among, declared_in, declared_round, defined, follows_first, placed, variables}
 use Rattle.tla_model.specs.Lexemes.{all_lexemes, held, lexemes}
-use Rattle.tla_model.specs.Resolution.{definition}
+use Rattle.tla_model.specs.Modules.{definition}
 
 pub all-left : {A : Type 0} (P : A → Type 0) (a b : List A) → AllByRecursion P (a ++ b) → AllByRecursion P a
 all-left P [] b all = tt

@@ -16,3 +16,4 @@ mod Taking
 mod Lexemes
 mod Onward
 mod Listing
+pub mod Plainness

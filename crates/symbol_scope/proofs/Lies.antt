@@ -1,15 +1,14 @@
 -- Names that lie in a text, since the lexemes of trees do.
-use Rattle.std.proofs.Common.{◌≡◌, ℕ, ◌<◌, List, [], ◌∷◌, ◌++◌, Bool, true, false, length, refl, ap, sym, subst, ◌∙◌}
-use Rattle.std.specs.Prelude.{map}
+use Rattle.std.proofs.Common.{◌≡◌, ℕ, ◌<◌, List, [], ◌∷◌, ◌++◌, Bool, true, false, length, refl, subst}
 use Rattle.std.specs.List.{AllByRecursion}
 use Rattle.tla_symbols.specs.declared.lexeme.Lexeme.{Lexeme}
 use Rattle.tla_tree.specs.declared.form.Form.TheVariants as Form
-use Rattle.tla_tree.specs.Arena.{Node as ArenaNode, AreThere, node_at, tree_at}
-use Rattle.tla_tree.specs.Syntax.{Tree, Trees, Node, Nil, Cons, trees}
+use Rattle.tla_tree.specs.Arena.{Node as ArenaNode, node_at, tree_at}
+use Rattle.tla_tree.specs.Syntax.{Trees, Node, Nil, Cons}
 use Rattle.tla_tree.proofs.Nodes.{tree_at-form}
 use Rattle.tla_model.specs.Entities.{Binding, all_placed, bound_as, defined, is_group, placed}
 use Rattle.tla_model.specs.Lexemes.{LiesIn, all_lexemes, held, lexemes}
-use Rattle.tla_model.specs.Resolution.{all_grouped, binders, names_in}
+use Rattle.tla_model.specs.Scopes.{all_grouped, binders, names_in}
 use Rattle.symbol_scope.specs.Lying.{BindersLie}
 use Rattle.symbol_scope.specs.Nodes.{form_at, parts_at}
 

@@ -1,5 +1,5 @@
 -- Lists made of the trees of nodes, one node after another.
-use Rattle.std.proofs.Common.{◌≡◌, ℕ, suc, zero, ◌+◌, ◌<◌, List, [], ◌∷◌, ◌++◌, Bool, true, false, length, drop, get_or, append_assoc, refl, ap, sym, subst, ◌∙◌, drop-cons, add-one, arith}
+use Rattle.std.proofs.Common.{◌≡◌, ℕ, suc, zero, ◌+◌, ◌<◌, List, [], ◌∷◌, ◌++◌, true, false, length, drop, get_or, append_assoc, refl, ap, sym, ◌∙◌, drop-cons, add-one, arith}
 use Rattle.std.specs.Prelude.{map}
 use Rattle.std.specs.List.{AllByRecursion}
 use Rattle.std.proofs.lemmas.List.{append-nil, map-append}
@@ -10,7 +10,7 @@ use Rattle.tla_tree.specs.Syntax.{Tree, Trees, Node, Nil, Cons, trees, form}
 use Rattle.tla_tree.proofs.Nodes.{tree_at-node, tree_at-form}
 use Rattle.tla_model.specs.declared.names.Binder.{Binder}
 use Rattle.tla_model.specs.Entities.{Binding, all_placed, bound_as, is_group, orders, placed}
-use Rattle.tla_model.specs.Resolution.{all_grouped, names_in}
+use Rattle.tla_model.specs.Scopes.{all_grouped, names_in}
 use Rattle.symbol_scope.specs.Nodes.{form_at, parts_at}
 
 pub tree-at : (nodes : List ArenaNode) (node : ℕ) → node < length nodes → AllByRecursion (λ child. child < node) (node_at nodes node).children → tree_at nodes node ≡ Node (form_at nodes node) (node_at nodes node).span (parts_at nodes node)

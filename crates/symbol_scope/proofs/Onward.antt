@@ -14,7 +14,9 @@ use Rattle.tla_model.specs.declared.names.Binder.{Binder}
 use Rattle.tla_model.specs.declared.names.Binding.TheVariants as as_binding
 use Rattle.tla_model.specs.Entities.{Text, declared_by, variables}
 use Rattle.tla_model.specs.Lexemes.{module_lexemes, unit_lexemes, units_lexemes}
-use Rattle.tla_model.specs.Resolution.{Finding, Place, Reading, after, constants, definition, found_from, found_in, read_all}
+use Rattle.tla_model.specs.Scopes.{Finding}
+use Rattle.tla_model.specs.Modules.{Place, Reading, constants, definition}
+use Rattle.symbol_scope.specs.WithoutInstances.{after, found_from, found_in, read_all}
 use Rattle.symbol_scope.specs.declared.nesting.Nesting.{Nesting}
 use Rattle.symbol_scope.specs.Modules.{reading_of}
 use Rattle.symbol_scope.specs.Plain.{found_by, read_by}
@@ -62,6 +64,7 @@ module _ (text : Text) (files : Files) where
   went-by reading (Constants declarations) = went-declares text no_files false reading (constants declarations)
   went-by reading (OperatorDefinition local x) = went-declares text no_files (is_some local) reading (definition x)
   went-by reading (FunctionDefinition local x) = went-declares text no_files (is_some local) reading (definition x)
+  went-by reading (ModuleDefinition local x) = went-declares text no_files (is_some local) reading (definition x)
   went-by reading _ = waits reading
 
   -- a unit that begins or ends no module
@@ -71,7 +74,7 @@ module _ (text : Text) (files : Files) where
   plain-after place nodes (unit.Constants declarations) begins ends = ap (λ r. record { here = r; round = place.round }) (same-declared text no_files files false place.here (constants (trees (map (tree_at nodes) declarations))))
   plain-after place nodes (unit.OperatorDefinition local node) begins ends = ap (λ r. record { here = r; round = place.round }) (same-declared text no_files files (is_some local) place.here (definition (tree_at nodes node)))
   plain-after place nodes (unit.FunctionDefinition local node) begins ends = ap (λ r. record { here = r; round = place.round }) (same-declared text no_files files (is_some local) place.here (definition (tree_at nodes node)))
-  plain-after place nodes (unit.ModuleDefinition local node) begins ends = refl
+  plain-after place nodes (unit.ModuleDefinition local node) begins ends = ap (λ r. record { here = r; round = place.round }) (same-declared text no_files files (is_some local) place.here (definition (tree_at nodes node)))
   plain-after place nodes (unit.Instance local node) begins ends = refl
   plain-after place nodes (unit.Assumption word name node) begins ends = refl
   plain-after place nodes (unit.Theorem word name node) begins ends = refl

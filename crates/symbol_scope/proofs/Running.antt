@@ -1,10 +1,8 @@
 -- What is due, done.
-use Rattle.std.proofs.Common.{◌≡◌, ℕ, zero, suc, ◌+◌, ◌<◌, List, [], ◌∷◌, ◌++◌, Bool, true, false, length, take, reverse, append_assoc, refl, ap, sym, subst, ◌∙◌, arith, cond, true≢false}
-use Rattle.std.specs.Prelude.{map, filter}
-use Rattle.std.specs.List.{AllByRecursion}
-use Rattle.std.proofs.lemmas.List.{append-nil, map-append, reverse-append}
+use Rattle.std.proofs.Common.{◌≡◌, ℕ, List, [], ◌∷◌, ◌++◌, reverse, refl, ap, ◌∙◌}
+use Rattle.std.proofs.lemmas.List.{map-append, reverse-append}
 use Rattle.symbol_scope.specs.declared.tasks.Task.TheVariants as task
-use Rattle.symbol_scope.specs.Walking.{Task, chain, chain_back, emit, Outcome, stack, visits}
+use Rattle.symbol_scope.specs.Walking.{Task, chain, chain_back, stack, visits}
 
 pub chain-append : (a b : List ℕ) → chain_back (a ++ b) ≡ chain_back a ++ chain_back b
 chain-append [] b = refl

@@ -1,11 +1,11 @@
 -- Contexts that grow, and are cut to what they were.
-use Rattle.std.proofs.Common.{◌≡◌, ℕ, zero, suc, List, [], ◌∷◌, ◌++◌, Bool, true, false, length, take, append_assoc, refl, ap, sym, ◌∙◌, cond}
+use Rattle.std.proofs.Common.{◌≡◌, ℕ, List, [], ◌∷◌, ◌++◌, Bool, true, false, length, take, append_assoc, refl, ap, sym, ◌∙◌}
 use Rattle.std.specs.Prelude.{Some, None, is_some, if◌then◌else◌}
 use Rattle.std.specs.Str.{bytes_eq}
 use Rattle.std.proofs.lemmas.List.{append-nil}
 use Rattle.tla_symbols.specs.declared.op.Op.{Op}
 use Rattle.tla_model.specs.declared.names.Binder.{Binder}
-use Rattle.tla_model.specs.Tables.{Table, Named, Word, Symbol, added, lookup, put, same_symbol}
+use Rattle.tla_model.specs.Tables.{Table, Named, Word, Symbol, lookup, put, same_symbol}
 use Rattle.tla_model.specs.Contexts.{Context, bind, bind_all, reserve_all}
 use Rattle.tla_model.specs.Entities.{Text, meant, name_of}
 use Rattle.symbol_scope.specs.Held.{cut, mark_of}

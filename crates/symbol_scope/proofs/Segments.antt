@@ -1,25 +1,24 @@
 -- The segments of a path, from what is due of them.
-use Rattle.std.proofs.Common.{◌≡◌, ℕ, ◌+◌, ◌<◌, ◌≤◌, List, [], ◌∷◌, ◌++◌, Bool, true, false, true≢false, length, append_assoc, refl, ap, sym, subst, ◌∙◌, arith}
+use Rattle.std.proofs.Common.{◌≡◌, ℕ, ◌+◌, ◌<◌, ◌≤◌, List, [], ◌∷◌, ◌++◌, Bool, true, false, true≢false, length, refl, ap, sym, subst, ◌∙◌, arith}
 use Rattle.std.specs.Prelude.{map, is_some, if◌then◌else◌, Option, Some, None}
 use Rattle.std.specs.List.{AllByRecursion}
-use Rattle.std.proofs.lemmas.List.{append-nil}
 use Rattle.tla_symbols.specs.declared.lexeme.Lexeme.{Lexeme}
 use Rattle.tla_symbols.specs.declared.lexeme.Span.{Span}
 use Rattle.tla_tree.specs.declared.form.Form.TheVariants as Form
 use Rattle.tla_tree.specs.Arena.{Node as ArenaNode, AreThere, node_at, tree_at}
-use Rattle.tla_tree.specs.Syntax.{Tree, Trees, Node, Nil, Cons, trees}
+use Rattle.tla_tree.specs.Syntax.{Trees, Node, Cons, trees}
 use Rattle.tla_tree.proofs.Nodes.{tree_at-form}
 use Rattle.tla_model.specs.declared.names.Finding.TheVariants.{Unknown}
 use Rattle.tla_model.specs.Contexts.{Context, meaning_of}
 use Rattle.tla_model.specs.Entities.{Text, Meaning, name_of}
 use Rattle.tla_model.specs.Lexemes.{LiesIn, all_lexemes, held, lexemes}
-use Rattle.tla_model.specs.Resolution.{Finding, found, segments, unfound, walk_each}
-use Rattle.symbol_scope.specs.declared.tasks.Task.TheVariants as task
+use Rattle.tla_model.specs.Scopes.{Finding, found}
+use Rattle.symbol_scope.specs.WithoutInstances.{segments, unfound, walk_each}
 use Rattle.symbol_scope.specs.Nodes.{IsWhole, form_at, parts_at}
-use Rattle.symbol_scope.specs.Walking.{Task, AreReady, AreSegments, IsFirstWhole, IsPath, IsRest, IsSecond, all_size, emit, missing_tasks, run, second_tasks, segment_of, size, sizes, visits}
+use Rattle.symbol_scope.specs.Walking.{Task, AreReady, AreSegments, IsFirstWhole, IsRest, all_size, emit, missing_tasks, run, second_tasks, segment_of, size, sizes, visits}
 use Rattle.symbol_scope.proofs.Doing.{each-run, emit-append}
 use Rattle.symbol_scope.proofs.Done.{ready-append, size-append, visits-ready, visits-size}
-use Rattle.symbol_scope.proofs.Lies.{all-left, all-right, held-lies, parts-lie}
+use Rattle.symbol_scope.proofs.Lies.{all-left, all-right, parts-lie}
 
 is_named : Option Lexeme → Bool
 is_named None = false

@@ -1,14 +1,15 @@
 -- What is found at a node, by how its form names things.
-use Rattle.std.proofs.Common.{◌≡◌, List, [], ◌∷◌, ◌++◌, Bool, true, false, true≢false, refl, ap, sym}
+use Rattle.std.proofs.Common.{◌≡◌, [], ◌∷◌, ◌++◌, Bool, true, false, true≢false, refl, ap, sym}
 use Rattle.tla_symbols.specs.declared.lexeme.Lexeme.{Lexeme}
 use Rattle.tla_symbols.specs.declared.lexeme.Span.{Span}
 use Rattle.tla_tree.specs.declared.form.Form.TheVariants as Form
-use Rattle.tla_tree.specs.Syntax.{Tree, Trees, Node}
+use Rattle.tla_tree.specs.Syntax.{Trees, Node}
 use Rattle.tla_model.specs.declared.names.Binding.TheVariants as binding
 use Rattle.tla_model.specs.Contexts.{Context, bind, bind_all}
 use Rattle.tla_model.specs.Entities.{Text, defined, entity_of}
 use Rattle.tla_model.specs.Lexemes.{held}
-use Rattle.tla_model.specs.Resolution.{all_refused, binders, itself, prefixed, reserved, segments, symbol, walk, walk_chain, walk_each, walk_rest, walk_round, walk_sets}
+use Rattle.tla_model.specs.Scopes.{all_refused, binders, itself, prefixed, reserved, symbol}
+use Rattle.symbol_scope.specs.WithoutInstances.{segments, walk, walk_chain, walk_each, walk_rest, walk_round, walk_sets}
 use Rattle.symbol_scope.specs.declared.tasks.Naming.TheVariants as how
 use Rattle.symbol_scope.specs.Walking.{naming}
 

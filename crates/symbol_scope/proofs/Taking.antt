@@ -10,7 +10,7 @@ use Rattle.tla_model.specs.declared.names.Binder.{Binder}
 use Rattle.tla_model.specs.declared.names.Meaning.TheVariants.{Declared}
 use Rattle.tla_model.specs.Contexts.{bind}
 use Rattle.tla_model.specs.Entities.{Text, meant, name_of, own}
-use Rattle.tla_model.specs.Resolution.{Reading, declare, declare_all, exports_under, with_entry}
+use Rattle.tla_model.specs.Modules.{Reading, declare, declare_all, exports_under, with_entry}
 use Rattle.tla_model.specs.Tables.{Named, Table, Word, Symbol, find, lookup, put}
 use Rattle.symbol_scope.specs.declared.table.NameTable.{NameTable}
 use Rattle.symbol_scope.specs.declared.exported.Exported.{Exported}

@@ -1,7 +1,6 @@
 -- Tables of names in code, as tables of the definitions.
-use Rattle.std.specs.Prelude.{◌≡◌, ℕ, List, [], ◌∷◌, map, length, take}
+use Rattle.std.specs.Prelude.{ℕ, List, map, length, take}
 use Rattle.std.specs.Borrow.{Bor}
-use Rattle.tla_symbols.specs.declared.op.Op.{Op}
 use Rattle.tla_model.specs.Tables as tables
 use Rattle.tla_model.specs.Tables.{Table}
 use Rattle.symbol_scope.specs.declared.table.NameTable.{NameTable}

@@ -10,3 +10,4 @@ pub mod Readings
 pub mod Modules
 pub mod Rounds
 pub mod Plain
+pub mod WithoutInstances

@@ -1,5 +1,5 @@
 -- The module that is read in code, as that of the definitions.
-use Rattle.tla_model.specs.Resolution.{Reading}
+use Rattle.tla_model.specs.Modules.{Reading}
 use Rattle.symbol_scope.specs.declared.reading.Reading.{Reading as Read}
 use Rattle.symbol_scope.specs.Readings.{as_read, modules_of}
 

@@ -6,7 +6,7 @@ use Rattle.tla_tree.specs.Syntax as Syntax
 use Rattle.tla_tree.specs.Syntax.{Trees, trees}
 use Rattle.tla_model.specs.declared.names.Binder.{Binder}
 use Rattle.tla_model.specs.Entities.{defined}
-use Rattle.tla_model.specs.Resolution.{binders}
+use Rattle.tla_model.specs.Scopes.{binders}
 
 abbrev pub form_at : List Node → ℕ → Form
 form_at nodes node = (node_at nodes node).form

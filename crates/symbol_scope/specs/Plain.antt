@@ -1,8 +1,10 @@
 -- What a unit that begins or ends no module declares, and what is found in it.
 use Rattle.std.specs.Prelude.{List, [], false, is_some}
 use Rattle.tla_model.specs.Entities.{Text, variables}
-use Rattle.tla_model.specs.Resolution.{Finding, Reading, all_refused, constants, declare_all, definition, walk}
-use Rattle.unit_grammar.specs.Units.{UnitTree, Variables, Constants, OperatorDefinition, FunctionDefinition, Assumption, Theorem}
+use Rattle.tla_model.specs.Scopes.{Finding, all_refused}
+use Rattle.tla_model.specs.Modules.{Reading, constants, declare_all, definition}
+use Rattle.symbol_scope.specs.WithoutInstances.{walk}
+use Rattle.unit_grammar.specs.Units.{UnitTree, Variables, Constants, OperatorDefinition, FunctionDefinition, ModuleDefinition, Instance, Assumption, Theorem}
 use Rattle.symbol_scope.specs.Readings.{no_files}
 
 abbrev pub read_by : Text → Reading → UnitTree → Reading
@@ -10,6 +12,7 @@ read_by text reading (Variables names) = declare_all text no_files false reading
 read_by text reading (Constants declarations) = declare_all text no_files false reading (constants declarations)
 read_by text reading (OperatorDefinition local x) = declare_all text no_files (is_some local) reading (definition x)
 read_by text reading (FunctionDefinition local x) = declare_all text no_files (is_some local) reading (definition x)
+read_by text reading (ModuleDefinition local x) = declare_all text no_files (is_some local) reading (definition x)
 read_by text reading _ = reading
 
 abbrev pub found_by : Text → Reading → UnitTree → List Finding
@@ -17,6 +20,8 @@ found_by text reading (Variables names) = all_refused text reading.context (vari
 found_by text reading (Constants declarations) = all_refused text reading.context (constants declarations)
 found_by text reading (OperatorDefinition local x) = walk text reading.context x
 found_by text reading (FunctionDefinition local x) = walk text reading.context x
+found_by text reading (ModuleDefinition local x) = walk text reading.context x
+found_by text reading (Instance local x) = walk text reading.context x
 found_by text reading (Assumption word name x) = walk text reading.context x
 found_by text reading (Theorem word name x) = walk text reading.context x
 found_by text reading _ = []

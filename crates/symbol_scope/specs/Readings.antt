@@ -8,7 +8,8 @@ use Rattle.tla_model.specs.Tables.{Table, Named as Name}
 use Rattle.tla_model.specs.declared.names.Meaning.TheVariants.{BuiltIn, Declared}
 use Rattle.tla_model.specs.Entities.{Meaning, Text, same_decl, same_units}
 use Rattle.tla_model.specs.Exports.{Exports, exports_of}
-use Rattle.tla_model.specs.Resolution.{Reading, Finding, brings, brings_clash, clashes, extended, with_entry}
+use Rattle.tla_model.specs.Scopes.{Finding}
+use Rattle.tla_model.specs.Modules.{Reading, brings, brings_clash, clashes, extended, with_entry}
 use Rattle.tla_model.specs.declared.names.Finding.TheVariants.{Clashes}
 use Rattle.tla_symbols.specs.declared.lexeme.Lexeme.{Lexeme}
 use Rattle.symbol_scope.specs.declared.table.NameTable.{NameTable}

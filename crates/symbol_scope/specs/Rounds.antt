@@ -5,7 +5,9 @@ use Rattle.tla_model.specs.Contexts.{Context}
 use Rattle.tla_model.specs.Exports.{exports_of}
 use Rattle.tla_model.specs.declared.names.Finding.TheVariants.{Taken}
 use Rattle.tla_model.specs.Entities.{Text}
-use Rattle.tla_model.specs.Resolution.{Finding, Place, Reading, all_clashing, found_in, is_named, nested}
+use Rattle.tla_model.specs.Scopes.{Finding}
+use Rattle.tla_model.specs.Modules.{Place, Reading, all_clashing, is_named, nested}
+use Rattle.symbol_scope.specs.WithoutInstances.{found_in}
 use Rattle.unit_grammar.specs.Units.{UnitTree}
 use Rattle.tla_symbols.specs.declared.lexeme.Lexeme.{Lexeme}
 use Rattle.tla_model.specs.Tables.{added, empty}

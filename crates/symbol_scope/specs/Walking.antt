@@ -1,5 +1,5 @@
 -- A walk over a tree, from what is due of it, the next one last.
-use Rattle.std.specs.Prelude.{◌≡◌, ◌<◌, ◌≤◌, ◌+◌, ℕ, Bool, true, false, Option, Some, None, List, [], ◌∷◌, ◌++◌, map, filter, length, reverse, nat_eq}
+use Rattle.std.specs.Prelude.{◌≡◌, ◌<◌, ◌≤◌, ◌+◌, ℕ, Bool, true, false, Option, Some, None, List, [], ◌∷◌, ◌++◌, map, filter, length, reverse}
 use Rattle.std.specs.List.{AllByRecursion}
 use Rattle.tla_symbols.specs.declared.lexeme.Lexeme.{Lexeme}
 use Rattle.tla_tree.specs.declared.form.Form.TheVariants as Form
@@ -12,12 +12,14 @@ use Rattle.tla_model.specs.declared.names.Finding.TheVariants.{Unknown}
 use Rattle.tla_model.specs.Contexts.{Context, bind, bind_all}
 use Rattle.tla_model.specs.Entities.{Text, entity_of}
 use Rattle.tla_model.specs.Lexemes.{LiesIn, all_lexemes, lexemes}
-use Rattle.tla_model.specs.Resolution.{Finding, definition, all_refused, has_set, itself, segments, symbol, walk}
+use Rattle.tla_model.specs.Scopes.{Finding, all_refused, has_set, itself, symbol}
+use Rattle.tla_model.specs.Modules.{definition}
+use Rattle.symbol_scope.specs.WithoutInstances.{segments, walk}
 use Rattle.symbol_scope.specs.declared.tasks.Task.TheVariants as task
 use Rattle.symbol_scope.specs.declared.tasks.Naming.TheVariants as how
 use Rattle.symbol_scope.specs.declared.table.Mark.{Mark}
 use Rattle.symbol_scope.specs.Held.{cut}
-use Rattle.symbol_scope.specs.Nodes.{IsWhole, binders_at, form_at, parts_at}
+use Rattle.symbol_scope.specs.Nodes.{IsWhole, binders_at, form_at}
 
 abbrev pub Task : Type 0
 Task = task.the_data

@@ -1,6 +1,6 @@
 // The names of a module that is read: those that stand in its context, and those that it exports.
 ghost use Rattle.std.specs.Prelude.{◌≡◌, ℕ, List as ListOf, IfOk, OnOk, if◌then◌else◌};
-ghost use Rattle.tla_model.specs.Resolution as resolution;
+ghost use Rattle.tla_model.specs.Modules as in_modules;
 ghost use Rattle.tla_model.specs.Tables as tables;
 ghost use Rattle.symbol_scope.specs.Held.{meant_by};
 ghost use Rattle.symbol_scope.specs.Readings as readings;
@@ -63,7 +63,7 @@ impl<'a> Names<'a> {
         name: Named<'a>,
         meant: Exported,
     ) -> Result<(), Memory>
-        ensures { OnOk result ((title : ListOf ℕ) → (modules : ModuleNames) → as_read title modules self.new ≡ resolution.with_entry local (as_read title modules self.old) (meant_by name.entry) (readings.as_meaning meant)) }
+        ensures { OnOk result ((title : ListOf ℕ) → (modules : ModuleNames) → as_read title modules self.new ≡ in_modules.with_entry local (as_read title modules self.old) (meant_by name.entry) (readings.as_meaning meant)) }
     {
         export(alloc, &mut self.exports, local, name, &meant)?;
         let Exported { entity, callee } = meant;

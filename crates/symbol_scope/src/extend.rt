@@ -1,8 +1,9 @@
 // The names that other modules bring.
 ghost use Rattle.std.specs.Prelude.{◌≡◌, ◌||◌, ℕ, List as ListOf, IfOk, OnOk};
 ghost use Rattle.std.specs.Option.{option_copied};
-ghost use Rattle.tla_model.specs.Exports.{entries_of, exports_of, face_exports, import_exports, named as named_as, of_symbols, of_words};
-ghost use Rattle.tla_model.specs.Resolution.{clashes};
+ghost use Rattle.tla_model.specs.Exports.{entries_of, exports_of, face_exports, named as named_as, of_symbols, of_words};
+ghost use Rattle.symbol_scope.specs.WithoutInstances.{import_exports};
+ghost use Rattle.tla_model.specs.Modules.{clashes};
 ghost use Rattle.tla_model.specs.declared.names.Meaning.TheVariants.{Declared};
 ghost use Rattle.symbol_scope.specs.Held.{held, meant_by, words_of};
 ghost use Rattle.symbol_scope.specs.Readings.{IsBrought, ModuleNames, as_read, brought, exported, meanings};

@@ -1,7 +1,7 @@
 // What forms declare, bind and use, one by one.
 ghost use Rattle.std.specs.Prelude.{◌≡◌};
 ghost use Rattle.tla_model.specs.Entities as entities;
-ghost use Rattle.tla_model.specs.Resolution as resolution;
+ghost use Rattle.tla_model.specs.Scopes as scopes;
 ghost use Rattle.symbol_scope.specs.Listed.{listed};
 
 use tla_model::{Binding, Entity};
@@ -67,21 +67,21 @@ pub fn follows_first(form: Form) -> bool
 
 /// Whether a form has a set, which stands outside the scope of the names of its list.
 pub fn has_set(form: Form) -> bool
-    ensures { result ≡ resolution.has_set form }
+    ensures { result ≡ scopes.has_set form }
 {
     matches!(form, Form::Bound | Form::TupleBound)
 }
 
 /// Whether a symbol means what a module defines it to be.
 pub fn is_free(op: Op) -> bool
-    ensures { result ≡ resolution.is_free op }
+    ensures { result ≡ scopes.is_free op }
 {
     definable(op, Fix::Prefix) || definable(op, Fix::Infix) || definable(op, Fix::Postfix)
 }
 
 /// The symbol of a prefix operator: that of minus is `-.`.
 pub fn prefixed(op: Op) -> Op
-    ensures { result ≡ resolution.prefixed op }
+    ensures { result ≡ scopes.prefixed op }
 {
     match op {
         Op::Minus => Op::Negative,

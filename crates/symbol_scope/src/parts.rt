@@ -4,7 +4,7 @@ ghost use Rattle.std.specs.List.{AllByRecursion};
 ghost use Rattle.tla_tree.specs.Arena.{AreThere, node_at, tree_at};
 ghost use Rattle.tla_tree.specs.Syntax.{trees};
 ghost use Rattle.tla_model.specs.Entities as entities;
-ghost use Rattle.tla_model.specs.Resolution as resolution;
+ghost use Rattle.tla_model.specs.Scopes as scopes;
 ghost use Rattle.symbol_scope.specs.Listed.{listed};
 ghost use Rattle.symbol_scope.specs.Nodes.{binders_at, defined_at};
 
@@ -52,7 +52,7 @@ fn push_group(
     node: u32,
 ) -> Result<(), Memory>
     requires { node < length tree.now }
-    ensures { OnOk result (names.new ≡ names.old ++ entities.bound_as binding (resolution.all_grouped (trees (tree_at tree.now node ∷ [])))) }
+    ensures { OnOk result (names.new ≡ names.old ++ entities.bound_as binding (scopes.all_grouped (trees (tree_at tree.now node ∷ [])))) }
 {
     if is_group(tree.form(node)) {
         push_all_placed(names, binding, tree, tree.children(node))?;
@@ -68,7 +68,7 @@ fn push_groups(
     nodes: &[u32],
 ) -> Result<(), Memory>
     requires { AreThere tree.now nodes.now }
-    ensures { OnOk result (names.new ≡ names.old ++ entities.bound_as binding (resolution.all_grouped (trees (map (tree_at tree.now) nodes.now)))) }
+    ensures { OnOk result (names.new ≡ names.old ++ entities.bound_as binding (scopes.all_grouped (trees (map (tree_at tree.now) nodes.now)))) }
 {
     for node in nodes {
         push_group(names, binding, tree, *node)?;

@@ -5,9 +5,10 @@ ghost use Rattle.std.specs.Str.{bytes_eq};
 ghost use Rattle.tla_tree.specs.Arena.{tree_at};
 ghost use Rattle.tla_model.specs.Contexts.{built_in};
 ghost use Rattle.tla_model.specs.Contexts as contexts;
-ghost use Rattle.tla_model.specs.Exports.{files_of};
+ghost use Rattle.symbol_scope.specs.WithoutInstances.{files_of};
 ghost use Rattle.tla_model.specs.Lexemes.{LiesIn, lexemes};
-ghost use Rattle.tla_model.specs.Resolution as resolution;
+ghost use Rattle.tla_model.specs.Scopes as scopes;
+ghost use Rattle.tla_model.specs.Modules as in_modules;
 ghost use Rattle.tla_model.specs.Tables as tables;
 ghost use Rattle.symbol_scope.specs.Held.{held};
 ghost use Rattle.symbol_scope.specs.Listed.{listed};
@@ -75,7 +76,7 @@ fn bring<'a>(
     imported: &'a Imported,
     name: &str,
 ) -> Result<bool, Memory>
-    ensures { IfOk result (λ clash. IsBrought names.old names.new clash (resolution.exports_under (files_of imported.now) (tables.lookup bytes_eq (modules_of modules.now.entries) name.now) name.now)) }
+    ensures { IfOk result (λ clash. IsBrought names.old names.new clash (in_modules.exports_under (files_of imported.now) (tables.lookup bytes_eq (modules_of modules.now.entries) name.now) name.now)) }
 {
     match modules.get(name) {
         Some(Some(exports)) => {
@@ -93,7 +94,7 @@ fn bring<'a>(
 // The name that the tree below a node defines.
 fn definition(alloc: Global, tree: &Tree, node: u32) -> Result<Option<Binder>, Memory>
     requires { node < length tree.now }
-    ensures { IfOk result (λ found. listed found ≡ resolution.definition (tree_at tree.now node)) }
+    ensures { IfOk result (λ found. listed found ≡ in_modules.definition (tree_at tree.now node)) }
 {
     let found = defined(alloc, tree, node, tree.children(node))?;
     Ok(found)
@@ -102,7 +103,7 @@ fn definition(alloc: Global, tree: &Tree, node: u32) -> Result<Option<Binder>, M
 impl<'a> Reading<'a> {
     /// A module before what it extends.
     pub fn new(alloc: Global, text: &ModuleText<'a>) -> Result<Reading<'a>, Memory>
-        ensures { IfOk result (λ reading. reading_of reading ≡ resolution.unread text.now no_files) }
+        ensures { IfOk result (λ reading. reading_of reading ≡ in_modules.unread text.now no_files) }
     {
         let name = text.file();
         let mut modules = IndexMap::new(alloc);
@@ -128,7 +129,7 @@ impl<'a> Reading<'a> {
         findings: &mut List<Finding>,
     ) -> Result<(), Memory>
         requires { LiesIn text.now.source name }
-        ensures reading { OnOk result (reading_of self.new ≡ resolution.extended (reading_of self.old) (resolution.brings text.now (files_of imported.now) (reading_of self.old) name)) }
+        ensures reading { OnOk result (reading_of self.new ≡ in_modules.extended (reading_of self.old) (in_modules.brings text.now (files_of imported.now) (reading_of self.old) name)) }
         ensures findings { OnOk result (findings.new ≡ findings.old ++ readings.clash_at text.now (files_of imported.now) (reading_of self.old) name) }
     {
         let clash = bring(
@@ -154,8 +155,8 @@ impl<'a> Reading<'a> {
         findings: &mut List<Finding>,
     ) -> Result<(), Memory>
         requires { AllByRecursion (LiesIn text.now.source) names.now }
-        ensures reading { OnOk result (reading_of self.new ≡ resolution.extends_all text.now (files_of imported.now) (reading_of self.old) names.now) }
-        ensures findings { OnOk result (findings.new ≡ findings.old ++ resolution.all_clashing text.now (files_of imported.now) (reading_of self.old) names.now) }
+        ensures reading { OnOk result (reading_of self.new ≡ in_modules.extends_all text.now (files_of imported.now) (reading_of self.old) names.now) }
+        ensures findings { OnOk result (findings.new ≡ findings.old ++ in_modules.all_clashing text.now (files_of imported.now) (reading_of self.old) names.now) }
     {
         for name in names {
             self.extend(alloc, text, imported, *name, findings)?;
@@ -172,7 +173,7 @@ impl<'a> Reading<'a> {
         binder: Binder,
     ) -> Result<(), Memory>
         requires { LiesIn text.now.source binder.name }
-        ensures reading { OnOk result (reading_of self.new ≡ resolution.declare text.now no_files local (reading_of self.old) binder) }
+        ensures reading { OnOk result (reading_of self.new ≡ in_modules.declare text.now no_files local (reading_of self.old) binder) }
         ensures context { OnOk result (held self.new.names.context ≡ contexts.bind text.now (held self.old.names.context) binder) }
     {
         let name = text.name_of(binder.name);
@@ -199,8 +200,8 @@ impl<'a> Reading<'a> {
         findings: &mut List<Finding>,
     ) -> Result<(), Memory>
         requires { BindersLie text.now.source binders }
-        ensures reading { OnOk result (reading_of self.new ≡ resolution.declare_all text.now no_files false (reading_of self.old) binders) }
-        ensures findings { OnOk result (findings.new ≡ findings.old ++ resolution.all_refused text.now (held self.old.names.context) binders) }
+        ensures reading { OnOk result (reading_of self.new ≡ in_modules.declare_all text.now no_files false (reading_of self.old) binders) }
+        ensures findings { OnOk result (findings.new ≡ findings.old ++ scopes.all_refused text.now (held self.old.names.context) binders) }
     {
         for binder in binders.into_vec() {
             refuse(text, &self.names.context, binder.name, findings)?;
@@ -220,7 +221,7 @@ impl<'a> Reading<'a> {
     ) -> Result<(), Memory>
         requires node { node < length tree.now }
         requires lie { AllByRecursion (LiesIn text.now.source) (lexemes (tree_at tree.now node)) }
-        ensures { OnOk result (reading_of self.new ≡ resolution.declare_all text.now no_files local (reading_of self.old) (resolution.definition (tree_at tree.now node))) }
+        ensures { OnOk result (reading_of self.new ≡ in_modules.declare_all text.now no_files local (reading_of self.old) (in_modules.definition (tree_at tree.now node))) }
     {
         if let Some(binder) = definition(alloc, tree, node)? {
             self.declare(alloc, text, local, binder)?;
@@ -231,7 +232,7 @@ impl<'a> Reading<'a> {
     /// Whether a module name is taken.
     pub fn is_named(&self, text: &ModuleText<'a>, name: Lexeme) -> bool
         requires { LiesIn text.now.source name }
-        ensures { result ≡ resolution.is_named text.now no_files (reading_of self.now) name }
+        ensures { result ≡ in_modules.is_named text.now no_files (reading_of self.now) name }
     {
         self.modules.contains_key(text.spelled(name))
     }

@@ -1,13 +1,16 @@
 // What the names of a module mean, and what it exports.
 ghost use Rattle.std.specs.Prelude.{◌≡◌, ◌++◌, IfOk};
-ghost use Rattle.tla_model.specs.Bindings.{IsBound};
+ghost use Rattle.tla_model.specs.Bindings.{IsBound, IsBoundBy};
 ghost use Rattle.tla_model.specs.Entities as entities;
-ghost use Rattle.tla_model.specs.Exports.{entries_of, files_of};
+ghost use Rattle.tla_model.specs.Exports.{entries_of};
+ghost use Rattle.symbol_scope.specs.WithoutInstances.{files_of};
 ghost use Rattle.tla_model.specs.Lexemes.{LexemesLie};
-ghost use Rattle.tla_model.specs.Resolution as resolution;
+ghost use Rattle.tla_model.specs.Modules as in_modules;
+ghost use Rattle.symbol_scope.specs.WithoutInstances as plain;
 ghost use Rattle.tla_model.specs.Resolution.{exports_in};
+ghost use Rattle.tla_model.specs.Exports as imports;
 ghost use Rattle.unit_grammar.specs.UnitNodes.{HasNodes, module_of};
-ghost use Rattle.symbol_scope.specs.Given.{IsReadable};
+ghost use Rattle.symbol_scope.specs.Given.{IsReadable, IsWithoutInstances};
 ghost use Rattle.symbol_scope.specs.Modules.{reading_of};
 
 use crate::bound::{declarations, sorted_out};
@@ -29,7 +32,7 @@ fn text_of<'a>(
 ) -> Result<ModuleText<'a>, Memory>
     requires readable { IsReadable tree.now }
     requires names { names.now ≡ entities.declaring (module_of tree.now).units }
-    ensures { IfOk result (λ text. text ≡ resolution.text_of tree.now.source (module_of tree.now)) }
+    ensures { IfOk result (λ text. text ≡ in_modules.text_of tree.now.source (module_of tree.now)) }
 {
     let source = tree.source.as_str();
     let file = spelled(source, &tree.name);
@@ -52,8 +55,8 @@ fn read_module<'a>(
 ) -> Result<ModuleRead<'a>, Memory>
     requires nodes { HasNodes tree.now }
     requires lie { LexemesLie text.now.source (module_of tree.now) }
-    ensures reading { IfOk result (λ read. reading_of read.reading ≡ (resolution.read_all text.now (files_of imported.now) (resolution.begun text.now (files_of imported.now) tree.now.extends) (module_of tree.now).units).here) }
-    ensures findings { IfOk result (λ read. read.findings ≡ resolution.all_clashing text.now (files_of imported.now) (resolution.unread text.now (files_of imported.now)) tree.now.extends ++ resolution.found_from text.now (files_of imported.now) (resolution.begun text.now (files_of imported.now) tree.now.extends) (module_of tree.now).units) }
+    ensures reading { IfOk result (λ read. reading_of read.reading ≡ (plain.read_all text.now (files_of imported.now) (in_modules.begun text.now (files_of imported.now) tree.now.extends) (module_of tree.now).units).here) }
+    ensures findings { IfOk result (λ read. read.findings ≡ in_modules.all_clashing text.now (files_of imported.now) (in_modules.unread text.now (files_of imported.now)) tree.now.extends ++ plain.found_from text.now (files_of imported.now) (in_modules.begun text.now (files_of imported.now) tree.now.extends) (module_of tree.now).units) }
 {
     let mut findings = List::new(alloc);
     let mut reading = Reading::new(alloc, text)?;
@@ -80,11 +83,10 @@ fn read_module<'a>(
     })
 }
 
-/// What the names of a module without INSTANCE stand for, over the modules that it names. A module
-/// that is not accepted exports nothing. `Memory` comes where there was no room.
-pub fn resolve(alloc: Global, tree: &ModuleTree, imported: &Imported) -> Result<Bound, Memory>
+// What names stand for, by what is said of modules without INSTANCE.
+fn bound_of(alloc: Global, tree: &ModuleTree, imported: &Imported) -> Result<Bound, Memory>
     requires { IsReadable tree.now }
-    ensures { IfOk result (λ bound. IsBound (files_of imported.now) tree.now.source (module_of tree.now) bound) }
+    ensures { IfOk result (IsBoundBy (plain.findings (files_of imported.now) tree.now.source (module_of tree.now)) tree.now.source (module_of tree.now)) }
 {
     let names = declaring(alloc, tree)?;
     let text = text_of(alloc, tree, names.as_slice())?;
@@ -95,17 +97,28 @@ pub fn resolve(alloc: Global, tree: &ModuleTree, imported: &Imported) -> Result<
         uses: found.uses,
         entities: found.entities,
         callees: found.callees,
-        implied: List::new(alloc),
+        implied: found.implied,
         decls,
         faults: in_order(found.faults),
     })
 }
 
+/// What the names of a module without INSTANCE stand for, over the modules that it names, which bring
+/// no instances. A module that is not accepted exports nothing. `Memory` comes where there was no room.
+pub fn resolve(alloc: Global, tree: &ModuleTree, imported: &Imported) -> Result<Bound, Memory>
+    requires readable { IsReadable tree.now }
+    requires instances { IsWithoutInstances imported.now (module_of tree.now) }
+    ensures { IfOk result (IsBound (imports.files_of imported.now) tree.now.source (module_of tree.now)) }
+{
+    bound_of(alloc, tree, imported)
+}
+
 /// What a module without INSTANCE exports: identifiers first, then symbols, each in the order in
 /// which they came. `Memory` comes where there was no room.
 pub fn exports(alloc: Global, tree: &ModuleTree, imported: &Imported) -> Result<List<Entry>, Memory>
-    requires { IsReadable tree.now }
-    ensures { IfOk result (λ entries. entries_of entries ≡ exports_in (files_of imported.now) tree.now.source (module_of tree.now)) }
+    requires readable { IsReadable tree.now }
+    requires instances { IsWithoutInstances imported.now (module_of tree.now) }
+    ensures { IfOk result (λ entries. entries_of entries ≡ exports_in (imports.files_of imported.now) tree.now.source (module_of tree.now)) }
 {
     let names = declaring(alloc, tree)?;
     let text = text_of(alloc, tree, names.as_slice())?;

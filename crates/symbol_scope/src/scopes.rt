@@ -4,7 +4,7 @@ ghost use Rattle.std.specs.List.{AllByRecursion};
 ghost use Rattle.tla_model.specs.Contexts as contexts;
 ghost use Rattle.tla_model.specs.Entities as entities;
 ghost use Rattle.tla_model.specs.Lexemes.{LiesIn};
-ghost use Rattle.tla_model.specs.Resolution as resolution;
+ghost use Rattle.tla_model.specs.Scopes as scopes;
 ghost use Rattle.tla_model.specs.Tables as tables;
 ghost use Rattle.symbol_scope.specs.Held.{held};
 ghost use Rattle.symbol_scope.specs.Lying.{BindersLie};
@@ -27,7 +27,7 @@ pub fn refuse<'a>(
     findings: &mut List<Finding>,
 ) -> Result<(), Memory>
     requires { LiesIn text.now.source name }
-    ensures { OnOk result (findings.new ≡ findings.old ++ resolution.refused text.now (held context.now) name) }
+    ensures { OnOk result (findings.new ≡ findings.old ++ scopes.refused text.now (held context.now) name) }
 {
     if context.get(text.name_of(name)).is_some() {
         findings.push(Finding::Taken { at: name })?;
@@ -72,7 +72,7 @@ pub fn bind_all<'a>(
 ) -> Result<(), Memory>
     requires { BindersLie text.now.source binders }
     ensures context { OnOk result (held context.new ≡ contexts.bind_all text.now (held context.old) binders) }
-    ensures findings { OnOk result (findings.new ≡ findings.old ++ resolution.all_refused text.now (held context.old) binders) }
+    ensures findings { OnOk result (findings.new ≡ findings.old ++ scopes.all_refused text.now (held context.old) binders) }
 {
     for binder in binders.into_vec() {
         refuse(text, context, binder.name, findings)?;

@@ -1,5 +1,7 @@
 // What no clause says: that each call answers where there is memory.
-ghost use Rattle.std.specs.Prelude.{◌≡◌, ◌+◌, ◌<◌, IfOk};
+ghost use Rattle.std.specs.Prelude.{◌≡◌, ◌+◌, ◌<◌, false, IfOk};
+ghost use Rattle.tla_model.specs.ModuleNames.{holds_instance};
+ghost use Rattle.unit_grammar.specs.UnitNodes.{module_of};
 ghost use Rattle.symbol_scope.specs.Given.{IsReadable};
 
 use super::*;
@@ -28,7 +30,7 @@ fn name(start: u32) -> Lexeme
 
 // A, which declares B, C and B again.
 fn sample(alloc: Global) -> Result<ModuleTree, Memory>
-    ensures { IfOk result (λ tree. IsReadable tree) }
+    ensures { IfOk result (λ tree. IsReadable tree × (holds_instance (module_of tree) ≡ false)) }
 {
     let mut names = List::new(alloc);
     names.push(name(1))?;

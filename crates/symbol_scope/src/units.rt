@@ -2,10 +2,12 @@
 ghost use Rattle.std.specs.Prelude.{◌≡◌, [], false, if◌then◌else◌, ◌++◌, ◌∷◌, ◌<◌, OnOk, length, map};
 ghost use Rattle.std.specs.List.{AllByRecursion};
 ghost use Rattle.tla_tree.specs.Arena.{AreThere, tree_at};
-ghost use Rattle.tla_model.specs.Exports.{files_of};
+ghost use Rattle.symbol_scope.specs.WithoutInstances.{files_of};
 ghost use Rattle.tla_model.specs.Lexemes.{LiesIn, lexemes, unit_lexemes};
-ghost use Rattle.tla_model.specs.Resolution as resolution;
-ghost use Rattle.tla_model.specs.Resolution.{Place};
+ghost use Rattle.tla_model.specs.Scopes as scopes;
+ghost use Rattle.tla_model.specs.Modules as in_modules;
+ghost use Rattle.symbol_scope.specs.WithoutInstances as plain;
+ghost use Rattle.tla_model.specs.Modules.{Place};
 ghost use Rattle.unit_grammar.specs.UnitNodes.{nodes_in, unit_at};
 ghost use Rattle.tla_model.specs.Entities.{declared_by};
 ghost use Rattle.tla_model.specs.declared.names.Finding.TheVariants.{Taken};
@@ -40,8 +42,8 @@ impl<'a> Reading<'a> {
     ) -> Result<(), Memory>
         requires there { node < length tree.now }
         requires lie { AllByRecursion (LiesIn text.now.source) (lexemes (tree_at tree.now node)) }
-        ensures reading { OnOk result (reading_of self.new ≡ resolution.declare_all text.now no_files local (reading_of self.old) (resolution.definition (tree_at tree.now node))) }
-        ensures findings { OnOk result (findings.new ≡ findings.old ++ resolution.walk text.now (held self.old.names.context) (tree_at tree.now node)) }
+        ensures reading { OnOk result (reading_of self.new ≡ in_modules.declare_all text.now no_files local (reading_of self.old) (in_modules.definition (tree_at tree.now node))) }
+        ensures findings { OnOk result (findings.new ≡ findings.old ++ plain.walk text.now (held self.old.names.context) (tree_at tree.now node)) }
     {
         walk(alloc, text, tree, node, &mut self.names.context, findings)?;
         self.define(alloc, text, local, tree, node)?;
@@ -60,7 +62,7 @@ impl<'a> Reading<'a> {
         requires there { node < length tree.now }
         requires lie { AllByRecursion (LiesIn text.now.source) (lexemes (tree_at tree.now node)) }
         ensures reading { OnOk result (reading_of self.new ≡ reading_of self.old) }
-        ensures findings { OnOk result (findings.new ≡ findings.old ++ resolution.walk text.now (held self.old.names.context) (tree_at tree.now node)) }
+        ensures findings { OnOk result (findings.new ≡ findings.old ++ plain.walk text.now (held self.old.names.context) (tree_at tree.now node)) }
     {
         walk(alloc, text, tree, node, &mut self.names.context, findings)?;
         Ok(())
@@ -77,8 +79,8 @@ impl<'a> Reading<'a> {
     ) -> Result<(), Memory>
         requires there { AreThere tree.now (nodes_in unit.now) }
         requires lie { BindersLie text.now.source (declared_by (unit_at tree.now unit.now)) }
-        ensures reading { OnOk result (reading_of self.new ≡ resolution.declare_all text.now no_files false (reading_of self.old) (declared_by (unit_at tree.now unit.now))) }
-        ensures findings { OnOk result (findings.new ≡ findings.old ++ resolution.all_refused text.now (held self.old.names.context) (declared_by (unit_at tree.now unit.now))) }
+        ensures reading { OnOk result (reading_of self.new ≡ in_modules.declare_all text.now no_files false (reading_of self.old) (declared_by (unit_at tree.now unit.now))) }
+        ensures findings { OnOk result (findings.new ≡ findings.old ++ scopes.all_refused text.now (held self.old.names.context) (declared_by (unit_at tree.now unit.now))) }
     {
         let mut binders = List::new(alloc);
         push_unit(alloc, &mut binders, tree, unit)?;
@@ -94,7 +96,7 @@ impl<'a> Reading<'a> {
         findings: &mut List<Finding>,
     ) -> Result<(), Memory>
         requires { LiesIn text.now.source name }
-        ensures { OnOk result (findings.new ≡ findings.old ++ (if resolution.is_named text.now no_files (reading_of self.now) name then Taken name ∷ [] else [])) }
+        ensures { OnOk result (findings.new ≡ findings.old ++ (if in_modules.is_named text.now no_files (reading_of self.now) name then Taken name ∷ [] else [])) }
     {
         if self.is_named(text, name) {
             findings.push(Finding::Taken { at: name })?;
@@ -125,6 +127,10 @@ impl<'a> Reading<'a> {
             Unit::FunctionDefinition { local, node } => {
                 self.read_definition(alloc, text, tree, local.is_some(), *node, findings)
             }
+            Unit::ModuleDefinition { local, node } => {
+                self.read_definition(alloc, text, tree, local.is_some(), *node, findings)
+            }
+            Unit::Instance { node, .. } => self.read_statement(alloc, text, tree, *node, findings),
             Unit::Assumption { node, .. } => {
                 self.read_statement(alloc, text, tree, *node, findings)
             }
@@ -147,7 +153,7 @@ impl<'a> Nesting<'a> {
     ) -> Result<(), Memory>
         requires name { LiesIn text.now.source name }
         requires extends { AllByRecursion (LiesIn text.now.source) extends.now }
-        ensures place { OnOk result ((place : Place) → IsAt self.old place → IsAt self.new (resolution.entered text.now (files_of imported.now) place name extends.now)) }
+        ensures place { OnOk result ((place : Place) → IsAt self.old place → IsAt self.new (in_modules.entered text.now (files_of imported.now) place name extends.now)) }
         ensures findings { OnOk result (findings.new ≡ findings.old ++ begin_found text.now (files_of imported.now) (reading_of self.old.here) name extends.now) }
     {
         self.here.refuse_module(text, name, findings)?;
@@ -168,7 +174,7 @@ impl<'a> Nesting<'a> {
     ) -> Result<(), Memory>
         requires there { AreThere tree.now (nodes_in unit.now) }
         requires lie { AllByRecursion (LiesIn text.now.source) (unit_lexemes (unit_at tree.now unit.now)) }
-        ensures place { OnOk result ((place : Place) → IsAt self.old place → IsAt self.new (resolution.after text.now (files_of imported.now) place (unit_at tree.now unit.now))) }
+        ensures place { OnOk result ((place : Place) → IsAt self.old place → IsAt self.new (plain.after text.now (files_of imported.now) place (unit_at tree.now unit.now))) }
         ensures findings { OnOk result (findings.new ≡ findings.old ++ found_here text.now (files_of imported.now) (reading_of self.old.here) (unit_at tree.now unit.now)) }
     {
         match unit {
@@ -195,8 +201,8 @@ impl<'a> Nesting<'a> {
     ) -> Result<(), Memory>
         requires there { AllByRecursion (λ unit. AreThere tree.now (nodes_in unit)) units.now }
         requires lie { AllByRecursion (λ unit. AllByRecursion (LiesIn text.now.source) (unit_lexemes (unit_at tree.now unit))) units.now }
-        ensures place { OnOk result ((place : Place) → IsAt self.old place → IsAt self.new (resolution.read_all text.now (files_of imported.now) place (map (unit_at tree.now) units.now))) }
-        ensures findings { OnOk result ((place : Place) → IsAt self.old place → findings.new ≡ findings.old ++ resolution.found_from text.now (files_of imported.now) place (map (unit_at tree.now) units.now)) }
+        ensures place { OnOk result ((place : Place) → IsAt self.old place → IsAt self.new (plain.read_all text.now (files_of imported.now) place (map (unit_at tree.now) units.now))) }
+        ensures findings { OnOk result ((place : Place) → IsAt self.old place → findings.new ≡ findings.old ++ plain.found_from text.now (files_of imported.now) place (map (unit_at tree.now) units.now)) }
     {
         for unit in units {
             self.read(alloc, text, imported, tree, unit, findings)?;

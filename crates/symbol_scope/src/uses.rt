@@ -4,7 +4,7 @@ ghost use Rattle.std.specs.Option.{option_map};
 ghost use Rattle.tla_model.specs.Contexts as contexts;
 ghost use Rattle.tla_model.specs.Entities as entities;
 ghost use Rattle.tla_model.specs.Lexemes.{LiesIn};
-ghost use Rattle.tla_model.specs.Resolution as resolution;
+ghost use Rattle.tla_model.specs.Scopes as scopes;
 ghost use Rattle.tla_model.specs.Tables.{Symbol};
 ghost use Rattle.symbol_scope.specs.Held.{held, meant_by};
 ghost use Rattle.symbol_scope.specs.Walking as walking;
@@ -39,7 +39,7 @@ fn push_use(
     meaning: Option<Meaning>,
 ) -> Result<bool, Memory>
     ensures known { IfOk result (λ known. known ≡ is_some meaning) }
-    ensures findings { OnOk result (findings.new ≡ findings.old ++ resolution.found at meaning) }
+    ensures findings { OnOk result (findings.new ≡ findings.old ++ scopes.found at meaning) }
 {
     match meaning {
         Some(meaning) => {
@@ -63,7 +63,7 @@ pub fn use_name<'a>(
 ) -> Result<bool, Memory>
     requires { LiesIn text.now.source at }
     ensures known { IfOk result (λ known. known ≡ is_some (contexts.meaning_of (held context.now) (entities.name_of text.now.source at))) }
-    ensures findings { OnOk result (findings.new ≡ findings.old ++ resolution.found at (contexts.meaning_of (held context.now) (entities.name_of text.now.source at))) }
+    ensures findings { OnOk result (findings.new ≡ findings.old ++ scopes.found at (contexts.meaning_of (held context.now) (entities.name_of text.now.source at))) }
 {
     let meaning = meaning_of(alloc, context, text.name_of(at))?;
     push_use(findings, at, meaning)
@@ -77,7 +77,7 @@ fn use_op<'a>(
     op: Op,
     findings: &mut List<Finding>,
 ) -> Result<(), Memory>
-    ensures { OnOk result (findings.new ≡ findings.old ++ resolution.used_as (held context.now) at op) }
+    ensures { OnOk result (findings.new ≡ findings.old ++ scopes.used_as (held context.now) at op) }
 {
     if is_free(op) {
         let meaning = meaning_of(alloc, context, Named::Symbol(op))?;
@@ -93,7 +93,7 @@ pub fn use_symbol<'a>(
     at: Lexeme,
     findings: &mut List<Finding>,
 ) -> Result<(), Memory>
-    ensures { OnOk result (findings.new ≡ findings.old ++ resolution.symbol (held context.now) resolution.itself at at.kind) }
+    ensures { OnOk result (findings.new ≡ findings.old ++ scopes.symbol (held context.now) scopes.itself at at.kind) }
 {
     match at.kind {
         LexKind::Sym(op) => use_op(alloc, context, at, op, findings),
@@ -108,7 +108,7 @@ pub fn use_prefix<'a>(
     at: Lexeme,
     findings: &mut List<Finding>,
 ) -> Result<(), Memory>
-    ensures { OnOk result (findings.new ≡ findings.old ++ resolution.symbol (held context.now) resolution.prefixed at at.kind) }
+    ensures { OnOk result (findings.new ≡ findings.old ++ scopes.symbol (held context.now) scopes.prefixed at at.kind) }
 {
     match at.kind {
         LexKind::Sym(op) => use_op(alloc, context, at, prefixed(op), findings),

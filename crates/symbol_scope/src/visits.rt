@@ -1,7 +1,7 @@
 // Visits of nodes.
 ghost use Rattle.std.specs.Prelude.{◌≡◌, ◌++◌, OnOk};
 ghost use Rattle.tla_tree.specs.Arena.{AreThere, node_at};
-ghost use Rattle.tla_model.specs.Resolution as resolution;
+ghost use Rattle.tla_model.specs.Scopes as scopes;
 ghost use Rattle.symbol_scope.specs.Held.{held};
 ghost use Rattle.symbol_scope.specs.Nodes.{defined_at, form_at, parts_at};
 ghost use Rattle.symbol_scope.specs.Walking as walking;
@@ -34,8 +34,8 @@ fn begin<'a>(
     requires node { IsNode text.now tree.now node }
     requires children { children.now ≡ (node_at tree.now node).children }
     requires there { AreThere tree.now children.now }
-    ensures context { OnOk result (held context.new ≡ resolution.reserved text.now (held context.old) (form_at tree.now node) (parts_at tree.now node)) }
-    ensures findings { OnOk result (findings.new ≡ findings.old ++ resolution.all_refused text.now (held context.old) (defined_at tree.now node)) }
+    ensures context { OnOk result (held context.new ≡ scopes.reserved text.now (held context.old) (form_at tree.now node) (parts_at tree.now node)) }
+    ensures findings { OnOk result (findings.new ≡ findings.old ++ scopes.all_refused text.now (held context.old) (defined_at tree.now node)) }
 {
     if let Some(binder) = defined(alloc, tree, node, children)? {
         refuse(text, context, binder.name, findings)?;

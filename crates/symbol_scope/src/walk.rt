@@ -4,7 +4,9 @@ ghost use Rattle.std.specs.List.{AllByRecursion};
 ghost use Rattle.tla_tree.specs.Arena.{tree_at};
 ghost use Rattle.tla_model.specs.Contexts as contexts;
 ghost use Rattle.tla_model.specs.Lexemes.{LiesIn, lexemes};
-ghost use Rattle.tla_model.specs.Resolution as resolution;
+ghost use Rattle.tla_model.specs.Scopes as scopes;
+ghost use Rattle.tla_model.specs.Modules as in_modules;
+ghost use Rattle.symbol_scope.specs.WithoutInstances as plain;
 ghost use Rattle.symbol_scope.specs.Held.{held};
 ghost use Rattle.symbol_scope.specs.Nodes.{binders_at};
 ghost use Rattle.symbol_scope.specs.Walking as walking;
@@ -32,7 +34,7 @@ fn bind_names<'a>(
 ) -> Result<(), Memory>
     requires { IsNode text.now tree.now node }
     ensures context { OnOk result (held context.new ≡ contexts.bind_all text.now (held context.old) (binders_at tree.now node)) }
-    ensures findings { OnOk result (findings.new ≡ findings.old ++ resolution.all_refused text.now (held context.old) (binders_at tree.now node)) }
+    ensures findings { OnOk result (findings.new ≡ findings.old ++ scopes.all_refused text.now (held context.old) (binders_at tree.now node)) }
 {
     let names = binders(alloc, tree, node, tree.children(node))?;
     bind_all(alloc, text, context, names, findings)
@@ -47,7 +49,7 @@ fn define<'a>(
     context: &mut Context<'a>,
 ) -> Result<(), Memory>
     requires { IsNode text.now tree.now node }
-    ensures { OnOk result (held context.new ≡ contexts.bind_all text.now (held context.old) (resolution.definition (tree_at tree.now node))) }
+    ensures { OnOk result (held context.new ≡ contexts.bind_all text.now (held context.old) (in_modules.definition (tree_at tree.now node))) }
 {
     if let Some(binder) = defined(alloc, tree, node, tree.children(node))? {
         bind(alloc, text, context, binder)?;
@@ -114,7 +116,7 @@ pub fn walk<'a>(
     requires there { node < length tree.now }
     requires lie { AllByRecursion (LiesIn text.now.source) (lexemes (tree_at tree.now node)) }
     ensures context { OnOk result (held context.new ≡ held context.old) }
-    ensures findings { OnOk result (findings.new ≡ findings.old ++ resolution.walk text.now (held context.old) (tree_at tree.now node)) }
+    ensures findings { OnOk result (findings.new ≡ findings.old ++ plain.walk text.now (held context.old) (tree_at tree.now node)) }
 {
     let mut tasks = Vec::new(alloc);
     tasks.push(Task::Visit { node })?;

@@ -8,5 +8,6 @@ invariant-loop-finding l = record {
   uses : l.found.uses ++ map (λ r. r.«use») (bindings.resolved l.finding-iterator.rest.items) ≡ map (λ r. r.«use») (bindings.resolved l.fn.findings);
   entities : l.found.entities ++ map (λ r. r.entity) (bindings.resolved l.finding-iterator.rest.items) ≡ map (λ r. r.entity) (bindings.resolved l.fn.findings);
   callees : l.found.callees ++ map (λ r. r.callee) (bindings.resolved l.finding-iterator.rest.items) ≡ map (λ r. r.callee) (bindings.resolved l.fn.findings);
+  implied : l.found.implied ++ bindings.implied l.finding-iterator.rest.items ≡ bindings.implied l.fn.findings;
   faults : l.found.faults ++ bindings.faults l.finding-iterator.rest.items ≡ bindings.faults l.fn.findings;
 }

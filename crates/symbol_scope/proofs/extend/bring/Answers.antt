@@ -1,6 +1,6 @@
 use Rattle.std.proofs.Common.{◌∙◌, ap, false, sym}
 use Rattle.tla_model.specs.declared.names.Meaning.TheVariants.{Declared}
-use Rattle.tla_model.specs.Resolution.{with_entry}
+use Rattle.tla_model.specs.Modules.{with_entry}
 use Rattle.tla_model.specs.Tables.{find}
 use Rattle.symbol_scope.specs.Held.{held, meant_by}
 use Rattle.symbol_scope.specs.Readings.{as_read, is_other}

@@ -3,7 +3,7 @@ use Rattle.std.specs.Prelude.{map}
 use Rattle.tla_tree.specs.Arena.{tree_at}
 use Rattle.tla_tree.specs.Syntax.{trees}
 use Rattle.tla_model.specs.Entities.{bound_as}
-use Rattle.tla_model.specs.Resolution.{all_grouped}
+use Rattle.tla_model.specs.Scopes.{all_grouped}
 use Rattle.symbol_scope.proofs.parts.push_groups.Given as goal
 
 abbrev pub invariant-loop-node : goal.invariant-loop-node

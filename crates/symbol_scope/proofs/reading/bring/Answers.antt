@@ -1,5 +1,5 @@
 use Rattle.std.proofs.Common.{◌∙◌, ap, false, sym, subst, Some, None}
-use Rattle.tla_model.specs.Exports.{files_of, import_exports}
+use Rattle.symbol_scope.specs.WithoutInstances.{files_of, import_exports}
 use Rattle.symbol_scope.specs.Readings.{IsBrought}
 use Rattle.symbol_scope.proofs.Taking.{nothing-brought, under-found}
 use Rattle.symbol_scope.proofs.reading.bring.Goals as goal

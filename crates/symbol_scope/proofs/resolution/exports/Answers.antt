@@ -1,7 +1,9 @@
 use Rattle.std.proofs.Common.{◌∙◌, ap}
-use Rattle.tla_model.specs.Exports.{exports_of, files_of}
-use Rattle.tla_model.specs.Resolution.{Reading, begun, read_all}
+use Rattle.tla_model.specs.Exports.{exports_of}
+use Rattle.tla_model.specs.Modules.{Reading, begun}
+use Rattle.symbol_scope.specs.WithoutInstances.{files_of, read_all}
 use Rattle.unit_grammar.specs.UnitNodes.{module_of}
+use Rattle.symbol_scope.proofs.Plainness.{all-exports}
 use Rattle.symbol_scope.proofs.resolution.exports.Goals as goal
 
 pub returns : goal.returns
@@ -10,3 +12,4 @@ returns c =
     let module_is = module_of c.args.tree.now in
     c.in_ok-entries.ensures ∙ ap (λ (r : Reading). exports_of r.exports) c.in_ok-module.ensures.reading
     ∙ ap (λ text. exports_of (read_all text files (begun text files module_is.extends) module_is.units).here.exports) c.in_ok-text.ensures
+    ∙ all-exports c.args.imported.now c.args.tree.now.source module_is c.requires.instances

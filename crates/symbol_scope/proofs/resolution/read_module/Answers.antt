@@ -1,8 +1,9 @@
 use Rattle.std.proofs.Common.{◌∙◌, ◌++◌, [], ap, subst}
 use Rattle.std.specs.Prelude.{map}
-use Rattle.tla_model.specs.Exports.{files_of}
+use Rattle.symbol_scope.specs.WithoutInstances.{files_of}
 use Rattle.tla_model.specs.Lexemes.{LiesIn}
-use Rattle.tla_model.specs.Resolution.{all_clashing, begun, extends_all, found_from, read_all}
+use Rattle.tla_model.specs.Modules.{all_clashing, begun, extends_all}
+use Rattle.symbol_scope.specs.WithoutInstances.{found_from, read_all}
 use Rattle.unit_grammar.specs.UnitNodes.{unit_at}
 use Rattle.symbol_scope.specs.Rounds.{IsAt}
 use Rattle.symbol_scope.proofs.Onward.{units-lie}

@@ -1,6 +1,6 @@
 use Rattle.std.proofs.Common.{◌≡◌, ◌++◌}
 use Rattle.tla_model.specs.Contexts as contexts
-use Rattle.tla_model.specs.Resolution as resolution
+use Rattle.tla_model.specs.Scopes as scopes
 use Rattle.symbol_scope.specs.Held.{held}
 use Rattle.symbol_scope.specs.Lying.{BindersLie}
 use Rattle.symbol_scope.proofs.scopes.bind_all.Given as goal
@@ -9,5 +9,5 @@ abbrev pub invariant-loop-binder : goal.invariant-loop-binder
 invariant-loop-binder l = record {
   lie : BindersLie l.text.source l.binder-iterator.rest.items;
   context : contexts.bind_all l.text (held l.context) l.binder-iterator.rest.items ≡ contexts.bind_all l.text (held l.initial.context) l.fn.binders;
-  findings : l.findings ++ resolution.all_refused l.text (held l.context) l.binder-iterator.rest.items ≡ l.initial.findings ++ resolution.all_refused l.text (held l.initial.context) l.fn.binders;
+  findings : l.findings ++ scopes.all_refused l.text (held l.context) l.binder-iterator.rest.items ≡ l.initial.findings ++ scopes.all_refused l.text (held l.initial.context) l.fn.binders;
 }

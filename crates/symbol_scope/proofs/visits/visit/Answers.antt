@@ -1,12 +1,12 @@
-use Rattle.std.proofs.Common.{◌≡◌, ◌<◌, ◌∙◌, ◌∷◌, ◌++◌, ap, subst, sym}
+use Rattle.std.proofs.Common.{◌<◌, ◌∙◌, ◌∷◌, ◌++◌, ap, subst, sym}
 use Rattle.std.specs.Prelude.{map}
 use Rattle.std.specs.List.{AllByRecursion}
-use Rattle.tla_tree.specs.Arena.{AreThere, node_at, tree_at}
+use Rattle.tla_tree.specs.Arena.{node_at, tree_at}
 use Rattle.tla_tree.specs.Syntax.{trees}
 use Rattle.tla_tree.proofs.Nodes.{before-there}
-use Rattle.tla_model.specs.Lexemes.{LiesIn, all_lexemes, held as held_by}
+use Rattle.tla_model.specs.Lexemes.{LiesIn, all_lexemes}
 use Rattle.symbol_scope.specs.Held.{held, mark_of}
-use Rattle.symbol_scope.specs.Nodes.{form_at, parts_at}
+use Rattle.symbol_scope.specs.Nodes.{form_at}
 use Rattle.symbol_scope.specs.Walking.{AreSegments, between_tasks, chain, function_tasks, image_tasks, leave, naming, scope_tasks, stack, used, visits}
 use Rattle.symbol_scope.proofs.Nodewise.{tree-at}
 use Rattle.symbol_scope.proofs.Lies.{held-lies, parts-lie}

@@ -1,7 +1,7 @@
 use Rattle.std.proofs.Common.{◌<◌, ◌∙◌, ap, subst, sym}
 use Rattle.std.specs.List.{AllByRecursion}
 use Rattle.tla_model.specs.Contexts.{bind_all}
-use Rattle.tla_model.specs.Resolution.{definition}
+use Rattle.tla_model.specs.Modules.{definition}
 use Rattle.symbol_scope.specs.Held.{held}
 use Rattle.symbol_scope.proofs.Nodewise.{tree-at}
 use Rattle.symbol_scope.specs.Listed.{listed}

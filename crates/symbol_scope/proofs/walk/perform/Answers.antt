@@ -1,5 +1,5 @@
 use Rattle.std.proofs.Common.{refl, subst, sym}
-use Rattle.tla_model.specs.Resolution.{itself, symbol}
+use Rattle.tla_model.specs.Scopes.{itself, symbol}
 use Rattle.symbol_scope.specs.Held.{held}
 use Rattle.symbol_scope.specs.Walking.{IsDone, stack}
 use Rattle.symbol_scope.specs.declared.tasks.Task.TheVariants as task

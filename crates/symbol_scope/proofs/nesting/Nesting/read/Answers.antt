@@ -1,5 +1,5 @@
 use Rattle.std.proofs.Common.{◌∙◌, ◌++◌, ap, subst}
-use Rattle.tla_model.specs.Exports.{files_of}
+use Rattle.symbol_scope.specs.WithoutInstances.{files_of}
 use Rattle.unit_grammar.specs.UnitNodes.{unit_at}
 use Rattle.symbol_scope.specs.declared.nesting.Nesting.{Nesting}
 use Rattle.symbol_scope.specs.Modules.{reading_of}

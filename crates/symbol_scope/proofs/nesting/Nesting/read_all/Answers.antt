@@ -1,7 +1,7 @@
 use Rattle.std.proofs.Common.{take}
 use Rattle.std.specs.Prelude.{map}
-use Rattle.tla_model.specs.Exports.{files_of}
-use Rattle.tla_model.specs.Resolution.{read_all}
+use Rattle.symbol_scope.specs.WithoutInstances.{files_of}
+use Rattle.symbol_scope.specs.WithoutInstances.{read_all}
 use Rattle.unit_grammar.specs.UnitNodes.{unit_at}
 use Rattle.symbol_scope.proofs.Onward.{found-on, place-more, take-mapped}
 use Rattle.symbol_scope.proofs.nesting.Nesting.read_all.Goals as goal

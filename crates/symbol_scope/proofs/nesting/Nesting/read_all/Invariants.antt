@@ -1,7 +1,8 @@
 use Rattle.std.proofs.Common.{◌≡◌, ◌++◌, take}
 use Rattle.std.specs.Prelude.{map}
-use Rattle.tla_model.specs.Exports.{files_of}
-use Rattle.tla_model.specs.Resolution.{Place, found_from, read_all}
+use Rattle.symbol_scope.specs.WithoutInstances.{files_of}
+use Rattle.tla_model.specs.Modules.{Place}
+use Rattle.symbol_scope.specs.WithoutInstances.{found_from, read_all}
 use Rattle.unit_grammar.specs.UnitNodes.{unit_at}
 use Rattle.symbol_scope.specs.Rounds.{IsAt}
 use Rattle.symbol_scope.proofs.nesting.Nesting.read_all.Given as goal
