@@ -1,4 +1,4 @@
--- What is found of a module without INSTANCE, and what it exports, by what the modules are that it names.
+-- What is found of a module, and what it is to others, by what the modules are that it names.
 use Rattle.std.specs.Prelude.{◌≡◌, ℕ, List, [], ◌∷◌, ◌++◌, Option, Some, None, map}
 use Rattle.tla_symbols.specs.declared.lexeme.Lexeme.{Lexeme}
 use Rattle.tla_model.specs.declared.Diagnostic.{Diagnostic}
@@ -8,10 +8,11 @@ use Rattle.tla_model.specs.declared.face.Part.{Part}
 use Rattle.tla_model.specs.declared.imported.Import.{Import}
 use Rattle.tla_model.specs.Bindings.{AreInOrder, at, decls, faults, resolved}
 use Rattle.tla_model.specs.Entities.{declaring}
-use Rattle.tla_model.specs.Exports.{Exports, face_exports}
+use Rattle.tla_model.specs.Exports.{Outside, face_outside, nothing}
 use Rattle.tla_model.specs.Imports.{Imports, import_of}
 use Rattle.tla_model.specs.Lexemes.{spelled}
-use Rattle.tla_model.specs.Resolution.{exports_in, findings, text_of}
+use Rattle.tla_model.specs.Modules.{text_of}
+use Rattle.tla_model.specs.Resolution.{findings, outside_in}
 use Rattle.module_graph.specs.Imports.{enclosing_of, imports_of}
 use Rattle.unit_grammar.specs.Units.{ModuleUnits}
 use Rattle.std.specs.Arc.{arc_value}
@@ -21,14 +22,14 @@ pub data Given : Type 0 where
   Unknown : Given
   Cyclic : Given
   Refused : Given
-  Accepted : (exports : Exports) → Given
+  Accepted : (outside : Outside) → Given
 
 abbrev pub given_by : Option Import → Given
 given_by None = Unknown
 given_by (Some Import.Unknown) = Unknown
 given_by (Some Import.Cyclic) = Cyclic
 given_by (Some Import.Refused) = Refused
-given_by (Some (Import.Module face)) = Accepted (face_exports (arc_value face).parts)
+given_by (Some (Import.Module face)) = Accepted (face_outside (arc_value face).parts)
 
 -- what the modules are that are imported under their names
 abbrev pub given_in : Imports → List ℕ → Given
@@ -40,7 +41,7 @@ abbrev pub import_fault : Given → Lexeme → List Diagnostic
 import_fault Unknown l = at 301 l
 import_fault Cyclic l = at 302 l
 import_fault Refused l = at 303 l
-import_fault (Accepted exports) l = []
+import_fault (Accepted outside) l = []
 
 abbrev pub faults_of_imports : (List ℕ → Given) → List ℕ → List Lexeme → List Diagnostic
 faults_of_imports given source [] = []
@@ -56,13 +57,13 @@ import_faults given source units = faults_of_imports given source (imports_of so
 
 -- ---- the check
 
--- what a module exports that is given
-abbrev pub exports_by : Given → Exports
-exports_by (Accepted exports) = exports
-exports_by _ = []
+-- what an accepted module is to others; another one is nothing to them
+abbrev pub outside_by : Given → Outside
+outside_by (Accepted outside) = outside
+outside_by _ = nothing
 
-abbrev pub files_given : (List ℕ → Given) → List ℕ → Exports
-files_given given name = exports_by (given name)
+abbrev pub files_given : (List ℕ → Given) → List ℕ → Outside
+files_given given name = outside_by (given name)
 
 -- all faults of imports, or else all faults of names
 abbrev pub or_else : List Diagnostic → List Diagnostic → List Diagnostic
@@ -90,9 +91,9 @@ pub record CheckedModule : Type 0 where
   pub decls : List Decl
   pub parts : List Part
 
--- a module that was checked, by what the modules are that it names; it exports something where it is accepted
+-- a module that was checked, by what the modules are that it names; it is something to others where it is accepted
 pub record IsChecked (given : List ℕ → Given) (source : List ℕ) (units : ModuleUnits) (checked : CheckedModule) : Type 0 where
   pub faults : AreInOrder (all_faults given source units) checked.faults
   pub uses : checked.uses ≡ all_uses given source units
   pub decls : checked.decls ≡ all_decls given source units
-  pub exports : checked.faults ≡ [] → face_exports checked.parts ≡ exports_in (files_given given) source units
+  pub outside : checked.faults ≡ [] → face_outside checked.parts ≡ outside_in (files_given given) source units

@@ -1,18 +1,17 @@
 -- The face of an accepted module: what the module holds itself, and then what the modules hold that it reaches, each once.
-use Rattle.std.specs.Prelude.{◌≡◌, ℕ, Bool, true, false, ◌&&◌, Option, None, Some, List, [], ◌∷◌, ◌++◌, if◌then◌else◌, filter, map, nat_eq}
+use Rattle.std.specs.Prelude.{◌≡◌, ℕ, Bool, false, ◌&&◌, Option, None, Some, List, [], ◌∷◌, ◌++◌, if◌then◌else◌, filter, map, nat_eq}
 use Rattle.std.specs.Arc.{arc_value}
 use Rattle.std.specs.List.{All, list_any}
 use Rattle.std.specs.Option.{option_eq}
 use Rattle.std.specs.Str.{bytes_eq}
 use Rattle.tla_symbols.specs.declared.lexeme.Lexeme.{Lexeme}
 use Rattle.tla_model.specs.declared.Diagnostic.{Diagnostic}
-use Rattle.tla_model.specs.declared.entity.Entity.TheVariants as entity
 use Rattle.tla_model.specs.declared.entity.Entry.{Entry}
 use Rattle.tla_model.specs.declared.face.Interface.{Interface}
 use Rattle.tla_model.specs.declared.face.Part.{Part}
 use Rattle.tla_model.specs.declared.ids.ModuleId.{ModuleId}
 use Rattle.tla_model.specs.declared.imported.Import.{Import}
-use Rattle.tla_model.specs.Exports.{Exports, entries_of, files_of}
+use Rattle.tla_model.specs.Exports.{Exports, entries_of, files_of, stands_for_parameter}
 use Rattle.tla_model.specs.Imports.{Imports, import_of}
 use Rattle.tla_model.specs.Lexemes.{spelled}
 use Rattle.tla_model.specs.Resolution.{exports_in}
@@ -20,11 +19,6 @@ use Rattle.module_graph.specs.Imports.{imports_of}
 use Rattle.unit_grammar.specs.Units.{ModuleUnits}
 
 -- ---- what a module holds itself
-
-abbrev pub stands_for_parameter : entity.the_data → Bool
-stands_for_parameter (entity.Constant arity) = true
-stands_for_parameter entity.Variable = true
-stands_for_parameter _ = false
 
 -- a declared constant or variable
 abbrev pub is_parameter : Entry → Bool

@@ -5,7 +5,8 @@ use Rattle.tla_model.specs.Bindings.{AreInOrder, decls, faults, resolved}
 use Rattle.tla_model.specs.Entities.{declaring}
 use Rattle.tla_model.specs.Exports.{files_of}
 use Rattle.tla_model.specs.Imports.{Imports}
-use Rattle.tla_model.specs.Resolution.{findings, text_of}
+use Rattle.tla_model.specs.Modules.{text_of}
+use Rattle.tla_model.specs.Resolution.{findings}
 use Rattle.check_core.specs.Checks.{CheckedModule}
 use Rattle.check_core.specs.Faces.{IsFaceOf}
 use Rattle.unit_grammar.specs.Units.{ModuleUnits}

@@ -1,8 +1,9 @@
 // A module that was checked.
-ghost use Rattle.std.specs.Prelude.{◌≡◌, ◌+◌, ◌-◌, ◌^◌, min, IfOk};
+ghost use Rattle.std.specs.Prelude.{◌≡◌, [], ◌+◌, ◌-◌, ◌^◌, min, IfOk};
 ghost use Rattle.unit_grammar.specs.UnitNodes.{module_of};
 ghost use Rattle.tla_model.specs.Lexemes.{spelled};
-ghost use Rattle.symbol_scope.specs.Given.{IsReadable};
+ghost use Rattle.symbol_scope.specs.Given.{IsReadable, IsWithoutInstances};
+ghost use Rattle.tla_model.specs.Exports.{parts_behind};
 ghost use Rattle.module_graph.specs.Imports.{imports_of};
 ghost use Rattle.check_core.specs.Checks.{IsChecked, given_in};
 ghost use Rattle.check_core.specs.Faces.{IsFaceOf};
@@ -100,6 +101,7 @@ fn face_of(
     faults: &[Diagnostic],
 ) -> Result<Face, Memory>
     requires readable { IsReadable tree.now }
+    requires instances { IsWithoutInstances imported.now (module_of tree.now) }
     requires name { spelled tree.now.source tree.now.name ≡ name.now }
     requires needed { needed.now ≡ imports_of tree.now.source (module_of tree.now) }
     ensures { IfOk result (λ face. IsFaceOf imported.now tree.now.source (module_of tree.now) faults.now face.parts) }
@@ -121,6 +123,7 @@ fn resolved(
     needed: &[Lexeme],
 ) -> Result<Checked, Memory>
     requires readable { IsReadable tree.now }
+    requires instances { IsWithoutInstances imported.now (module_of tree.now) }
     requires name { spelled tree.now.source tree.now.name ≡ name.now }
     requires needed { needed.now ≡ imports_of tree.now.source (module_of tree.now) }
     ensures { IfOk result (λ checked. IsResolved imported.now tree.now.source (module_of tree.now) checked) }
@@ -136,7 +139,8 @@ fn resolved(
 }
 
 /// Checks a module without INSTANCE over the modules that it names, which is one step. An accepted
-/// module has its face, and another one a face of no parts. `Memory` comes where there was no room.
+/// module has its face, which brings no instance, and another one a face of no parts. `Memory` comes
+/// where there was no room.
 pub fn check_module<L>(
     alloc: Global,
     name: &str,
@@ -145,9 +149,11 @@ pub fn check_module<L>(
     steps: &mut Steps<L>,
 ) -> Result<Checked, Memory>
     requires readable { IsReadable tree.now }
+    requires instances { IsWithoutInstances imported.now (module_of tree.now) }
     requires name { spelled tree.now.source tree.now.name ≡ name.now }
     ensures checked { IfOk result (λ checked. IsChecked (given_in imported.now) tree.now.source (module_of tree.now) checked) }
     ensures face { IfOk result (λ checked. IsFaceOf imported.now tree.now.source (module_of tree.now) checked.faults checked.parts) }
+    ensures behind { IfOk result (λ checked. parts_behind checked.parts checked.parts ≡ []) }
     ensures tick { steps.new ≡ min (steps.old + 1) (2 ^ 64 - 1) }
 {
     steps.tick();

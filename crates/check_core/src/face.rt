@@ -5,7 +5,7 @@ ghost use Rattle.tla_model.specs.Exports.{entries_of};
 ghost use Rattle.tla_model.specs.Lexemes.{LiesIn, spelled};
 ghost use Rattle.unit_grammar.specs.UnitNodes.{module_of};
 ghost use Rattle.module_graph.specs.Imports.{imports_of};
-ghost use Rattle.symbol_scope.specs.Given.{IsReadable};
+ghost use Rattle.symbol_scope.specs.Given.{IsReadable, IsWithoutInstances};
 ghost use Rattle.check_core.specs.Faces.{IsFace, IsOwn, interfaces, with_import, with_imports, with_interfaces};
 ghost use Rattle.check_core.specs.Faces as entry_of;
 ghost use Rattle.check_core.specs.Parts.{AreParts, held_by};
@@ -124,6 +124,7 @@ pub fn face(
     needed: &[Lexeme],
 ) -> Result<Face, Memory>
     requires readable { IsReadable tree.now }
+    requires instances { IsWithoutInstances imported.now (module_of tree.now) }
     requires name { spelled tree.now.source tree.now.name ≡ name.now }
     requires needed { needed.now ≡ imports_of tree.now.source (module_of tree.now) }
     ensures { IfOk result (λ face. IsFace imported.now tree.now.source (module_of tree.now) face.parts) }

@@ -1,6 +1,10 @@
 // What no clause says: that each call answers where there is memory.
-ghost use Rattle.std.specs.Prelude.{◌≡◌, ◌+◌, ◌<◌, [], ◌∷◌, IfOk};
+ghost use Rattle.std.specs.Prelude.{◌≡◌, ◌+◌, ◌<◌, [], ◌∷◌, false, ℕ, List as ListOf, IfOk};
+ghost use Rattle.tla_model.specs.Exports.{import_behind};
+ghost use Rattle.tla_model.specs.Imports.{import_of};
 ghost use Rattle.tla_model.specs.Lexemes.{spelled};
+ghost use Rattle.tla_model.specs.ModuleNames.{holds_instance};
+ghost use Rattle.unit_grammar.specs.UnitNodes.{module_of};
 ghost use Rattle.symbol_scope.specs.Given.{IsReadable};
 
 use super::*;
@@ -30,7 +34,7 @@ fn name(start: u32) -> Lexeme
 
 // A, which extends B and C.
 fn sample(alloc: Global) -> Result<ModuleTree, Memory>
-    ensures { IfOk result (λ tree. IsReadable tree × (spelled tree.source tree.name ≡ 65 ∷ [])) }
+    ensures { IfOk result (λ tree. IsReadable tree × (spelled tree.source tree.name ≡ 65 ∷ []) × (holds_instance (module_of tree) ≡ false)) }
 {
     let mut extends = List::new(alloc);
     extends.push(name(1))?;
@@ -45,12 +49,20 @@ fn sample(alloc: Global) -> Result<ModuleTree, Memory>
     })
 }
 
+// B, which needs A itself.
+fn imports(alloc: Global) -> Result<Imported, Memory>
+    ensures { IfOk result (λ imported. (name : ListOf ℕ) → import_behind (import_of imported name) ≡ []) }
+{
+    let mut imported = Imported::new(alloc);
+    imported.add(alloc, "B", Import::Cyclic)?;
+    Ok(imported)
+}
+
 #[test]
 fn refuses_what_extends_no_module(rt: HostRuntime) -> Result<(), Fail> {
     let alloc = rt.alloc();
     let tree = sample(alloc)?;
-    let mut imported = Imported::new(alloc);
-    imported.add(alloc, "B", Import::Cyclic)?;
+    let imported = imports(alloc)?;
     let mut steps = Steps::new(());
     let checked = check_module(alloc, "A", &tree, &imported, &mut steps)?;
     let faults = checked.faults().as_slice();

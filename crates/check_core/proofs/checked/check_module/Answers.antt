@@ -1,7 +1,7 @@
 use Rattle.std.proofs.Common.{◌∙◌, refl}
 use Rattle.std.proofs.lemmas.Result.{IfOk-weaker}
 use Rattle.unit_grammar.specs.UnitNodes.{module_of}
-use Rattle.check_core.proofs.Checking.{none-long, refused-checked, refused-face, resolved-checked, some-long}
+use Rattle.check_core.proofs.Checking.{none-long, refused-behind, refused-checked, refused-face, resolved-behind, resolved-checked, some-long}
 use Rattle.check_core.proofs.checked.check_module.Goals as goal
 
 pub imports-requires-clause-placed : goal.imports-requires-clause-placed
@@ -22,5 +22,12 @@ returns-then-not-is_empty-clause-face g c =
 pub returns-clause-checked : goal.returns-clause-checked
 returns-clause-checked g c =
     IfOk-weaker c.resolved.result _ _
-    (λ checked. resolved-checked c.args.imported.now c.args.tree.now.source (module_of c.args.tree.now) checked (none-long c.in_ok-faults.faults (c.if-not-is_empty.ensures.0 refl) ∙ c.in_ok-faults.ensures))
+    (λ checked. resolved-checked c.args.imported.now c.args.tree.now.source (module_of c.args.tree.now) checked c.requires.instances (none-long c.in_ok-faults.faults (c.if-not-is_empty.ensures.0 refl) ∙ c.in_ok-faults.ensures))
     c.resolved.ensures
+
+pub returns-then-not-is_empty-clause-behind : goal.returns-then-not-is_empty-clause-behind
+returns-then-not-is_empty-clause-behind g c = IfOk-weaker c.refused.result _ _ (λ checked. refused-behind c.in_ok-faults.faults checked) c.refused.ensures
+
+pub returns-clause-behind : goal.returns-clause-behind
+returns-clause-behind g c =
+    IfOk-weaker c.resolved.result _ _ (λ checked. resolved-behind c.args.imported.now c.args.tree.now.source (module_of c.args.tree.now) checked c.requires.instances) c.resolved.ensures
