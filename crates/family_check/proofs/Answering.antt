@@ -1,6 +1,6 @@
 -- What is answered on the files of a family.
-use Rattle.std.proofs.Common.{◌≡◌, ◌<◌, ◌≤◌, ◌^◌, ◌-◌, min, ℕ, zero, suc, ◌+◌, List, [], ◌∷◌, ◌++◌, Option, Some, None, Result, Ok, Err, IfOk, refl, sym, ap, ◌∙◌, map, filter, not, take, length, get_or, arith, true, false, Bool, ◌||◌, ⊎_elim, inl, inr, subst}
-use Rattle.std.specs.Prelude.{◌⊎◌, Contains, slice_get, sum_by}
+use Rattle.std.proofs.Common.{◌≡◌, ◌<◌, ◌≤◌, ◌^◌, ◌-◌, min, ℕ, zero, suc, ◌+◌, List, [], ◌∷◌, Some, Result, Ok, Err, IfOk, refl, sym, ap, ◌∙◌, map, filter, not, take, get_or, arith, true, false, Bool, ◌||◌, subst}
+use Rattle.std.specs.Prelude.{Contains, slice_get}
 use Rattle.std.specs.List.{All, AllZip, list_any}
 use Rattle.std.proofs.Math.Seq.{take-length}
 use Rattle.std.proofs.lemmas.Bool.{both_ways}
@@ -10,17 +10,16 @@ use Rattle.tool_list.specs.declared.Memory.{Memory}
 use Rattle.tla_lexeme.specs.Spans.{IsPlaced}
 use Rattle.tla_symbols.specs.declared.lexeme.Lexeme.{Lexeme}
 use Rattle.tla_model.specs.declared.Diagnostic.{Diagnostic}
-use Rattle.tla_model.specs.Exports.{Exports}
+use Rattle.tla_model.specs.Exports.{Outside}
 use Rattle.tla_model.specs.Lexemes.{LexemesLie, module_lexemes}
 use Rattle.tla_front.specs.Fronts.{Front, Tree, Fault, IsFront, read}
 use Rattle.unit_grammar.specs.Units.{ModuleUnits}
 use Rattle.unit_grammar.specs.UnitNodes.{module_of}
-use Rattle.module_graph.specs.Imports.{holds_instance}
+use Rattle.tla_model.specs.ModuleNames.{holds_instance}
 use Rattle.check_core.specs.Checks.{Given, all_faults}
-use Rattle.family_check.specs.Family.{Member, Diagnosed, IsDiagnosed, is_there}
-use Rattle.family_check.specs.Modules.{Entry, IsEntry, IsModule, IsReading, AreModules, tree_count, reading_holds_instance}
-use Rattle.family_check.specs.Outcomes.{AreOutcomes, IsSaid, IsSomeModule, Says, after_ticks, faults_of, trees_in}
-use Rattle.family_check.specs.Tables.{entry_of}
+use Rattle.family_check.specs.Family.{Member, Diagnosed, is_there}
+use Rattle.family_check.specs.Modules.{Entry, IsEntry, IsReading, AreModules, tree_count, reading_holds_instance}
+use Rattle.family_check.specs.Outcomes.{AreOutcomes, AreWithoutInstances, IsSaid, IsSomeModule, Says, after_ticks, faults_of, trees_in}
 use Rattle.family_check.specs.Verdicts.{AreFronts, AreVerdicts, HoldsInstance, IsStepped, IsVerdict, IsVerdictPlaced, check_count, checks_of, built_in_members, family_of, member_of, text_of}
 use Rattle.family_check.specs.declared.outcomes.Outcome.{Outcome}
 use Rattle.family_check.specs.declared.outcomes.Outcome.TheVariants as outcome
@@ -51,9 +50,9 @@ zip-map R S [] (y ∷ ys) f h = absurd h
 zip-map R S (x ∷ xs) [] f h = absurd h
 zip-map R S (x ∷ xs) (y ∷ ys) f h = (f x y (here x xs) h.0, zip-map R S xs ys (λ a b c. f a b (behind x xs a c)) h.1)
 
-says-faults : (faults : List Diagnostic) (exports : Exports) (o : outcome.the_data) → Says faults exports o → faults_of (Some o) ≡ faults
-says-faults faults exports (outcome.Refused found) h = h.0
-says-faults faults exports (outcome.Accepted face) h = sym h.0
+says-faults : (faults : List Diagnostic) (outside : Outside) (o : outcome.the_data) → Says faults outside o → faults_of (Some o) ≡ faults
+says-faults faults outside (outcome.Refused found) h = h.0
+says-faults faults outside (outcome.Accepted face) h = sym h.0
 
 file-there : (files : List File) (f : File) → Contains files f → Contains (family_of files) (member_of f)
 file-there files f h = Contains-append_left (map member_of files) (filter (λ m. not (is_there (map member_of files) m.name)) built_in_members) (member_of f) (maps member_of files f h)
@@ -66,7 +65,7 @@ verdict-of files outcomes are f v h said =
       text = said.text;
       found = (o.2).found;
       diagnosed = (o.2).diagnosed;
-      faults = said.faults ∙ (ap faults_of o.1 ∙ says-faults (o.2).found.faults (o.2).found.exports o.0 (o.2).says);
+      faults = said.faults ∙ (ap faults_of o.1 ∙ says-faults (o.2).found.faults (o.2).found.outside o.0 (o.2).says);
     }
 
 pub verdicts-are : (files : List File) (outcomes : List (List ℕ × Outcome)) (verdicts : List Verdict) → AreOutcomes (family_of files) outcomes → AllZip (IsSaid outcomes) files verdicts → AreVerdicts files verdicts
@@ -215,6 +214,13 @@ instance-none one files entries are f h =
     let t = holds-reading one h.member (e.0).0 (e.0).1.reading h.found (e.2).named (e.2).is.reading h.front h.holds in
     let k = contains-at entries e.0 e.1 in
     both_ways (list_any (λ (x : Entry). reading_holds_instance x.1.reading) entries) f (any-here entries k.0 e.0 k.1 t)
+
+pub none-without : (entries : List Entry) → list_any (λ (x : Entry). reading_holds_instance x.1.reading) entries ≡ false → AreWithoutInstances entries
+none-without entries f = all-by (λ (e : Entry). reading_holds_instance e.1.reading ≡ false) entries (λ e h. by e h (reading_holds_instance e.1.reading) refl)
+  where
+    by : (e : Entry) → Contains entries e → (b : Bool) → reading_holds_instance e.1.reading ≡ b → reading_holds_instance e.1.reading ≡ false
+    by e h true t = let k = contains-at entries e h in absurd (both_ways (list_any (λ (x : Entry). reading_holds_instance x.1.reading) entries) f (any-here entries k.0 e k.1 t))
+    by e h false t = t
 
 -- ---- answers
 

@@ -1,8 +1,6 @@
 -- The needs of a family, and those of its modules as they were read.
-use Rattle.std.proofs.Common.{◌≡◌, ℕ, List, [], ◌∷◌, refl, sym, ap, ◌∙◌, map, true, inl, inr, subst}
+use Rattle.std.proofs.Common.{◌≡◌, ℕ, List, sym, ◌∙◌, map, true, inl, inr, subst}
 use Rattle.std.specs.Prelude.{◌⊎◌, Contains}
-use Rattle.tla_model.specs.declared.Diagnostic.{Diagnostic}
-use Rattle.tla_tree.specs.declared.unit.ModuleTree.{ModuleTree}
 use Rattle.tla_model.specs.Lexemes.{spelled}
 use Rattle.tla_front.specs.Fronts.{Tree, Fault, IsFront}
 use Rattle.module_graph.specs.Imports.{imports_of}
@@ -11,7 +9,7 @@ use Rattle.unit_grammar.specs.UnitNodes.{module_of}
 use Rattle.module_graph.specs.Family.{Leads}
 use Rattle.family_check.specs.Family as families
 use Rattle.family_check.specs.Family.{Member, Diagnosed, IsDiagnosed, is_there}
-use Rattle.family_check.specs.Modules.{Entry, IsEntry, IsModule, IsReading, AreModules, needs_in}
+use Rattle.family_check.specs.Modules.{Entry, IsEntry, IsReading, AreModules, needs_in}
 use Rattle.family_check.specs.Plans as plans
 use Rattle.family_check.specs.declared.read.Reading.{Reading}
 use Rattle.family_check.specs.declared.read.Reading.TheVariants as reading

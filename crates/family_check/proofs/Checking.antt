@@ -1,6 +1,6 @@
 -- What is found of modules, one after another.
-use Rattle.std.proofs.Common.{◌≡◌, ◌<◌, ◌≤◌, ℕ, zero, suc, ◌+◌, ◌-◌, ◌^◌, min, List, [], ◌∷◌, ◌++◌, Option, Some, None, Result, Ok, Err, IfOk, refl, sym, ap, ◌∙◌, cond, map, take, length, get_or, arith, true, false, Bool, ⊎_elim, inl, inr, subst}
-use Rattle.std.specs.Prelude.{◌⊎◌, Contains, IsSome, is_some, slice_get, sum_by}
+use Rattle.std.proofs.Common.{◌≡◌, ◌<◌, ◌≤◌, ℕ, zero, suc, ◌+◌, ◌-◌, ◌^◌, min, List, [], ◌∷◌, ◌++◌, Option, Some, None, Result, Ok, Err, IfOk, refl, sym, ap, ◌∙◌, cond, take, length, get_or, arith, true, false, Bool, ⊎_elim, subst}
+use Rattle.std.specs.Prelude.{Contains, IsSome, is_some, slice_get, sum_by}
 use Rattle.std.specs.List.{All}
 use Rattle.std.specs.Str.{bytes_eq}
 use Rattle.std.proofs.lemmas.Bool.{cases_Bool}
@@ -9,9 +9,9 @@ use Rattle.std.proofs.lemmas.List.Sums.{sum_by_more}
 use Rattle.std.proofs.lemmas.Option.{slice_get-get_or}
 use Rattle.tla_model.specs.declared.Diagnostic.{Diagnostic}
 use Rattle.tla_model.specs.Bindings.{AreInOrder}
-use Rattle.tla_model.specs.Exports.{Exports, face_exports}
+use Rattle.tla_model.specs.Exports.{Outside, face_outside, nothing}
 use Rattle.tla_model.specs.Imports.{Imports}
-use Rattle.tla_model.specs.Resolution.{exports_in}
+use Rattle.tla_model.specs.Resolution.{outside_in}
 use Rattle.tla_tree.specs.declared.unit.ModuleTree.{ModuleTree}
 use Rattle.tla_front.specs.Fronts.{Tree, Fault, IsFront}
 use Rattle.unit_grammar.specs.Units.{ModuleUnits}
@@ -20,10 +20,10 @@ use Rattle.tool_list.specs.declared.Memory.{Memory}
 use Rattle.check_core.specs.Checks.{Given, CheckedModule, IsChecked, all_faults, files_given, given_in}
 use Rattle.family_check.specs.Family as families
 use Rattle.family_check.specs.Family.{Member, Diagnosed, IsDiagnosed, IsGiven, front_fault, checked, is_there}
-use Rattle.family_check.specs.Modules.{Entry, IsEntry, AreModules, tree_count}
+use Rattle.family_check.specs.Modules.{Entry, IsEntry, AreModules, reading_holds_instance, tree_count}
 use Rattle.family_check.specs.Plans as plans
 use Rattle.family_check.specs.Plans.{AreOnce, IsPlan}
-use Rattle.family_check.specs.Outcomes.{AreImports, AreOutcomes, IsMember, IsOutcome, IsReady, IsSomeModule, Says, after_ticks, trees_in, trees_of}
+use Rattle.family_check.specs.Outcomes.{AreBare, AreImports, AreOutcomes, AreWithoutInstances, IsBare, IsMember, IsOutcome, IsReady, IsSomeModule, Says, after_ticks, trees_in, trees_of}
 use Rattle.family_check.specs.Tables.{entry_of, names_in}
 use Rattle.family_check.specs.declared.order.Plan.{Plan}
 use Rattle.family_check.specs.declared.outcomes.Outcome.{Outcome}
@@ -44,14 +44,14 @@ use Rattle.family_check.proofs.Sums.{sum-map, sum-members}
 
 -- what is said of a module that was checked is found of it
 pub tree-outcome : (family : List Member) (name : List ℕ) (tree : ModuleTree) (needs : List (List ℕ)) (imports : Imports) (ch : CheckedModule) (r : Result outcome.the_data Memory) → IsMember family name (reading.Tree tree) needs → AreImports family name needs imports → IsChecked (given_in imports) tree.source (module_of tree) ch →
-    ((exports : Exports) → (ch.faults ≡ [] → face_exports ch.parts ≡ exports) → IfOk r (Says ch.faults exports)) → IfOk r (IsOutcome family name)
+    ((outside : Outside) → (ch.faults ≡ [] → face_outside ch.parts ≡ outside) → IfOk r (Says ch.faults outside)) → IfOk r (IsOutcome family name)
 tree-outcome family name tree needs imports ch (Err e) h imported k says = tt
 tree-outcome family name tree needs imports ch (Ok o) h imported k says =
     let m : Member = h.member in
     let units : ModuleUnits = module_of tree in
     let given : List ℕ → Given = given_in imports in
-    let exports : Exports = exports_in (files_given given) m.bytes units in
-    let found : Diagnosed family = record { faults = ch.faults; exports = exports } in
+    let outside : Outside = outside_in (files_given given) m.bytes units in
+    let found : Diagnosed family = record { faults = ch.faults; outside = outside } in
     let front : IsFront m.name m.bytes (Tree units) = subst (λ n. IsFront n m.bytes (Tree units)) (sym h.named) h.is.front in
     let order : AreInOrder (all_faults given m.bytes units) ch.faults = subst (λ s. AreInOrder (all_faults given s units) ch.faults) h.is.source k.faults in
     let gives : (need : List ℕ) → families.Needs family m.name need → IsGiven family m.name need (given need) =
@@ -60,13 +60,13 @@ tree-outcome family name tree needs imports ch (Ok o) h imported k says =
     record {
       found = found;
       diagnosed = subst (λ x. IsDiagnosed family x found) h.named diagnosed;
-      says = says exports (λ e. k.exports e ∙ ap (λ s. exports_in (files_given given) s units) h.is.source);
+      says = says outside (λ e. k.outside e ∙ ap (λ s. outside_in (files_given given) s units) h.is.source);
     }
 
 pub fault-outcome : (family : List Member) (name : List ℕ) (fault : Diagnostic) (needs : List (List ℕ)) (faults : List Diagnostic) → IsMember family name (reading.Fault fault) needs → faults ≡ fault ∷ [] → IsOutcome family name (outcome.Refused faults)
 fault-outcome family name fault needs faults h e =
     let m : Member = h.member in
-    let found : Diagnosed family = record { faults = fault ∷ []; exports = [] } in
+    let found : Diagnosed family = record { faults = fault ∷ []; outside = nothing } in
     let diagnosed : IsDiagnosed family m.name found = front_fault h.there (subst (λ n. IsFront n m.bytes (Fault fault)) (sym h.named) h.is.0) in
     record { found = found; diagnosed = subst (λ x. IsDiagnosed family x found) h.named diagnosed; says = (e, λ k. cc) }
 
@@ -137,6 +137,31 @@ found-more family outcomes outcomes' name o none e new found other p h =
   where
     some-same : (x y : Outcome) → ◌≡◌ {A = Option Outcome} (Some x) (Some y) → x ≡ y
     some-same x y s = cc
+
+-- no outcome brings an instance
+pub bare-more : (outcomes outcomes' : List (List ℕ × Outcome)) (name : List ℕ) (o : Outcome) → entry_of outcomes name ≡ None → outcomes' ≡ outcomes ++ (name, o) ∷ [] → IsBare o → AreBare outcomes → AreBare outcomes'
+bare-more outcomes outcomes' name o none e new bare other p h =
+    let value : entry_of outcomes' other ≡ cond (bytes_eq other name) (Some o) (entry_of outcomes other) = ap (λ z. entry_of z other) e ∙ entry-append outcomes other name o none in
+    by (bytes_eq other name) (sym value ∙ h)
+  where
+    by : (b : Bool) → cond b (Some o) (entry_of outcomes other) ≡ Some p → IsBare p
+    by true s = subst IsBare (same s) new
+      where
+        same : ◌≡◌ {A = Option Outcome} (Some o) (Some p) → o ≡ p
+        same s = cc
+    by false s = bare other p s
+
+pub none-bare : AreBare []
+none-bare name o h = absurd (none-some h)
+  where
+    none-some : ◌≡◌ {A = Option Outcome} None (Some o) → ⊥
+    none-some h = cc
+
+-- the module under a name holds no INSTANCE
+pub without-here : (modules : List Entry) (name : List ℕ) (m : Module) → AreWithoutInstances modules → entry_of modules name ≡ Some m → reading_holds_instance m.reading ≡ false
+without-here modules name m all e =
+    let h = entry-found modules name m e in
+    subst (λ (x : Entry). reading_holds_instance x.1.reading ≡ false) h.2 (all h.0 (name, m) h.1)
 
 -- the module under a name is the member of that name
 pub member-here : (one : HasNoOther) (family : List Member) (modules : List Entry) (name : List ℕ) (m : Module) → AreOnce (names_in modules) → AreModules family modules → entry_of modules name ≡ Some m → IsMember family name m.reading m.needs

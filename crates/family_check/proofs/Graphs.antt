@@ -1,5 +1,5 @@
 -- Graphs of needs, the orders that they have, and cycles.
-use Rattle.std.proofs.Common.{◌≡◌, ◌<◌, ℕ, zero, suc, ◌+◌, List, [], ◌∷◌, ◌++◌, Option, Some, None, Result, Ok, Err, IfOk, refl, sym, ap, ◌∙◌, cond, map, take, length, get_or, arith, true, false, Bool, ⊎_elim, inl, inr, subst, add-one}
+use Rattle.std.proofs.Common.{◌≡◌, ◌<◌, ℕ, zero, suc, ◌+◌, List, [], ◌∷◌, ◌++◌, Option, Some, None, Result, Ok, Err, IfOk, refl, sym, ap, ◌∙◌, cond, take, length, get_or, true, false, Bool, ⊎_elim, inl, inr, subst, add-one}
 use Rattle.std.specs.Prelude.{◌⊎◌, ◌↔◌, Contains, slice_get, IsSome, IsTrue, option_map}
 use Rattle.std.specs.Cmp.Lexicographic.{nat_list_cmp_total}
 use Rattle.std.specs.FinMap.{get, insert, empty, get-insert, get-empty}
@@ -13,7 +13,7 @@ use Rattle.tool_list.specs.declared.Memory.{Memory}
 use Rattle.module_graph.specs.Family as graphs
 use Rattle.module_graph.specs.Family.{Leads, last, more, name_cmp, needs_or_none}
 use Rattle.family_check.specs.Modules.{Entry}
-use Rattle.family_check.specs.Plans.{AreOnce, Needs, Reaches, IsCyclic, NeedsBefore, IsGraph, IsCyclicIn, AreKept, IsOrder, IsCycles}
+use Rattle.family_check.specs.Plans.{AreOnce, Needs, Reaches, IsCyclic, NeedsBefore, IsGraph, IsCyclicIn, AreKept, IsOrder}
 use Rattle.family_check.specs.Tables.{names_in}
 use Rattle.family_check.proofs.Names.{same-name, name-itself}
 use Rattle.family_check.proofs.Lists.{at-contains, at-same, contains-at, contains-pushed, here, maps, none-there}

@@ -1,15 +1,14 @@
 -- What the modules are that a module needs, and the imports of them.
-use Rattle.std.proofs.Common.{◌≡◌, ◌<◌, ℕ, zero, suc, ◌+◌, List, [], ◌∷◌, ◌++◌, Option, Some, None, refl, sym, ap, ◌∙◌, cond, take, length, get_or, arith, true, false, Bool, ⊎_elim, inl, inr, not, subst, Bor}
-use Rattle.std.specs.Prelude.{◌⊎◌, ◌↔◌, Contains, IsTrue, IsSome, is_some, is_none, option_copied}
+use Rattle.std.proofs.Common.{◌≡◌, ◌<◌, ℕ, ◌+◌, List, [], ◌∷◌, ◌++◌, Option, Some, None, refl, sym, ap, ◌∙◌, cond, take, length, get_or, true, false, Bool, ⊎_elim, inl, inr, not, subst, Bor}
+use Rattle.std.specs.Prelude.{◌↔◌, Contains, IsTrue, is_some, is_none, option_copied}
 use Rattle.std.specs.Arc.{arc_value}
 use Rattle.std.specs.Str.{bytes_eq}
 use Rattle.std.proofs.lemmas.Bool.{cases_Bool, both_ways}
 use Rattle.std.proofs.lemmas.List.{take_more}
 use Rattle.std.proofs.lemmas.Option.{slice_get-get_or}
 use Rattle.std.proofs.lemmas.List.Elements.{Contains-append_left, Contains-append_right}
-use Rattle.tla_model.specs.declared.Diagnostic.{Diagnostic}
 use Rattle.tla_model.specs.declared.imported.Import.{Import}
-use Rattle.tla_model.specs.Exports.{Exports, face_exports}
+use Rattle.tla_model.specs.Exports.{face_outside, import_behind}
 use Rattle.tla_model.specs.Imports.{Imports, import_of}
 use Rattle.check_core.specs.Checks.{Given, Unknown, Cyclic, Refused, Accepted, given_by, given_in}
 use Rattle.family_check.specs.Family as families
@@ -18,7 +17,7 @@ use Rattle.family_check.specs.Modules.{Entry}
 use Rattle.family_check.specs.Plans as plans
 use Rattle.family_check.specs.Plans.{IsPlan}
 use Rattle.family_check.specs.Tables.{entry_of}
-use Rattle.family_check.specs.Outcomes.{AreImports, IsImport, IsOutcome, IsReady}
+use Rattle.family_check.specs.Outcomes.{AreBareImports, IsBareImport, IsImport, IsOutcome, IsReady}
 use Rattle.family_check.specs.declared.order.Plan.{Plan}
 use Rattle.family_check.specs.declared.outcomes.Outcome.{Outcome}
 use Rattle.family_check.specs.declared.outcomes.Outcome.TheVariants as outcome
@@ -31,7 +30,7 @@ use Rattle.family_check.proofs.Bridging.{cyclic-map, cyclic-there, diagnosed-the
 -- what a module is by its outcome
 abbrev pub IsGivenBy : outcome.the_data → Given → Type 0
 IsGivenBy (outcome.Refused faults) given = given ≡ Refused
-IsGivenBy (outcome.Accepted face) given = given ≡ Accepted (face_exports (arc_value face).parts)
+IsGivenBy (outcome.Accepted face) given = given ≡ Accepted (face_outside (arc_value face).parts)
 
 -- what is asked of a plan of the modules
 abbrev pub SaysCyclic : Plan → List ℕ → List ℕ → Bool → Type 0
@@ -77,6 +76,16 @@ import-append (entry ∷ imports) name item import none = ⊎_elim
     apart true true n x y z = absurd (n refl refl)
     apart true false n x y z = refl
     apart false b n x y z = refl
+
+-- no import brings an instance
+pub bare-more : (imports : Imports) (item : List ℕ) (import : Import) (imports' : Imports) → import_of imports item ≡ None → imports' ≡ imports ++ (item, import) ∷ [] → IsBareImport import → AreBareImports imports → AreBareImports imports'
+bare-more imports item import imports' none e new bare name =
+    let value : import_of imports' name ≡ cond (bytes_eq name item) (Some import) (import_of imports name) = ap (λ z. import_of z name) e ∙ import-append imports name item import none in
+    ap import_behind value ∙ by (bytes_eq name item)
+  where
+    by : (b : Bool) → import_behind (cond b (Some import) (import_of imports name)) ≡ []
+    by true = new
+    by false = bare name
 
 -- whether there is an import
 pub none-from : {T : Type 0} (o : Option (Bor T)) (b : Bool) (x : Option T) → is_some o ≡ not b → b ≡ true → option_copied o ≡ x → x ≡ None

@@ -1,16 +1,11 @@
 -- Members and their names.
-use Rattle.std.proofs.Common.{◌≡◌, ◌<◌, ℕ, zero, suc, List, [], ◌∷◌, ◌++◌, Option, Some, None, refl, sym, ap, ◌∙◌, map, filter, length, arith, true, false, Bool, not, ◌||◌, ⊎_elim, inl, inr, subst}
-use Rattle.std.specs.Prelude.{◌⊎◌, Contains, slice_get}
-use Rattle.std.specs.List.{list_any}
+use Rattle.std.proofs.Common.{◌≡◌, ℕ, zero, suc, List, [], ◌∷◌, refl, sym, ap, ◌∙◌, arith, true, false, not, ◌||◌, ⊎_elim}
+use Rattle.std.specs.Prelude.{Contains, slice_get}
 use Rattle.std.specs.Str.{bytes_eq}
 use Rattle.std.proofs.lemmas.Bool.{cases_Bool}
-use Rattle.std.proofs.lemmas.List.Elements.{Contains-append_cases}
 use Rattle.family_check.proofs.Names.{same-name, name-itself}
-use Rattle.family_check.proofs.Lists.{at-same, behind, contains-at, in-filter, mapped, none-there}
-use Rattle.family_check.specs.Family.{Member, is_there, over, AreMembersDistinct}
-use Rattle.family_check.specs.Verdicts.{AreDistinct, built_in_members, built_in_names, family_of, member_of}
-use Rattle.family_check.specs.Modules.{built_in}
-use Rattle.family_check.specs.declared.verdict.File.{File}
+use Rattle.family_check.proofs.Lists.{at-same, behind, contains-at, none-there}
+use Rattle.family_check.specs.Family.{Member, is_there, AreMembersDistinct}
 
 -- a name that is there is that of a member
 pub there-member : (members : List Member) (name : List ℕ) → is_there members name ≡ true → (m : Member) × Contains members m × (m.name ≡ name)

@@ -1,5 +1,5 @@
 -- Each name of a family stands once.
-use Rattle.std.proofs.Common.{◌≡◌, ◌<◌, ℕ, zero, suc, ◌+◌, List, [], ◌∷◌, ◌++◌, Option, Some, None, refl, sym, ap, ◌∙◌, cond, map, filter, not, length, arith, true, false, Bool, ◌&&◌, inl, inr, subst}
+use Rattle.std.proofs.Common.{◌≡◌, ℕ, zero, suc, ◌+◌, List, [], ◌∷◌, ◌++◌, Some, refl, sym, ap, ◌∙◌, cond, map, filter, not, length, arith, true, false, Bool, inl, inr, subst}
 use Rattle.std.specs.Prelude.{◌⊎◌, Contains, slice_get}
 use Rattle.std.specs.Str.{bytes_eq}
 use Rattle.family_check.specs.Family.{AreMembersDistinct, Member, is_there}

@@ -1,15 +1,16 @@
 -- One thing is found of a module of a family.
 use Rattle.std.proofs.Common.{◌≡◌, ℕ, List, [], ◌∷◌, refl, sym, ap, ◌∙◌, map, true, false, Bool, inl, inr, subst}
-use Rattle.std.specs.Prelude.{◌⊎◌, ◌≢◌, Contains}
+use Rattle.std.specs.Prelude.{◌⊎◌, Contains}
 use Rattle.tla_model.specs.declared.Diagnostic.{Diagnostic}
 use Rattle.tla_model.specs.Bindings.{AreInOrder}
+use Rattle.tla_model.specs.Exports.{nothing}
 use Rattle.tla_model.specs.Lexemes.{spelled}
-use Rattle.tla_model.specs.Resolution.{exports_in}
+use Rattle.tla_model.specs.Resolution.{outside_in}
 use Rattle.module_graph.specs.Imports.{imports_of}
 use Rattle.tla_front.specs.Fronts.{Front, IsFront, Tree, Fault}
 use Rattle.unit_grammar.specs.Units.{ModuleUnits}
-use Rattle.check_core.specs.Checks.{Given, Unknown, Cyclic, Refused, Accepted, all_faults, files_given}
-use Rattle.family_check.specs.Family.{Member, Needs, IsCyclic, Diagnosed, IsGiven, unknown, cyclic, refused, accepted, IsDiagnosed, front_fault, checked, is_there}
+use Rattle.check_core.specs.Checks.{Given, Unknown, Accepted, all_faults, files_given}
+use Rattle.family_check.specs.Family.{Member, Needs, Diagnosed, IsGiven, unknown, cyclic, refused, accepted, IsDiagnosed, front_fault, checked}
 use Rattle.family_check.proofs.Members.{AreOneEach}
 use Rattle.family_check.proofs.Lists.{among-or-not}
 
@@ -64,11 +65,11 @@ pub record IsCheckedOf (family : List Member) (member : Member) (units : ModuleU
   pub gives : (need : List ℕ) → Needs family member.name need → IsGiven family member.name need (given need)
   pub others : (need : List ℕ) → (Needs family member.name need → ⊥) → given need ≡ Unknown
   pub ordered : AreInOrder (all_faults given member.bytes units) list
-  pub is : d ≡ record { faults = list; exports = exports_in (files_given given) member.bytes units }
+  pub is : d ≡ record { faults = list; outside = outside_in (files_given given) member.bytes units }
 
 -- what is found of a name, by the front of its member
 pub data Found (family : List Member) (name : List ℕ) (d : Diagnosed family) : Type 0 where
-  of_fault : (m : Member) (fault : Diagnostic) → Contains family m → m.name ≡ name → IsFront m.name m.bytes (Fault fault) → d ≡ record { faults = fault ∷ []; exports = [] } → Found family name d
+  of_fault : (m : Member) (fault : Diagnostic) → Contains family m → m.name ≡ name → IsFront m.name m.bytes (Fault fault) → d ≡ record { faults = fault ∷ []; outside = nothing } → Found family name d
   of_tree : (m : Member) (units : ModuleUnits) → Contains family m → m.name ≡ name → IsFront m.name m.bytes (Tree units) → IsCheckedOf family m units d → Found family name d
 
 pub found-of : {family : List Member} {name : List ℕ} {d : Diagnosed family} → IsDiagnosed family name d → Found family name d
@@ -76,22 +77,22 @@ found-of (front_fault {member = m} {fault = fault} there front) = of_fault m fau
 found-of (checked {member = m} {found = units} {given = given} {faults = list} there front gives others ordered) =
     of_tree m units there refl front (record { given = given; list = list; gives = gives; others = others; ordered = ordered; is = refl })
 
--- modules that are given the same have the same faults and exports
+-- modules that are given the same have the same faults, and are the same to others
 checked-same : OneOrder → (family : List Member) (bytes : List ℕ) (units : ModuleUnits) (given given' : List ℕ → Given) (list list' : List Diagnostic) → given ≡ given' → AreInOrder (all_faults given bytes units) list → AreInOrder (all_faults given' bytes units) list' →
-    ◌≡◌ {A = Diagnosed family} (record { faults = list; exports = exports_in (files_given given) bytes units }) (record { faults = list'; exports = exports_in (files_given given') bytes units })
+    ◌≡◌ {A = Diagnosed family} (record { faults = list; outside = outside_in (files_given given) bytes units }) (record { faults = list'; outside = outside_in (files_given given') bytes units })
 checked-same order family bytes units given given' list list' e o o' =
     let same : list ≡ list' = order (all_faults given bytes units) list list' o (subst (λ g. AreInOrder (all_faults g bytes units) list') (sym e) o') in
-    λ i. record { faults = same i; exports = exports_in (files_given (e i)) bytes units }
+    λ i. record { faults = same i; outside = outside_in (files_given (e i)) bytes units }
 
 not-there : {b : Bool} → b ≡ false → b ≡ true → ⊥
 not-there f t = let k : true ≡ false = sym t ∙ f in cc
 
 module _ (one : HasNoOther) (order : OneOrder) (family : List Member) (distinct : AreOneEach family) where
-  second-fault : (m : Member) (fault : Diagnostic) (other : Diagnosed family) → Contains family m → IsFront m.name m.bytes (Fault fault) → Found family m.name other → ◌≡◌ {A = Diagnosed family} (record { faults = fault ∷ []; exports = [] }) other
+  second-fault : (m : Member) (fault : Diagnostic) (other : Diagnosed family) → Contains family m → IsFront m.name m.bytes (Fault fault) → Found family m.name other → ◌≡◌ {A = Diagnosed family} (record { faults = fault ∷ []; outside = nothing }) other
   second-fault m fault other there front (of_fault m' fault' there' named' front' is) =
       let same : m' ≡ m = distinct m' m there' there named' in
       let f : fault ≡ fault' = fault-same (one m.name m.bytes (Fault fault) (Fault fault') front (subst (λ (x : Member). IsFront x.name x.bytes (Fault fault')) same front')) in
-      (λ i. record { faults = f i ∷ []; exports = [] }) ∙ sym is
+      (λ i. record { faults = f i ∷ []; outside = nothing }) ∙ sym is
   second-fault m fault other there front (of_tree m' units there' named' front' is) =
       let same : m' ≡ m = distinct m' m there' there named' in
       absurd (tree-no-fault (one m.name m.bytes (Tree units) (Fault fault) (subst (λ (x : Member). IsFront x.name x.bytes (Tree units)) same front') front))
@@ -122,7 +123,7 @@ module _ (one : HasNoOther) (order : OneOrder) (family : List Member) (distinct 
     given-one (accepted t n d e) (unknown g) = absurd (not-there g t)
     given-one (accepted t n d e) (cyclic u c) = absurd (n c)
     given-one (accepted t n d e) (refused u k b f) = absurd (f (ap (λ (v : Diagnosed family). v.faults) (sym (found-one d (found-of b))) ∙ e))
-    given-one (accepted t n d e) (accepted u k b f) = ap (λ (v : Diagnosed family). Accepted v.exports) (found-one d (found-of b))
+    given-one (accepted t n d e) (accepted u k b f) = ap (λ (v : Diagnosed family). Accepted v.outside) (found-one d (found-of b))
 
     found-one : {name : List ℕ} {found other : Diagnosed family} → IsDiagnosed family name found → Found family name other → found ≡ other
     found-one {other = other} (front_fault {member = m} {fault = fault} there front) h = second-fault m fault other there front h

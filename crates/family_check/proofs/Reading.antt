@@ -1,7 +1,7 @@
 -- Modules that are read, one after another.
-use Rattle.std.proofs.Common.{◌≡◌, ◌<◌, ◌^◌, ℕ, zero, suc, ◌+◌, List, [], ◌∷◌, ◌++◌, Option, Some, None, refl, sym, ap, ◌∙◌, cond, map, filter, not, take, length, get_or, arith, true, false, Bool, ◌||◌, ◌&&◌, ⊎_elim, inl, inr, subst, append_assoc, Bor}
-use Rattle.std.specs.Prelude.{◌⊎◌, Contains, slice_get, is_some, option_copied, unwrap_or}
-use Rattle.std.specs.List.{list_any, list_all, AllZip, fold}
+use Rattle.std.proofs.Common.{◌≡◌, ◌<◌, ◌^◌, ℕ, zero, suc, ◌+◌, List, [], ◌∷◌, ◌++◌, Option, Some, None, refl, sym, ap, ◌∙◌, cond, map, filter, not, take, length, get_or, arith, true, false, Bool, ◌||◌, ◌&&◌, ⊎_elim, subst, append_assoc, Bor}
+use Rattle.std.specs.Prelude.{Contains, slice_get, is_some, option_copied, unwrap_or}
+use Rattle.std.specs.List.{fold}
 use Rattle.std.specs.Str.{bytes_eq}
 use Rattle.std.proofs.lemmas.Bool.{cases_Bool}
 use Rattle.std.proofs.lemmas.List.{take_more, map-append, append-nil}
@@ -10,18 +10,17 @@ use Rattle.tla_tree.specs.declared.unit.ModuleTree.{ModuleTree}
 use Rattle.tla_symbols.specs.declared.lexeme.Lexeme.{Lexeme}
 use Rattle.tla_model.specs.Entities.{declaring}
 use Rattle.tla_model.specs.Lexemes.{LexemesLie, spelled}
-use Rattle.tla_front.specs.Fronts.{Tree, Fault, IsFront, IsFrontOfLexemes, IsTree, whole, read}
+use Rattle.tla_front.specs.Fronts.{Tree, IsFront, IsFrontOfLexemes, IsTree, whole, read}
 use Rattle.unit_grammar.specs.Units.{ModuleUnits}
 use Rattle.unit_grammar.specs.UnitNodes.{module_of}
 use Rattle.std_modules.specs.StdTexts.{std_text}
-use Rattle.family_check.specs.Family.{Member, is_there, over}
-use Rattle.family_check.specs.Verdicts.{AreDistinct, built_in_members, built_in_names, family_of, member_of, text_or_none}
+use Rattle.family_check.specs.Family.{Member, is_there}
+use Rattle.family_check.specs.Verdicts.{AreDistinct, built_in_names, member_of, text_or_none}
 use Rattle.family_check.specs.Modules.{Entry, IsEntry, IsModule, IsTreeOf, AreModules, added, built_in}
 use Rattle.family_check.specs.Tables.{entry_of, names_in}
 use Rattle.family_check.specs.declared.read.Module.{Module}
 use Rattle.family_check.specs.declared.verdict.File.{File}
-use Rattle.family_check.proofs.Names.{same-name, name-itself}
-use Rattle.family_check.proofs.Lists.{at-contains, contains-at, mapped, maps, none-there, zip-left, zip-right, zip-push}
+use Rattle.family_check.proofs.Lists.{contains-at, mapped, maps, zip-left, zip-right, zip-push}
 use Rattle.family_check.proofs.Members.{member-there, there-member}
 use Rattle.family_check.proofs.Tabling.{entry-found, entry-none, entry-some}
 

@@ -1,6 +1,6 @@
 -- Sums over names that stand once.
-use Rattle.std.proofs.Common.{◌≡◌, ◌<◌, ℕ, zero, suc, ◌+◌, List, [], ◌∷◌, refl, sym, ap, ◌∙◌, cond, map, arith, true, false, Bool, ⊎_elim, inl, inr, subst, Some}
-use Rattle.std.specs.Prelude.{◌⊎◌, Contains, slice_get, sum_by}
+use Rattle.std.proofs.Common.{◌≡◌, ℕ, zero, suc, ◌+◌, List, [], ◌∷◌, refl, sym, ap, ◌∙◌, cond, map, arith, true, false, ⊎_elim, inl, inr, subst}
+use Rattle.std.specs.Prelude.{Contains, sum_by}
 use Rattle.std.specs.Str.{bytes_eq}
 use Rattle.std.proofs.lemmas.Bool.{cases_Bool}
 use Rattle.std.proofs.lemmas.List.Sums.{sum_by-cons}

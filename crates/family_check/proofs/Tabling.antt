@@ -1,6 +1,6 @@
 -- Rows of a table, as names with items.
-use Rattle.std.proofs.Common.{◌≡◌, ◌<◌, ℕ, zero, suc, List, [], ◌∷◌, ◌++◌, Option, Some, None, refl, sym, ap, ◌∙◌, cond, map, length, arith, true, false, Bool, ⊎_elim}
-use Rattle.std.specs.Prelude.{string_bytes, String, slice_get, Contains}
+use Rattle.std.proofs.Common.{◌≡◌, ℕ, zero, suc, List, [], ◌∷◌, ◌++◌, Option, Some, None, refl, sym, ap, ◌∙◌, cond, arith, true, false, Bool, ⊎_elim}
+use Rattle.std.specs.Prelude.{string_bytes, String, Contains}
 use Rattle.std.proofs.lemmas.Bool.{cases_Bool}
 use Rattle.std.specs.Map.{lookup}
 use Rattle.std.specs.Str.{bytes_eq}

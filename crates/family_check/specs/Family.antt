@@ -1,12 +1,12 @@
 -- Families of modules, and what is found of each module of a family.
-use Rattle.std.specs.Prelude.{◌≡◌, ◌≢◌, ◌⊎◌, ℕ, Bool, true, false, ◌||◌, List, [], ◌∷◌, ◌++◌, Option, Some, None, if◌then◌else◌, map, filter, not, slice_get, Contains}
+use Rattle.std.specs.Prelude.{◌≡◌, ◌≢◌, ◌⊎◌, ℕ, Bool, true, false, List, [], ◌∷◌, ◌++◌, Some, map, filter, not, slice_get, Contains}
 use Rattle.std.specs.List.{list_any}
 use Rattle.std.specs.Str.{bytes_eq}
 use Rattle.tla_model.specs.declared.Diagnostic.{Diagnostic}
 use Rattle.tla_model.specs.Bindings.{AreInOrder}
-use Rattle.tla_model.specs.Exports.{Exports}
+use Rattle.tla_model.specs.Exports.{Outside, nothing}
 use Rattle.tla_model.specs.Lexemes.{spelled}
-use Rattle.tla_model.specs.Resolution.{exports_in}
+use Rattle.tla_model.specs.Resolution.{outside_in}
 use Rattle.module_graph.specs.Family.{Leads}
 use Rattle.module_graph.specs.Imports.{imports_of}
 use Rattle.tla_front.specs.Fronts.{IsFront, Tree, Fault}
@@ -50,10 +50,10 @@ module _ (family : List Member) where
   abbrev pub IsCyclic : List ℕ → List ℕ → Type 0
   IsCyclic name need = (need ≡ name) ⊎ Reaches need name
 
-  -- all that is found of a module: its faults, and what it exports where it has none
+  -- all that is found of a module: its faults, and what it is to others where it has none
   pub record Diagnosed : Type 0 where
     pub faults : List Diagnostic
-    pub exports : Exports
+    pub outside : Outside
 
   mutual
     -- what one module is to another that needs it
@@ -61,16 +61,16 @@ module _ (family : List Member) where
       unknown : {name need : List ℕ} → is_there family need ≡ false → IsGiven name need Unknown
       cyclic : {name need : List ℕ} → is_there family need ≡ true → IsCyclic name need → IsGiven name need Cyclic
       refused : {name need : List ℕ} {d : Diagnosed} → is_there family need ≡ true → (IsCyclic name need → ⊥) → IsDiagnosed need d → d.faults ≢ [] → IsGiven name need Refused
-      accepted : {name need : List ℕ} {d : Diagnosed} → is_there family need ≡ true → (IsCyclic name need → ⊥) → IsDiagnosed need d → d.faults ≡ [] → IsGiven name need (Accepted d.exports)
+      accepted : {name need : List ℕ} {d : Diagnosed} → is_there family need ≡ true → (IsCyclic name need → ⊥) → IsDiagnosed need d → d.faults ≡ [] → IsGiven name need (Accepted d.outside)
 
     -- its one front fault, or else what is found of its names
     pub data IsDiagnosed : List ℕ → Diagnosed → Type 0 where
       front_fault : {member : Member} {fault : Diagnostic}
           → Contains family member → IsFront member.name member.bytes (Fault fault)
-          → IsDiagnosed member.name (record { faults = fault ∷ []; exports = [] })
+          → IsDiagnosed member.name (record { faults = fault ∷ []; outside = nothing })
       checked : {member : Member} {found : ModuleUnits} {given : List ℕ → Given} {faults : List Diagnostic}
           → Contains family member → IsFront member.name member.bytes (Tree found)
           → ((need : List ℕ) → Needs member.name need → IsGiven member.name need (given need))
           → ((need : List ℕ) → (Needs member.name need → ⊥) → given need ≡ Unknown)
           → AreInOrder (all_faults given member.bytes found) faults
-          → IsDiagnosed member.name (record { faults = faults; exports = exports_in (files_given given) member.bytes found })
+          → IsDiagnosed member.name (record { faults = faults; outside = outside_in (files_given given) member.bytes found })

@@ -1,14 +1,14 @@
 -- What was read of modules, and which modules are those of a family.
-use Rattle.std.specs.Prelude.{◌≡◌, ◌<◌, ◌^◌, ℕ, List, [], ◌∷◌, ◌++◌, Bool, false, if◌then◌else◌, length, map, slice_get, Some}
-use Rattle.std.specs.List.{AllZip, AllByRecursion}
+use Rattle.std.specs.Prelude.{◌≡◌, ℕ, List, [], ◌∷◌, ◌++◌, Bool, false, if◌then◌else◌, map}
+use Rattle.std.specs.List.{AllZip}
 use Rattle.tla_lexeme.specs.Spans.{IsPlaced}
 use Rattle.tla_tree.specs.declared.unit.ModuleTree.{ModuleTree}
-use Rattle.tla_model.specs.Entities.{declaring}
-use Rattle.tla_model.specs.Lexemes.{LexemesLie, spelled}
+use Rattle.tla_model.specs.Lexemes.{spelled}
 use Rattle.tla_front.specs.Fronts.{IsFront, Tree, Fault}
-use Rattle.unit_grammar.specs.UnitNodes.{HasNodes, module_of}
+use Rattle.unit_grammar.specs.UnitNodes.{module_of}
 use Rattle.symbol_scope.specs.Given.{IsReadable}
-use Rattle.module_graph.specs.Imports.{imports_of, holds_instance}
+use Rattle.tla_model.specs.ModuleNames.{holds_instance}
+use Rattle.module_graph.specs.Imports.{imports_of}
 use Rattle.std_modules.specs.StdTexts.{std_text}
 use Rattle.family_check.specs.Family.{Member, is_there}
 use Rattle.family_check.specs.Verdicts.{text_of, text_or_none}

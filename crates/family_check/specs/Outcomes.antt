@@ -1,15 +1,15 @@
 -- What is found of the modules of a family, one after another.
-use Rattle.std.specs.Prelude.{◌≡◌, ◌≢◌, ◌+◌, ◌-◌, ◌^◌, min, ℕ, zero, suc, List, [], ◌∷◌, Option, Some, None, Contains, IsSome, IsTrue, true, map, sum_by}
-use Rattle.std.specs.List.{All, AllZip}
+use Rattle.std.specs.Prelude.{◌≡◌, ◌≢◌, ⊤, false, ◌+◌, ◌-◌, ◌^◌, min, ℕ, zero, suc, List, [], Option, Some, None, Contains, IsSome, true, sum_by}
+use Rattle.std.specs.List.{All}
 use Rattle.std.specs.Arc.{arc_value}
 use Rattle.tla_model.specs.declared.Diagnostic.{Diagnostic}
 use Rattle.tla_model.specs.declared.imported.Import.{Import}
-use Rattle.tla_model.specs.Exports.{Exports, face_exports}
-use Rattle.tla_model.specs.Imports.{Imports}
+use Rattle.tla_model.specs.Exports.{Outside, face_outside, import_behind, parts_behind}
+use Rattle.tla_model.specs.Imports.{Imports, import_of}
 use Rattle.check_core.specs.Checks.{Unknown, given_by, given_in}
 use Rattle.family_check.specs.Family as families
 use Rattle.family_check.specs.Family.{Member, Diagnosed, IsDiagnosed, IsGiven, is_there}
-use Rattle.family_check.specs.Modules.{Entry, IsModule, IsReading, tree_count}
+use Rattle.family_check.specs.Modules.{Entry, IsModule, IsReading, reading_holds_instance, tree_count}
 use Rattle.family_check.specs.Plans as plans
 use Rattle.family_check.specs.Plans.{IsPlan}
 use Rattle.family_check.specs.Verdicts.{text_of}
@@ -21,16 +21,37 @@ use Rattle.family_check.specs.declared.outcomes.Outcome.{Outcome}
 use Rattle.family_check.specs.declared.verdict.File.{File}
 use Rattle.family_check.specs.declared.verdict.Verdict.{Verdict}
 
--- an outcome says these faults, and these exports where there are none
-abbrev pub Says : List Diagnostic → Exports → Outcome → Type 0
-Says faults exports (Outcome.Refused found) = (found ≡ faults) × (faults ≢ [])
-Says faults exports (Outcome.Accepted face) = (faults ≡ []) × (face_exports (arc_value face).parts ≡ exports)
+-- an outcome says these faults, and what the module is to others where there are none
+abbrev pub Says : List Diagnostic → Outside → Outcome → Type 0
+Says faults outside (Outcome.Refused found) = (found ≡ faults) × (faults ≢ [])
+Says faults outside (Outcome.Accepted face) = (faults ≡ []) × (face_outside (arc_value face).parts ≡ outside)
 
 -- an outcome says what is found of the member of a name
 pub record IsOutcome (family : List Member) (name : List ℕ) (outcome : Outcome) : Type 0 where
   pub found : Diagnosed family
   pub diagnosed : IsDiagnosed family name found
-  pub says : Says found.faults found.exports outcome
+  pub says : Says found.faults found.outside outcome
+
+-- ---- modules without INSTANCE
+
+-- an outcome brings no instance
+abbrev pub IsBare : Outcome → Type 0
+IsBare (Outcome.Refused found) = ⊤
+IsBare (Outcome.Accepted face) = parts_behind (arc_value face).parts (arc_value face).parts ≡ []
+
+abbrev pub AreBare : List (List ℕ × Outcome) → Type 0
+AreBare outcomes = (name : List ℕ) (outcome : Outcome) → entry_of outcomes name ≡ Some outcome → IsBare outcome
+
+-- nor does an import
+abbrev pub IsBareImport : Import → Type 0
+IsBareImport import = import_behind (Some import) ≡ []
+
+abbrev pub AreBareImports : Imports → Type 0
+AreBareImports imports = (name : List ℕ) → import_behind (import_of imports name) ≡ []
+
+-- the word INSTANCE stands in none of these modules
+abbrev pub AreWithoutInstances : List Entry → Type 0
+AreWithoutInstances entries = All (λ entry. reading_holds_instance entry.1.reading ≡ false) entries
 
 -- ---- imports
 

@@ -1,5 +1,5 @@
 -- In which order modules are checked, and which of their needs are cyclic.
-use Rattle.std.specs.Prelude.{◌≡◌, ◌<◌, ◌↔◌, ◌⊎◌, ℕ, List, Option, Some, None, Contains, IsSome, map, slice_get}
+use Rattle.std.specs.Prelude.{◌≡◌, ◌<◌, ◌↔◌, ◌⊎◌, ℕ, List, Option, Some, None, Contains, IsSome, slice_get}
 use Rattle.std.specs.FinMap.{get}
 use Rattle.module_graph.specs.Family.{Leads}
 use Rattle.module_graph.specs.Family as graphs

@@ -1,11 +1,10 @@
 -- The verdicts on the files of a family, and what they take.
-use Rattle.std.specs.Prelude.{◌≡◌, ◌<◌, ◌+◌, ◌-◌, ◌^◌, min, ℕ, Bool, true, false, ◌||◌, List, [], ◌∷◌, ◌++◌, Option, Some, None, Contains, map, slice_get, take, sum_by, codes}
-use Rattle.std.specs.List.{All, AllZip, list_any}
-use Rattle.tla_model.specs.declared.Diagnostic.{Diagnostic}
+use Rattle.std.specs.Prelude.{◌≡◌, ◌+◌, ◌-◌, ◌^◌, min, ℕ, true, List, [], ◌∷◌, Option, Some, None, Contains, map, slice_get, take, sum_by, codes}
+use Rattle.std.specs.List.{All, AllZip}
 use Rattle.tla_lexeme.specs.Spans.{IsPlaced}
 use Rattle.tla_front.specs.Fronts.{Front, IsFront, Tree, Fault, readable_len}
 use Rattle.unit_grammar.specs.Units.{ModuleUnits}
-use Rattle.module_graph.specs.Imports.{holds_instance}
+use Rattle.tla_model.specs.ModuleNames.{holds_instance}
 use Rattle.std_modules.specs.StdTexts.{std_text}
 use Rattle.family_check.specs.Family.{Member, Diagnosed, IsDiagnosed, over}
 use Rattle.family_check.specs.declared.verdict.File.{File}

@@ -2,7 +2,7 @@
 ghost use Rattle.std.specs.Prelude.{◌≡◌, ◌<◌, ◌^◌, ◌↔◌, ℕ, List as ListOf, None, Some, IfOk, IfSome, sum_by, length};
 ghost use Rattle.std.specs.List.{All, list_any};
 ghost use Rattle.family_check.specs.Modules.{AreModules, IsModule, reading_holds_instance};
-ghost use Rattle.family_check.specs.Outcomes.{IsSomeModule};
+ghost use Rattle.family_check.specs.Outcomes.{AreWithoutInstances, IsSomeModule};
 ghost use Rattle.family_check.specs.Verdicts.{AreDistinct, AreVerdicts, HoldsInstance, IsStepped, IsVerdictPlaced, family_of};
 
 use crate::order::plan_of;
@@ -41,7 +41,7 @@ fn some_instance(alloc: Global, modules: &Table<Module>) -> Result<bool, Memory>
     Ok(false)
 }
 
-// The verdicts on files whose family has these modules.
+// The verdicts on files whose family has these modules, all without INSTANCE.
 fn verdicts_on<L>(
     alloc: Global,
     files: &[File],
@@ -51,6 +51,7 @@ fn verdicts_on<L>(
     requires distinct { AreDistinct files.now }
     requires small { sum_by (λ file. length file.bytes) files.now < 2 ^ 31 }
     requires modules { AreModules (family_of files.now) modules.now }
+    requires without { AreWithoutInstances modules.now }
     ensures verdicts { IfOk result (AreVerdicts files.now) }
     ensures placed { IfOk result (All IsVerdictPlaced) }
     ensures steps { IfOk result (λ _. IsStepped files.now steps.old steps.new) }

@@ -2,7 +2,7 @@
 ghost use Rattle.std.specs.Prelude.{◌≡◌, ℕ, List as ListOf, IfOk, Contains};
 ghost use Rattle.family_check.specs.Family as families;
 ghost use Rattle.family_check.specs.Family.{Member};
-ghost use Rattle.family_check.specs.Outcomes.{IsReady, IsImport, AreImports};
+ghost use Rattle.family_check.specs.Outcomes.{IsReady, IsImport, IsBareImport, AreBare, AreBareImports, AreImports};
 
 use crate::order::Plan;
 use crate::outcomes::Outcome;
@@ -19,7 +19,9 @@ fn import_of(
     name: &str,
     need: &str,
 ) -> Result<Import, Memory>
-    ensures { (family : ListOf Member) → IsReady family plan.now outcomes.now name.now → families.Needs family name.now need.now → IfOk result (IsImport family name.now need.now) }
+    requires { AreBare outcomes.now }
+    ensures given { (family : ListOf Member) → IsReady family plan.now outcomes.now name.now → families.Needs family name.now need.now → IfOk result (IsImport family name.now need.now) }
+    ensures bare { IfOk result IsBareImport }
 {
     if plan.is_cyclic(alloc, name, need)? {
         return Ok(Import::Cyclic);
@@ -39,7 +41,9 @@ pub fn imports_of(
     name: &str,
     needs: &[Chars],
 ) -> Result<Imported, Memory>
-    ensures { (family : ListOf Member) → IsReady family plan.now outcomes.now name.now → ((need : ListOf ℕ) → Contains needs.now need → families.Needs family name.now need) → IfOk result (AreImports family name.now needs.now) }
+    requires { AreBare outcomes.now }
+    ensures given { (family : ListOf Member) → IsReady family plan.now outcomes.now name.now → ((need : ListOf ℕ) → Contains needs.now need → families.Needs family name.now need) → IfOk result (AreImports family name.now needs.now) }
+    ensures bare { IfOk result AreBareImports }
 {
     let mut imported = Imported::new(alloc);
     for need in needs {

@@ -1,6 +1,8 @@
 // What is found of the modules of a family, one after another.
-ghost use Rattle.std.specs.Prelude.{◌≡◌, ◌∷◌, [], ℕ, List as ListOf, IfOk};
-ghost use Rattle.tla_model.specs.Exports.{Exports, face_exports};
+ghost use Rattle.std.specs.Prelude.{◌≡◌, ◌∷◌, [], false, ℕ, List as ListOf, IfOk};
+ghost use Rattle.tla_model.specs.Exports.{Outside, face_outside, parts_behind};
+ghost use Rattle.tla_model.specs.ModuleNames.{holds_instance};
+ghost use Rattle.unit_grammar.specs.UnitNodes.{module_of};
 ghost use Rattle.std.specs.List.{All};
 ghost use Rattle.family_check.specs.Family.{Member};
 ghost use Rattle.family_check.specs.Modules as modules_of;
@@ -46,7 +48,9 @@ fn lone_fault(alloc: Global, fault: Diagnostic) -> Result<List<Diagnostic>, Memo
 
 // What was found of a module that was checked.
 fn outcome_of(alloc: Global, checked: &Checked) -> Result<Outcome, Memory>
-    ensures { (exports : Exports) → (checked.now.faults ≡ [] → face_exports checked.now.parts ≡ exports) → IfOk result (outcomes_of.Says checked.now.faults exports) }
+    requires { parts_behind checked.now.parts checked.now.parts ≡ [] }
+    ensures says { (outside : Outside) → (checked.now.faults ≡ [] → face_outside checked.now.parts ≡ outside) → IfOk result (outcomes_of.Says checked.now.faults outside) }
+    ensures bare { IfOk result outcomes_of.IsBare }
 {
     let faults = checked.faults();
     if faults.is_empty() {
@@ -65,8 +69,11 @@ fn check_tree<L>(
     needs: &[Chars],
     steps: &mut Steps<L>,
 ) -> Result<Outcome, Memory>
-    requires { (bytes : ListOf ℕ) × modules_of.IsTreeOf name.now bytes tree.now }
+    requires tree { (bytes : ListOf ℕ) × modules_of.IsTreeOf name.now bytes tree.now }
+    requires without { holds_instance (module_of tree.now) ≡ false }
+    requires bare { outcomes_of.AreBare outcomes.now }
     ensures outcome { (family : ListOf Member) → IsReady family plan.now outcomes.now name.now → outcomes_of.IsMember family name.now (reading.Tree tree.now) needs.now → IfOk result (outcomes_of.IsOutcome family name.now) }
+    ensures bare { IfOk result outcomes_of.IsBare }
     ensures steps { IfOk result (λ _. steps.new ≡ outcomes_of.after_ticks 1 steps.old) }
 {
     let imported = imports_of(alloc, plan, outcomes, name, needs)?;
@@ -83,8 +90,11 @@ fn check_one<L>(
     module: &Module,
     steps: &mut Steps<L>,
 ) -> Result<Outcome, Memory>
-    requires { outcomes_of.IsSomeModule name.now module.now }
+    requires some { outcomes_of.IsSomeModule name.now module.now }
+    requires without { modules_of.reading_holds_instance module.now.reading ≡ false }
+    requires bare { outcomes_of.AreBare outcomes.now }
     ensures outcome { (family : ListOf Member) → IsReady family plan.now outcomes.now name.now → outcomes_of.IsMember family name.now module.now.reading module.now.needs → IfOk result (outcomes_of.IsOutcome family name.now) }
+    ensures bare { IfOk result outcomes_of.IsBare }
     ensures steps { IfOk result (λ _. steps.new ≡ outcomes_of.after_ticks (modules_of.tree_count module.now.reading) steps.old) }
 {
     match &module.reading {
@@ -97,8 +107,8 @@ fn check_one<L>(
     }
 }
 
-/// What is found of modules, in the order of a plan. Each module without front fault is checked once,
-/// which is one step.
+/// What is found of modules without INSTANCE, in the order of a plan. Each module without front fault
+/// is checked once, which is one step.
 pub fn check_all<L>(
     alloc: Global,
     modules: &Table<Module>,
@@ -108,6 +118,7 @@ pub fn check_all<L>(
     requires once { AreOnce (names_in modules.now) }
     requires read { All (λ entry. outcomes_of.IsSomeModule entry.0 entry.1) modules.now }
     requires plan { IsPlan modules.now plan.now }
+    requires without { outcomes_of.AreWithoutInstances modules.now }
     ensures outcomes { (family : ListOf Member) → modules_of.AreModules family modules.now → IfOk result (outcomes_of.AreOutcomes family) }
     ensures steps { IfOk result (λ _. steps.new ≡ outcomes_of.after_ticks (outcomes_of.trees_in modules.now) steps.old) }
 {

@@ -1,4 +1,7 @@
 // What no clause says: that each call answers where there is memory.
+ghost use Rattle.std.specs.Prelude.{IfOk};
+ghost use Rattle.family_check.specs.Outcomes.{AreBare};
+
 use crate::imports::imports_of;
 use crate::order::Plan;
 use crate::outcomes::Outcome;
@@ -31,12 +34,20 @@ fn plan_of_two(alloc: Global) -> Result<Plan, Memory> {
     })
 }
 
+// R, which has a fault.
+fn outcomes_of_one(alloc: Global) -> Result<Table<Outcome>, Memory>
+    ensures { IfOk result AreBare }
+{
+    let mut outcomes = Table::new(alloc);
+    outcomes.add(alloc, "R", Outcome::Refused(List::new(alloc)))?;
+    Ok(outcomes)
+}
+
 #[test]
 fn imports_each_need_once(rt: HostRuntime) -> Result<(), Fail> {
     let alloc = rt.alloc();
     let plan = plan_of_two(alloc)?;
-    let mut outcomes = Table::new(alloc);
-    outcomes.add(alloc, "R", Outcome::Refused(List::new(alloc)))?;
+    let outcomes = outcomes_of_one(alloc)?;
     let needs = names(alloc, "B R U R A")?;
     let imported = imports_of(alloc, &plan, &outcomes, "A", needs.as_slice())?;
     assert_eq!(rt; imported.len(), 4);

@@ -1,4 +1,3 @@
-use Rattle.std.proofs.Common.{Result, Ok, Err, IfOk}
 use Rattle.family_check.specs.Verdicts.{family_of}
 use Rattle.family_check.proofs.Answering.{modules-some, verdicts-answer, placed-answer, steps-answer}
 use Rattle.family_check.proofs.Once.{members-differ, modules-once}

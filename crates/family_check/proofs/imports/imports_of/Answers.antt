@@ -1,8 +1,9 @@
 use Rattle.std.proofs.Common.{◌+◌, ◌∙◌, ap, subst, sym, take}
 use Rattle.std.proofs.lemmas.List.{take_all}
 use Rattle.check_core.specs.Checks.{given_by}
+use Rattle.family_check.specs.Outcomes.{AreBareImports}
 use Rattle.tla_model.specs.Imports.{import_of}
-use Rattle.family_check.proofs.Importing.{AreGiven, AreOthers, given-again, given-more, item-needed, none-from, others-again, others-more, some-from}
+use Rattle.family_check.proofs.Importing.{AreGiven, AreOthers, bare-more, given-again, given-more, item-needed, none-from, others-again, others-more, some-from}
 use Rattle.family_check.proofs.imports.imports_of.Goals.{then-is_none+in_ok-import_of+in_ok-add, else-is_none}
 use Rattle.family_check.proofs.imports.imports_of.Goals as goal
 
@@ -20,7 +21,8 @@ loop-need-preserved c =
           record {
             given = λ family ready all.
                 given-more needs i c.need-item.result item c.loop-need-test.true is imports family c.args.name.now w.in_ok-import_of.field-0 c.if-is_none.imported none e
-                (w.in_ok-import_of.ensures family ready (all item (item-needed needs i c.need-item.result item c.loop-need-test.true is imports))) (c.loop-need.invariant.given family ready all);
+                (w.in_ok-import_of.ensures.given family ready (all item (item-needed needs i c.need-item.result item c.loop-need-test.true is imports))) (c.loop-need.invariant.given family ready all);
+            bare = bare-more imports item w.in_ok-import_of.field-0 c.if-is_none.imported none e w.in_ok-import_of.ensures.bare c.loop-need.invariant.bare;
             others = others-more needs i c.need-item.result item c.loop-need-test.true is imports w.in_ok-import_of.field-0 c.if-is_none.imported none e c.loop-need.invariant.others;
           }
       | else-is_none w ↦
@@ -29,12 +31,13 @@ loop-need-preserved c =
             given = λ family ready all.
                 subst (λ z. AreGiven family c.args.name.now (take (i + 1) needs) z) (sym w.imported-is)
                 (given-again needs i c.need-item.result item c.loop-need-test.true is imports family c.args.name.now some c.loop-need.invariant.others (c.loop-need.invariant.given family ready all));
+            bare = subst (λ z. AreBareImports z) (sym w.imported-is) c.loop-need.invariant.bare;
             others = subst (λ z. AreOthers (take (i + 1) needs) z) (sym w.imported-is) (others-again needs i c.need-item.result item c.loop-need-test.true is imports c.loop-need.invariant.others);
           }
     ]
 
-pub returns : goal.returns
-returns c family ready all =
+pub returns-clause-given : goal.returns-clause-given
+returns-clause-given c family ready all =
     let needs = c.args.needs.now in
     let whole = take_all c.loop-need.need-index needs c.loop-need-test.false in
     record {

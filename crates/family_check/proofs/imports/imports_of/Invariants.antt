@@ -4,11 +4,12 @@ use Rattle.check_core.specs.Checks.{given_in}
 use Rattle.tla_model.specs.Imports.{import_of}
 use Rattle.family_check.specs.Family as families
 use Rattle.family_check.specs.Family.{Member, IsGiven}
-use Rattle.family_check.specs.Outcomes.{IsReady}
+use Rattle.family_check.specs.Outcomes.{AreBareImports, IsReady}
 use Rattle.family_check.proofs.imports.imports_of.Given as goal
 
 abbrev pub invariant-loop-need : goal.invariant-loop-need
 invariant-loop-need l = record {
   given : (family : List Member) → IsReady family l.plan l.outcomes l.name → ((need : List ℕ) → Contains l.needs need → families.Needs family l.name need) → (need : List ℕ) → Contains (take l.need-index l.needs) need → IsGiven family l.name need (given_in l.imported need);
+  bare : AreBareImports l.imported;
   others : (need : List ℕ) → (Contains (take l.need-index l.needs) need → ⊥) → import_of l.imported need ≡ None;
 }
