@@ -23,11 +23,13 @@ named (name.Symbol op) = Symbol op
 
 -- ---- kinds of entries
 
+-- what INSTANCE replaces
 abbrev pub stands_for_parameter : Entity → Bool
 stands_for_parameter (entity.Constant arity) = true
 stands_for_parameter entity.Variable = true
 stands_for_parameter _ = false
 
+-- what can be named behind an instance
 abbrev pub stands_behind : Entity → Bool
 stands_behind (entity.Definition orders) = true
 stands_behind (entity.Instance orders) = true

@@ -48,11 +48,12 @@ found_behind behind None = []
 found_behind behind (Some BuiltIn) = []
 found_behind behind (Some (Declared entity callee)) = behind callee.decl
 
--- behind an instance, where something does, or else what is said otherwise
+-- what stands behind an instance of the text, or else behind one that other modules reach
 abbrev pub either : Option Exports → Exports → Exports
 either None others = others
 either (Some exports) others = exports
 
+-- of two modules that may reach an instance, the first behind whose one something stands
 abbrev pub first_of : Exports → Exports → Exports
 first_of [] others = others
 first_of (entry ∷ rest) others = entry ∷ rest
@@ -64,6 +65,7 @@ called_by number rest meaning = meaning
 
 -- ---- INSTANCE without a name
 
+-- what a name means that came through an INSTANCE
 abbrev pub through : UnitId → Meaning → Meaning
 through unit BuiltIn = BuiltIn
 through unit (Declared entity callee) = Declared entity (record callee { via = callee.via ++ unit ∷ [] })
