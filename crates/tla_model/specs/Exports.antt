@@ -2,13 +2,11 @@
 use Rattle.std.specs.Prelude.{ℕ, Bool, true, false, List, [], ◌∷◌, ◌++◌, Option, Some, None, filter, slice_get}
 use Rattle.tla_symbols.specs.declared.op.Op.{Op}
 use Rattle.tla_model.specs.declared.entity.Entity.TheVariants as entity
-use Rattle.tla_model.specs.declared.entity.Entry.{Entry}
-use Rattle.tla_model.specs.declared.entity.Name.TheVariants as name
 use Rattle.tla_model.specs.declared.face.Instance.{Instance}
-use Rattle.tla_model.specs.declared.face.Part.{Part}
 use Rattle.tla_model.specs.declared.ids.DeclId.{DeclId}
 use Rattle.tla_model.specs.declared.imported.Import.{Import}
 use Rattle.tla_model.specs.Imports.{Imports, import_of}
+use Rattle.tla_model.specs.Parts.{Held, last}
 use Rattle.tla_model.specs.Tables.{Table, Named, Word, Symbol, lookup}
 use Rattle.tla_model.specs.Entities.{Entity, Meaning, BuiltIn, Declared, same_decl}
 use Rattle.std.specs.Arc.{arc_value}
@@ -16,10 +14,6 @@ use Rattle.std.specs.Arc.{arc_value}
 -- names with what they mean outside the module
 abbrev pub Exports : Type 0
 Exports = List (Named × Meaning)
-
-abbrev pub named : name.the_data → Named
-named (name.Word bytes) = Word bytes
-named (name.Symbol op) = Symbol op
 
 -- ---- kinds of entries
 
@@ -75,61 +69,6 @@ nothing = record { exports = []; parameters = []; behind = λ decl. [] }
 abbrev pub exports_by : (List ℕ → Outside) → List ℕ → Exports
 exports_by files name = (files name).exports
 
--- ---- faces
-
-abbrev pub entries_of : List Entry → Exports
-entries_of [] = []
-entries_of (entry ∷ rest) = (named entry.name, Declared entry.entity entry.callee) ∷ entries_of rest
-
--- the first part of a face is the module's own
-abbrev pub face_exports : List Part → Exports
-face_exports [] = []
-face_exports (part ∷ parts) = entries_of (arc_value part.interface).exports
-
-abbrev pub face_parameters : List Part → Exports
-face_parameters [] = []
-face_parameters (part ∷ parts) = entries_of (arc_value part.interface).parameters
-
--- what a part exports, if there is one
-abbrev pub part_shows : Option Part → Exports
-part_shows None = []
-part_shows (Some part) = entries_of (arc_value part.interface).exports
-
--- what the part at a place exports
-abbrev pub part_exports : List Part → Option ℕ → Exports
-part_exports parts None = []
-part_exports parts (Some place) = part_shows (slice_get parts place)
-
--- under the name of an instance, what stands behind it; one without a name has nothing behind it
-abbrev pub under : Option DeclId → Exports → Behind
-under None exports = []
-under (Some decl) exports = (decl, exports) ∷ []
-
--- behind the instances of a part, whose modules have these places among the parts
-abbrev pub part_behind : List Part → List ℕ → List Instance → Behind
-part_behind parts places [] = []
-part_behind parts places (instance ∷ rest) = under instance.name (carried (part_exports parts (slice_get places instance.«module»))) ++ part_behind parts places rest
-
-abbrev pub parts_behind : List Part → List Part → Behind
-parts_behind all [] = []
-parts_behind all (part ∷ rest) = part_behind all part.places (arc_value part.interface).instances ++ parts_behind all rest
-
-abbrev pub face_outside : List Part → Outside
-face_outside parts = record { exports = face_exports parts; parameters = face_parameters parts; behind = behind_in (parts_behind parts parts) }
-
-abbrev pub import_outside : Option Import → Outside
-import_outside (Some (Import.Module face)) = face_outside (arc_value face).parts
-import_outside _ = nothing
-
--- the instances that an import brings
-abbrev pub import_behind : Option Import → Behind
-import_behind (Some (Import.Module face)) = parts_behind (arc_value face).parts (arc_value face).parts
-import_behind _ = []
-
--- the imported module of a name
-abbrev pub files_of : Imports → List ℕ → Outside
-files_of imports name = import_outside (import_of imports name)
-
 -- ---- tables as lists
 
 -- a table as a list: identifiers, then symbols
@@ -143,3 +82,49 @@ of_symbols (entry ∷ rest) = (Symbol entry.0, entry.1) ∷ of_symbols rest
 
 abbrev pub exports_of : Table Meaning → Exports
 exports_of table = of_words table.words ++ of_symbols table.symbols
+
+-- ---- faces
+
+-- what a part exports, if there is one
+abbrev pub part_shows : Option Held → Exports
+part_shows None = []
+part_shows (Some part) = exports_of part.interface.exports
+
+-- the last part of a face is the module's own
+abbrev pub face_exports : List Held → Exports
+face_exports parts = part_shows (last parts)
+
+-- what the part at a place exports
+abbrev pub part_exports : List Held → Option ℕ → Exports
+part_exports parts None = []
+part_exports parts (Some place) = part_shows (slice_get parts place)
+
+-- under the name of an instance, what stands behind it; one without a name has nothing behind it
+abbrev pub under : Option DeclId → Exports → Behind
+under None exports = []
+under (Some decl) exports = (decl, exports) ∷ []
+
+-- behind the instances of a part, whose modules have these places among the parts
+abbrev pub part_behind : List Held → List ℕ → List Instance → Behind
+part_behind parts places [] = []
+part_behind parts places (instance ∷ rest) = under instance.name (carried (part_exports parts (slice_get places instance.«module»))) ++ part_behind parts places rest
+
+abbrev pub parts_behind : List Held → List Held → Behind
+parts_behind all [] = []
+parts_behind all (part ∷ rest) = part_behind all part.places part.interface.instances ++ parts_behind all rest
+
+abbrev pub face_outside : List Held → Outside
+face_outside parts = record { exports = face_exports parts; parameters = parameters_in (face_exports parts); behind = behind_in (parts_behind parts parts) }
+
+abbrev pub import_outside : Option Import → Outside
+import_outside (Some (Import.Module face)) = face_outside (arc_value face).parts
+import_outside _ = nothing
+
+-- the instances that an import brings
+abbrev pub import_behind : Option Import → Behind
+import_behind (Some (Import.Module face)) = parts_behind (arc_value face).parts (arc_value face).parts
+import_behind _ = []
+
+-- the imported module of a name
+abbrev pub files_of : Imports → List ℕ → Outside
+files_of imports name = import_outside (import_of imports name)

@@ -1,5 +1,7 @@
 pub mod Imports
 pub mod Tables
+pub mod Stretches
+pub mod Parts
 pub mod Lexemes
 pub mod ModuleNames
 pub mod Entities

@@ -1,5 +1,5 @@
 -- Tables of names: each name once, with what stands under it. What first took a name stays there.
-use Rattle.std.specs.Prelude.{ℕ, Bool, false, ◌||◌, List, [], ◌∷◌, ◌++◌, Option, Some, None, is_some, if◌then◌else◌}
+use Rattle.std.specs.Prelude.{◌≡◌, ⊤, ℕ, Bool, false, ◌||◌, List, [], ◌∷◌, ◌++◌, Option, Some, None, is_some, if◌then◌else◌}
 use Rattle.std.specs.Str.{bytes_eq}
 use Rattle.tla_symbols.specs.declared.op.Op.{Op}
 use Rattle.tla_symbols.specs.contracts.op.Op as op
@@ -30,6 +30,11 @@ lookup same (entry ∷ rest) key = if same key entry.0 then Some entry.1 else lo
 -- one more entry, unless its key is there
 abbrev pub added : {K V : Type 0} → (K → K → Bool) → List (K × V) → K → V → List (K × V)
 added same entries key value = if is_some (lookup same entries key) then entries else entries ++ (key, value) ∷ []
+
+-- no key of the entries is there before it, among those before or among the entries
+abbrev pub AreNew : {K V : Type 0} → (K → K → Bool) → List (K × V) → List (K × V) → Type 0
+AreNew same before [] = ⊤
+AreNew same before (entry ∷ rest) = (lookup same before entry.0 ≡ None) × AreNew same (before ++ entry ∷ []) rest
 
 -- a table, by the order in which the names were put
 pub record Table (V : Type 0) : Type 0 where

@@ -1,9 +1,9 @@
 // What names stand for.
 ghost use Rattle.std.specs.Prelude.{◌≡◌, IfOk};
 
-use crate::ids::{Callee, DeclId};
+use crate::ids::DeclId;
 use std::alloc::Global;
-use tla_symbols::{Op, Span};
+use tla_symbols::Span;
 use tool_list::{Chars, List, Memory};
 
 /// What a name stands for. Orders are those of the parameters of a definition or of an instance: 0 for
@@ -87,49 +87,4 @@ pub struct Use {
     pub place: u32,
     /// The level of the use where its module is accepted, and else `Constant`.
     pub level: Level,
-}
-
-/// A name of a context.
-#[derive(Drop)]
-pub enum Name {
-    /// An identifier.
-    Word(Chars),
-    /// A symbol, its synonyms joined. The minus before its operand is `Negative`.
-    Symbol(Op),
-}
-
-impl Name {
-    /// The same name. `Memory` comes where there was no room.
-    pub fn copied(&self, alloc: Global) -> Result<Name, Memory>
-        ensures { IfOk result (λ copy. copy ≡ self.now) }
-    {
-        match self {
-            Name::Word(word) => {
-                let word = Chars::from_str(alloc, word.as_str())?;
-                Ok(Name::Word(word))
-            }
-            Name::Symbol(op) => Ok(Name::Symbol(*op)),
-        }
-    }
-}
-
-/// A name of a context, or one that a module exports, with what it stands for.
-#[derive(Drop)]
-pub struct Entry {
-    pub name: Name,
-    pub entity: Entity,
-    pub callee: Callee,
-}
-
-impl Entry {
-    /// The same entry. `Memory` comes where there was no room.
-    pub fn copied(&self, alloc: Global) -> Result<Entry, Memory>
-        ensures { IfOk result (λ copy. copy ≡ self.now) }
-    {
-        Ok(Entry {
-            name: self.name.copied(alloc)?,
-            entity: self.entity.copied(alloc)?,
-            callee: self.callee.copied(alloc)?,
-        })
-    }
 }

@@ -1,17 +1,19 @@
 // What a checked module exports.
-use crate::entity::{Entity, Entry};
+use crate::entity::Entity;
 use crate::ids::{Callee, DeclId, ModuleId, UnitId};
+use crate::parts::Parts;
+use crate::table::NameTable;
 use std::sync::Arc;
 use tla_tree::Tree;
-use tool_list::{Chars, List};
+use tool_list::List;
 
 /// What a checked module exports: its interface, and those of the modules that it reaches. A face
 /// holds no other face, so that a chain of modules is no chain of faces.
 #[derive(Drop)]
 pub struct Face {
-    /// One part for the module, which is the first, and one for each module that it reaches, nested
-    /// ones among them.
-    pub parts: List<Part>,
+    /// One part for each module that it reaches, nested ones among them, and behind these one for the
+    /// module itself.
+    pub parts: Parts,
 }
 
 /// A module of a face.
@@ -29,10 +31,8 @@ pub struct Interface {
     pub module: ModuleId,
     /// Whether the module is a constant module.
     pub is_constant: bool,
-    /// The constants and variables that it declares or extends, in order.
-    pub parameters: List<Entry>,
-    /// The entries that it exports, in order.
-    pub exports: List<Entry>,
+    /// The names that it exports. The constants and variables among them are its parameters.
+    pub exports: NameTable,
     /// Of its own text, the definitions that it exports and those that these reach, in order.
     pub definitions: List<Definition>,
     /// Of its own text, the instances that it exports and those that these or its definitions reach,

@@ -1,14 +1,16 @@
 // What follows from the definitions alone.
-ghost use Rattle.std.specs.Prelude.{◌≡◌, ℕ, List, Some, map, slice_get, Contains};
+ghost use Rattle.std.specs.Prelude.{◌≡◌, ℕ, List, Some, true, map, slice_get, Contains};
 ghost use Rattle.std.specs.List.{All};
 ghost use Rattle.unit_grammar.specs.Units.{ModuleUnits};
 ghost use Rattle.tla_model.specs.Bindings.{faults};
-ghost use Rattle.tla_model.specs.Exports.{Outside};
+ghost use Rattle.tla_model.specs.Entities.{Meaning};
+ghost use Rattle.tla_model.specs.Exports.{Exports, Outside};
 ghost use Rattle.tla_model.specs.Lexemes.{module_lexemes};
 ghost use Rattle.tla_model.specs.Resolution.{findings};
-ghost use Rattle.tla_model.specs.Substitutions.{AreApart, replacement_of};
-ghost use Rattle.tla_model.specs.declared.entity.Entry.{Entry};
+ghost use Rattle.tla_model.specs.Substitutions.{AreApart, is_declared, replacement_of};
+ghost use Rattle.tla_model.specs.Tables.{Named};
 ghost use Rattle.tla_model.specs.declared.face.Replacement.{Replacement};
+ghost use Rattle.tla_model.specs.declared.ids.DeclId.{DeclId};
 
 /// Each fault of a module's names stands at a lexeme that the module holds.
 pub fn faults_at_lexemes()
@@ -18,5 +20,5 @@ pub fn faults_at_lexemes()
 /// What stands for a parameter of an instantiated module is the replacement at the place of that
 /// parameter, and so the one under its declaration.
 pub fn replaced_by_declaration()
-    ensures { (parameters : List Entry) → (replacements : List Replacement) → (i : ℕ) → (p : Entry) → (r : Replacement) → AreApart parameters → slice_get parameters i ≡ Some p → slice_get replacements i ≡ Some r → replacement_of parameters replacements p.callee.decl ≡ Some r }
+    ensures { (parameters : Exports) → (replacements : List Replacement) → (i : ℕ) → (p : Named × Meaning) → (r : Replacement) → (decl : DeclId) → AreApart parameters → slice_get parameters i ≡ Some p → slice_get replacements i ≡ Some r → is_declared p.1 decl ≡ true → replacement_of parameters replacements decl ≡ Some r }
 {}

@@ -14,17 +14,21 @@ mod imported;
 mod laws;
 mod names;
 mod order;
+mod parts;
 mod spelling;
+mod table;
 
 pub use bound::{Bound, Implied};
-pub use entity::{Decl, Entity, Entry, Level, Name, Use};
+pub use entity::{Decl, Entity, Level, Use};
 pub use face::{Definition, Face, Instance, Interface, NodeMeaning, Part, Replacement};
 pub use ids::{Callee, DeclId, ModuleId, UnitId};
 pub use imported::{Import, Imported};
 pub use laws::{faults_at_lexemes, replaced_by_declaration};
 pub use names::{Binder, Binding, Finding, Meaning};
 pub use order::in_order;
+pub use parts::Parts;
 pub use spelling::spelled;
+pub use table::{NameTable, Words};
 
 /// A fault of a module: its code, and where it stands in the module's text, in bytes.
 #[derive(Clone, Copy, Debug, PartialEq, Eq)]

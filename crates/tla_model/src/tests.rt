@@ -1,6 +1,7 @@
 ghost use Rattle.std.specs.Prelude.{◌<◌};
 
 use super::*;
+use indexmap::IndexMap;
 use std::alloc::Global;
 use std::sync::Arc;
 use std::test::Fail;
@@ -10,36 +11,52 @@ use tool_list::{Chars, List, Memory};
 
 fn crosses_threads<T: Send + Sync>(_: &T) {}
 
-// A module that exports nothing, and reaches no other.
-fn bare(alloc: Global, name: &str) -> Result<Face, Memory> {
+// A module that exports nothing, with no places.
+fn part(alloc: Global, name: &str) -> Result<Part, Memory> {
     let interface = Interface {
         module: ModuleId {
             module: Chars::from_str(alloc, name)?,
             nested: None,
         },
         is_constant: true,
-        parameters: List::new(alloc),
-        exports: List::new(alloc),
+        exports: NameTable::new(alloc),
         definitions: List::new(alloc),
         instances: List::new(alloc),
         tree: Tree::new(alloc),
         meanings: List::new(alloc),
     };
-    let mut parts = List::new(alloc);
-    parts.push(Part {
+    Ok(Part {
         interface: Arc::new(alloc, interface)?,
         places: List::new(alloc),
-    })?;
-    Ok(Face { parts })
+    })
+}
+
+// Parts with one more behind them.
+fn with_part(alloc: Global, parts: &Parts, name: &str) -> Result<Parts, Memory> {
+    let mut more = List::new(alloc);
+    more.push(part(alloc, name)?)?;
+    parts.extended(alloc, more)
+}
+
+// A module that exports nothing, and reaches no other.
+fn bare(alloc: Global, name: &str) -> Result<Face, Memory> {
+    Ok(Face {
+        parts: with_part(alloc, &Parts::new(alloc), name)?,
+    })
+}
+
+// The name of the last of the parts.
+fn last_name<'a>(parts: &'a Parts) -> &'a str {
+    match parts.last() {
+        Some(part) => part.interface.module.module.as_str(),
+        None => "",
+    }
 }
 
 // The name of the module that a face is of.
 fn named<'a>(import: Option<&'a Import>) -> &'a str {
     match import {
-        Some(Import::Module(face)) => match face.parts.as_slice().first() {
-            Some(part) => part.interface.module.module.as_str(),
-            None => "",
-        },
+        Some(Import::Module(face)) => last_name(&face.parts),
         _ => "",
     }
 }
@@ -113,5 +130,65 @@ fn puts_faults_in_order(rt: HostRuntime) -> Result<(), Fail> {
     assert_eq!(rt; found[0].span.start, 2);
     assert_eq!(rt; found[1].code, 301);
     assert_eq!(rt; found[2].code, 303);
+    Ok(())
+}
+
+// The constant that the module M declares at a place.
+fn constant(alloc: Global, place: u32) -> Result<Meaning, Memory> {
+    Ok(Meaning::Declared {
+        entity: Entity::Constant { arity: 0 },
+        callee: Callee {
+            instance: 0,
+            decl: DeclId {
+                module: Chars::from_str(alloc, "M")?,
+                place,
+            },
+            via: List::new(alloc),
+        },
+    })
+}
+
+// A table with one word more and its place, or an empty one where the word is there.
+fn longer(alloc: Global, table: &NameTable, word: &str, place: u32) -> Result<NameTable, Memory> {
+    if table.word_among(table.len(), word).is_some() {
+        return Ok(NameTable::new(alloc));
+    }
+    let mut more = IndexMap::new(alloc);
+    more.insert(String::from_str(alloc, word)?, constant(alloc, place)?)?;
+    table.extended(alloc, more, List::new(alloc))
+}
+
+// Whether a word is found among the first so many, with its place.
+fn finds(table: &NameTable, count: usize, word: &str, place: u32) -> bool {
+    match table.word_among(count, word) {
+        Some(Meaning::Declared { callee, .. }) => callee.decl.place == place,
+        _ => false,
+    }
+}
+
+// A table to which three words came one by one.
+fn of_three(alloc: Global) -> Result<NameTable, Memory> {
+    let one = longer(alloc, &NameTable::new(alloc), "a", 0)?;
+    let two = longer(alloc, &one, "b", 1)?;
+    longer(alloc, &two, "c", 2)
+}
+
+#[test]
+fn finds_words_of_all_stretches(rt: HostRuntime) -> Result<(), Fail> {
+    let table = of_three(rt.alloc())?;
+    assert!(rt; table.len() == 3 && table.stretches().len() == 2);
+    assert!(rt; finds(&table, 1, "a", 0) && finds(&table, 2, "b", 1));
+    assert!(rt; finds(&table, 3, "c", 2) && !finds(&table, 2, "c", 2));
+    Ok(())
+}
+
+#[test]
+fn keeps_parts_in_order(rt: HostRuntime) -> Result<(), Fail> {
+    let alloc = rt.alloc();
+    let one = with_part(alloc, &Parts::new(alloc), "A")?;
+    let two = with_part(alloc, &one, "B")?;
+    let parts = with_part(alloc, &two, "C")?;
+    assert_eq!(rt; parts.stretches().len(), 2);
+    assert!(rt; last_name(&one) == "A" && last_name(&two) == "B" && last_name(&parts) == "C");
     Ok(())
 }
