@@ -1,14 +1,12 @@
 -- Entries that other modules bring.
-use Rattle.std.proofs.Common.{◌≡◌, ℕ, zero, suc, ◌+◌, Bool, true, false, cond, ◌||◌, List, [], ◌∷◌, ◌++◌, Some, drop, refl, ap, sym, subst, add-one, ◌∙◌}
-use Rattle.std.specs.Prelude.{slice_get}
-use Rattle.tla_model.specs.Tables.{Named}
+use Rattle.std.proofs.Common.{◌≡◌, ℕ, Bool, true, false, cond, ◌||◌, List, [], ◌∷◌, ◌++◌, refl, ap, sym, subst, ◌∙◌}
+use Rattle.tla_model.specs.Tables.{Named, Word}
 use Rattle.tla_model.specs.Entities.{Meaning}
-use Rattle.tla_model.specs.Exports.{Exports}
+use Rattle.tla_model.specs.Exports.{Exports, of_words}
 use Rattle.tla_model.specs.Modules.{Reading, brings_clash, clashes, extended, with_entry}
-use Rattle.symbol_scope.specs.declared.exported.Exported.{Exported}
 use Rattle.symbol_scope.specs.declared.exported.Names.{Names}
 use Rattle.symbol_scope.specs.Held.{held}
-use Rattle.symbol_scope.specs.Readings.{IsBringing, IsBrought, ModuleNames, as_meaning, as_read, brought}
+use Rattle.symbol_scope.specs.Readings.{IsBringing, IsBrought, ModuleNames, as_read, brought}
 
 or-swap : (a b c : Bool) → ((a || b) || c) ≡ (b || (a || c))
 or-swap true true c = refl
@@ -59,22 +57,26 @@ bring-both old mid new first second a b one two = record {
   tells = λ title taken. ap (λ z. z || second) (one.tells title taken) ∙ ap (λ z. brings_clash (as_read title taken old) a || z) (two.tells title taken ∙ ap (λ r. brings_clash r b) (one.reads title taken)) ∙ clash-append (as_read title taken old) a b;
 }
 
-drop-next : {A : Type 0} (xs : List A) (i : ℕ) (x : A) → slice_get xs i ≡ Some x → drop i xs ≡ x ∷ drop (suc i) xs
-drop-next [] i x at = cc
-drop-next (y ∷ xs) zero x at = ap (λ z. z ∷ xs) (some-same y x at)
-  where
-    some-same : {A : Type 0} (a b : A) → Some a ≡ Some b → a ≡ b
-    some-same a b e = cc
-drop-next (y ∷ xs) (suc i) x at = drop-next xs i x at
+-- a stretch of entries at a time
+pub bring-stretch : (old now new : Names) (clash more : Bool) (stretch before rest all : Exports) → before ≡ stretch ++ rest → IsBringing old now clash before all → IsBrought now new more stretch → IsBringing old new (clash || more) rest all
+bring-stretch old now new clash more stretch before rest all at so one = record {
+  reads = λ title taken. ap (λ r. extended r rest) (one.reads title taken) ∙ extended-append (as_read title taken now) stretch rest ∙ sym (ap (λ z. extended (as_read title taken now) z) at) ∙ so.reads title taken;
+  tells = λ title taken. sym (or-assoc clash more (brings_clash (as_read title taken new) rest))
+      ∙ ap (λ z. clash || (z || brings_clash (as_read title taken new) rest)) (one.tells title taken)
+      ∙ ap (λ r. clash || (brings_clash (as_read title taken now) stretch || brings_clash r rest)) (one.reads title taken)
+      ∙ ap (λ z. clash || z) (clash-append (as_read title taken now) stretch rest)
+      ∙ sym (ap (λ z. clash || brings_clash (as_read title taken now) z) at) ∙ so.tells title taken;
+}
 
-pub drop-at : {A : Type 0} (xs : List A) (i : ℕ) (x : A) → slice_get xs i ≡ Some x → drop i xs ≡ x ∷ drop (i + 1) xs
-drop-at xs i x at = rw add-one (drop-next xs i x at)
+pub of_words-append : (a b : List (List ℕ × Meaning)) → of_words (a ++ b) ≡ of_words a ++ of_words b
+of_words-append [] b = refl
+of_words-append (entry ∷ a) b = ap (λ z. (Word entry.0, entry.1) ∷ z) (of_words-append a b)
 
 pub bring-at : (old now new : Names) (clash more : Bool) (entry : Named × Meaning) (before rest all : Exports) → before ≡ entry ∷ rest → IsBringing old now clash before all →
     more ≡ clashes (held now.context) entry → ((title : List ℕ) → (taken : ModuleNames) → as_read title taken new ≡ brought (as_read title taken now) entry) → IsBringing old new (more || clash) rest all
 bring-at old now new clash more entry before rest all at so is reads = bring-more old now new clash more entry rest all (subst (λ z. IsBringing old now clash z all) at so) is reads
 
 -- an entry that doesn't clash
-pub bring-new : (old new : Names) (name : Named) (meant : Exported) → false ≡ clashes (held old.context) (name, as_meaning meant) → ((title : List ℕ) → (taken : ModuleNames) → as_read title taken new ≡ with_entry false (as_read title taken old) name (as_meaning meant)) →
-    (title : List ℕ) → (taken : ModuleNames) → as_read title taken new ≡ brought (as_read title taken old) (name, as_meaning meant)
-bring-new old new name meant fits reads = λ title taken. reads title taken ∙ ap (λ z. cond z (as_read title taken old) (with_entry false (as_read title taken old) name (as_meaning meant))) fits
+pub bring-new : (old new : Names) (name : Named) (meaning : Meaning) → false ≡ clashes (held old.context) (name, meaning) → ((title : List ℕ) → (taken : ModuleNames) → as_read title taken new ≡ with_entry false (as_read title taken old) name meaning) →
+    (title : List ℕ) → (taken : ModuleNames) → as_read title taken new ≡ brought (as_read title taken old) (name, meaning)
+bring-new old new name meaning fits reads = λ title taken. reads title taken ∙ ap (λ z. cond z (as_read title taken old) (with_entry false (as_read title taken old) name meaning)) fits

@@ -10,13 +10,11 @@ use Rattle.tla_model.specs.Contexts.{Context}
 use Rattle.tla_model.specs.Entities.{Meaning, Text, meant, name_of}
 use Rattle.tla_model.specs.Exports.{Exports, exports_of}
 use Rattle.tla_model.specs.Modules.{Place, Reading, brings, clashes, declare, declare_all, extended, extends_all, with_entry}
-use Rattle.tla_model.specs.Tables.{Named, Word, Symbol, added, has, lookup, same_symbol}
-use Rattle.symbol_scope.specs.declared.exported.Exported.{Exported}
+use Rattle.tla_model.specs.Tables.{Named, Table, Word, Symbol, added, has, lookup, same_symbol}
 use Rattle.symbol_scope.specs.declared.table.Mark.{Mark}
-use Rattle.symbol_scope.specs.declared.table.NameTable.{NameTable}
 use Rattle.symbol_scope.specs.declared.nesting.Outer.{Outer}
 use Rattle.symbol_scope.specs.Held.{cut, mark_of}
-use Rattle.symbol_scope.specs.Readings.{Files, ModuleNames, brought, exported, modules_of, taken_by}
+use Rattle.symbol_scope.specs.Readings.{Files, ModuleNames, brought, modules_of, taken_by}
 use Rattle.symbol_scope.specs.Rounds.{AreRound, IsAt, IsOuter, begun_in, behind, left_by, outside_of}
 use Rattle.symbol_scope.specs.declared.nesting.Nesting.{Nesting}
 
@@ -118,7 +116,7 @@ pub round-went : (old new : Reading) (outers : List Outer) (round : List Reading
 round-went old new outers round went are = round-grown old.context new.context old.modules new.modules outers round went.words went.symbols (subst (Grown old.modules) (sym went.same) (stays old.modules)) are
 
 -- where a nested module begins
-pub outer-begun : (reading : Reading) (title : List ℕ) (outer : Outer) → reading.name ≡ outer.name.now → reading.exports ≡ exported outer.exports → outer.mark ≡ mark_of reading.context → outer.modules ≡ length reading.modules →
+pub outer-begun : (reading : Reading) (title : List ℕ) (outer : Outer) → reading.name ≡ outer.name.now → reading.exports ≡ outer.exports → outer.mark ≡ mark_of reading.context → outer.modules ≡ length reading.modules →
     IsOuter (begun_in reading title).context (begun_in reading title).modules outer reading
 outer-begun reading title outer named shown marked counted =
     outer-grown reading.context reading.context reading.modules (begun_in reading title).modules outer reading (stays reading.context.words) (stays reading.context.symbols) (grown-added bytes_eq reading.modules title None) (record {
@@ -136,12 +134,12 @@ pub round-behind : (inner reading : Reading) (outers : List Outer) (round : List
 round-behind inner reading outers round are =
     round-grown reading.context reading.context reading.modules (behind inner reading).modules outers round (stays reading.context.words) (stays reading.context.symbols) (grown-added bytes_eq reading.modules inner.name (Some (exports_of inner.exports))) are
 
-pub modules-take : (n : ℕ) (rows : List (Bor (List ℕ) × Option (NameTable Exported))) → modules_of (take n rows) ≡ take n (modules_of rows)
+pub modules-take : (n : ℕ) (rows : List (Bor (List ℕ) × Option (Table Meaning))) → modules_of (take n rows) ≡ take n (modules_of rows)
 modules-take zero rows = refl
 modules-take (suc n) [] = refl
 modules-take (suc n) (row ∷ rows) = ap (λ rest. (row.0.now, taken_by row.1) ∷ rest) (modules-take n rows)
 
-pub modules-length : (rows : List (Bor (List ℕ) × Option (NameTable Exported))) → length (modules_of rows) ≡ length rows
+pub modules-length : (rows : List (Bor (List ℕ) × Option (Table Meaning))) → length (modules_of rows) ≡ length rows
 modules-length [] = refl
 modules-length (row ∷ rows) = ap suc (modules-length rows)
 

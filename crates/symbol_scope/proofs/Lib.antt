@@ -12,8 +12,10 @@ mod Bringing
 mod Exporting
 mod Placing
 mod Words
+mod Looking
+mod Over
+mod Owning
 mod Taking
 mod Lexemes
 mod Onward
-mod Listing
 pub mod Plainness

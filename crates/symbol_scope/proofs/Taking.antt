@@ -2,23 +2,20 @@
 use Rattle.std.proofs.Common.{◌≡◌, ℕ, List, [], ◌∷◌, ◌++◌, Option, Some, None, Bool, true, false, cond, refl, ap, sym, ◌∙◌}
 use Rattle.std.specs.Prelude.{is_some, option_map}
 use Rattle.std.specs.Borrow.{Bor}
-use Rattle.std.specs.Option.{option_copied}
 use Rattle.std.specs.Map as map
 use Rattle.std.specs.Str.{bytes_eq}
 use Rattle.tla_model.specs.declared.ids.Callee.{Callee}
 use Rattle.tla_model.specs.declared.names.Binder.{Binder}
 use Rattle.tla_model.specs.declared.names.Meaning.TheVariants.{Declared}
 use Rattle.tla_model.specs.Contexts.{bind}
-use Rattle.tla_model.specs.Entities.{Text, meant, name_of, own}
+use Rattle.tla_model.specs.Entities.{Meaning, Text, meant, name_of, own}
 use Rattle.tla_model.specs.Modules.{Reading, declare, declare_all, exports_under, with_entry}
 use Rattle.tla_model.specs.Tables.{Named, Table, Word, Symbol, find, lookup, put}
-use Rattle.symbol_scope.specs.declared.table.NameTable.{NameTable}
-use Rattle.symbol_scope.specs.declared.exported.Exported.{Exported}
 use Rattle.symbol_scope.specs.declared.exported.Names.{Names}
 use Rattle.symbol_scope.specs.Readings.{Files, IsBrought, modules_of, taken_by}
 
 abbrev Rows : Type 0
-Rows = List (Bor (List ℕ) × Option (NameTable Exported))
+Rows = List (Bor (List ℕ) × Option (Table Meaning))
 
 pub lookup-modules : (rows : Rows) (name : List ℕ) → option_map taken_by (map.lookup (λ (key : Bor (List ℕ)). bytes_eq name key.now) rows) ≡ lookup bytes_eq (modules_of rows) name
 lookup-modules [] name = refl
@@ -32,25 +29,25 @@ lookup-modules (row ∷ rows) name = by (bytes_eq name row.0.now) (lookup-module
 pub some-modules : (rows : Rows) (name : List ℕ) → is_some (map.lookup (λ (key : Bor (List ℕ)). bytes_eq name key.now) rows) ≡ is_some (lookup bytes_eq (modules_of rows) name)
 some-modules rows name = kept (map.lookup (λ (key : Bor (List ℕ)). bytes_eq name key.now) rows) ∙ ap is_some (lookup-modules rows name)
   where
-    kept : (found : Option (Option (NameTable Exported))) → is_some found ≡ is_some (option_map taken_by found)
+    kept : (found : Option (Option (Table Meaning))) → is_some found ≡ is_some (option_map taken_by found)
     kept None = refl
     kept (Some x) = refl
 
-pub modules-append : (rows : Rows) (key : Bor (List ℕ)) (exports : Option (NameTable Exported)) → modules_of (rows ++ (key, exports) ∷ []) ≡ modules_of rows ++ (key.now, taken_by exports) ∷ []
+pub modules-append : (rows : Rows) (key : Bor (List ℕ)) (exports : Option (Table Meaning)) → modules_of (rows ++ (key, exports) ∷ []) ≡ modules_of rows ++ (key.now, taken_by exports) ∷ []
 modules-append [] key exports = refl
 modules-append (row ∷ rows) key exports = ap (λ z. (row.0.now, taken_by row.1) ∷ z) (modules-append rows key exports)
 
 -- what is found under a module name
-pub under-found : (files : Files) (rows : Rows) (name : List ℕ) (found : Option (Option (NameTable Exported))) → found ≡ map.lookup (λ (key : Bor (List ℕ)). bytes_eq name key.now) rows →
+pub under-found : (files : Files) (rows : Rows) (name : List ℕ) (found : Option (Option (Table Meaning))) → found ≡ map.lookup (λ (key : Bor (List ℕ)). bytes_eq name key.now) rows →
     exports_under files (option_map taken_by found) name ≡ exports_under files (lookup bytes_eq (modules_of rows) name) name
 under-found files rows name found is = ap (λ z. exports_under files (option_map taken_by z) name) is ∙ ap (λ z. exports_under files z name) (lookup-modules rows name)
 
 pub nothing-brought : (names : Names) → IsBrought names names false []
 nothing-brought names = record { reads = λ title taken. refl; tells = λ title taken. refl }
 
-pub copied-some : {A : Type 0} (found : Option (Bor A)) → is_some (option_copied found) ≡ is_some found
-copied-some None = refl
-copied-some (Some x) = refl
+pub mapped-some : {A B : Type 0} (f : A → B) (found : Option A) → is_some (option_map f found) ≡ is_some found
+mapped-some f None = refl
+mapped-some f (Some x) = refl
 
 -- a name that is there stays
 pub put-there : {V : Type 0} (table : Table V) (name : Named) (value : V) → is_some (find table name) ≡ true → table ≡ put table name value

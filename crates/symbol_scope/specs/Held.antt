@@ -1,17 +1,41 @@
 -- Tables of names in code, as tables of the definitions.
-use Rattle.std.specs.Prelude.{ℕ, List, map, length, take}
+use Rattle.std.specs.Prelude.{◌≡◌, ℕ, List, [], ◌++◌, Option, None, Some, map, length, take}
 use Rattle.std.specs.Borrow.{Bor}
+use Rattle.std.specs.List.{AllByRecursion}
+use Rattle.std.specs.Str.{bytes_eq}
 use Rattle.tla_model.specs.Tables as tables
-use Rattle.tla_model.specs.Tables.{Table}
-use Rattle.symbol_scope.specs.declared.table.NameTable.{NameTable}
+use Rattle.tla_model.specs.Tables.{AreNew, Table, lookup}
+use Rattle.tla_model.specs.Entities.{Meaning}
+use Rattle.tla_model.specs.Contexts as contexts
+use Rattle.symbol_scope.specs.declared.table.Context.{Context}
 use Rattle.symbol_scope.specs.declared.table.Named.TheVariants as named
 use Rattle.symbol_scope.specs.declared.table.Mark.{Mark}
 
 abbrev pub words_of : {V : Type 0} → List (Bor (List ℕ) × V) → List (List ℕ × V)
 words_of entries = map (λ entry. (entry.0.now, entry.1)) entries
 
-abbrev pub held : {V : Type 0} → NameTable V → Table V
-held table = record { words = words_of table.words.entries; symbols = table.symbols.items }
+-- the words of a table that was taken over, if one was
+abbrev pub taken_words : Option (Bor (Table Meaning)) → List (List ℕ × Meaning)
+taken_words None = []
+taken_words (Some table) = table.now.words
+
+-- in a context they can be used
+abbrev pub meaning_something : List (List ℕ × Meaning) → List (List ℕ × Option Meaning)
+meaning_something words = map (λ entry. (entry.0, Some entry.1)) words
+
+abbrev pub held : Context → contexts.Context
+held context = record { words = words_of context.before.entries ++ (meaning_something (take context.shown (taken_words context.taken)) ++ words_of context.words.entries); symbols = context.symbols.items }
+
+-- none of the others is a word
+abbrev pub AreApart : List (List ℕ × Meaning) → List (List ℕ × Option Meaning) → Type 0
+AreApart words others = AllByRecursion (λ entry. lookup bytes_eq words entry.0 ≡ None) others
+
+-- words can be taken over
+pub record CanTake (context : Context) (words : List (List ℕ × Meaning)) : Type 0 where
+  pub taken : context.taken ≡ None
+  pub before : context.before.entries ≡ []
+  pub once : AreNew bytes_eq [] words
+  pub apart : AreApart words (words_of context.words.entries)
 
 abbrev pub meant_by : named.the_data → tables.Named
 meant_by (named.Word word) = tables.Word word.now

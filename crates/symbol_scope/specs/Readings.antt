@@ -1,45 +1,25 @@
 -- Modules that are read, in code, as those of the definitions.
-use Rattle.std.specs.Prelude.{◌≡◌, ◌||◌, ℕ, Bool, true, false, not, ◌&&◌, List, [], ◌∷◌, Option, Some, None, map, nat_eq, if◌then◌else◌}
+use Rattle.std.specs.Prelude.{◌≡◌, ◌||◌, ℕ, Bool, false, ◌&&◌, List, [], ◌∷◌, Option, Some, None, map, nat_eq, if◌then◌else◌}
 use Rattle.std.specs.Str.{bytes_eq}
 use Rattle.std.specs.Borrow.{Bor}
-use Rattle.tla_model.specs.declared.ids.Callee.{Callee}
 use Rattle.tla_model.specs.declared.ids.UnitId.{UnitId}
 use Rattle.tla_model.specs.Tables.{Table, Named as Name}
-use Rattle.tla_model.specs.declared.names.Meaning.TheVariants.{BuiltIn, Declared}
-use Rattle.tla_model.specs.Entities.{Meaning, Text, same_decl, same_units}
+use Rattle.tla_model.specs.Entities.{Meaning, Text}
 use Rattle.tla_model.specs.Exports.{Exports, exports_of}
 use Rattle.tla_model.specs.Scopes.{Finding}
 use Rattle.tla_model.specs.Modules.{Reading, brings, brings_clash, clashes, extended, with_entry}
 use Rattle.tla_model.specs.declared.names.Finding.TheVariants.{Clashes}
 use Rattle.tla_symbols.specs.declared.lexeme.Lexeme.{Lexeme}
-use Rattle.symbol_scope.specs.declared.table.NameTable.{NameTable}
-use Rattle.symbol_scope.specs.declared.exported.Exported.{Exported}
 use Rattle.symbol_scope.specs.declared.exported.Names.{Names}
 use Rattle.symbol_scope.specs.Held.{held}
 
 abbrev pub same_unit : UnitId → UnitId → Bool
 same_unit a b = bytes_eq a.«module» b.«module» && nat_eq a.place b.place
 
--- the declaration is called, through the same units
-abbrev pub is_called : Meaning → Callee → Bool
-is_called BuiltIn callee = false
-is_called (Declared entity other) callee = same_decl other.decl callee.decl && same_units other.via callee.via
-
--- the name is there, and does not mean this declaration
-abbrev pub is_other : Option (Option Meaning) → Callee → Bool
-is_other None callee = false
-is_other (Some None) callee = true
-is_other (Some (Some meaning)) callee = not (is_called meaning callee)
-
-abbrev pub as_meaning : Exported → Meaning
-as_meaning meant = Declared meant.entity meant.callee
-
-abbrev pub meanings : {K : Type 0} → List (K × Exported) → List (K × Meaning)
-meanings entries = map (λ entry. (entry.0, as_meaning entry.1)) entries
-
--- the names that are exported, with what they mean
-abbrev pub exported : NameTable Exported → Table Meaning
-exported table = record { words = meanings (held table).words; symbols = meanings (held table).symbols }
+-- what stands for imports, by the table of the module, if there is one
+abbrev pub shown_by : Option (Bor (Table Meaning)) → Exports
+shown_by None = []
+shown_by (Some table) = exports_of table.now
 
 -- module names that are taken, and what those export that can be named
 abbrev pub ModuleNames : Type 0
@@ -47,14 +27,14 @@ ModuleNames = List (List ℕ × Option Exports)
 
 -- a module of this title that is read, with the module names taken there
 abbrev pub as_read : List ℕ → ModuleNames → Names → Reading
-as_read title taken names = record { name = title; context = held names.context; exports = exported names.exports; modules = taken }
+as_read title taken names = record { name = title; context = held names.context; exports = names.exports; modules = taken }
 
 -- what those export that can be named
-abbrev pub taken_by : Option (NameTable Exported) → Option Exports
+abbrev pub taken_by : Option (Table Meaning) → Option Exports
 taken_by None = None
-taken_by (Some table) = Some (exports_of (exported table))
+taken_by (Some table) = Some (exports_of table)
 
-abbrev pub modules_of : List (Bor (List ℕ) × Option (NameTable Exported)) → ModuleNames
+abbrev pub modules_of : List (Bor (List ℕ) × Option (Table Meaning)) → ModuleNames
 modules_of entries = map (λ entry. (entry.0.now, taken_by entry.1)) entries
 
 -- what the files of these names export

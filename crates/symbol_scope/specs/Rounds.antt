@@ -15,7 +15,7 @@ use Rattle.symbol_scope.specs.declared.nesting.Outer.{Outer}
 use Rattle.symbol_scope.specs.declared.nesting.Nesting.{Nesting}
 use Rattle.symbol_scope.specs.Held.{cut}
 use Rattle.symbol_scope.specs.Modules.{reading_of}
-use Rattle.symbol_scope.specs.Readings.{Files, ModuleNames, exported}
+use Rattle.symbol_scope.specs.Readings.{Files, ModuleNames}
 
 -- a nested module of this title that begins
 abbrev pub begun_in : Reading → List ℕ → Reading
@@ -27,7 +27,7 @@ behind inner outer = record outer { modules = added bytes_eq outer.modules inner
 
 pub record IsOuter (context : Context) (taken : ModuleNames) (outer : Outer) (reading : Reading) : Type 0 where
   pub title : reading.name ≡ outer.name.now
-  pub shown : reading.exports ≡ exported outer.exports
+  pub shown : reading.exports ≡ outer.exports
   pub names : reading.context ≡ cut context outer.mark
   pub begins : reading.modules ≡ take outer.modules taken
   pub words : outer.mark.words ≤ length context.words

@@ -1,30 +1,23 @@
 // The names that other modules bring.
 ghost use Rattle.std.specs.Prelude.{◌≡◌, ◌||◌, ℕ, List as ListOf, IfOk, OnOk};
 ghost use Rattle.std.specs.Option.{option_copied};
-ghost use Rattle.tla_model.specs.Exports.{entries_of, exports_of, face_exports, named as named_as, of_symbols, of_words};
-ghost use Rattle.symbol_scope.specs.WithoutInstances.{import_exports};
+ghost use Rattle.tla_model.specs.Exports.{exports_of, face_exports, of_symbols, of_words};
 ghost use Rattle.tla_model.specs.Modules.{clashes};
-ghost use Rattle.tla_model.specs.declared.names.Meaning.TheVariants.{Declared};
-ghost use Rattle.symbol_scope.specs.Held.{held, meant_by, words_of};
-ghost use Rattle.symbol_scope.specs.Readings.{IsBrought, ModuleNames, as_read, brought, exported, meanings};
+ghost use Rattle.tla_model.specs.Stretches as owned_as;
+ghost use Rattle.tla_model.specs.Stretches.{all_words};
+ghost use Rattle.symbol_scope.specs.WithoutInstances.{import_exports};
+ghost use Rattle.symbol_scope.specs.Held.{held, meant_by, taken_words, words_of};
+ghost use Rattle.symbol_scope.specs.Readings.{IsBrought, ModuleNames, as_read, brought, shown_by};
 
 use crate::exported::{Exported, Names};
 use crate::same::differs;
-use crate::table::{NameTable, Named};
+use crate::table::Named;
 use indexmap::IndexMap;
 use std::alloc::Global;
-use tla_model::{Callee, Entity, Entry, Import, Name, Part};
+use std::sync::Arc;
+use tla_model::{Import, Meaning, NameTable, Parts, Words};
 use tla_symbols::Op;
 use tool_list::Memory;
-
-fn named(name: &Name) -> Named<'_>
-    ensures { meant_by result ≡ named_as name.now }
-{
-    match name {
-        Name::Word(word) => Named::Word(word.as_str()),
-        Name::Symbol(op) => Named::Symbol(*op),
-    }
-}
 
 // Puts a name that another module brings, unless it is there with another meaning, and answers
 // whether it is.
@@ -32,20 +25,16 @@ fn bring<'a>(
     alloc: Global,
     names: &mut Names<'a>,
     name: Named<'a>,
-    entity: &Entity,
-    callee: &Callee,
+    meaning: &Meaning,
 ) -> Result<bool, Memory>
-    ensures clash { IfOk result (λ clash. clash ≡ clashes (held names.old.context) (meant_by name.entry, Declared entity.now callee.now)) }
-    ensures names { OnOk result ((title : ListOf ℕ) → (taken : ModuleNames) → as_read title taken names.new ≡ brought (as_read title taken names.old) (meant_by name.entry, Declared entity.now callee.now)) }
+    ensures clash { IfOk result (λ clash. clash ≡ clashes (held names.old.context) (meant_by name.entry, meaning.now)) }
+    ensures names { OnOk result ((title : ListOf ℕ) → (taken : ModuleNames) → as_read title taken names.new ≡ brought (as_read title taken names.old) (meant_by name.entry, meaning.now)) }
 {
-    if differs(names.context.get(name), callee) {
+    if differs(names.context.get(name), meaning) {
         return Ok(true);
     }
-    let meant = Exported {
-        entity: entity.copied(alloc)?,
-        callee: callee.copied(alloc)?,
-    };
-    names.put(alloc, false, name, meant)?;
+    let meaning = meaning.copied(alloc)?;
+    names.put(alloc, false, name, meaning)?;
     Ok(false)
 }
 
@@ -55,106 +44,151 @@ fn either(first: bool, second: bool) -> bool
     first || second
 }
 
-// Puts the entries of an imported module, and answers whether one of them clashes.
-fn bring_entries<'a>(
-    alloc: Global,
-    names: &mut Names<'a>,
-    entries: &'a [Entry],
-) -> Result<bool, Memory>
-    ensures { IfOk result (λ clash. IsBrought names.old names.new clash (entries_of entries.now)) }
-{
-    let mut clash = false;
-    for entry in entries {
-        let clashes = bring(
-            alloc,
-            names,
-            named(&entry.name),
-            &entry.entity,
-            &entry.callee,
-        )?;
-        clash = either(clashes, clash);
-    }
-    Ok(clash)
-}
-
-// Puts the identifiers of a nested module, and answers whether one of them clashes.
-fn bring_words<'a>(
-    alloc: Global,
-    names: &mut Names<'a>,
-    words: &IndexMap<&'a str, Exported>,
-) -> Result<bool, Memory>
-    ensures { IfOk result (λ clash. IsBrought names.old names.new clash (of_words (meanings (words_of words.now.entries)))) }
+// Puts the words of a stretch, and answers whether one of them clashes.
+fn bring_words<'a>(alloc: Global, names: &mut Names<'a>, words: &'a Words) -> Result<bool, Memory>
+    ensures { IfOk result (λ clash. IsBrought names.old names.new clash (of_words (owned_as.words_of words.now.entries))) }
 {
     let mut clash = false;
     for index in 0..words.len() {
-        let Some((word, meant)) = words.get_index(index) else {
+        let Some((word, meaning)) = words.get_index(index) else {
             unreachable!();
         };
-        let clashes = bring(
-            alloc,
-            names,
-            Named::Word(*word),
-            &meant.entity,
-            &meant.callee,
-        )?;
+        let clashes = bring(alloc, names, Named::Word(word.as_str()), meaning)?;
         clash = either(clashes, clash);
     }
     Ok(clash)
 }
 
-// Puts the symbols of a nested module, and answers whether one of them clashes.
+// Puts the words of stretches, and answers whether one of them clashes.
+fn bring_stretches<'a>(
+    alloc: Global,
+    names: &mut Names<'a>,
+    stretches: &'a [Arc<Words>],
+) -> Result<bool, Memory>
+    ensures { IfOk result (λ clash. IsBrought names.old names.new clash (of_words (all_words stretches.now))) }
+{
+    let mut clash = false;
+    for stretch in stretches {
+        let clashes = bring_words(alloc, names, stretch)?;
+        clash = either(clash, clashes);
+    }
+    Ok(clash)
+}
+
+// Puts the words of a table, all together where that can be done, and answers whether one of them
+// clashes.
+fn bring_table_words<'a>(
+    alloc: Global,
+    names: &mut Names<'a>,
+    table: &'a NameTable,
+) -> Result<bool, Memory>
+    ensures { IfOk result (λ clash. IsBrought names.old names.new clash (of_words table.now.words)) }
+{
+    if names.take_words(table) {
+        return Ok(false);
+    }
+    let clash = bring_stretches(alloc, names, table.stretches())?;
+    Ok(clash)
+}
+
+// Puts words of a nested module, and answers whether one of them clashes.
+fn bring_own_words<'a>(
+    alloc: Global,
+    names: &mut Names<'a>,
+    words: &IndexMap<&'a str, Meaning>,
+) -> Result<bool, Memory>
+    ensures { IfOk result (λ clash. IsBrought names.old names.new clash (of_words (words_of words.now.entries))) }
+{
+    let mut clash = false;
+    for index in 0..words.len() {
+        let Some((word, meaning)) = words.get_index(index) else {
+            unreachable!();
+        };
+        let clashes = bring(alloc, names, Named::Word(*word), meaning)?;
+        clash = either(clashes, clash);
+    }
+    Ok(clash)
+}
+
+// Puts symbols, and answers whether one of them clashes.
 fn bring_symbols<'a>(
     alloc: Global,
     names: &mut Names<'a>,
-    symbols: &[(Op, Exported)],
+    symbols: &[(Op, Meaning)],
 ) -> Result<bool, Memory>
-    ensures { IfOk result (λ clash. IsBrought names.old names.new clash (of_symbols (meanings symbols.now))) }
+    ensures { IfOk result (λ clash. IsBrought names.old names.new clash (of_symbols symbols.now)) }
 {
     let mut clash = false;
-    for (op, meant) in symbols {
-        let clashes = bring(
-            alloc,
-            names,
-            Named::Symbol(*op),
-            &meant.entity,
-            &meant.callee,
-        )?;
+    for (op, meaning) in symbols {
+        let clashes = bring(alloc, names, Named::Symbol(*op), meaning)?;
         clash = either(clashes, clash);
     }
     Ok(clash)
 }
 
-/// Puts the names that a nested module exports, and answers whether one of them clashes.
-pub fn bring_table<'a>(
+// Puts the words that a nested module took over, and answers whether one of them clashes.
+fn bring_taken<'a>(
     alloc: Global,
     names: &mut Names<'a>,
-    table: &NameTable<'a, Exported>,
+    taken: Option<&'a NameTable>,
 ) -> Result<bool, Memory>
-    ensures { IfOk result (λ clash. IsBrought names.old names.new clash (exports_of (exported table.now))) }
+    ensures { IfOk result (λ clash. IsBrought names.old names.new clash (of_words (taken_words taken.entry))) }
 {
-    let words = bring_words(alloc, names, table.words())?;
-    let symbols = bring_symbols(alloc, names, table.symbols())?;
-    Ok(either(words, symbols))
-}
-
-// What the first part of a face exports.
-fn first_exports(parts: &[Part]) -> &[Entry]
-    ensures { entries_of result.now ≡ face_exports parts.now }
-{
-    match parts.first() {
-        Some(part) => part.interface.exports.as_slice(),
-        None => &[],
+    match taken {
+        Some(table) => {
+            let clash = bring_table_words(alloc, names, table)?;
+            Ok(clash)
+        }
+        None => Ok(false),
     }
 }
 
-// What an imported module exports.
-fn imported_exports(import: Option<&Import>) -> &[Entry]
-    ensures { entries_of result.now ≡ import_exports (option_copied import.entry) }
+/// Puts the names that a nested module exports, and answers whether one of them clashes.
+pub fn bring_nested<'a>(
+    alloc: Global,
+    names: &mut Names<'a>,
+    exports: &Exported<'a>,
+) -> Result<bool, Memory>
+    ensures { IfOk result (λ clash. IsBrought names.old names.new clash (exports_of exports.now)) }
+{
+    let (taken, words) = exports.words();
+    let first = bring_taken(alloc, names, taken)?;
+    let behind = bring_own_words(alloc, names, words)?;
+    let symbols = bring_symbols(alloc, names, exports.symbols())?;
+    Ok(either(either(first, behind), symbols))
+}
+
+// The table of what the module of these parts exports.
+fn exports_of_parts(parts: &Parts) -> Option<&NameTable>
+    ensures { shown_by result ≡ face_exports parts.now }
+{
+    match parts.last() {
+        Some(part) => Some(&part.interface.exports),
+        None => None,
+    }
+}
+
+// The table of what an imported module exports.
+fn exports_of_import(import: Option<&Import>) -> Option<&NameTable>
+    ensures { shown_by result ≡ import_exports (option_copied import.entry) }
 {
     match import {
-        Some(Import::Module(face)) => first_exports(face.parts.as_slice()),
-        _ => &[],
+        Some(Import::Module(face)) => exports_of_parts(&face.parts),
+        _ => None,
     }
+}
+
+// Puts the names of a table, and answers whether one of them clashes.
+fn bring_table<'a>(
+    alloc: Global,
+    names: &mut Names<'a>,
+    table: &'a NameTable,
+) -> Result<bool, Memory>
+    ensures { IfOk result (λ clash. IsBrought names.old names.new clash (exports_of table.now)) }
+{
+    let words = bring_table_words(alloc, names, table)?;
+    let symbols = bring_symbols(alloc, names, table.symbols())?;
+    Ok(either(words, symbols))
 }
 
 /// Puts the names that an imported module exports, and answers whether one of them clashes.
@@ -165,5 +199,11 @@ pub fn bring_import<'a>(
 ) -> Result<bool, Memory>
     ensures { IfOk result (λ clash. IsBrought names.old names.new clash (import_exports (option_copied import.entry))) }
 {
-    bring_entries(alloc, names, imported_exports(import))
+    match exports_of_import(import) {
+        Some(table) => {
+            let clash = bring_table(alloc, names, table)?;
+            Ok(clash)
+        }
+        None => Ok(false),
+    }
 }

@@ -4,7 +4,6 @@
 mod bound;
 mod declared;
 mod due;
-mod entries;
 mod exported;
 mod extend;
 mod forms;

@@ -6,7 +6,7 @@ ghost use Rattle.symbol_scope.specs.Rounds.{IsAt, IsOuter, begun_in, behind, out
 
 use crate::exported::Exported;
 use crate::reading::{Reading, take_name};
-use crate::table::{Mark, NameTable};
+use crate::table::Mark;
 use std::alloc::Global;
 use std::mem;
 use tool_list::Memory;
@@ -15,7 +15,7 @@ use tool_list::Memory;
 #[derive(Drop)]
 pub struct Outer<'a> {
     name: &'a str,
-    exports: NameTable<'a, Exported>,
+    exports: Exported<'a>,
     // How many names and module names stand there.
     mark: Mark,
     modules: usize,
@@ -35,10 +35,10 @@ impl<'a> Reading<'a> {
         ensures reading { OnOk result (reading_of self.new ≡ begun_in (reading_of self.old) name.now) }
         ensures outer { IfOk result (λ outer. IsOuter (begun_in (reading_of self.old) name.now).context (begun_in (reading_of self.old) name.now).modules outer (reading_of self.old)) }
     {
-        let mark = self.names.context.mark();
+        let mark = self.names.context.mark()?;
         let modules = self.modules.len();
         take_name(&mut self.modules, name, None)?;
-        let exports = mem::replace(&mut self.names.exports, NameTable::new(alloc));
+        let exports = mem::replace(&mut self.names.exports, Exported::new(alloc));
         let outer = Outer {
             name: self.name,
             exports,

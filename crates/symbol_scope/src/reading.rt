@@ -18,10 +18,10 @@ ghost use Rattle.symbol_scope.specs.Readings.{IsBrought, modules_of, no_files};
 ghost use Rattle.symbol_scope.specs.Modules.{reading_of};
 
 use crate::exported::{Exported, Names};
-use crate::extend::{bring_import, bring_table};
+use crate::extend::{bring_import, bring_nested};
 use crate::parts::defined;
-use crate::scopes::{Context, refuse};
-use crate::table::{NameTable, Named};
+use crate::scopes::refuse;
+use crate::table::{Context, Named};
 use crate::text::ModuleText;
 use indexmap::IndexMap;
 use std::alloc::Global;
@@ -31,7 +31,7 @@ use tla_tree::Tree;
 use tool_list::{List, Memory};
 
 /// Module names that are taken, and what those export that can be named.
-pub type Taken<'a> = IndexMap<&'a str, Option<NameTable<'a, Exported>>>;
+pub type Taken<'a> = IndexMap<&'a str, Option<Exported<'a>>>;
 
 /// A module that is read.
 #[derive(Drop)]
@@ -45,7 +45,7 @@ pub struct Reading<'a> {
 fn built_in(alloc: Global) -> Result<Context<'static>, Memory>
     ensures { IfOk result (λ context. held context ≡ built_in) }
 {
-    let mut context = NameTable::new(alloc);
+    let mut context = Context::new(alloc);
     context.put(Named::Word("TRUE"), Some(Meaning::BuiltIn))?;
     context.put(Named::Word("FALSE"), Some(Meaning::BuiltIn))?;
     context.put(Named::Word("BOOLEAN"), Some(Meaning::BuiltIn))?;
@@ -57,7 +57,7 @@ fn built_in(alloc: Global) -> Result<Context<'static>, Memory>
 pub fn take_name<'a>(
     modules: &mut Taken<'a>,
     name: &'a str,
-    exports: Option<NameTable<'a, Exported>>,
+    exports: Option<Exported<'a>>,
 ) -> Result<(), Memory>
     ensures { OnOk result (modules_of modules.new.entries ≡ tables.added bytes_eq (modules_of modules.old.entries) name.now (readings.taken_by exports.entry)) }
 {
@@ -80,7 +80,7 @@ fn bring<'a>(
 {
     match modules.get(name) {
         Some(Some(exports)) => {
-            let clash = bring_table(alloc, names, exports)?;
+            let clash = bring_nested(alloc, names, exports)?;
             Ok(clash)
         }
         Some(None) => Ok(false),
@@ -110,7 +110,7 @@ impl<'a> Reading<'a> {
         take_name(&mut modules, name, None)?;
         let names = Names {
             context: built_in(alloc)?,
-            exports: NameTable::new(alloc),
+            exports: Exported::new(alloc),
         };
         Ok(Reading {
             name,
@@ -186,7 +186,7 @@ impl<'a> Reading<'a> {
         } = binder;
         let callee = text.own(alloc, lexeme)?;
         self.names
-            .put(alloc, local, name, Exported { entity, callee })?;
+            .put(alloc, local, name, Meaning::Declared { entity, callee })?;
         Ok(())
     }
 

@@ -2,7 +2,7 @@
 ghost use Rattle.std.specs.Prelude.{◌≡◌, ◌++◌, IfOk};
 ghost use Rattle.tla_model.specs.Bindings.{IsBound, IsBoundBy};
 ghost use Rattle.tla_model.specs.Entities as entities;
-ghost use Rattle.tla_model.specs.Exports.{entries_of};
+ghost use Rattle.tla_model.specs.Exports.{exports_of};
 ghost use Rattle.symbol_scope.specs.WithoutInstances.{files_of};
 ghost use Rattle.tla_model.specs.Lexemes.{LexemesLie};
 ghost use Rattle.tla_model.specs.Modules as in_modules;
@@ -15,12 +15,11 @@ ghost use Rattle.symbol_scope.specs.Modules.{reading_of};
 
 use crate::bound::{declarations, sorted_out};
 use crate::declared::declaring;
-use crate::entries::listed_entries;
 use crate::nesting::Nesting;
 use crate::reading::Reading;
 use crate::text::ModuleText;
 use std::alloc::Global;
-use tla_model::{Binder, Bound, Entry, Finding, Imported, in_order, spelled};
+use tla_model::{Binder, Bound, Finding, Imported, NameTable, in_order, spelled};
 use tla_tree::ModuleTree;
 use tool_list::{List, Memory};
 
@@ -113,16 +112,16 @@ pub fn resolve(alloc: Global, tree: &ModuleTree, imported: &Imported) -> Result<
     bound_of(alloc, tree, imported)
 }
 
-/// What a module without INSTANCE exports: identifiers first, then symbols, each in the order in
-/// which they came. `Memory` comes where there was no room.
-pub fn exports(alloc: Global, tree: &ModuleTree, imported: &Imported) -> Result<List<Entry>, Memory>
+/// What a module without INSTANCE exports. The table shares what it can with those of the modules that
+/// it names. `Memory` comes where there was no room.
+pub fn exports(alloc: Global, tree: &ModuleTree, imported: &Imported) -> Result<NameTable, Memory>
     requires readable { IsReadable tree.now }
     requires instances { IsWithoutInstances imported.now (module_of tree.now) }
-    ensures { IfOk result (λ entries. entries_of entries ≡ exports_in (imports.files_of imported.now) tree.now.source (module_of tree.now)) }
+    ensures { IfOk result (λ table. exports_of table ≡ exports_in (imports.files_of imported.now) tree.now.source (module_of tree.now)) }
 {
     let names = declaring(alloc, tree)?;
     let text = text_of(alloc, tree, names.as_slice())?;
     let module = read_module(alloc, &text, tree, imported)?;
-    let entries = listed_entries(alloc, &module.reading.names.exports)?;
-    Ok(entries)
+    let table = module.reading.names.exports.listed(alloc)?;
+    Ok(table)
 }

@@ -1,10 +1,11 @@
 // Whether names mean the same.
-ghost use Rattle.std.specs.Prelude.{◌≡◌};
+ghost use Rattle.std.specs.Prelude.{◌≡◌, option_map};
 ghost use Rattle.std.specs.Option.{option_copied};
 ghost use Rattle.tla_model.specs.Entities as entities;
+ghost use Rattle.tla_model.specs.Modules as in_modules;
 ghost use Rattle.symbol_scope.specs.Readings as readings;
 
-use tla_model::{Callee, DeclId, Meaning, UnitId};
+use tla_model::{DeclId, Meaning, UnitId};
 
 fn same_decl(left: &DeclId, right: &DeclId) -> bool
     ensures { result ≡ entities.same_decl left.now right.now }
@@ -32,26 +33,27 @@ fn same_units(left: &[UnitId], right: &[UnitId]) -> bool
     true
 }
 
-// Whether a declaration is called, through the same units.
-fn is_called(meaning: &Meaning, callee: &Callee) -> bool
-    ensures { result ≡ readings.is_called meaning.now callee.now }
+// Whether meanings are the same.
+fn same_meaning(left: &Meaning, right: &Meaning) -> bool
+    ensures { result ≡ entities.same_meaning left.now right.now }
 {
-    match meaning {
-        Meaning::BuiltIn => false,
-        Meaning::Declared { callee: other, .. } => {
-            same_decl(&other.decl, &callee.decl)
-                && same_units(other.via.as_slice(), callee.via.as_slice())
+    match (left, right) {
+        (Meaning::BuiltIn, Meaning::BuiltIn) => true,
+        (Meaning::Declared { callee, .. }, Meaning::Declared { callee: other, .. }) => {
+            same_decl(&callee.decl, &other.decl)
+                && same_units(callee.via.as_slice(), other.via.as_slice())
         }
+        _ => false,
     }
 }
 
-/// Whether a name is there that does not mean the declaration which is called.
-pub fn differs(found: Option<&Option<Meaning>>, callee: &Callee) -> bool
-    ensures { result ≡ readings.is_other (option_copied found.entry) callee.now }
+/// Whether a name is there with another meaning.
+pub fn differs(found: Option<Option<&Meaning>>, meaning: &Meaning) -> bool
+    ensures { result ≡ in_modules.differs (option_map option_copied found.entry) meaning.now }
 {
     match found {
         None => false,
         Some(None) => true,
-        Some(Some(meaning)) => !is_called(meaning, callee),
+        Some(Some(other)) => !same_meaning(other, meaning),
     }
 }

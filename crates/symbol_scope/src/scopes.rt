@@ -9,15 +9,12 @@ ghost use Rattle.tla_model.specs.Tables as tables;
 ghost use Rattle.symbol_scope.specs.Held.{held};
 ghost use Rattle.symbol_scope.specs.Lying.{BindersLie};
 
-use crate::table::NameTable;
+use crate::table::Context;
 use crate::text::ModuleText;
 use std::alloc::Global;
-use tla_model::{Binder, Finding, Meaning};
+use tla_model::{Binder, Finding};
 use tla_symbols::Lexeme;
 use tool_list::{List, Memory};
-
-/// Names with what they mean at a place; a name that can't be used yet means nothing.
-pub type Context<'a> = NameTable<'a, Option<Meaning>>;
 
 /// Finds fault with a declaring name where it is taken.
 pub fn refuse<'a>(

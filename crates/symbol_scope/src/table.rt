@@ -1,12 +1,16 @@
-// Tables of names.
-ghost use Rattle.std.specs.Prelude.{◌≡◌, OnOk, is_some};
+// Contexts: names with what they mean at a place.
+ghost use Rattle.std.specs.Prelude.{◌≡◌, ◌++◌, [], None, IfOk, IsTrue, OnOk, length, option_map, take};
+ghost use Rattle.std.specs.List.{AllByRecursion};
 ghost use Rattle.std.specs.Str.{bytes_eq};
 ghost use Rattle.std.specs.Option.{option_copied};
 ghost use Rattle.tla_model.specs.Tables as tables;
-ghost use Rattle.symbol_scope.specs.Held.{cut, held, meant_by, mark_of, words_of};
+ghost use Rattle.symbol_scope.specs.Held as held_in;
+ghost use Rattle.symbol_scope.specs.Held.{cut, held, meant_by, mark_of, meaning_something, taken_words, words_of};
 
 use indexmap::IndexMap;
 use std::alloc::Global;
+use std::mem;
+use tla_model::{Meaning, NameTable};
 use tla_symbols::Op;
 use tool_list::Memory;
 
@@ -17,118 +21,53 @@ pub enum Named<'a> {
     Symbol(Op),
 }
 
-/// How many names a table has.
+/// How many names a context has.
 #[derive(Clone, Copy)]
 pub struct Mark {
     words: usize,
     symbols: usize,
 }
 
-/// Names with what stands under them, each once. What first took a name stays there, until the
-/// table is cut.
+/// Names with what they mean at a place, each once; a name that can't be used yet means nothing. What
+/// first took a name stays there, until the context is cut.
+///
+/// The words of a module that is extended can be taken over as they stand, behind those that are there.
+/// Then they are not looked at one by one.
 #[derive(Drop)]
-pub struct NameTable<'a, V> {
-    words: IndexMap<&'a str, V>,
+pub struct Context<'a> {
+    // The words before those that were taken over.
+    before: IndexMap<&'a str, Option<Meaning>>,
+    // The table whose words were taken over, and how many of them are there, if it has so many.
+    taken: Option<&'a NameTable>,
+    shown: usize,
+    // The words behind them.
+    words: IndexMap<&'a str, Option<Meaning>>,
     // There are few symbols, so they are looked through.
-    symbols: Vec<(Op, V)>,
+    symbols: Vec<(Op, Option<Meaning>)>,
 }
 
-impl<'a, V> NameTable<'a, V> {
-    /// The table of no name.
-    pub fn new(alloc: Global) -> NameTable<'a, V>
-        ensures { held result ≡ tables.empty }
-    {
-        NameTable {
-            words: IndexMap::new(alloc),
-            symbols: Vec::new(alloc),
-        }
-    }
-
-    /// How many names there are.
-    pub fn mark(&self) -> Mark
-        ensures { result ≡ mark_of (held self.now) }
-    {
-        Mark {
-            words: self.words.len(),
-            symbols: self.symbols.len(),
-        }
-    }
-
-    /// Leaves the names that there were at a mark.
-    pub fn cut(&mut self, mark: Mark)
-    where
-        V: Drop,
-        ensures { held self.new ≡ cut (held self.old) mark }
-    {
-        self.words.truncate(mark.words);
-        self.symbols.truncate(mark.symbols);
-    }
-
-    /// Puts a name behind the others, unless it is there. After `Memory` all is as before.
-    pub fn put(&mut self, name: Named<'a>, value: V) -> Result<(), Memory>
-    where
-        V: Drop,
-        ensures { OnOk result (held self.new ≡ tables.put (held self.old) (meant_by name.entry) value) }
-    {
-        match name {
-            Named::Word(word) => self.put_word(word, value),
-            Named::Symbol(op) => self.put_symbol(op, value),
-        }
-    }
-
-    fn put_word(&mut self, word: &'a str, value: V) -> Result<(), Memory>
-    where
-        V: Drop,
-        ensures { OnOk result (held self.new ≡ tables.put (held self.old) (tables.Word word.entry.now) value) }
-    {
-        if has_word(&self.words, word) {
-            return Ok(());
-        }
-        self.words.insert(word, value)?;
-        Ok(())
-    }
-
-    fn put_symbol(&mut self, op: Op, value: V) -> Result<(), Memory>
-    where
-        V: Drop,
-        ensures { OnOk result (held self.new ≡ tables.put (held self.old) (tables.Symbol op) value) }
-    {
-        if symbol_in(self.symbols.as_slice(), op).is_some() {
-            return Ok(());
-        }
-        self.symbols.push((op, value))?;
-        Ok(())
-    }
-
-    /// What stands under a name.
-    pub fn get(&self, name: Named<'_>) -> Option<&V>
-        ensures { option_copied result ≡ tables.find (held self.now) (meant_by name.entry) }
-    {
-        match name {
-            Named::Word(word) => self.words.get(word),
-            Named::Symbol(op) => symbol_in(self.symbols.as_slice(), op),
-        }
+// What was found, to be looked at.
+fn seen<'b>(found: Option<&'b Option<Meaning>>) -> Option<Option<&'b Meaning>>
+    ensures { option_map option_copied result ≡ option_copied found.entry }
+{
+    match found {
+        Some(meaning) => Some(meaning.as_ref()),
+        None => None,
     }
 }
 
-impl<'a, V> NameTable<'a, V> {
-    /// The identifiers, in the order in which they were put.
-    pub fn words(&self) -> &IndexMap<&'a str, V>
-        ensures { words_of result.now.entries ≡ (held self.now).words }
-    {
-        &self.words
-    }
-
-    /// The symbols, in the order in which they were put.
-    pub fn symbols(&self) -> &[(Op, V)]
-        ensures { result.now ≡ (held self.now).symbols }
-    {
-        self.symbols.as_slice()
-    }
+// What a word means among some.
+fn meaning_in<'b>(
+    words: &'b IndexMap<&str, Option<Meaning>>,
+    word: &str,
+) -> Option<Option<&'b Meaning>>
+    ensures { option_map option_copied result ≡ tables.lookup bytes_eq (words_of words.now.entries) word.now }
+{
+    seen(words.get(word))
 }
 
-// What stands under a symbol.
-fn symbol_in<V>(symbols: &[(Op, V)], op: Op) -> Option<&V>
+/// What stands under a symbol.
+pub fn symbol_in<V>(symbols: &[(Op, V)], op: Op) -> Option<&V>
     ensures { option_copied result ≡ tables.lookup tables.same_symbol symbols.now op }
 {
     for entry in symbols {
@@ -139,9 +78,154 @@ fn symbol_in<V>(symbols: &[(Op, V)], op: Op) -> Option<&V>
     None
 }
 
-// Whether a word is there.
-fn has_word<V>(words: &IndexMap<&str, V>, word: &str) -> bool
-    ensures { result ≡ is_some (tables.lookup bytes_eq (words_of words.now.entries) word.now) }
+// Whether a table has none of these words.
+fn are_apart(words: &IndexMap<&str, Option<Meaning>>, table: &NameTable) -> bool
+    ensures { IsTrue result → held_in.AreApart table.now.words (words_of words.now.entries) }
 {
-    words.contains_key(word)
+    for index in 0..words.len() {
+        let Some((word, _)) = words.get_index(index) else {
+            unreachable!();
+        };
+        if table.word_among(table.len(), *word).is_some() {
+            return false;
+        }
+    }
+    true
+}
+
+impl<'a> Context<'a> {
+    /// The context of no name.
+    pub fn new(alloc: Global) -> Context<'a>
+        ensures { held result ≡ tables.empty }
+    {
+        Context {
+            before: IndexMap::new(alloc),
+            taken: None,
+            shown: 0,
+            words: IndexMap::new(alloc),
+            symbols: Vec::new(alloc),
+        }
+    }
+
+    // What a word means among those that were taken over.
+    fn taken_word(&self, word: &str) -> Option<&Meaning>
+        ensures { option_copied result ≡ tables.lookup bytes_eq (take self.now.shown (taken_words self.now.taken)) word.now }
+    {
+        match self.taken {
+            Some(table) => table.word_among(self.shown, word),
+            None => None,
+        }
+    }
+
+    // How many words were taken over and are there.
+    fn shown(&self) -> usize
+        ensures { result ≡ length (take self.now.shown (taken_words self.now.taken)) }
+    {
+        match self.taken {
+            Some(table) => self.shown.min(table.len()),
+            None => 0,
+        }
+    }
+
+    /// How many names there are. `Memory` comes where so many can't be counted.
+    pub fn mark(&self) -> Result<Mark, Memory>
+        ensures { IfOk result (λ mark. mark ≡ mark_of (held self.now)) }
+    {
+        let Some(before) = self.before.len().checked_add(self.shown()) else {
+            return Err(Memory);
+        };
+        let Some(words) = before.checked_add(self.words.len()) else {
+            return Err(Memory);
+        };
+        Ok(Mark {
+            words,
+            symbols: self.symbols.len(),
+        })
+    }
+
+    /// Leaves the names that there were at a mark.
+    pub fn cut(&mut self, mark: Mark)
+        ensures { held self.new ≡ cut (held self.old) mark }
+    {
+        let behind = mark.words.saturating_sub(self.before.len());
+        let shown = self.shown();
+        self.words.truncate(behind.saturating_sub(shown));
+        self.shown = self.shown.min(behind);
+        self.before.truncate(mark.words);
+        self.symbols.truncate(mark.symbols);
+    }
+
+    // What a word means.
+    fn word(&self, word: &str) -> Option<Option<&Meaning>>
+        ensures { option_map option_copied result ≡ tables.lookup bytes_eq (held self.now).words word.now }
+    {
+        if let Some(meaning) = meaning_in(&self.before, word) {
+            return Some(meaning);
+        }
+        if let Some(meaning) = self.taken_word(word) {
+            return Some(Some(meaning));
+        }
+        meaning_in(&self.words, word)
+    }
+
+    /// What a name means.
+    pub fn get(&self, name: Named<'_>) -> Option<Option<&Meaning>>
+        ensures { option_map option_copied result ≡ tables.find (held self.now) (meant_by name.entry) }
+    {
+        match name {
+            Named::Word(word) => self.word(word),
+            Named::Symbol(op) => seen(symbol_in(self.symbols.as_slice(), op)),
+        }
+    }
+
+    /// Puts a name behind the others, unless it is there. After `Memory` all is as before.
+    pub fn put(&mut self, name: Named<'a>, meaning: Option<Meaning>) -> Result<(), Memory>
+        ensures { OnOk result (held self.new ≡ tables.put (held self.old) (meant_by name.entry) meaning) }
+    {
+        match name {
+            Named::Word(word) => self.put_word(word, meaning),
+            Named::Symbol(op) => self.put_symbol(op, meaning),
+        }
+    }
+
+    fn put_word(&mut self, word: &'a str, meaning: Option<Meaning>) -> Result<(), Memory>
+        ensures { OnOk result (held self.new ≡ tables.put (held self.old) (tables.Word word.entry.now) meaning) }
+    {
+        if self.word(word).is_some() {
+            return Ok(());
+        }
+        self.words.insert(word, meaning)?;
+        Ok(())
+    }
+
+    fn put_symbol(&mut self, op: Op, meaning: Option<Meaning>) -> Result<(), Memory>
+        ensures { OnOk result (held self.new ≡ tables.put (held self.old) (tables.Symbol op) meaning) }
+    {
+        if symbol_in(self.symbols.as_slice(), op).is_some() {
+            return Ok(());
+        }
+        self.symbols.push((op, meaning))?;
+        Ok(())
+    }
+
+    /// Whether the words of a table can be taken over: none were taken over before, none of them is
+    /// there, and to look at those that are there is no more work than to put them one by one.
+    pub fn can_take(&self, table: &NameTable) -> bool
+        ensures { IsTrue result → held_in.CanTake self.now table.now.words }
+    {
+        self.taken.is_none()
+            && self.before.is_empty()
+            && self.words.len() <= table.len()
+            && are_apart(&self.words, table)
+    }
+
+    /// Takes over the words of a table, behind those that are there.
+    pub fn take(&mut self, table: &'a NameTable)
+        requires { held_in.CanTake self.old table.now.words }
+        ensures { held self.new ≡ record { words = (held self.old).words ++ meaning_something table.now.words; symbols = (held self.old).symbols } }
+    {
+        mem::swap(&mut self.before, &mut self.words);
+        self.taken = Some(table);
+        self.shown = table.len();
+    }
 }

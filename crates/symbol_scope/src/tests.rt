@@ -69,7 +69,8 @@ fn exports_each_name_once(rt: HostRuntime) -> Result<(), Fail> {
     let alloc = rt.alloc();
     let tree = sample(alloc)?;
     let imported = Imported::new(alloc);
-    let entries = exports(alloc, &tree, &imported)?;
-    assert_eq!(rt; entries.len(), 2);
+    let table = exports(alloc, &tree, &imported)?;
+    assert_eq!(rt; table.len(), 2);
+    assert!(rt; table.symbols().is_empty());
     Ok(())
 }

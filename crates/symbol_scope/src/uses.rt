@@ -10,8 +10,8 @@ ghost use Rattle.symbol_scope.specs.Held.{held, meant_by};
 ghost use Rattle.symbol_scope.specs.Walking as walking;
 
 use crate::forms::{is_free, prefixed};
-use crate::scopes::{Context, bind};
-use crate::table::Named;
+use crate::scopes::bind;
+use crate::table::{Context, Named};
 use crate::text::ModuleText;
 use std::alloc::Global;
 use tla_model::{Binder, Entity, Finding, Meaning};

@@ -11,7 +11,8 @@ use crate::due::{
     push_behind, push_between, push_definitions, push_function, push_image, push_rest, push_scope,
 };
 use crate::parts::defined;
-use crate::scopes::{Context, refuse, reserve};
+use crate::scopes::{refuse, reserve};
+use crate::table::Context;
 use crate::tasks::{Naming, Task, naming_of, push_each};
 use crate::text::ModuleText;
 use crate::uses::{use_name, use_prefix, use_symbol};
@@ -94,7 +95,7 @@ pub fn visit<'a>(
     ensures { OnOk result (IsDone text.now tree.now (visited node) (held context.old) (held context.new) findings.old findings.new (stack tasks.old.items) (stack tasks.new.items)) }
 {
     let children = tree.children(node);
-    let mark = context.mark();
+    let mark = context.mark()?;
     match naming_of(tree.form(node)) {
         Naming::Path => {
             visit_segments(alloc, text, tree, children, context, findings, tasks)?;

@@ -13,7 +13,8 @@ ghost use Rattle.symbol_scope.specs.Walking as walking;
 ghost use Rattle.symbol_scope.specs.Walking.{AreReady, IsDone, IsNode, IsReady, stack};
 
 use crate::parts::{binders, defined};
-use crate::scopes::{Context, bind, bind_all};
+use crate::scopes::{bind, bind_all};
+use crate::table::Context;
 use crate::tasks::Task;
 use crate::text::ModuleText;
 use crate::uses::{bind_function, use_symbol};

@@ -6,7 +6,7 @@ use Rattle.symbol_scope.proofs.reading.bring.Goals as goal
 
 pub returns-in_ok-clash-in-Some-Some : goal.returns-in_ok-clash-in-Some-Some
 returns-in_ok-clash-in-Some-Some c =
-    subst (IsBrought c.args.names.now c.bring_table.new.names c.in_ok-clash-in-Some-Some.clash)
+    subst (IsBrought c.args.names.now c.bring_nested.new.names c.in_ok-clash-in-Some-Some.clash)
     (under-found (files_of c.args.imported.now) c.args.modules.now.entries c.args.name.now (Some (Some c.in-Some-Some.exports)) (ap Some (sym c.in-Some-Some.field-0-is) ∙ c.in-Some-Some.ensures.value))
     c.in_ok-clash-in-Some-Some.ensures
 

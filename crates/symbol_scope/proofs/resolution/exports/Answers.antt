@@ -10,6 +10,6 @@ pub returns : goal.returns
 returns c =
     let files = files_of c.args.imported.now in
     let module_is = module_of c.args.tree.now in
-    c.in_ok-entries.ensures ∙ ap (λ (r : Reading). exports_of r.exports) c.in_ok-module.ensures.reading
+    ap exports_of c.in_ok-table.ensures ∙ ap (λ (r : Reading). exports_of r.exports) c.in_ok-module.ensures.reading
     ∙ ap (λ text. exports_of (read_all text files (begun text files module_is.extends) module_is.units).here.exports) c.in_ok-text.ensures
     ∙ all-exports c.args.imported.now c.args.tree.now.source module_is c.requires.instances

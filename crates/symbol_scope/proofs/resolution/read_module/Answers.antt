@@ -1,13 +1,24 @@
-use Rattle.std.proofs.Common.{◌∙◌, ◌++◌, [], ap, subst}
+use Rattle.std.proofs.Common.{◌∙◌, ◌++◌, [], ap, subst, sym}
 use Rattle.std.specs.Prelude.{map}
 use Rattle.symbol_scope.specs.WithoutInstances.{files_of}
-use Rattle.tla_model.specs.Lexemes.{LiesIn}
+use Rattle.std.specs.List.{AllByRecursion}
+use Rattle.tla_model.specs.Lexemes.{LiesIn, units_lexemes}
 use Rattle.tla_model.specs.Modules.{all_clashing, begun, extends_all}
 use Rattle.symbol_scope.specs.WithoutInstances.{found_from, read_all}
-use Rattle.unit_grammar.specs.UnitNodes.{unit_at}
+use Rattle.unit_grammar.specs.UnitNodes.{module_of, unit_at}
 use Rattle.symbol_scope.specs.Rounds.{IsAt}
+use Rattle.symbol_scope.proofs.Lies.{all-left}
 use Rattle.symbol_scope.proofs.Onward.{units-lie}
 use Rattle.symbol_scope.proofs.resolution.read_module.Goals as goal
+
+pub extend_all-requires : goal.extend_all-requires
+extend_all-requires c =
+    let units = module_of c.args.tree.now in
+    let lies = LiesIn c.args.text.now.source in
+    subst (AllByRecursion lies) (sym c.as_slice.ensures) (all-left lies units.extends (units_lexemes units.units) c.requires.lie.1)
+
+pub read_all-requires-clause-there : goal.read_all-requires-clause-there
+read_all-requires-clause-there c = subst (AllByRecursion _) (sym c.as_slice-2.ensures) c.requires.nodes
 
 pub read_all-requires-clause-lie : goal.read_all-requires-clause-lie
 read_all-requires-clause-lie c = units-lie (LiesIn c.args.text.now.source) c.args.tree.now c.as_slice-2.result.now c.as_slice-2.ensures c.requires.lie

@@ -103,7 +103,7 @@ returns-in_ok-push_definitions-in-InOrder c =
     let there = before-there nodes node (node_at nodes node).children c.requires.node.there below in
     let named = sym (ap naming c.form.ensures) ∙ sym c.naming_of.ensures ∙ c.in-InOrder.is in
     order-done c.args.text.now nodes node c.requires.node whole there (held c.args.context.now) c.args.findings.now (stack c.args.tasks.now.items) (stack c.push_definitions.new.tasks.items) named c.requires.tasks
-    (c.in_ok-push_definitions-in-InOrder.ensures ∙ ap (λ m. chain c.children-children.result.now ++ (leave m ∷ stack c.args.tasks.now.items)) c.mark-mark.ensures ∙ ap (λ z. chain z ++ (leave (mark_of (held c.args.context.now)) ∷ stack c.args.tasks.now.items)) kids)
+    (c.in_ok-push_definitions-in-InOrder.ensures ∙ ap (λ m. chain c.children-children.result.now ++ (leave m ∷ stack c.args.tasks.now.items)) c.in_ok-mark.ensures ∙ ap (λ z. chain z ++ (leave (mark_of (held c.args.context.now)) ∷ stack c.args.tasks.now.items)) kids)
 
 pub returns-in_ok-push_image-in-BoundsLast : goal.returns-in_ok-push_image-in-BoundsLast
 returns-in_ok-push_image-in-BoundsLast c =
@@ -115,7 +115,7 @@ returns-in_ok-push_image-in-BoundsLast c =
     let there = before-there nodes node (node_at nodes node).children c.requires.node.there below in
     let named = sym (ap naming c.form.ensures) ∙ sym c.naming_of.ensures ∙ c.in-BoundsLast.is in
     image-done c.args.text.now nodes node c.requires.node whole there (held c.args.context.now) c.args.findings.now (stack c.args.tasks.now.items) (stack c.push_image.new.tasks.items) named c.requires.tasks
-    (c.in_ok-push_image-in-BoundsLast.ensures ∙ ap (λ m. image_tasks nodes node c.children-children.result.now m (stack c.args.tasks.now.items)) c.mark-mark.ensures ∙ ap (λ z. image_tasks nodes node z (mark_of (held c.args.context.now)) (stack c.args.tasks.now.items)) kids)
+    (c.in_ok-push_image-in-BoundsLast.ensures ∙ ap (λ m. image_tasks nodes node c.children-children.result.now m (stack c.args.tasks.now.items)) c.in_ok-mark.ensures ∙ ap (λ z. image_tasks nodes node z (mark_of (held c.args.context.now)) (stack c.args.tasks.now.items)) kids)
 
 pub returns-in_ok-push_function-in-Function : goal.returns-in_ok-push_function-in-Function
 returns-in_ok-push_function-in-Function c =
@@ -128,7 +128,7 @@ returns-in_ok-push_function-in-Function c =
     let named = sym (ap naming c.form.ensures) ∙ sym c.naming_of.ensures ∙ c.in-Function.is in
     function-done c.args.text.now nodes node c.requires.node whole there c.in-Function.name (held c.args.context.now) (held c.begin.new.context) c.args.findings.now c.begin.new.findings (stack c.args.tasks.now.items) (stack c.push_function.new.tasks.items) named
     (function-lies c.args.text.now (form_at nodes node) c.in-Function.name named (held-lies c.args.text.now.source nodes node c.requires.node.there c.requires.node.lie)) c.requires.tasks c.in_ok-begin-in-Function.ensures.context c.in_ok-begin-in-Function.ensures.findings
-    (c.in_ok-push_function-in-Function.ensures ∙ ap (λ m. function_tasks nodes node c.in-Function.name c.children-children.result.now m (stack c.args.tasks.now.items)) c.mark-mark.ensures ∙ ap (λ z. function_tasks nodes node c.in-Function.name z (mark_of (held c.args.context.now)) (stack c.args.tasks.now.items)) kids)
+    (c.in_ok-push_function-in-Function.ensures ∙ ap (λ m. function_tasks nodes node c.in-Function.name c.children-children.result.now m (stack c.args.tasks.now.items)) c.in_ok-mark.ensures ∙ ap (λ z. function_tasks nodes node c.in-Function.name z (mark_of (held c.args.context.now)) (stack c.args.tasks.now.items)) kids)
 
 pub returns-in_ok-push_scope-in-BoundsFirst : goal.returns-in_ok-push_scope-in-BoundsFirst
 returns-in_ok-push_scope-in-BoundsFirst c =
@@ -141,4 +141,4 @@ returns-in_ok-push_scope-in-BoundsFirst c =
     let named = sym (ap naming c.form.ensures) ∙ sym c.naming_of.ensures ∙ c.in-BoundsFirst.is in
     plain-done c.args.text.now nodes node c.requires.node whole there (held c.args.context.now) (held c.begin-in-BoundsFirst.new.context) c.args.findings.now c.begin-in-BoundsFirst.new.findings (stack c.args.tasks.now.items) (stack c.push_scope.new.tasks.items) named
     c.requires.tasks c.in_ok-begin-in-BoundsFirst.ensures.context c.in_ok-begin-in-BoundsFirst.ensures.findings
-    (c.in_ok-push_scope-in-BoundsFirst.ensures ∙ ap (λ m. scope_tasks nodes node c.children-children.result.now m (stack c.args.tasks.now.items)) c.mark-mark.ensures ∙ ap (λ z. scope_tasks nodes node z (mark_of (held c.args.context.now)) (stack c.args.tasks.now.items)) kids)
+    (c.in_ok-push_scope-in-BoundsFirst.ensures ∙ ap (λ m. scope_tasks nodes node c.children-children.result.now m (stack c.args.tasks.now.items)) c.in_ok-mark.ensures ∙ ap (λ z. scope_tasks nodes node z (mark_of (held c.args.context.now)) (stack c.args.tasks.now.items)) kids)

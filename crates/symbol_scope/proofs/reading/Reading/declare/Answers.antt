@@ -3,7 +3,7 @@ use Rattle.std.specs.Prelude.{is_some}
 use Rattle.symbol_scope.specs.Held.{meant_by}
 use Rattle.symbol_scope.specs.Modules.{reading_of}
 use Rattle.symbol_scope.specs.Readings.{as_read, modules_of, no_files}
-use Rattle.symbol_scope.proofs.Taking.{copied-some, declared-new, new-bound}
+use Rattle.symbol_scope.proofs.Taking.{mapped-some, declared-new, new-bound}
 use Rattle.symbol_scope.proofs.reading.Reading.declare.Goals as goal
 
 pub returns-clause-reading : goal.returns-clause-reading
@@ -12,7 +12,7 @@ returns-clause-reading c =
     declared-new c.args.text.now c.args.local (reading_of self) c.args.binder (meant_by c.name_of-name.result) c.name_of-name.ensures
     (as_read self.name.now (modules_of self.modules.entries) c.put.new.self) c.in_ok-callee.callee c.in_ok-callee.ensures
     (c.in_ok-put.ensures self.name.now (modules_of self.modules.entries))
-    (ap is_some (sym c.get.ensures) ∙ copied-some c.get.result ∙ sym c.is_some.ensures ∙ c.if-is_some.false) no_files
+    (ap is_some (sym c.get.ensures) ∙ mapped-some _ c.get.result ∙ sym c.is_some.ensures ∙ c.if-is_some.false) no_files
 
 pub returns-clause-context : goal.returns-clause-context
 returns-clause-context c =

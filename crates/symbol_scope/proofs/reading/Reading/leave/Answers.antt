@@ -2,7 +2,7 @@ use Rattle.std.proofs.Common.{◌∙◌, ℕ, List, Some, ap, sym}
 use Rattle.std.specs.Str.{bytes_eq}
 use Rattle.std.specs.Borrow.{Bor}
 use Rattle.tla_model.specs.Tables.{added}
-use Rattle.symbol_scope.specs.Readings.{exported, modules_of, taken_by}
+use Rattle.symbol_scope.specs.Readings.{modules_of, taken_by}
 use Rattle.symbol_scope.proofs.Growing.{modules-take}
 use Rattle.symbol_scope.proofs.reading.Reading.leave.Goals as goal
 
@@ -10,7 +10,7 @@ pub returns : goal.returns
 returns c = λ reading is.
     let title = ap (λ (b : Bor (List ℕ)). b.now) c.replace-title.ensures.after ∙ sym is.title in
     let context = c.cut.ensures ∙ sym is.names in
-    let exports = ap exported c.replace-inner.ensures.after ∙ sym is.shown in
+    let exports = c.replace-inner.ensures.after ∙ sym is.shown in
     let before = ap modules_of c.truncate.ensures.entries ∙ modules-take c.args.outer.modules c.args.self.now.modules.entries ∙ sym is.begins in
     let name = ap (λ (b : Bor (List ℕ)). b.now) c.replace-title.ensures.value in
     let own = ap (λ t. taken_by (Some t)) c.replace-inner.ensures.value in
