@@ -4,7 +4,6 @@ use Rattle.tla_symbols.specs.declared.lexeme.Lexeme.{Lexeme}
 use Rattle.tla_model.specs.declared.Diagnostic.{Diagnostic}
 use Rattle.tla_model.specs.declared.entity.Decl.{Decl}
 use Rattle.tla_model.specs.declared.entity.Use.{Use}
-use Rattle.tla_model.specs.declared.face.Part.{Part}
 use Rattle.tla_model.specs.declared.imported.Import.{Import}
 use Rattle.tla_model.specs.Bindings.{AreInOrder, at, decls, faults, resolved}
 use Rattle.tla_model.specs.Entities.{declaring}
@@ -12,6 +11,7 @@ use Rattle.tla_model.specs.Exports.{Outside, face_outside, nothing}
 use Rattle.tla_model.specs.Imports.{Imports, import_of}
 use Rattle.tla_model.specs.Lexemes.{spelled}
 use Rattle.tla_model.specs.Modules.{text_of}
+use Rattle.tla_model.specs.Parts.{Held}
 use Rattle.tla_model.specs.Resolution.{findings, outside_in}
 use Rattle.module_graph.specs.Imports.{enclosing_of, imports_of}
 use Rattle.unit_grammar.specs.Units.{ModuleUnits}
@@ -89,7 +89,7 @@ pub record CheckedModule : Type 0 where
   pub faults : List Diagnostic
   pub uses : List Use
   pub decls : List Decl
-  pub parts : List Part
+  pub parts : List Held
 
 -- a module that was checked, by what the modules are that it names; it is something to others where it is accepted
 pub record IsChecked (given : List ℕ → Given) (source : List ℕ) (units : ModuleUnits) (checked : CheckedModule) : Type 0 where

@@ -18,7 +18,7 @@ use std::marker::Model;
 use std::sync::Arc;
 use step_count::Steps;
 use symbol_scope::resolve;
-use tla_model::{Decl, Diagnostic, Face, Imported, Use, in_order};
+use tla_model::{Decl, Diagnostic, Face, Imported, Parts, Use, in_order};
 use tla_symbols::Lexeme;
 use tla_tree::ModuleTree;
 use tool_list::{List, Memory};
@@ -85,7 +85,7 @@ fn refused(alloc: Global, faults: List<Diagnostic>) -> Result<Checked, Memory>
         face: Arc::new(
             alloc,
             Face {
-                parts: List::new(alloc),
+                parts: Parts::new(alloc),
             },
         )?,
     })
@@ -110,7 +110,7 @@ fn face_of(
         return face(alloc, name, tree, imported, needed);
     }
     Ok(Face {
-        parts: List::new(alloc),
+        parts: Parts::new(alloc),
     })
 }
 

@@ -70,7 +70,7 @@ fn refuses_what_extends_no_module(rt: HostRuntime) -> Result<(), Fail> {
     assert_eq!(rt; faults[0].code, 302);
     assert_eq!(rt; faults[1].code, 301);
     assert_eq!(rt; faults[1].span.start, 2);
-    assert!(rt; checked.face().parts.is_empty());
+    assert!(rt; checked.face().parts.last().is_none());
     assert_eq!(rt; steps.count(), 1);
     Ok(())
 }

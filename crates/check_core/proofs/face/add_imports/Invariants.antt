@@ -1,10 +1,10 @@
 use Rattle.std.proofs.Common.{◌≡◌, drop}
 use Rattle.check_core.specs.Faces.{with_imports}
-use Rattle.check_core.specs.Parts.{AreParts, held_by}
+use Rattle.check_core.specs.Parts.{AreGathered, held_by}
 use Rattle.check_core.proofs.face.add_imports.Given as goal
 
 abbrev pub invariant-loop-name : goal.invariant-loop-name
 invariant-loop-name l = record {
-  valid : AreParts l.parts;
+  valid : AreGathered l.parts;
   held : with_imports l.imported l.source (held_by l.parts) (drop l.name-index l.names) ≡ with_imports l.imported l.source (held_by l.initial.parts) l.names;
 }

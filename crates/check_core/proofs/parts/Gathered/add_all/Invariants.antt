@@ -1,0 +1,11 @@
+use Rattle.std.proofs.Common.{◌≡◌, drop}
+use Rattle.tla_model.specs.Parts.{parts_in}
+use Rattle.check_core.specs.Faces.{with_parts}
+use Rattle.check_core.specs.Parts.{IsNoted, held_by}
+use Rattle.check_core.proofs.parts.Gathered.add_all.Given as goal
+
+abbrev pub invariant-loop-stretch : goal.invariant-loop-stretch
+invariant-loop-stretch l = record {
+  noted : IsNoted l.self;
+  held : with_parts (held_by l.self) (parts_in (drop l.stretch-index l.stretches)) ≡ with_parts (held_by l.initial.self) (parts_in l.stretches);
+}
