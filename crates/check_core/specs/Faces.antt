@@ -1,4 +1,4 @@
--- The face of an accepted module: what the modules hold that it reaches, each once, and then what the module holds itself.
+-- The face of an accepted module: what its first import reaches, as it stands there, of other imports the modules that are not there, and then what the module holds itself.
 use Rattle.std.specs.Prelude.{◌≡◌, ℕ, Bool, false, ◌&&◌, Option, None, Some, List, [], ◌∷◌, ◌++◌, if◌then◌else◌, map, nat_eq}
 use Rattle.std.specs.Arc.{arc_value}
 use Rattle.std.specs.List.{list_any}
@@ -29,7 +29,7 @@ pub record IsOwn (name : List ℕ) (exports : Exports) (held : Interface) : Type
   pub nodes : held.tree ≡ []
   pub means : held.meanings ≡ []
 
--- ---- modules, each once
+-- ---- modules by their names
 
 -- a module by its name and the place of a nested one
 abbrev pub Key : Type 0

@@ -76,7 +76,8 @@ fn add_imports<'a>(
 }
 
 /// What an accepted module exports, by the names of the modules that it needs: the parts of the modules
-/// that it reaches, in the order of its needs, each module once, and behind them its own part.
+/// that it reaches, in the order of its needs, and behind them its own part. Those of the first import
+/// stay as they are there; of others, a module that is there is not put again.
 ///
 /// The own part has the module's name and its exports. Its definitions, its instances, and their nodes
 /// and meanings are left out as yet, and it says of no module that it is a constant module. The parts of

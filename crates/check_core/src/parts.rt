@@ -1,4 +1,4 @@
-// The parts of a face, each module once.
+// The parts of a face: those of its first import, and of others the modules that are not there.
 ghost use Rattle.std.specs.Prelude.{◌≡◌, ◌↔◌, ◌++◌, ◌∷◌, [], not, IfOk, IsTrue, OnOk};
 ghost use Rattle.tla_model.specs.Parts.{held, held_in};
 ghost use Rattle.check_core.specs.Faces.{is_among, key_in, keys_in, with_face, with_part, with_parts};
@@ -63,7 +63,8 @@ fn extended(alloc: Global, first: Option<&Parts>, more: List<Part>) -> Result<Pa
     }
 }
 
-/// The parts of a face that is made, each module once.
+/// The parts of a face that is made. Those of the first import stay as they are; of others, a module
+/// that is there is not put again.
 #[derive(Drop)]
 pub struct Gathered<'a> {
     // Those of the first import that reaches a module: the face will share them as they are.

@@ -16,7 +16,7 @@ use Rattle.symbol_scope.specs.Held.{held}
 abbrev pub same_unit : UnitId → UnitId → Bool
 same_unit a b = bytes_eq a.«module» b.«module» && nat_eq a.place b.place
 
--- what stands for imports, by the table of the module, if there is one
+-- what a table exports, if there is one
 abbrev pub shown_by : Option (Bor (Table Meaning)) → Exports
 shown_by None = []
 shown_by (Some table) = exports_of table.now
