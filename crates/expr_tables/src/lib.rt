@@ -4,6 +4,7 @@
 //! gives only the wait. Knows nothing of how frames are kept.
 #![tactic(auto)]
 
+mod endings;
 mod frames;
 mod kinds;
 mod moves;
@@ -12,12 +13,13 @@ mod parts;
 mod shapes;
 mod starts;
 
+pub use endings::endable;
 pub use frames::{absorbs, child, finishes, is_expression, list_of, mode};
 pub use kinds::{
     is_comma, is_define, is_instance, is_left_arrow, is_left_bracket, is_left_paren, is_name,
     is_negative, is_right_bracket, is_right_paren, is_underscore, is_with,
 };
-pub use moves::{at_mark, defines, endable, is_given, is_replaceable};
+pub use moves::{at_mark, defines, is_given, is_replaceable};
 pub use operators::{choice, lead, takes};
 pub use parts::at_part;
 pub use shapes::shape;

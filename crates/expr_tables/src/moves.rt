@@ -73,13 +73,16 @@ fn if_move(test: bool, then: MarkMove) -> MarkMove
     if test { then } else { MarkMove::Refused }
 }
 
-fn at_argument_symbol(name: Lexeme, kind: LexKind) -> MarkMove
-    ensures { (lexeme : Lexeme) → lexeme.kind ≡ kind → result ≡ tables.at_mark (Wait.ArgumentSymbol name) lexeme }
+fn at_argument_symbol(name: Lexeme, lexeme: Lexeme) -> MarkMove
+    ensures { result ≡ tables.at_mark (Wait.ArgumentSymbol name) lexeme }
 {
-    if is_comma(kind) {
+    if is_comma(lexeme.kind) {
         return MarkMove::Shift(Wait::Argument(name));
     }
-    if_move(is_right_paren(kind), MarkMove::Close(Form::Segment(name)))
+    if_move(
+        is_right_paren(lexeme.kind),
+        MarkMove::Close(Form::Segment(name)),
+    )
 }
 
 fn at_binding_start(binding: Binding, lexeme: Lexeme) -> MarkMove
@@ -232,7 +235,7 @@ pub fn at_mark(wait: Wait, lexeme: Lexeme) -> MarkMove
             passes(kind),
             MarkMove::Leaf(Form::Symbol(lexeme), Wait::ArgumentSymbol(name)),
         ),
-        Wait::ArgumentSymbol(name) => at_argument_symbol(name, kind),
+        Wait::ArgumentSymbol(name) => at_argument_symbol(name, lexeme),
         Wait::SegmentName(name) => if_move(
             is_left_paren(kind),
             MarkMove::Shift(Wait::Argument(name)),
@@ -349,57 +352,5 @@ pub fn at_mark(wait: Wait, lexeme: Lexeme) -> MarkMove
             MarkMove::Close(Form::InfixParameter(symbol)),
         ),
         _ => MarkMove::Refused,
-    }
-}
-
-fn takes_none(binding: Binding) -> bool
-    ensures { result ≡ tables.takes_none binding }
-{
-    !matches!(&binding, Binding::Bound)
-}
-
-fn takes_lone_tuple(binding: Binding) -> bool
-    ensures { result ≡ tables.takes_lone_tuple binding }
-{
-    matches!(&binding, Binding::One)
-}
-
-fn ends_symbol(kind: LexKind) -> bool
-    ensures { result ≡ tables.ends_symbol kind }
-{
-    is_comma(kind) || is_right_paren(kind)
-}
-
-fn when(test: bool, form: Form) -> Option<Form>
-    ensures { result ≡ tables.when test form }
-{
-    if test { Some(form) } else { None }
-}
-
-/// The form of a frame that may end before a lexeme of this kind, or at the end, with no part to
-/// come.
-pub fn endable(wait: Wait, next: Option<LexKind>) -> Option<Form>
-    ensures { result ≡ tables.endable wait next }
-{
-    match wait {
-        Wait::SegmentName(name) => return Some(Form::Segment(name)),
-        Wait::SubscriptRead => return Some(Form::Identifier),
-        Wait::InstanceNamed(module) => return Some(Form::Instance(module)),
-        Wait::ReplacementEnd(left) => return Some(Form::Replacement(left)),
-        Wait::ParameterName(name) => return Some(Form::Name(name)),
-        _ => (),
-    }
-    let kind = next?;
-    match wait {
-        Wait::PrefixOperand(symbol) | Wait::ListFirst(symbol) => when(
-            ends_symbol(kind),
-            Form::Symbol(symbol),
-        ),
-        Wait::BindingRead(binding) => when(takes_none(binding) && is_colon(kind), Form::Names),
-        Wait::TupleClosed(binding) => when(
-            takes_lone_tuple(binding) && is_colon(kind),
-            Form::TupleNames,
-        ),
-        _ => None,
     }
 }

@@ -74,10 +74,12 @@ fn operator(kind: LexKind, fix: Fix) -> Neighbour
     }
 }
 
-// What becomes of a bound at what comes after its set: the set may take that as its operator, and the
-// bound may not.
+// What becomes of a bound at what comes after its set: the set may take that as its operator, and
+// the bound may not.
 fn bound_choice(coming: Neighbour) -> Choice
-    ensures { result ≡ cond (choices.meets (edges.Operator Op.In Fix.Infix) (edge_of coming)) Choice.Waits Choice.Clashes }
+    ensures { result ≡ cond (choices.meets (edges.Operator Op.In Fix.Infix) (edge_of coming))
+        Choice.Waits
+        Choice.Clashes }
 {
     let member = Operator {
         op: Op::In,

@@ -135,7 +135,10 @@ fn in_angle(actions: bool, lexeme: Lexeme) -> PartMove
 }
 
 fn after_value(name: Lexeme, mark: Lexeme, next: Wait, form: Form, kind: LexKind) -> PartMove
-    ensures { result ≡ cond (kinds.is_comma kind) (PartMove.Goes next (Conversion.AsField name mark)) (tables.if_goes (kinds.is_right_bracket kind) (PartMove.Done form (Conversion.AsField name mark))) }
+    ensures { result ≡ cond (kinds.is_comma kind)
+        (PartMove.Goes next (Conversion.AsField name mark))
+        (tables.if_goes (kinds.is_right_bracket kind)
+        (PartMove.Done form (Conversion.AsField name mark))) }
 {
     if is_comma(kind) {
         return PartMove::Goes(next, Conversion::AsField(name, mark));
@@ -218,7 +221,8 @@ fn after_bound(next: Wait, closes: bool, then: PartMove, kind: LexKind) -> PartM
 }
 
 fn after_definition(lexeme: Lexeme) -> PartMove
-    ensures { result ≡ tables.after_part (Wait.Handing Handed.Definition lexeme) Shape.Helper lexeme }
+    ensures { result
+        ≡ tables.after_part (Wait.Handing Handed.Definition lexeme) Shape.Helper lexeme }
 {
     let kind = lexeme.kind;
     if is_name(kind) || is_negative(kind) {
@@ -357,21 +361,35 @@ fn after_part(wait: Wait, shape: Shape, lexeme: Lexeme) -> PartMove
     }
 }
 
-/// What the lexeme does to a frame with this wait and a finished part of this shape beside it,
-/// where the lexeme is no operator. The frame goes on where it can, else it ends where it may.
-pub fn at_part(wait: Wait, shape: Shape, lexeme: Lexeme) -> PartMove
-    ensures { result ≡ tables.at_part wait shape lexeme }
+/// What the lexeme does to a frame that goes on with it.
+fn after(wait: Wait, shape: Shape, lexeme: Lexeme) -> PartMove
+    ensures { result ≡ cond (tables.is_expression shape)
+        (tables.after_expression wait shape lexeme)
+        (tables.after_part wait shape lexeme) }
 {
-    let goes_on = if is_expression(shape) {
-        after_expression(wait, shape, lexeme)
-    } else {
-        after_part(wait, shape, lexeme)
-    };
-    match goes_on {
-        PartMove::Refused => match finishes(wait, shape) {
+    if is_expression(shape) {
+        return after_expression(wait, shape, lexeme);
+    }
+    after_part(wait, shape, lexeme)
+}
+
+/// A frame goes on where it can, else it ends where it may.
+fn or_finish(going: PartMove, form: Option<Form>) -> PartMove
+    ensures { result ≡ tables.or_finish going form }
+{
+    match going {
+        PartMove::Refused => match form {
             Some(form) => PartMove::Finish(form),
             None => PartMove::Refused,
         },
-        _ => goes_on,
+        _ => going,
     }
+}
+
+/// What the lexeme does to a frame with this wait and a finished part of this shape beside it,
+/// where the lexeme is no operator.
+pub fn at_part(wait: Wait, shape: Shape, lexeme: Lexeme) -> PartMove
+    ensures { result ≡ tables.at_part wait shape lexeme }
+{
+    or_finish(after(wait, shape, lexeme), finishes(wait, shape))
 }
