@@ -19,18 +19,20 @@ use Rattle.expr_parse.specs.declared.stack.Part.{Part}
 use Rattle.expr_parse.specs.Goals.{parts_of}
 use Rattle.expr_parse.specs.Standing.{Grows, IsPart}
 use Rattle.expr_parse.proofs.Growing.{grows-same, grows-on}
+use Rattle.unit_grammar.specs.declared.wait.Due.{Due}
 use Rattle.unit_grammar.specs.declared.wait.Move.{Move}
 use Rattle.unit_grammar.specs.Tables.{move, after_part, after_expression, after_bounds}
 use Rattle.unit_grammar.specs.Units.{UnitTree}
 use Rattle.unit_grammar.specs.Machine as Machine
 use Rattle.unit_grammar.specs.Machine.{part_step, moved, finished, given, expression_step, bounds_step, bounds_before}
 use Rattle.unit_parse.specs.declared.frame.Frame.{Frame}
+use Rattle.unit_parse.specs.declared.reached.Reached.{Reached}
 use Rattle.unit_parse.specs.declared.reading.Reading.{Reading}
 use Rattle.unit_parse.specs.declared.reading.Heard.{Heard}
 use Rattle.unit_parse.specs.declared.state.Unfinished.{Unfinished}
 use Rattle.unit_parse.specs.declared.state.State.{State}
 use Rattle.unit_parse.specs.declared.parts.Ended.{Ended}
-use Rattle.unit_parse.specs.Standing.{IsFrame, AreFrames, IsUnder, IsReading, IsFocus, IsState, IsMoved, Moves, Makes, Takes, Hears, EndsWhole, EndsMoving, IsEnded, Ends}
+use Rattle.unit_parse.specs.Standing.{AreParts, IsReached, IsFrame, AreFrames, IsUnder, IsReading, IsFocus, IsState, IsMoved, Moves, Makes, Takes, Hears, EndsWhole, EndsMoving, IsEnded, Ends}
 use Rattle.unit_parse.proofs.Growing.{frame-grows, frames-grow, under-grows}
 
 -- nothing was added
@@ -273,6 +275,26 @@ pub heard-done : (nodes more : List Arena.Node) (reading : Reading) (goal : Goal
 heard-done nodes more reading goal st read t heard part q h = subst (Hears nodes more reading goal st read t) q h
 
 -- ---- a state in code, by what it is
+
+pub as-stands : (nodes : List Arena.Node) (state : State) (reached : Reached) (due : Due) (names : List Lexeme) (st : Machine.State) → state ≡ State.Stands reached due names → IsState nodes state st → (st.focus ≡ Machine.Stands due names) × IsReached nodes reached st.depth st.units
+as-stands nodes state reached due names st q i = by st.focus (subst (λ z. IsFocus nodes z st.focus st.depth st.units) q i)
+  where
+    by : (focus : Machine.Focus) → IsFocus nodes (State.Stands reached due names) focus st.depth st.units → (focus ≡ Machine.Stands due names) × IsReached nodes reached st.depth st.units
+    by (Machine.Stands d ns) k = (ap (λ z. Machine.Stands z ns) (sym k.0) ∙ ap (Machine.Stands due) (sym k.1), k.2)
+    by (Machine.Declared xs) k = absurd k
+    by (Machine.Part b f fs) k = absurd k
+    by (Machine.Expression b fs s a) k = absurd k
+    by (Machine.Bounds b f s a) k = absurd k
+
+pub as-declared : (nodes : List Arena.Node) (state : State) (reached : Reached) (declarations : List ℕ) (st : Machine.State) → state ≡ State.Declared reached declarations → IsState nodes state st → (xs : Trees) × (st.focus ≡ Machine.Declared xs) × AreParts nodes declarations xs × IsReached nodes reached st.depth st.units
+as-declared nodes state reached declarations st q i = by st.focus (subst (λ z. IsFocus nodes z st.focus st.depth st.units) q i)
+  where
+    by : (focus : Machine.Focus) → IsFocus nodes (State.Declared reached declarations) focus st.depth st.units → (xs : Trees) × (focus ≡ Machine.Declared xs) × AreParts nodes declarations xs × IsReached nodes reached st.depth st.units
+    by (Machine.Declared xs) k = (xs, refl, k.0, k.1)
+    by (Machine.Stands d ns) k = absurd k
+    by (Machine.Part b f fs) k = absurd k
+    by (Machine.Expression b fs s a) k = absurd k
+    by (Machine.Bounds b f s a) k = absurd k
 
 pub as-part : (nodes : List Arena.Node) (state : State) (unfinished : Unfinished) (held : Frame) (st : Machine.State) → state ≡ State.Part unfinished held → IsState nodes state st → (b : Machine.Begun) × (f : Machine.Frame) × (fs : List Machine.Frame) × (st.focus ≡ Machine.Part b f fs) × IsUnder nodes unfinished b fs st.depth st.units × IsFrame nodes held f
 as-part nodes state unfinished held st q i = by st.focus (subst (λ z. IsFocus nodes z st.focus st.depth st.units) q i)

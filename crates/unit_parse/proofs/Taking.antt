@@ -11,6 +11,7 @@ use Rattle.tla_tree.specs.Lexemes.{built, then, place}
 use Rattle.tla_tree.specs.Syntax as Syntax
 use Rattle.tla_tree.specs.Syntax.{Tree, Trees, Nil, trees}
 use Rattle.tla_tree.proofs.Nodes.{tree_at-node}
+use Rattle.expr_grammar.proofs.Viewing.{trees-then}
 use Rattle.expr_parse.specs.declared.stack.Part.{Part}
 use Rattle.expr_parse.specs.Goals.{parts_of}
 use Rattle.expr_parse.specs.Standing.{IsPart, Adds, place_of, joined, covered}
@@ -23,17 +24,13 @@ use Rattle.unit_parse.specs.declared.frame.Frame.{Frame}
 use Rattle.unit_parse.specs.Standing.{AreParts, IsFrame, Makes, Takes}
 use Rattle.unit_parse.proofs.Growing.{frame-grows}
 
-trees-snoc : (xs : List Tree) (x : Tree) → trees (xs ++ x ∷ []) ≡ then (trees xs) x
-trees-snoc [] x = refl
-trees-snoc (y ∷ xs) x = ap (Syntax.Cons y) (trees-snoc xs x)
-
 pub parts-more : (nodes : List Arena.Node) (numbers more : List ℕ) (node : ℕ) (ps : Trees) (e : Tree) (b : List Lexeme) (part : Part) → more ≡ numbers ++ node ∷ [] → AreParts nodes numbers ps → part.node ≡ node → IsPart nodes part e b → AreParts nodes more (then ps e)
 parts-more nodes numbers more node ps e b part m a n i =
     let there : node < length nodes = subst (λ z. z < length nodes) n i.there in
     let is : tree_at nodes node ≡ e = subst (λ z. tree_at nodes z ≡ e) n i.is in
     rw m (record {
       there = there-append nodes numbers (node ∷ []) a.there (there, tt);
-      are = ap trees (map-append nodes numbers (node ∷ [])) ∙ (trees-snoc (map (tree_at nodes) numbers) (tree_at nodes node) ∙ (ap (λ z. then z (tree_at nodes node)) a.are ∙ ap (then ps) is));
+      are = ap trees (map-append nodes numbers (node ∷ [])) ∙ (trees-then (map (tree_at nodes) numbers) (tree_at nodes node) ∙ (ap (λ z. then z (tree_at nodes node)) a.are ∙ ap (then ps) is));
     })
 
 pub frame-reads : (nodes : List Arena.Node) (held : Frame) (w : Wait) (t : Lexeme) (f : Machine.Frame) → IsFrame nodes held f → IsFrame nodes (record { wait = w; parts = held.parts; place = joined held.place (Some t.span) }) (Machine.frame w f.parts (f.read ++ t ∷ []))

@@ -99,10 +99,7 @@ fn start(
         ))),
         UnitStart::Assumption => Ok(Some(begin_claim(reached, Begun::Assumption(lexeme)))),
         UnitStart::Theorem => Ok(Some(begin_claim(reached, Begun::Theorem(lexeme)))),
-        UnitStart::Ends => {
-            let state = end_module(reached, lexeme)?;
-            Ok(state)
-        }
+        UnitStart::Ends => end_module(reached, lexeme),
         UnitStart::Closes => Ok(close_module(reached)),
         UnitStart::Refused => Ok(None),
     }
@@ -116,8 +113,7 @@ fn unit_due(
 ) -> Result<Option<State>, Memory>
     ensures { IfOk result (λ moved. (nodes : List arena.Node) → (depth : ℕ) → (us : List units.UnitTree) → IsReached nodes reached depth us → IsMoved nodes moved (machine.unit_due local depth us lexeme)) }
 {
-    let state = start(reached, unit_start(lexeme), local, lexeme)?;
-    Ok(state)
+    start(reached, unit_start(lexeme), local, lexeme)
 }
 
 /// A unit is read, and the lexeme is due after it.
@@ -129,8 +125,7 @@ pub(crate) fn after_unit(
     ensures { IfOk result (λ moved. (nodes : List arena.Node) → (depth : ℕ) → (us : List units.UnitTree) → (last : units.UnitTree) → IsReached nodes reached depth us → AreUnits nodes (unit ∷ []) (last ∷ []) → IsMoved nodes moved (machine.unit_due None depth (us ++ last ∷ []) lexeme)) }
 {
     let reached = reached.with(unit)?;
-    let state = unit_due(reached, None, lexeme)?;
-    Ok(state)
+    unit_due(reached, None, lexeme)
 }
 
 /// A module begins inside those that are open, and the lexeme is due in it.
@@ -143,8 +138,7 @@ fn begin_module(
     ensures { IfOk result (λ moved. (nodes : List arena.Node) → (depth : ℕ) → (us : List units.UnitTree) → IsReached nodes reached depth us → IsMoved nodes moved (machine.unit_due None (suc depth) (us ++ units.ModuleBegin name extends ∷ []) lexeme)) }
 {
     let reached = reached.opens()?;
-    let state = after_unit(reached, Unit::ModuleBegin { name, extends }, lexeme)?;
-    Ok(state)
+    after_unit(reached, Unit::ModuleBegin { name, extends }, lexeme)
 }
 
 /// The names of a list, and one more.
@@ -171,22 +165,10 @@ pub(crate) fn move_due(
             let names = name_more(names, lexeme)?;
             Ok(Some(State::Stands(reached, due, names)))
         }
-        DueMove::Begun(name) => {
-            let state = begin_module(reached, name, names, lexeme)?;
-            Ok(state)
-        }
-        DueMove::Listed => {
-            let state = after_unit(reached, Unit::Variables { names }, lexeme)?;
-            Ok(state)
-        }
-        DueMove::Lined(dashes) => {
-            let state = after_unit(reached, Unit::Line(dashes), lexeme)?;
-            Ok(state)
-        }
-        DueMove::Begins(local) => {
-            let state = unit_due(reached, local, lexeme)?;
-            Ok(state)
-        }
+        DueMove::Begun(name) => begin_module(reached, name, names, lexeme),
+        DueMove::Listed => after_unit(reached, Unit::Variables { names }, lexeme),
+        DueMove::Lined(dashes) => after_unit(reached, Unit::Line(dashes), lexeme),
+        DueMove::Begins(local) => unit_due(reached, local, lexeme),
         DueMove::Refused => Ok(None),
     }
 }
@@ -203,6 +185,5 @@ pub(crate) fn after_declared(
         let frame = Frame::new(reached.alloc, Wait::Declaration, None);
         return Ok(Some(begin_part(reached, Begun::Constants(declarations), frame)));
     }
-    let state = after_unit(reached, Unit::Constants { declarations }, lexeme)?;
-    Ok(state)
+    after_unit(reached, Unit::Constants { declarations }, lexeme)
 }

@@ -91,8 +91,7 @@ fn close(
 {
     let wait = frame.wait;
     let part = frame.reads(wait, lexeme).node(tree, form)?;
-    let state = shut(unfinished, part)?;
-    Ok(state)
+    shut(unfinished, part)
 }
 
 /// What a lexeme does to a frame that does not end before it.
@@ -109,14 +108,10 @@ pub(crate) fn move_frame(
     let alloc = unfinished.reached.alloc;
     match to {
         Move::Shift(wait) => Ok(Some(State::Part(unfinished, frame.reads(wait, lexeme)))),
-        Move::Leaf(form, wait) => {
-            let state = take_leaf(unfinished, frame, tree, form, lexeme, wait, lexeme)?;
-            Ok(state)
-        }
-        Move::LeafOf(form, name, wait) => {
-            let state = take_leaf(unfinished, frame, tree, form, name, wait, lexeme)?;
-            Ok(state)
-        }
+        Move::Leaf(form, wait) => take_leaf(unfinished, frame, tree, form, lexeme, wait, lexeme),
+        Move::LeafOf(form, name, wait) => take_leaf(
+            unfinished, frame, tree, form, name, wait, lexeme,
+        ),
         Move::Push(wait) => {
             let unfinished = unfinished.under(frame)?;
             let frame = Frame::new(alloc, wait, Some(lexeme.span));
@@ -127,15 +122,9 @@ pub(crate) fn move_frame(
             let frame = Frame::new(alloc, first, None);
             Ok(Some(State::Part(unfinished, frame)))
         }
-        Move::Close(form) => {
-            let state = close(unfinished, frame, tree, form, lexeme)?;
-            Ok(state)
-        }
+        Move::Close(form) => close(unfinished, frame, tree, form, lexeme),
         Move::Ends(_) => Ok(None),
-        Move::Expression => {
-            let state = begin_expression(unfinished, frame, tree, lexeme)?;
-            Ok(state)
-        }
+        Move::Expression => begin_expression(unfinished, frame, tree, lexeme),
         Move::Bounds(wait) => Ok(Some(State::Bounds(
             unfinished.alone(),
             frame.reads(wait, lexeme),

@@ -32,14 +32,22 @@ pub(crate) enum Ended {
     Moves(Frame, Move),
 }
 
+/// The places of an operator's declaration that were read.
+fn places_of(wait: Wait) -> u32
+    ensures { result ≡ tables.places_of wait }
+{
+    match wait {
+        Wait::Places(_, places) => places,
+        _ => 0,
+    }
+}
+
 /// What the lexeme does to a frame. `Memory` where no further place of an operator can be counted.
 fn next_move(wait: Wait, lexeme: Lexeme) -> Result<Move, Memory>
     ensures { IfOk result (λ next. next ≡ tables.move wait lexeme) }
 {
-    if let Wait::Places(_, places) = wait {
-        if places == u32::MAX {
-            return Err(Memory);
-        }
+    if places_of(wait) == u32::MAX {
+        return Err(Memory);
     }
     Ok(frame_move(wait, lexeme))
 }
@@ -81,14 +89,8 @@ pub(crate) fn part_step(
 {
     let mut unfinished = unfinished;
     match end_frames(&mut unfinished.below, frame, tree, lexeme)? {
-        Ended::Whole(part) => {
-            let state = finish(unfinished.reached, unfinished.begun, tree, part, lexeme)?;
-            Ok(state)
-        }
-        Ended::Moves(frame, to) => {
-            let state = move_frame(unfinished, frame, tree, to, lexeme)?;
-            Ok(state)
-        }
+        Ended::Whole(part) => finish(unfinished.reached, unfinished.begun, tree, part, lexeme),
+        Ended::Moves(frame, to) => move_frame(unfinished, frame, tree, to, lexeme),
     }
 }
 
@@ -104,13 +106,11 @@ fn give(
 {
     let mut unfinished = unfinished;
     let Some(frame) = unfinished.below.pop() else {
-        let state = finish(unfinished.reached, unfinished.begun, tree, part, lexeme)?;
-        return Ok(state);
+        return finish(unfinished.reached, unfinished.begun, tree, part, lexeme);
     };
     let wait = after_expression(frame.wait);
     let frame = frame.takes(wait, part)?;
-    let state = part_step(unfinished, frame, tree, lexeme)?;
-    Ok(state)
+    part_step(unfinished, frame, tree, lexeme)
 }
 
 /// A lexeme where an expression is read.
@@ -126,10 +126,7 @@ pub(crate) fn expression_step(
     let mut reading = reading;
     match reading.hears(tree, lexeme)? {
         Heard::Going => Ok(Some(State::Expression(unfinished, reading))),
-        Heard::Done(part) => {
-            let state = give(unfinished, part, tree, lexeme)?;
-            Ok(state)
-        }
+        Heard::Done(part) => give(unfinished, part, tree, lexeme),
         Heard::Refused => Ok(None),
     }
 }
@@ -152,8 +149,7 @@ pub(crate) fn bounds_step(
         Heard::Done(part) => {
             let wait = after_bounds(frame.wait);
             let frame = frame.takes_bounds(alloc, tree, wait, part)?;
-            let state = part_step(unfinished, frame, tree, lexeme)?;
-            Ok(state)
+            part_step(unfinished, frame, tree, lexeme)
         }
         Heard::Refused => Ok(None),
     }

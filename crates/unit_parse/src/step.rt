@@ -18,26 +18,20 @@ impl State {
         ensures { IfOk result (λ moved. (st : machine.State) → IsState tree.old self st → Moves tree.old tree.new moved (machine.step st lexeme)) }
     {
         match self {
-            State::Stands(reached, due, names) => {
-                let state = move_due(reached, due_move(due, lexeme), names, lexeme)?;
-                Ok(state)
-            }
-            State::Declared(reached, declarations) => {
-                let state = after_declared(reached, declarations, lexeme)?;
-                Ok(state)
-            }
-            State::Part(unfinished, frame) => {
-                let state = part_step(unfinished, frame, tree, lexeme)?;
-                Ok(state)
-            }
-            State::Expression(unfinished, reading) => {
-                let state = expression_step(unfinished, reading, tree, lexeme)?;
-                Ok(state)
-            }
-            State::Bounds(unfinished, frame, reading) => {
-                let state = bounds_step(unfinished, frame, reading, tree, lexeme)?;
-                Ok(state)
-            }
+            State::Stands(reached, due, names) => move_due(
+                reached,
+                due_move(due, lexeme),
+                names,
+                lexeme,
+            ),
+            State::Declared(reached, declarations) => after_declared(reached, declarations, lexeme),
+            State::Part(unfinished, frame) => part_step(unfinished, frame, tree, lexeme),
+            State::Expression(unfinished, reading) => expression_step(
+                unfinished, reading, tree, lexeme,
+            ),
+            State::Bounds(unfinished, frame, reading) => bounds_step(
+                unfinished, frame, reading, tree, lexeme,
+            ),
         }
     }
 }

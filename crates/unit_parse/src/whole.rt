@@ -104,8 +104,7 @@ pub(crate) fn shut(unfinished: Unfinished, part: Part) -> Result<Option<State>, 
 {
     let mut unfinished = unfinished;
     let Some(frame) = unfinished.below.pop() else {
-        let state = conclude(unfinished.reached, unfinished.begun, part.node)?;
-        return Ok(state);
+        return conclude(unfinished.reached, unfinished.begun, part.node);
     };
     let wait = after_part(frame.wait);
     let frame = frame.takes(wait, part)?;

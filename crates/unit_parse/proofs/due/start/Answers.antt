@@ -13,3 +13,6 @@ returns-in-Instance c nodes d us i = rw c.in-Instance.is (c.begin_part-in-Instan
 
 pub returns-in-Constants : goal.returns-in-Constants
 returns-in-Constants c nodes d us i = rw c.in-Constants.is (c.begin_part-in-Constants.ensures nodes d us (Machine.OfConstants Nil) (Machine.frame Wait.Declaration Nil []) i (no-parts nodes _ c.new-in-Constants.ensures) (c.new-in-Constants-2.ensures nodes [] refl))
+
+pub returns-in-Ends : goal.returns-in-Ends
+returns-in-Ends c = rw c.in-Ends.is c.end_module.ensures

@@ -1,3 +1,4 @@
+use Rattle.std.proofs.lemmas.Result.{IfOk-weaker}
 use Rattle.unit_parse.proofs.Stepping.{made-moves}
 use Rattle.unit_parse.proofs.moves.close.Goals as goal
 
@@ -5,6 +6,7 @@ pub node-requires : goal.node-requires
 node-requires c = (c.reads.ensures _ c.requires.0 c.requires.1).parts.there
 
 pub returns : goal.returns
-returns c d us b fs f u i =
-    made-moves _ _ c.args.unfinished c.in_ok-part.part b fs d us _ _ _ _ u (c.in_ok-part.ensures _ (c.reads.ensures _ f i))
-    (λ v p. c.in_ok-state.ensures _ d us b fs _ _ v p)
+returns c =
+    IfOk-weaker c.shut.result _ _
+    (λ moved h d us b fs f u i. made-moves _ _ c.args.unfinished c.in_ok-part.part b fs d us _ _ _ _ u (c.in_ok-part.ensures _ (c.reads.ensures _ f i)) (λ v p. h _ d us b fs _ _ v p))
+    c.shut.ensures

@@ -1,3 +1,4 @@
+use Rattle.std.proofs.lemmas.Result.{IfOk-weaker}
 use Rattle.unit_parse.proofs.Growing.{under-grows}
 use Rattle.unit_parse.proofs.Hearing.{reading-ready}
 use Rattle.unit_parse.proofs.Stepping.{expression-going, expression-refused, expression-done, heard-done}
@@ -20,8 +21,11 @@ give-requires c =
     let h = heard-done _ _ c.hears.new.self _ r.4 r.5 c.args.lexeme _ c.in-Done.part c.in-Done.is (c.in_ok-hears.ensures _ r.4 r.5 r.7) in
     (r.0, r.1, r.2, r.3, _, r.5, under-grows _ _ c.args.unfinished r.0 r.1 r.2 r.3 h.grows r.6, h.is.1)
 
-pub returns-in_ok-state-in-Done : goal.returns-in_ok-state-in-Done
-returns-in_ok-state-in-Done c d us b fs st read u i =
+pub returns-in-Done : goal.returns-in-Done
+returns-in-Done c =
+    IfOk-weaker c.give.result _ _
+    (λ moved m d us b fs st read u i.
     let h = heard-done _ _ c.hears.new.self _ st read c.args.lexeme _ c.in-Done.part c.in-Done.is (c.in_ok-hears.ensures _ st read i) in
     expression-done _ _ _ c.hears.new.self c.in-Done.part b fs d us st read c.args.lexeme _ h
-    (c.in_ok-state-in-Done.ensures d us b fs _ read (under-grows _ _ c.args.unfinished b fs d us h.grows u) h.is.1)
+    (m d us b fs _ read (under-grows _ _ c.args.unfinished b fs d us h.grows u) h.is.1))
+    c.give.ensures

@@ -1,0 +1,53 @@
+-- Where a part goes that is whole with its last lexeme.
+use Rattle.std.proofs.Common.{◌≡◌, ℕ, List, ◌∷◌, [], ◌++◌, refl, subst, ◌∙◌, ap, Option, Some, None}
+use Rattle.std.specs.Prelude.{reverse}
+use Rattle.tla_symbols.specs.declared.lexeme.Lexeme.{Lexeme}
+use Rattle.tla_tree.specs.Arena as Arena
+use Rattle.tla_tree.specs.Lexemes.{then}
+use Rattle.tla_tree.specs.Syntax.{Tree, Trees}
+use Rattle.unit_grammar.specs.Tables.{after_part}
+use Rattle.unit_grammar.specs.Units.{UnitTree}
+use Rattle.unit_grammar.specs.Machine as Machine
+use Rattle.unit_parse.specs.declared.frame.Frame.{Frame}
+use Rattle.unit_parse.specs.declared.reached.Reached.{Reached}
+use Rattle.unit_parse.specs.declared.state.Begun.{Begun}
+use Rattle.unit_parse.specs.declared.state.Unfinished.{Unfinished}
+use Rattle.unit_parse.specs.declared.state.State.{State}
+use Rattle.unit_parse.specs.Standing.{AreParts, IsFrame, IsBegun, IsReached, IsUnder, IsMoved}
+use Rattle.unit_parse.proofs.Stepping.{under-none, under-popped}
+
+-- declarations of constants, and one more
+pub concluded-constants : (nodes : List Arena.Node) (reached : Reached) (numbers more : List ℕ) (begun : Begun) (b : Machine.Begun) (x : Tree) (d : ℕ) (us : List UnitTree) → begun ≡ Begun.Constants numbers → IsReached nodes reached d us → IsBegun nodes begun b → ((xs : Trees) → AreParts nodes numbers xs → AreParts nodes more (then xs x)) → IsMoved nodes (Some (State.Declared reached more)) (Machine.concluded b x d us)
+concluded-constants nodes reached numbers more begun b x d us q r i k = by b (subst (λ z. IsBegun nodes z b) q i)
+  where
+    by : (c : Machine.Begun) → IsBegun nodes (Begun.Constants numbers) c → IsMoved nodes (Some (State.Declared reached more)) (Machine.concluded c x d us)
+    by (Machine.OfConstants xs) j = (k xs j, r)
+    by (Machine.OfDefinition l) j = absurd j
+    by (Machine.OfInstance l) j = absurd j
+    by (Machine.OfAssumption w) j = absurd j
+    by (Machine.OfTheorem w) j = absurd j
+
+other-begun : (nodes : List Arena.Node) (begun : Begun) (xs : Trees) → ((numbers : List ℕ) → begun ≡ Begun.Constants numbers → ⊥) → IsBegun nodes begun (Machine.OfConstants xs) → ⊥
+other-begun nodes (Begun.Constants numbers) xs k i = k numbers refl
+other-begun nodes (Begun.Definition l) xs k i = i
+other-begun nodes (Begun.Instance l) xs k i = i
+other-begun nodes (Begun.Assumption w) xs k i = i
+other-begun nodes (Begun.Theorem w) xs k i = i
+
+-- and no other unit
+pub not-concluded : (nodes : List Arena.Node) (begun : Begun) (b : Machine.Begun) (x : Tree) (d : ℕ) (us : List UnitTree) → ((numbers : List ℕ) → begun ≡ Begun.Constants numbers → ⊥) → IsBegun nodes begun b → IsMoved nodes None (Machine.concluded b x d us)
+not-concluded nodes begun (Machine.OfConstants xs) x d us k i = absurd (other-begun nodes begun xs k i)
+not-concluded nodes begun (Machine.OfDefinition l) x d us k i = tt
+not-concluded nodes begun (Machine.OfInstance l) x d us k i = tt
+not-concluded nodes begun (Machine.OfAssumption w) x d us k i = tt
+not-concluded nodes begun (Machine.OfTheorem w) x d us k i = tt
+
+pub shut-none : (nodes : List Arena.Node) (unfinished : Unfinished) (b : Machine.Begun) (fs : List Machine.Frame) (x : Tree) (spelled : List Lexeme) (d : ℕ) (us : List UnitTree) (state : Option State) → unfinished.below.items ≡ [] → IsUnder nodes unfinished b fs d us → IsMoved nodes state (Machine.concluded b x d us) → IsMoved nodes state (Machine.shut b fs x spelled d us)
+shut-none nodes unfinished b fs x spelled d us state e u i = rw (under-none nodes unfinished b fs d us e u) i
+
+-- the frame below takes it
+pub shut-frame : (nodes : List Arena.Node) (unfinished after : Unfinished) (top held : Frame) (w : _) (b : Machine.Begun) (fs : List Machine.Frame) (x : Tree) (spelled : List Lexeme) (d : ℕ) (us : List UnitTree) → after.reached ≡ unfinished.reached → after.begun ≡ unfinished.begun → reverse unfinished.below.items ≡ top ∷ reverse after.below.items → w ≡ after_part top.wait → IsUnder nodes unfinished b fs d us → ((g : Machine.Frame) → IsFrame nodes top g → IsFrame nodes held (Machine.frame w (then g.parts x) (g.read ++ spelled))) → IsMoved nodes (Some (State.Part after held)) (Machine.shut b fs x spelled d us)
+shut-frame nodes unfinished after top held w b fs x spelled d us r s e q u h =
+    let k = under-popped nodes unfinished after top b fs d us r s e u in
+    let f : IsFrame nodes held (Machine.taking k.0 x spelled) = subst (λ z. IsFrame nodes held (Machine.frame z (then k.0.parts x) (k.0.read ++ spelled))) (q ∙ ap after_part k.3.wait) (h k.0 k.3) in
+    rw k.2 (k.4, f)
