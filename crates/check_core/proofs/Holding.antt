@@ -14,6 +14,7 @@ use Rattle.std.proofs.lemmas.List.{append-nil, map-append}
 use Rattle.std.proofs.lemmas.List.Folds.{list_any-append}
 use Rattle.tla_model.specs.declared.face.Part.{Part}
 use Rattle.tla_model.specs.Parts.{Held, held, held_in, last, parts_in}
+use Rattle.list_laws.proofs.Tests.{and-left, and-right}
 use Rattle.check_core.specs.Faces.{Key, bare, is_among, key_in, keys_in, same_key, with_face, with_part, with_parts}
 use Rattle.check_core.specs.Parts.{AreKept, AreKeysOf, first_parts, key_under, keys_under, with_key, with_keys}
 
@@ -29,18 +30,10 @@ nested-itself : (a : Option ℕ) → option_eq nat_eq a a ≡ true
 nested-itself None = refl
 nested-itself (Some a) = (Decides-eqb a a).1 refl
 
-left-true : (a b : Bool) → (a && b) ≡ true → a ≡ true
-left-true true b both = refl
-left-true false b both = both
-
-right-true : (a b : Bool) → (a && b) ≡ true → b ≡ true
-right-true true b both = both
-right-true false b both = let h : false ≡ true = both in cc
-
 same-keys : (a b : Key) → same_key a b ≡ true → a ≡ b
 same-keys a b same =
-    let names : a.0 ≡ b.0 = (bytes_eq-Decides a.0 b.0).0 (left-true (bytes_eq a.0 b.0) (option_eq nat_eq a.1 b.1) same) in
-    let nested : a.1 ≡ b.1 = same-nested a.1 b.1 (right-true (bytes_eq a.0 b.0) (option_eq nat_eq a.1 b.1) same) in
+    let names : a.0 ≡ b.0 = (bytes_eq-Decides a.0 b.0).0 (and-left (bytes_eq a.0 b.0) (option_eq nat_eq a.1 b.1) same) in
+    let nested : a.1 ≡ b.1 = same-nested a.1 b.1 (and-right (bytes_eq a.0 b.0) (option_eq nat_eq a.1 b.1) same) in
     λ i. (names i, nested i)
 
 key-itself : (key : Key) → same_key key key ≡ true

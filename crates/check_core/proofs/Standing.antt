@@ -12,6 +12,7 @@ use Rattle.tla_model.specs.Lexemes.{module_lexemes, spelled}
 use Rattle.tla_model.specs.Resolution.{findings}
 use Rattle.module_graph.specs.Imports.{enclosing_of, imports_of}
 use Rattle.unit_grammar.specs.Units.{ModuleUnits}
+use Rattle.list_laws.proofs.Lists.{contains-map}
 use Rattle.check_core.specs.Checks.{Given, Unknown, Cyclic, Refused, Accepted, all_faults, cyclic_at, faults_of_imports, files_given, import_fault, import_faults, or_else}
 
 module _ (P : Span → Type 0) where
@@ -43,11 +44,6 @@ module _ (P : Span → Type 0) where
 
 abbrev AtLexeme : ModuleUnits → Span → Type 0
 AtLexeme units span = Contains (map (λ l. l.span) (module_lexemes units)) span
-
-contains-map : {A B : Type 0} (f : A → B) (xs : List A) (x : A) → Contains xs x → Contains (map f xs) (f x)
-contains-map f xs x there =
-    let stands : slice_get (map f xs) there.0 ≡ Some (f x) = slice_get-map f xs there.0 ∙ ap (option_map f) (slice_get-get_or xs there.0 x there.1 ∙ ap Some there.2) in
-    (there.0, slice_get_within (map f xs) there.0 (f x) stands, get_or_from_slice_get (map f xs) there.0 (f x) (f x) stands)
 
 names-at : (units : ModuleUnits) (names : List Lexeme) → All (Contains (module_lexemes units)) names → All (λ l. AtLexeme units l.span) names
 names-at units names all = All-weaker (Contains (module_lexemes units)) (λ l. AtLexeme units l.span) (λ l there. contains-map (λ l. l.span) (module_lexemes units) l there) names all

@@ -8,6 +8,7 @@ use Rattle.std.specs.FinMap.Entries.{by_order}
 use Rattle.std.specs.Cmp.Lexicographic.{nat_list_cmp_total}
 use Rattle.std.proofs.lemmas.List.Sums.{sum_by-cons, sum_by-append, count_by-le-length}
 use Rattle.std.proofs.lemmas.Option.{slice_get_within}
+use Rattle.list_laws.proofs.Tests.{and-left, and-right}
 use Rattle.fact_store.specs.declared.slot.Slot.{Slot}
 use Rattle.fact_store.specs.declared.slot.Kept.{Kept}
 use Rattle.fact_store.specs.Names.{name_cmp, name_eq, Texts}
@@ -15,7 +16,7 @@ use Rattle.fact_store.specs.States.{State, same_given}
 use Rattle.fact_store.specs.Values.{given_in, same_text, is_dirty, dirty}
 use Rattle.fact_store.specs.Given.{states}
 use Rattle.fact_store.specs.Slots.{named_texts, texts_of, source, AreDistinct, HasNoSlot, is_made_from, is_settled, owed}
-use Rattle.fact_store.proofs.NameLemmas.{true_or_false, same_name, name_eq-same, and_both, and_left, and_right}
+use Rattle.fact_store.proofs.NameLemmas.{true_or_false, same_name, name_eq-same, and_both}
 use Rattle.fact_store.proofs.Pairs.{same_given-trans}
 use Rattle.std.proofs.lemmas.List.{length-set, length-map}
 use Rattle.fact_store.proofs.SlotLemmas.{distinct-tail, none_found, text_of-slot, text_of-none}
@@ -98,19 +99,19 @@ module _ {Own F : Type 0} (own_of : List ℕ → List ℕ → Own) (needs_of : O
       alike = both _ clean
 
       bytes : x.bytes ≡ y.bytes
-      bytes = same_name x.bytes y.bytes (sym (ap (λ o. same_text own_of needs_of fact_of o (get new x.name)) gx ∙ ap (same_text own_of needs_of fact_of (Some x.bytes)) gy) ∙ and_left _ _ alike)
+      bytes = same_name x.bytes y.bytes (sym (ap (λ o. same_text own_of needs_of fact_of o (get new x.name)) gx ∙ ap (same_text own_of needs_of fact_of (Some x.bytes)) gy) ∙ and-left _ _ alike)
 
       by_kept : (k : Option (Kept F)) → x.kept ≡ k → is_settled own_of needs_of fact_of same new y ≡ true
       by_kept None e = let h : false ≡ true = sym (ap (is_made_from own_of needs_of fact_of same old x.name x.bytes) e) ∙ settled in cc h
       by_kept (Some kept) e =
           let h = handed kept e in
           let t : (name_eq (source kept x.bytes) x.bytes && same_given same (states kept.given) (given_in own_of needs_of fact_of old x.name)) ≡ true = sym (ap (is_made_from own_of needs_of fact_of same old x.name x.bytes) e) ∙ settled in
-          let s : source h.0 y.bytes ≡ y.bytes = h.2 ∙ same_name (source kept x.bytes) x.bytes (and_left _ _ t) ∙ bytes in
+          let s : source h.0 y.bytes ≡ y.bytes = h.2 ∙ same_name (source kept x.bytes) x.bytes (and-left _ _ t) ∙ bytes in
           ap (is_made_from own_of needs_of fact_of same new y.name y.bytes) h.1
           ∙ and_both _ _ (name_eq-same (source h.0 y.bytes) y.bytes s)
           (ap (λ g. same_given same (states g) (given_in own_of needs_of fact_of new y.name)) h.3
           ∙ ap (λ (m : List ℕ). same_given same (states kept.given) (given_in own_of needs_of fact_of new m)) n
-          ∙ same_given-trans same same_trans (states kept.given) (given_in own_of needs_of fact_of old x.name) (given_in own_of needs_of fact_of new x.name) (and_right (name_eq (source kept x.bytes) x.bytes) _ t) (and_right (same_text own_of needs_of fact_of (get old x.name) (get new x.name)) _ alike))
+          ∙ same_given-trans same same_trans (states kept.given) (given_in own_of needs_of fact_of old x.name) (given_in own_of needs_of fact_of new x.name) (and-right (name_eq (source kept x.bytes) x.bytes) _ t) (and-right (same_text own_of needs_of fact_of (get old x.name) (get new x.name)) _ alike))
 
   -- so it is owed only where it was, or where its name is dirty
   pub owed-one : (old new : Texts) (x y : Slot Own F) → y.name ≡ x.name → IsHandedOn x y → get old x.name ≡ Some x.bytes → get new x.name ≡ Some y.bytes → cond (not (is_settled own_of needs_of fact_of same new y)) 1 0 ≤ cond (not (is_settled own_of needs_of fact_of same old x)) 1 0 + cond (is_dirty own_of needs_of fact_of same old new y.name) 1 0

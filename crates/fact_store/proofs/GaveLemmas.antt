@@ -62,15 +62,6 @@ module _ {Own F : Type 0} (own_of : List ℕ → List ℕ → Own) (needs_of : O
       pub gave-fact : ((name : List ℕ) (own : Own) (xs ys : List (List ℕ × State F)) → same_given same xs ys ≡ true → fact_of name own xs ≡ fact_of name own ys) → a ≢ b → (ns : List (List ℕ)) (kept : Kept F) → (there.0).needs ≡ Some ns → (there.0).kept ≡ Some kept → fact (arc_value kept.fact) ≡ gives own_of needs_of fact_of (texts_of slots) (value own_of needs_of fact_of (texts_of slots)) x.name n
       gave-fact respects ne ns kept some k = gave-value ne (fact (arc_value kept.fact)) (value-settled own_of needs_of fact_of slots right.sound same respects j there.0 ns kept there.1 some k (settled ne ns some))
 
--- a slot with needs that are there
-pub some_needs : {A : Type 0} (o : Option A) → is_some o ≡ true → (a : A) × (o ≡ Some a)
-some_needs None e = cc e
-some_needs (Some a) e = (a, refl)
-
-pub no_needs : {A : Type 0} (o : Option A) → is_some o ≡ false → o ≡ None
-no_needs None e = refl
-no_needs (Some a) e = cc e
-
 -- a slot that was read is the one that was found
 pub read_slot : {A : Type 0} (xs : List A) (k : ℕ) (x y : A) → slice_get xs k ≡ Some y → x ≡ get_or xs k x → x ≡ y
 read_slot [] k x y e r = cc

@@ -3,6 +3,7 @@ use Rattle.std.proofs.Common.{◌≡◌, ℕ, Bool, true, false, List, [], Optio
 use Rattle.std.specs.Prelude.{◌&&◌, slice_get, unwrap_or, is_none}
 use Rattle.std.specs.Arc.{arc_value}
 use Rattle.std.specs.FinMap.{keys}
+use Rattle.list_laws.proofs.Tests.{and-left, and-right}
 use Rattle.fact_store.specs.declared.slot.Slot.{Slot}
 use Rattle.fact_store.specs.declared.slot.Kept.{Kept}
 use Rattle.fact_store.specs.Names.{name_eq}
@@ -11,7 +12,7 @@ use Rattle.fact_store.specs.Values.{needs_or_none, needs_of_text, needs_in, reac
 use Rattle.fact_store.specs.Given.{states}
 use Rattle.fact_store.specs.Slots.{texts_of, source, HasNoSlot, IsSound, AreSound, is_made_from, is_settled}
 use Rattle.fact_store.specs.Right.{is_fresh}
-use Rattle.fact_store.proofs.NameLemmas.{true_or_false, same_name, name_eq-refl, name_eq-same, and_left, and_right}
+use Rattle.fact_store.proofs.NameLemmas.{true_or_false, same_name, name_eq-refl, name_eq-same}
 use Rattle.fact_store.proofs.ReachLemmas.{leads-stuck}
 use Rattle.fact_store.proofs.ValueLemmas.{value-step}
 use Rattle.fact_store.proofs.SlotLemmas.{text_of-slot, text_of-none}
@@ -51,12 +52,12 @@ module _ {Own F : Type 0} (own_of : List ℕ → List ℕ → Own) (needs_of : O
         tests = sym (ap (is_made_from own_of needs_of fact_of same (texts_of slots) y.name y.bytes) k) ∙ settled
 
         bytes : source kept y.bytes ≡ y.bytes
-        bytes = same_name (source kept y.bytes) y.bytes (and_left _ _ tests)
+        bytes = same_name (source kept y.bytes) y.bytes (and-left _ _ tests)
 
         facts : arc_value kept.fact ≡ fact_of y.name (own_of y.name y.bytes) (given_in own_of needs_of fact_of (texts_of slots) y.name)
         facts =
             (sound.each j y e).made kept k ∙ ap (λ (b : List ℕ). fact_of y.name (own_of y.name b) (states kept.given)) bytes
-            ∙ respects y.name (own_of y.name y.bytes) (states kept.given) (given_in own_of needs_of fact_of (texts_of slots) y.name) (and_right (name_eq (source kept y.bytes) y.bytes) _ tests)
+            ∙ respects y.name (own_of y.name y.bytes) (states kept.given) (given_in own_of needs_of fact_of (texts_of slots) y.name) (and-right (name_eq (source kept y.bytes) y.bytes) _ tests)
 
   -- what is settled has a fact
   pub settled-kept : (same : F → F → Bool) (y : Slot Own F) → is_settled own_of needs_of fact_of same (texts_of slots) y ≡ true → y.kept ≡ None → ⊥

@@ -5,6 +5,7 @@ use Rattle.std.specs.FinMap.{from_entries}
 use Rattle.std.proofs.lemmas.Bool.{eq-eqb}
 use Rattle.std.proofs.lemmas.List.Sums.{sum_by-set}
 use Rattle.std.proofs.lemmas.Option.{slice_get_within, get_or_from_slice_get}
+use Rattle.list_laws.proofs.Tests.{same-or-other}
 use Rattle.fact_store.specs.declared.slot.Slot.{Slot}
 use Rattle.fact_store.specs.States.{State, same_given}
 use Rattle.fact_store.specs.Values.{given_in, ComesFromTexts}
@@ -27,10 +28,6 @@ slice_get-set_other (y ∷ xs) zero zero x n = absurd (n refl)
 slice_get-set_other (y ∷ xs) zero (suc j) x n = refl
 slice_get-set_other (y ∷ xs) (suc i) zero x n = refl
 slice_get-set_other (y ∷ xs) (suc i) (suc j) x n = slice_get-set_other xs i j x (λ e. n (ap suc e))
-
--- one place, or another
-pub same_or_other : (i j : ℕ) → (i ≡ j) ⊎ (i ≢ j)
-same_or_other i j = elim (true_or_false (nat_eq i j)) as (λ _. (i ≡ j) ⊎ (i ≢ j)) [ inl same ↦ inl (same_place i j same) | inr other ↦ inr (λ e. let h : true ≡ false = sym (eq-eqb i j e) ∙ other in cc h) ]
 
 module _ {Own F : Type 0} where
   pub outlines-set : (slots : List (Slot Own F)) (i : ℕ) (x y : Slot Own F) → slice_get slots i ≡ Some x → outline y ≡ outline x → outlines (slice_set slots i y) ≡ outlines slots
@@ -60,7 +57,7 @@ module _ {Own F : Type 0} where
 
   -- what stands after a write is what was written, or stood there
   pub set_cases : (slots : List (Slot Own F)) (i j : ℕ) (y z : Slot Own F) → i < length slots → slice_get (slice_set slots i y) j ≡ Some z → ((j ≡ i) × (y ≡ z)) ⊎ ((j ≢ i) × (slice_get slots j ≡ Some z))
-  set_cases slots i j y z l e = elim (same_or_other j i) as (λ _. ((j ≡ i) × (y ≡ z)) ⊎ ((j ≢ i) × (slice_get slots j ≡ Some z))) [
+  set_cases slots i j y z l e = elim (same-or-other j i) as (λ _. ((j ≡ i) × (y ≡ z)) ⊎ ((j ≢ i) × (slice_get slots j ≡ Some z))) [
     | inl same ↦ let h : ◌≡◌ {A = Option (Slot Own F)} (Some y) (Some z) = sym (ap (slice_get (slice_set slots i y)) same ∙ slice_get-set_same slots i y l) ∙ e in inl (same, cc)
     | inr other ↦ inr (other, sym (slice_get-set_other slots i j y other) ∙ e)
   ]

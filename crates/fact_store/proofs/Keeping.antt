@@ -2,6 +2,7 @@
 use Rattle.std.proofs.Common.{◌≡◌, ℕ, Bool, true, false, List, Option, Some, None, refl, sym, ap, ◌∙◌, subst}
 use Rattle.std.specs.Prelude.{slice_set, is_none, unwrap_or}
 use Rattle.std.specs.Arc.{arc_value}
+use Rattle.list_laws.proofs.Tests.{and-right}
 use Rattle.fact_store.specs.declared.slot.Slot.{Slot}
 use Rattle.fact_store.specs.declared.slot.Kept.{Kept}
 use Rattle.fact_store.specs.declared.given.Gave.{Gave}
@@ -10,7 +11,7 @@ use Rattle.fact_store.specs.States.{State, same_given}
 use Rattle.fact_store.specs.Given.{states}
 use Rattle.fact_store.specs.Slots.{source, IsSound}
 use Rattle.fact_store.specs.Right.{is_fresh, with_given, Keeps}
-use Rattle.fact_store.proofs.NameLemmas.{and_both, and_right}
+use Rattle.fact_store.proofs.NameLemmas.{and_both}
 use Rattle.fact_store.proofs.Pairs.{same_given-refl, is_fresh-with_given}
 
 module _ {Own F : Type 0} (own_of : List ℕ → List ℕ → Own) (needs_of : Own → Option (List (List ℕ))) (fact_of : List ℕ → Own → List (List ℕ × State F) → F) (same : F → F → Bool) (same_refl : (a : F) → same a a ≡ true) (old new : List (Slot Own F)) (place : ℕ) (slot : Slot Own F) (given : List (List ℕ × Gave F)) (sound : IsSound own_of needs_of fact_of slot) where
@@ -21,7 +22,7 @@ module _ {Own F : Type 0} (own_of : List ℕ → List ℕ → Own) (needs_of : O
     made (Some kept) e h k w =
         let s : record kept { given = given } ≡ k = cc in
         subst (λ (z : Kept F). arc_value z.fact ≡ fact_of slot.name (own_of slot.name (source z slot.bytes)) (states z.given)) s
-        (sound.made kept e ∙ respects slot.name (own_of slot.name (source kept slot.bytes)) (states kept.given) (states given) (and_right (is_none kept.from) _ h))
+        (sound.made kept e ∙ respects slot.name (own_of slot.name (source kept slot.bytes)) (states kept.given) (states given) (and-right (is_none kept.from) _ h))
 
     elsewhere : (o : Option (Kept F)) → slot.kept ≡ o → (k : Kept F) (b : List ℕ) → with_given o given ≡ Some k → k.from ≡ Some b → name_eq b slot.bytes ≡ false
     elsewhere None e k b w f = cc

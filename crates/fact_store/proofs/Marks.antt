@@ -8,8 +8,9 @@ use Rattle.std.proofs.Math.Seq.{take-length}
 use Rattle.std.proofs.lemmas.List.Folds.{list_any-append}
 use Rattle.std.proofs.lemmas.List.Sums.{sum_by-set}
 use Rattle.std.proofs.lemmas.List.Elements.{All-push}
+use Rattle.list_laws.proofs.Tests.{or-right}
 use Rattle.fact_store.specs.Plans.{among, is_marked, MarksRow}
-use Rattle.fact_store.proofs.NameLemmas.{true_or_false, or_left, or_right, or_cases}
+use Rattle.fact_store.proofs.NameLemmas.{true_or_false, or_left, or_cases}
 
 pub same_place : (a b : ℕ) → nat_eq a b ≡ true → a ≡ b
 same_place a b e = eqb-true a b e
@@ -22,7 +23,7 @@ pub among-push : (row : List ℕ) (p i : ℕ) → among (row ++ p ∷ []) i ≡ 
 among-push row p i = list_any-append (nat_eq i) row (p ∷ []) ∙ ap (λ b. among row i || b) (or_false (nat_eq i p))
 
 pub among-last : (row : List ℕ) (p : ℕ) → among (row ++ p ∷ []) p ≡ true
-among-last row p = among-push row p p ∙ or_right (among row p) (nat_eq p p) (eq-eqb p p refl)
+among-last row p = among-push row p p ∙ or-right (among row p) (nat_eq p p) (eq-eqb p p refl)
 
 pub among-before : (row : List ℕ) (p i : ℕ) → among row i ≡ true → among (row ++ p ∷ []) i ≡ true
 among-before row p i m = among-push row p i ∙ or_left (among row i) (nat_eq i p) m
@@ -83,7 +84,7 @@ MarksRow-skip row p old new queue longer r on = record {
   long = r.long;
   kept = r.kept;
   all = λ i m. elim (or_cases (among row i) (nat_eq i p) (sym (among-push row p i) ∙ m)) as (λ _. is_marked new i ≡ true) [ inl before ↦ r.all i before | inr last ↦ ap (is_marked new) (same_place i p last) ∙ on ];
-  only = λ i m. elim (or_cases (is_marked old i) (among row i) (r.only i m)) as (λ _. (is_marked old i || among (row ++ p ∷ []) i) ≡ true) [ inl first ↦ or_left (is_marked old i) _ first | inr later ↦ or_right (is_marked old i) _ (among-before row p i later) ];
+  only = λ i m. elim (or_cases (is_marked old i) (among row i) (r.only i m)) as (λ _. (is_marked old i || among (row ++ p ∷ []) i) ≡ true) [ inl first ↦ or_left (is_marked old i) _ first | inr later ↦ or-right (is_marked old i) _ (among-before row p i later) ];
   queued = r.queued;
   marked = r.marked;
   front = r.front;
@@ -101,8 +102,8 @@ MarksRow-mark row p old new queue longer r l off = record {
     | inr last ↦ ap (is_marked (slice_set new p true)) (same_place i p last) ∙ is_marked-set_same new p true l
   ];
   only = λ i m. elim (marked_cases new p i l m) as (λ _. (is_marked old i || among (row ++ p ∷ []) i) ≡ true) [
-    | inl was ↦ elim (or_cases (is_marked old i) (among row i) (r.only i was)) as (λ _. (is_marked old i || among (row ++ p ∷ []) i) ≡ true) [ inl first ↦ or_left (is_marked old i) _ first | inr later ↦ or_right (is_marked old i) _ (among-before row p i later) ]
-    | inr this ↦ or_right (is_marked old i) _ (ap (among (row ++ p ∷ [])) this ∙ among-last row p)
+    | inl was ↦ elim (or_cases (is_marked old i) (among row i) (r.only i was)) as (λ _. (is_marked old i || among (row ++ p ∷ []) i) ≡ true) [ inl first ↦ or_left (is_marked old i) _ first | inr later ↦ or-right (is_marked old i) _ (among-before row p i later) ]
+    | inr this ↦ or-right (is_marked old i) _ (ap (among (row ++ p ∷ [])) this ∙ among-last row p)
   ];
   queued = λ h i m. elim (marked_cases new p i l m) as (λ _. among (longer ++ p ∷ []) i ≡ true) [
     | inl was ↦ among-before longer p i (r.queued h i was)

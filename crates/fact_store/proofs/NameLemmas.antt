@@ -7,6 +7,7 @@ use Rattle.std.specs.declared.cmp.Ordering.TheVariants.{Less, Equal, Greater}
 use Rattle.std.specs.Cmp.Lexicographic.{nat_list_cmp_total}
 use Rattle.std.specs.Cmp.{eq_by_cmp_equiv}
 use Rattle.std.specs.FinMap.{nat_cmp-IsAntisymmetric, slice_cmp-IsAntisymmetric}
+use Rattle.list_laws.proofs.Tests.{equal-is}
 use Rattle.fact_store.specs.Names.{name_cmp, name_eq, has}
 
 -- a test is true or false
@@ -14,13 +15,8 @@ pub true_or_false : (b : Bool) → (b ≡ true) ⊎ (b ≡ false)
 true_or_false true = inl refl
 true_or_false false = inr refl
 
-tie : (o : Ordering) → is_eq o ≡ true → o ≡ Equal
-tie Less e = cc
-tie Equal e = refl
-tie Greater e = cc
-
 pub same_name : (a b : List ℕ) → name_eq a b ≡ true → a ≡ b
-same_name a b e = slice_cmp-IsAntisymmetric nat_cmp-IsAntisymmetric a b (tie (name_cmp a b) e)
+same_name a b e = slice_cmp-IsAntisymmetric nat_cmp-IsAntisymmetric a b (equal-is (name_cmp a b) e)
 
 pub name_eq-refl : (a : List ℕ) → name_eq a a ≡ true
 name_eq-refl a = (eq_by_cmp_equiv nat_list_cmp_total).refl a
@@ -32,10 +28,6 @@ pub or_left : (a b : Bool) → a ≡ true → (a || b) ≡ true
 or_left true b e = refl
 or_left false b e = cc
 
-pub or_right : (a b : Bool) → b ≡ true → (a || b) ≡ true
-or_right true b e = refl
-or_right false b e = e
-
 pub or_cases : (a b : Bool) → (a || b) ≡ true → (a ≡ true) ⊎ (b ≡ true)
 or_cases true b e = inl refl
 or_cases false b e = inr e
@@ -43,14 +35,6 @@ or_cases false b e = inr e
 pub and_both : (a b : Bool) → a ≡ true → b ≡ true → (a && b) ≡ true
 and_both true b p q = q
 and_both false b p q = cc
-
-pub and_left : (a b : Bool) → (a && b) ≡ true → a ≡ true
-and_left true b e = refl
-and_left false b e = e
-
-pub and_right : (a b : Bool) → (a && b) ≡ true → b ≡ true
-and_right true b e = e
-and_right false b e = cc
 
 pub has_head : (x : List ℕ) (xs : List (List ℕ)) → has (x ∷ xs) x ≡ true
 has_head x xs = or_left (name_eq x x) (has xs x) (name_eq-refl x)

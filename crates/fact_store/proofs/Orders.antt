@@ -6,6 +6,8 @@ use Rattle.std.proofs.lemmas.Bool.{eq-eqb, cases_lt}
 use Rattle.std.proofs.lemmas.List.Elements.{All-nil, All-cons}
 use Rattle.std.proofs.lemmas.List.Sorted.{All-permutation, Contains-permutation}
 use Rattle.std.proofs.lemmas.Option.{slice_get_read, slice_get_within, get_or_from_slice_get}
+use Rattle.list_laws.proofs.Tests.{or-right}
+use Rattle.list_laws.proofs.Lists.{item-at}
 use Rattle.fact_store.specs.declared.slot.Slot.{Slot}
 use Rattle.fact_store.specs.declared.plan.Plan.{Plan}
 use Rattle.fact_store.specs.Names.{has}
@@ -14,10 +16,10 @@ use Rattle.fact_store.specs.Values.{needs_or_none}
 use Rattle.fact_store.specs.Slots.{AreSound}
 use Rattle.fact_store.specs.Plans.{among, is_marked, AreReached, IsRow, IsOrder}
 use Rattle.fact_store.specs.Right.{outlines, IsPlan, IsDone, IsReady}
-use Rattle.fact_store.proofs.NameLemmas.{or_left, or_right, or_cases, and_both}
+use Rattle.fact_store.proofs.NameLemmas.{or_left, or_cases, and_both}
 use Rattle.fact_store.proofs.Marks.{same_place}
 use Rattle.fact_store.proofs.Search.{among-within}
-use Rattle.fact_store.proofs.Ranks.{rank_falls, row_at}
+use Rattle.fact_store.proofs.Ranks.{rank_falls}
 use Rattle.fact_store.proofs.KeepLemmas.{outline_at}
 
 -- each of the places is behind its rank
@@ -25,7 +27,7 @@ pub each-ranked : (ranks places : List ℕ) (all : List ℕ) → ((p : ℕ) → 
 each-ranked ranks [] all h = All-nil (λ (entry : ℕ × ℕ). (entry.0 ≡ slice_index ranks entry.1) × (among all entry.1 ≡ true))
 each-ranked ranks (p ∷ places) all h =
     All-cons (λ (entry : ℕ × ℕ). (entry.0 ≡ slice_index ranks entry.1) × (among all entry.1 ≡ true)) (slice_index ranks p, p) (map (λ place. (slice_index ranks place, place)) places)
-    (refl, h p (or_left (nat_eq p p) (among places p) (eq-eqb p p refl))) (each-ranked ranks places all (λ q m. h q (or_right (nat_eq q p) (among places q) m)))
+    (refl, h p (or_left (nat_eq p p) (among places p) (eq-eqb p p refl))) (each-ranked ranks places all (λ q m. h q (or-right (nat_eq q p) (among places q) m)))
 
 pub all-ranked : (ranks places : List ℕ) (p : ℕ) → among places p ≡ true → Contains {X = ℕ × ℕ} (map (λ place. (slice_index ranks place, place)) places) (slice_index ranks p, p)
 all-ranked ranks [] p m = cc
@@ -93,8 +95,8 @@ module _ {Own F : Type 0} where
         marked : is_marked reach.marks j ≡ true
         marked =
             let l = slice_get_within slots entry.1 slot at in
-            let row = row_at plan.edges.items entry.1 (omega (arith, l, is.edges.long)) in
-            let ground = row_at plan.grounds.items entry.1 (omega (arith, l, is.edges.long, is.grounds.long)) in
+            let row = item-at plan.edges.items entry.1 (omega (arith, l, is.edges.long)) in
+            let ground = item-at plan.grounds.items entry.1 (omega (arith, l, is.edges.long, is.grounds.long)) in
             let in_row = (is.edges.rows entry.1 row.0 slot row.1 at).each j other there ∙ need in
             reach.reach.closed entry.1 j ground.0 (reach.only entry.1 here.1) ground.1
             ((is.grounds.rows entry.1 row.0 ground.0 row.1 ground.1).each j ∙ and_both _ _ in_row (ap not apart))

@@ -6,6 +6,8 @@ use Rattle.std.specs.Cmp.Lexicographic.{pointwise}
 use Rattle.std.proofs.lemmas.Bool.{eqb-true}
 use Rattle.std.proofs.lemmas.List.{length-set}
 use Rattle.std.proofs.lemmas.Option.{slice_get_within}
+use Rattle.list_laws.proofs.Lists.{pushed-cases}
+use Rattle.list_laws.proofs.Tests.{and-left, and-right}
 use Rattle.fact_store.specs.declared.slot.Slot.{Slot}
 use Rattle.fact_store.specs.declared.slot.Kept.{Kept}
 use Rattle.fact_store.specs.declared.plan.Plan.{Plan}
@@ -16,9 +18,8 @@ use Rattle.fact_store.specs.Given.{states}
 use Rattle.fact_store.specs.Slots.{source, source_after, kept_after, HasNoSlot, IsSound, AreSound}
 use Rattle.fact_store.specs.Plans.{among, IsRow}
 use Rattle.fact_store.specs.Right.{IsPlan, HoldsPlan}
-use Rattle.fact_store.proofs.NameLemmas.{same_name, and_left, and_right}
+use Rattle.fact_store.proofs.NameLemmas.{same_name}
 use Rattle.fact_store.proofs.KeepLemmas.{set_cases}
-use Rattle.fact_store.proofs.Rows.{pushed_cases}
 use Rattle.fact_store.proofs.TextLemmas.{AreDistinct-names, names-set, AreDistinct-push, AreDistinct-remove, left_at}
 
 -- a fact is held to have been made from the bytes that it was made from
@@ -42,13 +43,13 @@ bytes_same : (a b : List ℕ) → pointwise nat_eq a b ≡ true → a ≡ b
 bytes_same [] [] e = refl
 bytes_same [] (y ∷ b) e = cc
 bytes_same (x ∷ a) [] e = cc
-bytes_same (x ∷ a) (y ∷ b) e = λ i. eqb-true x y (and_left (nat_eq x y) _ e) i ∷ bytes_same a b (and_right (nat_eq x y) _ e) i
+bytes_same (x ∷ a) (y ∷ b) e = λ i. eqb-true x y (and-left (nat_eq x y) _ e) i ∷ bytes_same a b (and-right (nat_eq x y) _ e) i
 
 pub names_same : (a b : List (List ℕ)) → pointwise (pointwise nat_eq) a b ≡ true → a ≡ b
 names_same [] [] e = refl
 names_same [] (y ∷ b) e = cc
 names_same (x ∷ a) [] e = cc
-names_same (x ∷ a) (y ∷ b) e = λ i. bytes_same x y (and_left (pointwise nat_eq x y) _ e) i ∷ names_same a b (and_right (pointwise nat_eq x y) _ e) i
+names_same (x ∷ a) (y ∷ b) e = λ i. bytes_same x y (and-left (pointwise nat_eq x y) _ e) i ∷ names_same a b (and-right (pointwise nat_eq x y) _ e) i
 
 module _ {Own F : Type 0} where
   -- a slot with another text
@@ -121,7 +122,7 @@ module _ {Own F : Type 0} where
 
     pub AreSound-push : (slots : List (Slot Own F)) (y : Slot Own F) → AreSound own_of needs_of fact_of slots → HasNoSlot slots y.name → IsSound own_of needs_of fact_of y → AreSound own_of needs_of fact_of (slots ++ y ∷ [])
     AreSound-push slots y s h sy = record {
-      each = λ j z g. elim (pushed_cases slots y z j g) as (λ _. IsSound own_of needs_of fact_of z) [
+      each = λ j z g. elim (pushed-cases slots y z j g) as (λ _. IsSound own_of needs_of fact_of z) [
         | inl past ↦ s.each j z past
         | inr last ↦ subst (IsSound own_of needs_of fact_of) last.1 sy
       ];

@@ -5,6 +5,7 @@ use Rattle.std.specs.FinMap.{get, keys}
 use Rattle.std.proofs.lemmas.Bool.{eqb-true, eq-eqb}
 use Rattle.std.proofs.lemmas.List.Sums.{sum_by-cons}
 use Rattle.std.proofs.lemmas.Option.{slice_get_within}
+use Rattle.list_laws.proofs.Lists.{item-at}
 use Rattle.fact_store.specs.declared.slot.Slot.{Slot}
 use Rattle.fact_store.specs.Names.{has}
 use Rattle.fact_store.specs.States.{State}
@@ -17,11 +18,6 @@ use Rattle.fact_store.proofs.ValueLemmas.{needs_in-none}
 use Rattle.fact_store.proofs.SlotLemmas.{slot_with, text_of-slot}
 use Rattle.fact_store.proofs.Search.{among-within}
 use Rattle.fact_store.proofs.Rows.{slot_at, same_test}
-
-pub row_at : (edges : Edges) (i : ℕ) → i < length edges → (row : Vec ℕ Global) × (slice_get edges i ≡ Some row)
-row_at [] i l = absurd (omega arith)
-row_at (x ∷ edges) zero l = (x, refl)
-row_at (x ∷ edges) (suc i) l = row_at edges i (omega arith)
 
 one-le : (a b : Bool) → (a ≡ true → b ≡ true) → cond a 1 0 ≤ cond b 1 0
 one-le true b h = let e : ◌≡◌ {A = ℕ} (cond b 1 0) 1 = ap (λ c. cond c 1 0) (h refl) in omega (arith, e)
@@ -61,7 +57,7 @@ module _ {Own F : Type 0} (own_of : List ℕ → List ℕ → Own) (needs_of : O
   module _ (edges : Edges) (is : AreEdges slots edges) where
     row_with : (i : ℕ) (slot : Slot Own F) → slice_get slots i ≡ Some slot → (row : Vec ℕ Global) × (slice_get edges i ≡ Some row) × IsRow slots (needs_or_none slot.needs) row.items
     row_with i slot e =
-        let r = row_at edges i (omega (arith, slice_get_within slots i slot e, is.long)) in (r.0, r.1, is.rows i r.0 slot r.1 e)
+        let r = item-at edges i (omega (arith, slice_get_within slots i slot e, is.long)) in (r.0, r.1, is.rows i r.0 slot r.1 e)
 
     -- the marks of a place are the slots whose names it reaches
     module _ (i : ℕ) (x : Slot Own F) (at : slice_get slots i ≡ Some x) (marks : List Bool) (r : IsReach edges i marks) where

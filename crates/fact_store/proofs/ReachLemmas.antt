@@ -2,9 +2,10 @@
 use Rattle.std.proofs.Common.{◌≡◌, ℕ, ◌≤◌, ◌<◌, Bool, true, false, List, [], ◌∷◌, ◌++◌, refl, sym, ap, ◌∙◌, subst, cond, inl, inr, arith}
 use Rattle.std.specs.Prelude.{◌||◌, ◌&&◌, count_by}
 use Rattle.std.proofs.lemmas.List.Sums.{sum_by-cons}
+use Rattle.list_laws.proofs.Tests.{and-left, and-right, or-right}
 use Rattle.fact_store.specs.Names.{name_eq, has}
 use Rattle.fact_store.specs.Reach.{IsPath, Reaches, leads, rank}
-use Rattle.fact_store.proofs.NameLemmas.{true_or_false, same_name, name_eq-refl, or_left, or_right, or_cases, and_both, and_left, and_right}
+use Rattle.fact_store.proofs.NameLemmas.{true_or_false, same_name, name_eq-refl, or_left, or_cases, and_both}
 
 -- what a test adds to a count
 abbrev one : Bool → ℕ
@@ -39,7 +40,7 @@ module _ (needs : List ℕ → List (List ℕ)) where
 
   pub leads-need : (vs : List (List ℕ)) (a b : List ℕ) → has (needs a) b ≡ true → leads needs vs a b ≡ true
   unfolding leads
-  leads-need [] a b h = or_right (name_eq a b) _ h
+  leads-need [] a b h = or-right (name_eq a b) _ h
   leads-need (v ∷ vs) a b h = or_left (leads needs vs a b) _ (leads-need vs a b h)
 
   -- first a need that is one of the names, and then on
@@ -50,14 +51,14 @@ module _ (needs : List ℕ → List (List ℕ)) where
     | inl same ↦ over (same_name c v same)
     | inr later ↦ elim (or_cases (leads needs vs c b) _ l) as (λ _. leads needs (v ∷ vs) a b ≡ true) [
       | inl direct ↦ or_left (leads needs vs a b) _ (leads-through vs a c b later h direct)
-      | inr round ↦ or_right (leads needs vs a b) _ (and_both (leads needs vs a v) (leads needs vs v b) (leads-through vs a c v later h (and_left (leads needs vs c v) (leads needs vs v b) round)) (and_right (leads needs vs c v) (leads needs vs v b) round))
+      | inr round ↦ or-right (leads needs vs a b) _ (and_both (leads needs vs a v) (leads needs vs v b) (leads-through vs a c v later h (and-left (leads needs vs c v) (leads needs vs v b) round)) (and-right (leads needs vs c v) (leads needs vs v b) round))
     ]
   ]
     where
       over : c ≡ v → (leads needs vs a b || (leads needs vs a v && leads needs vs v b)) ≡ true
       over e = elim (or_cases (leads needs vs c b) _ l) as (λ _. (leads needs vs a b || (leads needs vs a v && leads needs vs v b)) ≡ true) [
-        | inl direct ↦ or_right (leads needs vs a b) _ (and_both (leads needs vs a v) (leads needs vs v b) (leads-need vs a v (ap (has (needs a)) (sym e) ∙ h)) (ap (λ x. leads needs vs x b) (sym e) ∙ direct))
-        | inr round ↦ or_right (leads needs vs a b) _ (and_both (leads needs vs a v) (leads needs vs v b) (leads-need vs a v (ap (has (needs a)) (sym e) ∙ h)) (and_right (leads needs vs c v) (leads needs vs v b) round))
+        | inl direct ↦ or-right (leads needs vs a b) _ (and_both (leads needs vs a v) (leads needs vs v b) (leads-need vs a v (ap (has (needs a)) (sym e) ∙ h)) (ap (λ x. leads needs vs x b) (sym e) ∙ direct))
+        | inr round ↦ or-right (leads needs vs a b) _ (and_both (leads needs vs a v) (leads needs vs v b) (leads-need vs a v (ap (has (needs a)) (sym e) ∙ h)) (and-right (leads needs vs c v) (leads needs vs v b) round))
       ]
 
   -- a name without needs leads to itself alone
@@ -69,7 +70,7 @@ module _ (needs : List ℕ → List (List ℕ)) where
   ]
   leads-stuck (v ∷ vs) a b none l = elim (or_cases (leads needs vs a b) _ l) as (λ _. a ≡ b) [
     | inl direct ↦ leads-stuck vs a b none direct
-    | inr round ↦ let e = leads-stuck vs a v none (and_left (leads needs vs a v) (leads needs vs v b) round) in leads-stuck vs a b none (ap (λ x. leads needs vs x b) e ∙ and_right (leads needs vs a v) (leads needs vs v b) round)
+    | inr round ↦ let e = leads-stuck vs a v none (and-left (leads needs vs a v) (leads needs vs v b) round) in leads-stuck vs a b none (ap (λ x. leads needs vs x b) e ∙ and-right (leads needs vs a v) (leads needs vs v b) round)
   ]
 
   pub path-append : (a : List ℕ) (xs : List (List ℕ)) (b : List ℕ) (ys : List (List ℕ)) (c : List ℕ) → IsPath needs a xs b → IsPath needs b ys c → IsPath needs a (xs ++ ys) c
@@ -88,7 +89,7 @@ module _ (needs : List ℕ → List (List ℕ)) where
   ]
   reaches_from-leads (v ∷ vs) a b l = elim (or_cases (leads needs vs a b) _ l) as (λ _. Reaches needs a b) [
     | inl direct ↦ reaches_from-leads vs a b direct
-    | inr round ↦ reaches-trans a v b (reaches_from-leads vs a v (and_left (leads needs vs a v) (leads needs vs v b) round)) (reaches_from-leads vs v b (and_right (leads needs vs a v) (leads needs vs v b) round))
+    | inr round ↦ reaches-trans a v b (reaches_from-leads vs a v (and-left (leads needs vs a v) (leads needs vs v b) round)) (reaches_from-leads vs v b (and-right (leads needs vs a v) (leads needs vs v b) round))
   ]
 
   module _ (names : List (List ℕ)) (closed : (a : List ℕ) → has names a ≡ false → needs a ≡ []) where

@@ -6,20 +6,16 @@ use Rattle.std.proofs.lemmas.List.{take_more, length-append}
 use Rattle.std.proofs.lemmas.List.Folds.{list_any-append}
 use Rattle.std.proofs.lemmas.List.Elements.{All-push}
 use Rattle.std.proofs.lemmas.Option.{slice_get_within}
+use Rattle.list_laws.proofs.Lists.{pushed-cases}
+use Rattle.list_laws.proofs.Tests.{and-left, and-right, or-right}
+use Rattle.list_laws.proofs.Lists.{item-at}
 use Rattle.fact_store.specs.declared.slot.Slot.{Slot}
 use Rattle.fact_store.specs.Names.{name_eq, has}
 use Rattle.fact_store.specs.Values.{needs_or_none}
 use Rattle.fact_store.specs.Slots.{AreDistinct, HasNoSlot, IsPlaceOf}
 use Rattle.fact_store.specs.Plans.{among, Edges, HasPlaces, IsRow, AreEdges, AreReached, IsRank, IsGround, AreGrounds}
-use Rattle.fact_store.proofs.NameLemmas.{true_or_false, same_name, name_eq-same, or_left, or_right, or_cases, and_both, and_left, and_right}
+use Rattle.fact_store.proofs.NameLemmas.{true_or_false, same_name, name_eq-same, or_left, or_cases, and_both}
 use Rattle.fact_store.proofs.Marks.{among-push, or_false, same_place}
-
--- what stands at a place after a push stood there before, or was pushed
-pub pushed_cases : {A : Type 0} (xs : List A) (x y : A) (i : ℕ) → slice_get (xs ++ x ∷ []) i ≡ Some y → (slice_get xs i ≡ Some y) ⊎ ((i ≡ length xs) × (x ≡ y))
-pushed_cases [] x y zero e = inr (refl, cc)
-pushed_cases [] x y (suc i) e = cc
-pushed_cases (z ∷ xs) x y zero e = inl e
-pushed_cases (z ∷ xs) x y (suc i) e = elim (pushed_cases xs x y i e) as (λ _. (slice_get xs i ≡ Some y) ⊎ ((suc i ≡ length (z ∷ xs)) × (x ≡ y))) [ inl before ↦ inl before | inr last ↦ inr (ap suc last.0, last.1) ]
 
 -- tests that hold alike are equal
 pub same_test : (a b : Bool) → (a ≡ true → b ≡ true) → (b ≡ true → a ≡ true) → a ≡ b
@@ -76,7 +72,7 @@ module _ {Own F : Type 0} where
   pub AreEdgesUpto-more : (slots : List (Slot Own F)) (edges new : Edges) (n : ℕ) (row : Vec ℕ Global) (slot : Slot Own F) → AreEdgesUpto slots edges n → slice_get slots n ≡ Some slot → IsRow slots (needs_or_none slot.needs) row.items → new ≡ edges ++ row ∷ [] → AreEdgesUpto slots new (n + 1)
   AreEdgesUpto-more slots edges new n row slot u es r en = record {
     long = omega (arith, ap length en, length-append edges (row ∷ []), u.long);
-    rows = λ i row' slot' e f. elim (pushed_cases edges row row' i (ap (λ (xs : Edges). slice_get xs i) (sym en) ∙ e)) as (λ _. IsRow slots (needs_or_none slot'.needs) row'.items) [
+    rows = λ i row' slot' e f. elim (pushed-cases edges row row' i (ap (λ (xs : Edges). slice_get xs i) (sym en) ∙ e)) as (λ _. IsRow slots (needs_or_none slot'.needs) row'.items) [
       | inl before ↦ u.rows i row' slot' before f
       | inr last ↦
           let k : ◌≡◌ {A = Option (Slot Own F)} (Some slot) (Some slot') = sym es ∙ ap (slice_get slots) (sym (last.0 ∙ u.long)) ∙ f in let s : slot ≡ slot' = cc in
@@ -130,9 +126,9 @@ ranks-more edges ranks new place rank places long each r e en = (
 IsGround-skip : (ranks : List ℕ) (rank : ℕ) (row ground : List ℕ) (p : ℕ) → IsGround ranks rank row ground → slice_index ranks p ≡ rank → IsGround ranks rank (row ++ p ∷ []) ground
 IsGround-skip ranks rank row ground p g e = record {
   each = λ j. g.each j ∙ same_test _ _
-      (λ m. and_both _ _ (among-push row p j ∙ or_left (among row j) (nat_eq j p) (and_left (among row j) _ m)) (and_right (among row j) _ m))
-      (λ m. let n = and_right (among (row ++ p ∷ []) j) _ m in
-      elim (or_cases (among row j) (nat_eq j p) (sym (among-push row p j) ∙ and_left (among (row ++ p ∷ []) j) _ m)) as (λ _. (among row j && not (nat_eq (slice_index ranks j) rank)) ≡ true) [
+      (λ m. and_both _ _ (among-push row p j ∙ or_left (among row j) (nat_eq j p) (and-left (among row j) _ m)) (and-right (among row j) _ m))
+      (λ m. let n = and-right (among (row ++ p ∷ []) j) _ m in
+      elim (or_cases (among row j) (nat_eq j p) (sym (among-push row p j) ∙ and-left (among (row ++ p ∷ []) j) _ m)) as (λ _. (among row j && not (nat_eq (slice_index ranks j) rank)) ≡ true) [
         | inl before ↦ and_both _ _ before n
         | inr this ↦ let h : not true ≡ true = sym (ap not (eq-eqb (slice_index ranks j) rank (ap (slice_index ranks) (same_place j p this) ∙ e))) ∙ n in cc h
       ]);
@@ -144,13 +140,13 @@ IsGround-more : (ranks : List ℕ) (rank : ℕ) (row ground : List ℕ) (p : ℕ
 IsGround-more ranks rank row ground p g ne l = record {
   each = λ j. same_test _ _
       (λ m. elim (or_cases (among ground j) (nat_eq j p) (sym (among-push ground p j) ∙ m)) as (λ _. (among (row ++ p ∷ []) j && not (nat_eq (slice_index ranks j) rank)) ≡ true) [
-        | inl before ↦ let k = sym (g.each j) ∙ before in and_both _ _ (among-push row p j ∙ or_left (among row j) (nat_eq j p) (and_left (among row j) _ k)) (and_right (among row j) _ k)
-        | inr this ↦ and_both _ _ (among-push row p j ∙ or_right (among row j) (nat_eq j p) this) (ap (λ (q : ℕ). not (nat_eq (slice_index ranks q) rank)) (same_place j p this) ∙ ap not ne)
+        | inl before ↦ let k = sym (g.each j) ∙ before in and_both _ _ (among-push row p j ∙ or_left (among row j) (nat_eq j p) (and-left (among row j) _ k)) (and-right (among row j) _ k)
+        | inr this ↦ and_both _ _ (among-push row p j ∙ or-right (among row j) (nat_eq j p) this) (ap (λ (q : ℕ). not (nat_eq (slice_index ranks q) rank)) (same_place j p this) ∙ ap not ne)
       ])
-      (λ m. let n = and_right (among (row ++ p ∷ []) j) _ m in
-      elim (or_cases (among row j) (nat_eq j p) (sym (among-push row p j) ∙ and_left (among (row ++ p ∷ []) j) _ m)) as (λ _. among (ground ++ p ∷ []) j ≡ true) [
+      (λ m. let n = and-right (among (row ++ p ∷ []) j) _ m in
+      elim (or_cases (among row j) (nat_eq j p) (sym (among-push row p j) ∙ and-left (among (row ++ p ∷ []) j) _ m)) as (λ _. among (ground ++ p ∷ []) j ≡ true) [
         | inl before ↦ among-push ground p j ∙ or_left (among ground j) (nat_eq j p) (g.each j ∙ and_both _ _ before n)
-        | inr this ↦ among-push ground p j ∙ or_right (among ground j) (nat_eq j p) this
+        | inr this ↦ among-push ground p j ∙ or-right (among ground j) (nat_eq j p) this
       ]);
   within = All-push (λ x. x < length ranks) ground p g.within l;
 }
@@ -185,7 +181,7 @@ pub record AreGroundsUpto (edges : Edges) (ranks : List ℕ) (grounds : Edges) (
 pub AreGroundsUpto-more : (edges : Edges) (ranks : List ℕ) (grounds new : Edges) (n : ℕ) (row ground : Vec ℕ Global) → AreGroundsUpto edges ranks grounds n → slice_get edges n ≡ Some row → IsGround ranks (slice_index ranks n) row.items ground.items → new ≡ grounds ++ ground ∷ [] → AreGroundsUpto edges ranks new (n + 1)
 AreGroundsUpto-more edges ranks grounds new n row ground u er g en = record {
   long = omega (arith, ap length en, length-append grounds (ground ∷ []), u.long);
-  rows = λ i row' ground' e f. elim (pushed_cases grounds ground ground' i (ap (λ (xs : Edges). slice_get xs i) (sym en) ∙ f)) as (λ _. IsGround ranks (slice_index ranks i) row'.items ground'.items) [
+  rows = λ i row' ground' e f. elim (pushed-cases grounds ground ground' i (ap (λ (xs : Edges). slice_get xs i) (sym en) ∙ f)) as (λ _. IsGround ranks (slice_index ranks i) row'.items ground'.items) [
     | inl before ↦ u.rows i row' ground' e before
     | inr last ↦
         let k : ◌≡◌ {A = Option (Vec ℕ Global)} (Some row) (Some row') = sym er ∙ ap (slice_get edges) (sym (last.0 ∙ u.long)) ∙ e in let s : row ≡ row' = cc in
@@ -195,12 +191,7 @@ AreGroundsUpto-more edges ranks grounds new n row ground u er g en = record {
   ];
 }
 
-edge_at : (edges : Edges) (i : ℕ) → i < length edges → (row : Vec ℕ Global) × (slice_get edges i ≡ Some row)
-edge_at [] i l = absurd (omega arith)
-edge_at (x ∷ edges) zero l = (x, refl)
-edge_at (x ∷ edges) (suc i) l = edge_at edges i (omega arith)
-
 pub HasPlaces-grounds : (edges : Edges) (ranks : List ℕ) (grounds : Edges) → length ranks ≡ length edges → AreGrounds edges ranks grounds → HasPlaces grounds
 HasPlaces-grounds edges ranks grounds long g i ground e =
-    let row = edge_at edges i (omega (arith, slice_get_within grounds i ground e, g.long)) in
+    let row = item-at edges i (omega (arith, slice_get_within grounds i ground e, g.long)) in
     λ k d l. omega (arith, (g.rows i row.0 ground row.1 e).within k d l, long, g.long)

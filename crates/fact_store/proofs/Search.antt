@@ -8,8 +8,9 @@ use Rattle.std.proofs.lemmas.List.Elements.{All-cons, All-nil}
 use Rattle.std.proofs.lemmas.Grind.{get_or_default_zero}
 use Rattle.std.proofs.lemmas.List.Sums.{sum_by-cons}
 use Rattle.std.proofs.lemmas.Option.{slice_get_read}
+use Rattle.list_laws.proofs.Tests.{or-right}
 use Rattle.fact_store.specs.Plans.{among, is_marked, Edges, AreClosed, MarksRow, AreReached}
-use Rattle.fact_store.proofs.NameLemmas.{true_or_false, or_left, or_right, or_cases}
+use Rattle.fact_store.proofs.NameLemmas.{true_or_false, or_left, or_cases}
 use Rattle.fact_store.proofs.Marks.{among-push, is_marked-set_same, is_marked-set_other, same_place, open_count}
 
 -- the rows of the places before `next` in the queue are marked
@@ -32,7 +33,7 @@ list_any-take p zero xs h = cc
 list_any-take p (suc n) [] h = h
 list_any-take p (suc n) (x ∷ xs) h = elim (or_cases (p x) (list_any p (take n xs)) h) as (λ _. (p x || list_any p xs) ≡ true) [
   | inl here ↦ or_left (p x) (list_any p xs) here
-  | inr later ↦ or_right (p x) (list_any p xs) (list_any-take p n xs later)
+  | inr later ↦ or-right (p x) (list_any p xs) (list_any-take p n xs later)
 ]
 
 pub among-within : (xs : List ℕ) (n i : ℕ) → All (λ x. x < n) xs → among xs i ≡ true → i < n
@@ -100,7 +101,7 @@ IsSearch-next edges start marks new queue longer next row s l er r = record {
     at_place : (xs : List ℕ) (k : ℕ) → k < length xs → among xs (get_or xs k 0) ≡ true
     at_place [] k h = absurd (omega arith)
     at_place (x ∷ xs) zero h = or_left (nat_eq x x) (among xs x) (eq-eqb x x refl)
-    at_place (x ∷ xs) (suc k) h = or_right (nat_eq (get_or xs k 0) x) (among xs (get_or xs k 0)) (at_place xs k (omega arith))
+    at_place (x ∷ xs) (suc k) h = or-right (nat_eq (get_or xs k 0) x) (among xs (get_or xs k 0)) (at_place xs k (omega arith))
 
     length-front : length queue ≤ length longer
     length-front = omega (arith, ap length r.front, length-take (length queue) longer)

@@ -16,14 +16,14 @@ use Rattle.indexmap.specs.IndexMap.{IndexMap, insert_entry}
 use Rattle.indexmap.specs.IndexMap.{get as find}
 use Rattle.indexmap.proofs.CallerLemmas.{insert_entry-new}
 use Rattle.slab.specs.Slab.{Slab, get, slab_len, with_value, ContainsKey, Updates}
+use Rattle.list_laws.proofs.Lists.{pushed-cases}
+use Rattle.list_laws.proofs.Tests.{same-or-other}
 use Rattle.fact_store.specs.declared.slot.Slot.{Slot}
 use Rattle.fact_store.specs.Names.{name_eq}
 use Rattle.fact_store.specs.Shelf.{Names, shelved, IsShelf}
 use Rattle.fact_store.specs.Slots.{HasNoSlot, IsPlaceOf}
 use Rattle.fact_store.proofs.NameLemmas.{name_eq-same, same_name}
-use Rattle.fact_store.proofs.KeepLemmas.{same_or_other}
 use Rattle.fact_store.proofs.Lookups.{AllFound, found_at, length-found, found-same, found-set, found-remove, item_at, passes_at, passes_not, write_same, write_other, write_count}
-use Rattle.fact_store.proofs.Rows.{pushed_cases}
 use Rattle.fact_store.proofs.TextLemmas.{skip, skip-injective, skip-other, slice_get-remove}
 
 abbrev Entry : Type 0
@@ -80,7 +80,7 @@ module _ {Own F : Type 0} (slab : Slab (Slot Own F)) (names : Names) (shelf : Is
   module _ (i key : ℕ) (x y : Slot Own F) (l : i < length (shelved slab names)) (k : slice_get (values_of names) i ≡ Some key) (g : get slab key ≡ Some x) (n : y.name ≡ x.name) where
     pub shelf-write : IsShelf (with_value slab key y) names
     shelf-write = record {
-      found = λ j a at. elim (same_or_other a.1 key) as (λ _. (slot : Slot Own F) × (get (with_value slab key y) a.1 ≡ Some slot) × (slot.name ≡ string_bytes a.0)) [
+      found = λ j a at. elim (same-or-other a.1 key) as (λ _. (slot : Slot Own F) × (get (with_value slab key y) a.1 ≡ Some slot) × (slot.name ≡ string_bytes a.0)) [
         | inl same ↦
             let s = shelf.found j a at in
             let h : ◌≡◌ {A = Option (Slot Own F)} (Some s.0) (Some x) = sym s.1 ∙ ap (get slab) same ∙ g in let q : s.0 ≡ x = cc in
@@ -115,26 +115,26 @@ module _ {Own F : Type 0} (slab : Slab (Slot Own F)) (names : Names) (shelf : Is
 
     pub shelf-push : IsShelf new (names ++ (name, key) ∷ [])
     shelf-push = record {
-      found = λ j a at. elim (pushed_cases names (name, key) a j at) as (λ _. (x : Slot Own F) × (get new a.1 ≡ Some x) × (x.name ≡ string_bytes a.0)) [
+      found = λ j a at. elim (pushed-cases names (name, key) a j at) as (λ _. (x : Slot Own F) × (get new a.1 ≡ Some x) × (x.name ≡ string_bytes a.0)) [
         | inl before ↦ let s = shelf.found j a before in (s.0, stays j a before ∙ s.1, s.2)
         | inr last ↦ (slot, ap (λ (z : Entry). get new z.1) (sym last.1) ∙ u.changed, sym n ∙ ap (λ (z : Entry). string_bytes z.0) last.1)
       ];
-      once = λ i j a b p q e. elim (pushed_cases names (name, key) a i p) as (λ _. i ≡ j) [
-        | inl ia ↦ elim (pushed_cases names (name, key) b j q) as (λ _. i ≡ j) [
+      once = λ i j a b p q e. elim (pushed-cases names (name, key) a i p) as (λ _. i ≡ j) [
+        | inl ia ↦ elim (pushed-cases names (name, key) b j q) as (λ _. i ≡ j) [
           | inl jb ↦ shelf.once i j a b ia jb e
           | inr jl ↦ absurd (unlike i a ia (e ∙ sym (ap (λ (z : Entry). string_bytes z.0) jl.1)))
         ]
-        | inr il ↦ elim (pushed_cases names (name, key) b j q) as (λ _. i ≡ j) [
+        | inr il ↦ elim (pushed-cases names (name, key) b j q) as (λ _. i ≡ j) [
           | inl jb ↦ absurd (unlike j b jb (sym e ∙ sym (ap (λ (z : Entry). string_bytes z.0) il.1)))
           | inr jl ↦ il.0 ∙ sym jl.0
         ]
       ];
-      apart = λ i j a b p q e. elim (pushed_cases names (name, key) a i p) as (λ _. i ≡ j) [
-        | inl ia ↦ elim (pushed_cases names (name, key) b j q) as (λ _. i ≡ j) [
+      apart = λ i j a b p q e. elim (pushed-cases names (name, key) a i p) as (λ _. i ≡ j) [
+        | inl ia ↦ elim (pushed-cases names (name, key) b j q) as (λ _. i ≡ j) [
           | inl jb ↦ shelf.apart i j a b ia jb e
           | inr jl ↦ absurd (others i a ia (e ∙ sym (ap (λ (z : Entry). z.1) jl.1)))
         ]
-        | inr il ↦ elim (pushed_cases names (name, key) b j q) as (λ _. i ≡ j) [
+        | inr il ↦ elim (pushed-cases names (name, key) b j q) as (λ _. i ≡ j) [
           | inl jb ↦ absurd (others j b jb (sym e ∙ sym (ap (λ (z : Entry). z.1) il.1)))
           | inr jl ↦ il.0 ∙ sym jl.0
         ]

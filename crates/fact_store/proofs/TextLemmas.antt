@@ -4,11 +4,11 @@ use Rattle.std.specs.Prelude.{◌⊎◌, slice_get, slice_set, remove}
 use Rattle.std.specs.FinMap.{get, insert, find, get-from_entries, get-insert, get-remove, same_map, nat_cmp-IsAntisymmetric, slice_cmp-IsAntisymmetric}
 use Rattle.std.specs.FinMap as map_of
 use Rattle.std.specs.Cmp.Lexicographic.{nat_list_cmp_total}
+use Rattle.list_laws.proofs.Lists.{pushed-cases}
 use Rattle.fact_store.specs.declared.slot.Slot.{Slot}
 use Rattle.fact_store.specs.Names.{name_cmp, name_eq, Texts}
 use Rattle.fact_store.specs.Slots.{named_texts, texts_of, AreDistinct, HasNoSlot}
 use Rattle.fact_store.proofs.NameLemmas.{true_or_false, same_name, name_eq-same}
-use Rattle.fact_store.proofs.Rows.{pushed_cases}
 use Rattle.fact_store.proofs.SlotLemmas.{distinct-tail, none_found}
 
 shadowed : {A : Type 0} (b : Bool) (u v w : A) → cond b u w ≡ cond b u (cond b v w)
@@ -115,12 +115,12 @@ module _ {Own F : Type 0} where
       absent q (inr apart) = sym (ap (λ b. cond b None (find name_cmp q (named_texts slots))) apart)
 
   pub AreDistinct-push : (slots : List (Slot Own F)) (y : Slot Own F) → AreDistinct slots → HasNoSlot slots y.name → AreDistinct (slots ++ y ∷ [])
-  AreDistinct-push slots y d h i j a b p q n = elim (pushed_cases slots y a i p) as (λ _. i ≡ j) [
-    | inl ia ↦ elim (pushed_cases slots y b j q) as (λ _. i ≡ j) [
+  AreDistinct-push slots y d h i j a b p q n = elim (pushed-cases slots y a i p) as (λ _. i ≡ j) [
+    | inl ia ↦ elim (pushed-cases slots y b j q) as (λ _. i ≡ j) [
       | inl jb ↦ d i j a b ia jb n
       | inr jl ↦ let k : true ≡ false = sym (name_eq-same y.name a.name (ap (λ (s : Slot Own F). s.name) jl.1 ∙ sym n)) ∙ h i a ia in cc k
     ]
-    | inr il ↦ elim (pushed_cases slots y b j q) as (λ _. i ≡ j) [
+    | inr il ↦ elim (pushed-cases slots y b j q) as (λ _. i ≡ j) [
       | inl jb ↦ let k : true ≡ false = sym (name_eq-same y.name b.name (ap (λ (s : Slot Own F). s.name) il.1 ∙ n)) ∙ h j b jb in cc k
       | inr jl ↦ il.0 ∙ sym jl.0
     ]

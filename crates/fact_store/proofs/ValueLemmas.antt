@@ -4,17 +4,18 @@ use Rattle.std.specs.Prelude.{is_some}
 use Rattle.std.specs.FinMap.{get, keys, contains_key-keys}
 use Rattle.order_rec.specs.Ranked.{lower, ranked}
 use Rattle.order_rec.proofs.Rank.{ranked-step, lower-lt}
+use Rattle.list_laws.proofs.Tests.{or-right}
 use Rattle.fact_store.specs.Names.{name_eq, has, Texts}
 use Rattle.fact_store.specs.Reach.{rank}
 use Rattle.fact_store.specs.States.{State, no_text, cyclic, fact}
 use Rattle.fact_store.specs.Values.{needs_or_none, needs_of_text, needs_in, reaches, gives, value_of_needs, value_of_text, value}
-use Rattle.fact_store.proofs.NameLemmas.{true_or_false, has_head, or_right}
+use Rattle.fact_store.proofs.NameLemmas.{true_or_false, has_head}
 use Rattle.fact_store.proofs.ReachLemmas.{leads-need, rank-lt}
 
 -- only what is among the names counts
 pub map-same : {B : Type 0} (f g : List ℕ → B) (xs : List (List ℕ)) → ((x : List ℕ) → has xs x ≡ true → f x ≡ g x) → map f xs ≡ map g xs
 map-same f g [] h = refl
-map-same f g (x ∷ xs) h = λ i. h x (has_head x xs) i ∷ map-same f g xs (λ y m. h y (or_right (name_eq y x) (has xs y) m)) i
+map-same f g (x ∷ xs) h = λ i. h x (has_head x xs) i ∷ map-same f g xs (λ y m. h y (or-right (name_eq y x) (has xs y) m)) i
 
 module _ {Own F : Type 0} (own_of : List ℕ → List ℕ → Own) (needs_of : Own → Option (List (List ℕ))) (fact_of : List ℕ → Own → List (List ℕ × State F) → F) where
   -- a name without text has no needs

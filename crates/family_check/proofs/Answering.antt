@@ -17,6 +17,7 @@ use Rattle.unit_grammar.specs.Units.{ModuleUnits}
 use Rattle.unit_grammar.specs.UnitNodes.{module_of}
 use Rattle.tla_model.specs.ModuleNames.{holds_instance}
 use Rattle.check_core.specs.Checks.{Given, all_faults}
+use Rattle.list_laws.proofs.Lists.{contains-map}
 use Rattle.family_check.specs.Family.{Member, Diagnosed, is_there}
 use Rattle.family_check.specs.Modules.{Entry, IsEntry, IsReading, AreModules, tree_count, reading_holds_instance}
 use Rattle.family_check.specs.Outcomes.{AreOutcomes, AreWithoutInstances, IsSaid, IsSomeModule, Says, after_ticks, faults_of, trees_in}
@@ -26,7 +27,7 @@ use Rattle.family_check.specs.declared.outcomes.Outcome.TheVariants as outcome
 use Rattle.family_check.specs.declared.read.Reading.TheVariants as reading
 use Rattle.family_check.specs.declared.verdict.File.{File}
 use Rattle.family_check.specs.declared.verdict.Verdict.{Verdict}
-use Rattle.family_check.proofs.Lists.{at-contains, behind, contains-at, here, maps, zip-left, zip-right}
+use Rattle.family_check.proofs.Lists.{at-contains, behind, contains-at, here, zip-left, zip-right}
 use Rattle.family_check.proofs.Members.{AreOneEach, member-there}
 use Rattle.family_check.proofs.OneVerdict.{HasNoOther, IsCheckedOf, Found, of_fault, of_tree, found-of, fault-same, tree-same, tree-no-fault}
 use Rattle.family_check.proofs.Checking.{ticks-within}
@@ -55,7 +56,7 @@ says-faults faults outside (outcome.Refused found) h = h.0
 says-faults faults outside (outcome.Accepted face) h = sym h.0
 
 file-there : (files : List File) (f : File) → Contains files f → Contains (family_of files) (member_of f)
-file-there files f h = Contains-append_left (map member_of files) (filter (λ m. not (is_there (map member_of files) m.name)) built_in_members) (member_of f) (maps member_of files f h)
+file-there files f h = Contains-append_left (map member_of files) (filter (λ m. not (is_there (map member_of files) m.name)) built_in_members) (member_of f) (contains-map member_of files f h)
 
 verdict-of : (files : List File) (outcomes : List (List ℕ × Outcome)) → AreOutcomes (family_of files) outcomes → (f : File) (v : Verdict) → Contains files f → IsSaid outcomes f v → IsVerdict (family_of files) f v
 verdict-of files outcomes are f v h said =

@@ -18,6 +18,8 @@ use Rattle.unit_grammar.specs.Units.{ModuleUnits}
 use Rattle.unit_grammar.specs.UnitNodes.{module_of}
 use Rattle.tool_list.specs.declared.Memory.{Memory}
 use Rattle.check_core.specs.Checks.{Given, CheckedModule, IsChecked, all_faults, files_given, given_in}
+use Rattle.list_laws.proofs.Lists.{contains-map}
+use Rattle.list_laws.proofs.Texts.{same-text, text-itself}
 use Rattle.family_check.specs.Family as families
 use Rattle.family_check.specs.Family.{Member, Diagnosed, IsDiagnosed, IsGiven, front_fault, checked, is_there}
 use Rattle.family_check.specs.Modules.{Entry, IsEntry, AreModules, reading_holds_instance, tree_count}
@@ -30,8 +32,7 @@ use Rattle.family_check.specs.declared.outcomes.Outcome.{Outcome}
 use Rattle.family_check.specs.declared.outcomes.Outcome.TheVariants as outcome
 use Rattle.family_check.specs.declared.read.Module.{Module}
 use Rattle.family_check.specs.declared.read.Reading.TheVariants as reading
-use Rattle.family_check.proofs.Names.{same-name, name-itself}
-use Rattle.family_check.proofs.Lists.{at-contains, contains-at, maps, zip-right}
+use Rattle.family_check.proofs.Lists.{at-contains, contains-at, zip-right}
 use Rattle.family_check.proofs.Members.{there-member}
 use Rattle.family_check.proofs.OneVerdict.{HasNoOther}
 use Rattle.family_check.proofs.Tabling.{entry-found, entry-none, entry-some}
@@ -79,7 +80,7 @@ entry-append (entry ∷ outcomes) name item o none = ⊎_elim
     (λ (f : bytes_eq item entry.0 ≡ false).
     let rest : entry_of outcomes item ≡ None = sym (ap (λ b. cond b (Some entry.1) (entry_of outcomes item)) f) ∙ none in
     ap (λ x. cond (bytes_eq name entry.0) (Some entry.1) x) (entry-append outcomes name item o rest)
-    ∙ apart (bytes_eq name entry.0) (bytes_eq name item) (λ a b. let k : true ≡ false = sym (name-itself item entry.0 (sym (same-name name item b) ∙ same-name name entry.0 a)) ∙ f in cc) (Some entry.1) (Some o) (entry_of outcomes name))
+    ∙ apart (bytes_eq name entry.0) (bytes_eq name item) (λ a b. let k : true ≡ false = sym (text-itself item entry.0 (sym (same-text name item b) ∙ same-text name entry.0 a)) ∙ f in cc) (Some entry.1) (Some o) (entry_of outcomes name))
     (cases_Bool (bytes_eq item entry.0))
   where
     apart : (a b : Bool) → (a ≡ true → b ≡ true → ⊥) → (x y z : Option Outcome) → cond a x (cond b y z) ≡ cond b y (cond a x z)
@@ -131,7 +132,7 @@ found-more family outcomes outcomes' name o none e new found other p h =
     (λ (t : bytes_eq other name ≡ true).
     let s : ◌≡◌ {A = Option Outcome} (Some o) (Some p) = sym (ap (λ b. cond b (Some o) (entry_of outcomes other)) t) ∙ (sym value ∙ h) in
     let same : o ≡ p = some-same o p s in
-    subst (λ x. IsOutcome family x p) (sym (same-name other name t)) (subst (λ x. IsOutcome family name x) same new))
+    subst (λ x. IsOutcome family x p) (sym (same-text other name t)) (subst (λ x. IsOutcome family name x) same new))
     (λ (f : bytes_eq other name ≡ false). found other p (sym (ap (λ b. cond b (Some o) (entry_of outcomes other)) f) ∙ (sym value ∙ h)))
     (cases_Bool (bytes_eq other name))
   where
@@ -201,7 +202,7 @@ trees-all modules plan once planned =
     let count : List ℕ → ℕ = λ name. trees_of (entry_of modules name) in
     sum-members count plan.order (names_in modules) planned.order.once once (λ x c. (planned.order.all x).0 c) (λ x c. (planned.order.all x).1 c)
     ∙ sum-map count (λ (e : Entry). e.0) (λ (e : Entry). tree_count e.1.reading) modules (λ e c.
-    let s = entry-some modules e.0 (maps (λ (x : Entry). x.0) modules e c) in
+    let s = entry-some modules e.0 (contains-map (λ (x : Entry). x.0) modules e c) in
     let same : (e.0, s.0) ≡ e = same-entry modules (e.0, s.0) e once (entry-found modules e.0 s.0 s.1) c refl in
     ap trees_of s.1 ∙ ap (λ (x : Entry). tree_count x.1.reading) same)
 

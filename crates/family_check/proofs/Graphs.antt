@@ -12,11 +12,12 @@ use Rattle.std.proofs.lemmas.Option.{slice_get-map}
 use Rattle.tool_list.specs.declared.Memory.{Memory}
 use Rattle.module_graph.specs.Family as graphs
 use Rattle.module_graph.specs.Family.{Leads, last, more, name_cmp, needs_or_none}
+use Rattle.list_laws.proofs.Lists.{contains-map}
+use Rattle.list_laws.proofs.Texts.{same-text, text-itself}
 use Rattle.family_check.specs.Modules.{Entry}
 use Rattle.family_check.specs.Plans.{AreOnce, Needs, Reaches, IsCyclic, NeedsBefore, IsGraph, IsCyclicIn, AreKept, IsOrder}
 use Rattle.family_check.specs.Tables.{names_in}
-use Rattle.family_check.proofs.Names.{same-name, name-itself}
-use Rattle.family_check.proofs.Lists.{at-contains, at-same, contains-at, contains-pushed, here, maps, none-there}
+use Rattle.family_check.proofs.Lists.{at-contains, at-same, contains-at, contains-pushed, here, none-there}
 
 -- ---- steps
 
@@ -44,13 +45,13 @@ module _ (names : List (List ℕ)) (Has : List ℕ → List ℕ → Type 0) (gra
   put-more q = ⊎_elim
       (λ (t : bytes_eq q name ≡ true).
       let e : get (insert graph name needs) q ≡ Some needs = get-put graph name needs q ∙ ap (λ b. cond b (Some needs) (get graph q)) t in
-      (λ _. subst (λ x. Contains (names ++ name ∷ []) x) (sym (same-name q name t)) (Contains-append_right names (name ∷ []) name (here name [])), λ _. subst IsSome (sym e) refl))
+      (λ _. subst (λ x. Contains (names ++ name ∷ []) x) (sym (same-text q name t)) (Contains-append_right names (name ∷ []) name (here name [])), λ _. subst IsSome (sym e) refl))
       (λ (f : bytes_eq q name ≡ false).
       let e : get (insert graph name needs) q ≡ get graph q = get-put graph name needs q ∙ ap (λ b. cond b (Some needs) (get graph q)) f in (
         λ s. Contains-append_left names (name ∷ []) q ((is.put q).0 (subst IsSome e s)),
         λ c. elim (contains-pushed names name q c) as (λ _. IsSome (get (insert graph name needs) q)) [
           | inl before ↦ subst IsSome (sym e) ((is.put q).1 before)
-          | inr same ↦ let k : true ≡ false = sym (name-itself q name (sym same)) ∙ f in cc
+          | inr same ↦ let k : true ≡ false = sym (text-itself q name (sym same)) ∙ f in cc
         ],
       ))
       (cases_Bool (bytes_eq q name))
@@ -59,7 +60,7 @@ module _ (names : List (List ℕ)) (Has : List ℕ → List ℕ → Type 0) (gra
   needs-more q need c = ⊎_elim
       (λ (t : bytes_eq q name ≡ true).
       let e : get (insert graph name needs) q ≡ Some needs = get-put graph name needs q ∙ ap (λ b. cond b (Some needs) (get graph q)) t in
-      let s : q ≡ name = same-name q name t in (
+      let s : q ≡ name = same-text q name t in (
         λ n. subst (λ x. Has x need) (sym s) ((own need).0 (subst (λ o. Contains (needs_or_none o) need) e n)),
         λ h. subst (λ o. Contains (needs_or_none o) need) (sym e) ((own need).1 (subst (λ x. Has x need) s h)),
       ))
@@ -67,7 +68,7 @@ module _ (names : List (List ℕ)) (Has : List ℕ → List ℕ → Type 0) (gra
       let e : get (insert graph name needs) q ≡ get graph q = get-put graph name needs q ∙ ap (λ b. cond b (Some needs) (get graph q)) f in
       let before : Contains names q = elim (contains-pushed names name q c) as (λ _. Contains names q) [
         | inl b ↦ b
-        | inr same ↦ let k : true ≡ false = sym (name-itself q name (sym same)) ∙ f in cc
+        | inr same ↦ let k : true ≡ false = sym (text-itself q name (sym same)) ∙ f in cc
       ] in (
         λ n. ((is.needs q need before).0 (subst (λ o. Contains (needs_or_none o) need) e n)),
         λ h. subst (λ o. Contains (needs_or_none o) need) (sym e) ((is.needs q need before).1 h),
@@ -110,7 +111,7 @@ entry-needs entries i e once h need =
     )
 
 pub needs-named : (entries : List Entry) (name need : List ℕ) → Needs entries name need → Contains (names_in entries) name
-needs-named entries name need n = subst (λ x. Contains (names_in entries) x) n.named (maps (λ (x : Entry). x.0) entries n.entry n.there)
+needs-named entries name need n = subst (λ x. Contains (names_in entries) x) n.named (contains-map (λ (x : Entry). x.0) entries n.entry n.there)
 
 -- ---- what a graph says
 

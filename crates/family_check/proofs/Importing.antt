@@ -11,6 +11,7 @@ use Rattle.tla_model.specs.declared.imported.Import.{Import}
 use Rattle.tla_model.specs.Exports.{face_outside, import_behind}
 use Rattle.tla_model.specs.Imports.{Imports, import_of}
 use Rattle.check_core.specs.Checks.{Given, Unknown, Cyclic, Refused, Accepted, given_by, given_in}
+use Rattle.list_laws.proofs.Texts.{same-text, text-itself}
 use Rattle.family_check.specs.Family as families
 use Rattle.family_check.specs.Family.{Member, IsGiven, unknown, cyclic, refused, accepted, is_there}
 use Rattle.family_check.specs.Modules.{Entry}
@@ -21,7 +22,6 @@ use Rattle.family_check.specs.Outcomes.{AreBareImports, IsBareImport, IsImport, 
 use Rattle.family_check.specs.declared.order.Plan.{Plan}
 use Rattle.family_check.specs.declared.outcomes.Outcome.{Outcome}
 use Rattle.family_check.specs.declared.outcomes.Outcome.TheVariants as outcome
-use Rattle.family_check.proofs.Names.{same-name, name-itself}
 use Rattle.family_check.proofs.Lists.{among-or-not, at-contains, contains-pushed, here}
 use Rattle.family_check.proofs.Bridging.{cyclic-map, cyclic-there, diagnosed-there}
 
@@ -69,7 +69,7 @@ import-append (entry ∷ imports) name item import none = ⊎_elim
     (λ (f : bytes_eq item entry.0 ≡ false).
     let rest : import_of imports item ≡ None = sym (ap (λ b. cond b (Some entry.1) (import_of imports item)) f) ∙ none in
     ap (λ o. cond (bytes_eq name entry.0) (Some entry.1) o) (import-append imports name item import rest)
-    ∙ apart (bytes_eq name entry.0) (bytes_eq name item) (λ a b. let k : true ≡ false = sym (name-itself item entry.0 (sym (same-name name item b) ∙ same-name name entry.0 a)) ∙ f in cc) (Some entry.1) (Some import) (import_of imports name))
+    ∙ apart (bytes_eq name entry.0) (bytes_eq name item) (λ a b. let k : true ≡ false = sym (text-itself item entry.0 (sym (same-text name item b) ∙ same-text name entry.0 a)) ∙ f in cc) (Some entry.1) (Some import) (import_of imports name))
     (cases_Bool (bytes_eq item entry.0))
   where
     apart : (a b : Bool) → (a ≡ true → b ≡ true → ⊥) → (x y z : Option Import) → cond a x (cond b y z) ≡ cond b y (cond a x z)
@@ -118,12 +118,12 @@ module _ (needs : List (List ℕ)) (i : ℕ) (d item : List ℕ) (l : i < length
       ⊎_elim
       (λ (t : bytes_eq need item ≡ true).
       let v : import_of imports' need ≡ Some import = value ∙ ap (λ b. cond b (Some import) (import_of imports need)) t in
-      subst (λ g. IsGiven family name need g) (ap given_by (sym v)) (subst (λ x. IsGiven family name x (given_by (Some import))) (sym (same-name need item t)) new))
+      subst (λ g. IsGiven family name need g) (ap given_by (sym v)) (subst (λ x. IsGiven family name x (given_by (Some import))) (sym (same-text need item t)) new))
       (λ (f : bytes_eq need item ≡ false).
       let v : import_of imports' need ≡ import_of imports need = value ∙ ap (λ b. cond b (Some import) (import_of imports need)) f in
       let before : Contains (take i needs) need = elim (contains-pushed (take i needs) item need (subst (λ ns. Contains ns need) (sym taken) c)) as (λ _. Contains (take i needs) need) [
         | inl b ↦ b
-        | inr s ↦ let k : true ≡ false = sym (name-itself need item (sym s)) ∙ f in cc
+        | inr s ↦ let k : true ≡ false = sym (text-itself need item (sym s)) ∙ f in cc
       ] in
       subst (λ g. IsGiven family name need g) (ap given_by (sym v)) (given need before))
       (cases_Bool (bytes_eq need item))
@@ -133,7 +133,7 @@ module _ (needs : List (List ℕ)) (i : ℕ) (d item : List ℕ) (l : i < length
       let value : import_of imports' need ≡ cond (bytes_eq need item) (Some import) (import_of imports need) = ap (λ z. import_of z need) e ∙ import-append imports need item import none in
       ⊎_elim
       (λ (t : bytes_eq need item ≡ true).
-      absurd (n (subst (λ ns. Contains ns need) taken (subst (λ x. Contains (take i needs ++ item ∷ []) x) (sym (same-name need item t)) (Contains-append_right (take i needs) (item ∷ []) item (here item []))))))
+      absurd (n (subst (λ ns. Contains ns need) taken (subst (λ x. Contains (take i needs ++ item ∷ []) x) (sym (same-text need item t)) (Contains-append_right (take i needs) (item ∷ []) item (here item []))))))
       (λ (f : bytes_eq need item ≡ false).
       value ∙ (ap (λ b. cond b (Some import) (import_of imports need)) f ∙ others need (λ c. n (subst (λ ns. Contains ns need) taken (Contains-append_left (take i needs) (item ∷ []) need c)))))
       (cases_Bool (bytes_eq need item))

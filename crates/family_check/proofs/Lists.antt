@@ -7,7 +7,7 @@ use Rattle.std.proofs.lemmas.Bool.{cases_Bool}
 use Rattle.std.proofs.lemmas.List.{take_more}
 use Rattle.std.proofs.lemmas.List.Elements.{Contains-append_cases}
 use Rattle.std.proofs.lemmas.Option.{slice_get-get_or, get_or_from_slice_get, slice_get_within}
-use Rattle.family_check.proofs.Names.{same-name, name-itself}
+use Rattle.list_laws.proofs.Texts.{any-contains, contains-any}
 
 module _ {A : Type 0} where
   pub at-contains : (xs : List A) (i : ℕ) (x : A) → slice_get xs i ≡ Some x → Contains xs x
@@ -56,31 +56,10 @@ mapped f [] y h = absurd (omega (arith, h.1))
 mapped f (x ∷ xs) y (zero, l, e) = (x, (0, omega arith, refl), e)
 mapped f (x ∷ xs) y (suc i, l, e) = let r = mapped f xs y (i, omega (arith, l), e) in (r.0, behind x xs r.0 (r.1), r.2)
 
-pub maps : {A B : Type 0} (f : A → B) (xs : List A) (x : A) → Contains xs x → Contains (map f xs) (f x)
-maps f [] x h = absurd (omega (arith, h.1))
-maps f (y ∷ xs) x (zero, l, e) = (0, omega arith, ap f e)
-maps f (y ∷ xs) x (suc i, l, e) = behind (f y) (map f xs) (f x) (maps f xs x (i, omega (arith, l), e))
-
--- a name is among some or it isn't
-pub among-names : (names : List (List ℕ)) (name : List ℕ) → list_any (bytes_eq name) names ≡ true → Contains names name
-among-names [] name e = cc
-among-names (other ∷ names) name e = ⊎_elim
-    (λ (t : bytes_eq name other ≡ true). (0, omega arith, sym (same-name name other t)))
-    (λ (f : bytes_eq name other ≡ false). behind other names name (among-names names name (sym (ap (λ b. b || list_any (bytes_eq name) names) f) ∙ e)))
-    (cases_Bool (bytes_eq name other))
-
-pub names-among : (names : List (List ℕ)) (name : List ℕ) → Contains names name → list_any (bytes_eq name) names ≡ true
-names-among [] name h = absurd (omega (arith, h.1))
-names-among (other ∷ names) name (zero, l, e) = ap (λ b. b || list_any (bytes_eq name) names) (name-itself name other (sym e))
-names-among (other ∷ names) name (suc i, l, e) = ⊎_elim
-    (λ (t : bytes_eq name other ≡ true). ap (λ b. b || list_any (bytes_eq name) names) t)
-    (λ (f : bytes_eq name other ≡ false). ap (λ b. b || list_any (bytes_eq name) names) f ∙ names-among names name (i, omega (arith, l), e))
-    (cases_Bool (bytes_eq name other))
-
 pub among-or-not : (names : List (List ℕ)) (name : List ℕ) → Contains names name ⊎ (Contains names name → ⊥)
 among-or-not names name = ⊎_elim
-    (λ (t : list_any (bytes_eq name) names ≡ true). inl (among-names names name t))
-    (λ (f : list_any (bytes_eq name) names ≡ false). inr (λ h. let k : true ≡ false = sym (names-among names name h) ∙ f in cc))
+    (λ (t : list_any (bytes_eq name) names ≡ true). inl (any-contains names name t))
+    (λ (f : list_any (bytes_eq name) names ≡ false). inr (λ h. let k : true ≡ false = sym (contains-any names name h) ∙ f in cc))
     (cases_Bool (list_any (bytes_eq name) names))
 
 -- ---- two lists side by side

@@ -3,7 +3,7 @@ use Rattle.std.proofs.Common.{◌≡◌, ℕ, zero, suc, List, [], ◌∷◌, re
 use Rattle.std.specs.Prelude.{Contains, slice_get}
 use Rattle.std.specs.Str.{bytes_eq}
 use Rattle.std.proofs.lemmas.Bool.{cases_Bool}
-use Rattle.family_check.proofs.Names.{same-name, name-itself}
+use Rattle.list_laws.proofs.Texts.{same-text, text-itself}
 use Rattle.family_check.proofs.Lists.{at-same, behind, contains-at, none-there}
 use Rattle.family_check.specs.Family.{Member, is_there, AreMembersDistinct}
 
@@ -11,7 +11,7 @@ use Rattle.family_check.specs.Family.{Member, is_there, AreMembersDistinct}
 pub there-member : (members : List Member) (name : List ℕ) → is_there members name ≡ true → (m : Member) × Contains members m × (m.name ≡ name)
 there-member [] name e = cc
 there-member (m ∷ members) name e = ⊎_elim
-    (λ (t : bytes_eq name m.name ≡ true). (m, (0, omega arith, refl), sym (same-name name m.name t)))
+    (λ (t : bytes_eq name m.name ≡ true). (m, (0, omega arith, refl), sym (same-text name m.name t)))
     (λ (f : bytes_eq name m.name ≡ false).
     let r = there-member members name (sym (ap (λ b. b || is_there members name) f) ∙ e) in
     (r.0, behind m members r.0 r.1, r.2))
@@ -20,7 +20,7 @@ there-member (m ∷ members) name e = ⊎_elim
 -- and that of a member is there
 pub member-there : (members : List Member) (name : List ℕ) (m : Member) → Contains members m → m.name ≡ name → is_there members name ≡ true
 member-there [] name m h e = absurd (none-there m h)
-member-there (a ∷ members) name m (zero, l, s) e = ap (λ b. b || is_there members name) (name-itself name a.name (sym (ap (λ (x : Member). x.name) s ∙ e)))
+member-there (a ∷ members) name m (zero, l, s) e = ap (λ b. b || is_there members name) (text-itself name a.name (sym (ap (λ (x : Member). x.name) s ∙ e)))
 member-there (a ∷ members) name m (suc i, l, s) e = ⊎_elim
     (λ (t : bytes_eq name a.name ≡ true). ap (λ b. b || is_there members name) t)
     (λ (f : bytes_eq name a.name ≡ false). ap (λ b. b || is_there members name) f ∙ member-there members name m (i, omega (arith, l), s) e)

@@ -2,22 +2,18 @@
 use Rattle.std.proofs.Common.{◌≡◌, ℕ, zero, suc, ◌+◌, List, [], ◌∷◌, ◌++◌, Some, refl, sym, ap, ◌∙◌, cond, map, filter, not, length, arith, true, false, Bool, inl, inr, subst}
 use Rattle.std.specs.Prelude.{◌⊎◌, Contains, slice_get}
 use Rattle.std.specs.Str.{bytes_eq}
+use Rattle.list_laws.proofs.Lists.{at-mapped}
+use Rattle.list_laws.proofs.Tests.{and-both}
+use Rattle.list_laws.proofs.Texts.{text-itself}
 use Rattle.family_check.specs.Family.{AreMembersDistinct, Member, is_there}
 use Rattle.family_check.specs.Verdicts.{AreDistinct, built_in_members, built_in_names, family_of, member_of}
 use Rattle.family_check.specs.Modules.{Entry, AreModules, built_in}
 use Rattle.family_check.specs.Plans.{AreOnce}
 use Rattle.family_check.specs.Tables.{names_in}
 use Rattle.family_check.specs.declared.verdict.File.{File}
-use Rattle.family_check.proofs.Names.{name-itself}
 use Rattle.family_check.proofs.Lists.{at-contains, in-filter, mapped}
 use Rattle.family_check.proofs.Members.{AreOneEach, not-hidden, one-each}
-use Rattle.family_check.proofs.Reading.{are_apart, both, built-in-apart, is_apart, not-so}
-
-at-mapped : {A B : Type 0} (f : A → B) (xs : List A) (i : ℕ) (y : B) → slice_get (map f xs) i ≡ Some y → (x : A) × (slice_get xs i ≡ Some x) × (f x ≡ y)
-at-mapped f [] zero y e = cc
-at-mapped f [] (suc i) y e = cc
-at-mapped f (x ∷ xs) zero y e = (x, refl, cc)
-at-mapped f (x ∷ xs) (suc i) y e = at-mapped f xs i y e
+use Rattle.family_check.proofs.Reading.{are_apart, built-in-apart, is_apart, not-so}
 
 at-either : {A : Type 0} (xs ys : List A) (i : ℕ) (x : A) → slice_get (xs ++ ys) i ≡ Some x → (slice_get xs i ≡ Some x) ⊎ ((k : ℕ) × (i ≡ length xs + k) × (slice_get ys k ≡ Some x))
 at-either [] ys i x e = inr (i, omega arith, e)
@@ -30,9 +26,9 @@ at-either {A} (z ∷ xs) ys (suc i) x e = elim (at-either xs ys i x e) as (λ _.
 apart-not : (name : List ℕ) (names : List (List ℕ)) → is_apart name names ≡ true → Contains names name → ⊥
 apart-not name [] apart h = absurd (omega (arith, h.1))
 apart-not name (x ∷ xs) apart (zero, l, e) =
-    let k : true ≡ false = sym (name-itself x name e) ∙ not-so (bytes_eq x name) (both (not (bytes_eq x name)) (is_apart name xs) apart).0 in
+    let k : true ≡ false = sym (text-itself x name e) ∙ not-so (bytes_eq x name) (and-both (not (bytes_eq x name)) (is_apart name xs) apart).0 in
     cc
-apart-not name (x ∷ xs) apart (suc i, l, e) = apart-not name xs (both (not (bytes_eq x name)) (is_apart name xs) apart).1 (i, omega (arith, l), e)
+apart-not name (x ∷ xs) apart (suc i, l, e) = apart-not name xs (and-both (not (bytes_eq x name)) (is_apart name xs) apart).1 (i, omega (arith, l), e)
 
 -- a built-in module of these has one of these names
 built-in-named : (p : Member → Bool) (names : List (List ℕ)) (k : ℕ) (a : Member) → slice_get (filter p (map built_in names)) k ≡ Some a → Contains names a.name
@@ -57,7 +53,7 @@ place-kept false b rest h k = h
 built-in-placed : (p : Member → Bool) (names : List (List ℕ)) → are_apart names ≡ true → AreMembersDistinct (filter p (map built_in names))
 built-in-placed p [] apart = none-placed
 built-in-placed p (n ∷ ns) apart =
-    let parts = both (is_apart n ns) (are_apart ns) apart in
+    let parts = and-both (is_apart n ns) (are_apart ns) apart in
     let rest : List Member = filter p (map built_in ns) in
     let placed : AreMembersDistinct rest = built-in-placed p ns parts.1 in
     place-kept (p (built_in n)) (built_in n) rest placed (place-first (built_in n) rest placed (λ k a e same. apart-not n ns parts.0 (subst (λ x. Contains ns x) same (built-in-named p ns k a e))))

@@ -14,13 +14,16 @@ use Rattle.tla_front.specs.Fronts.{Tree, IsFront, IsFrontOfLexemes, IsTree, whol
 use Rattle.unit_grammar.specs.Units.{ModuleUnits}
 use Rattle.unit_grammar.specs.UnitNodes.{module_of}
 use Rattle.std_modules.specs.StdTexts.{std_text}
+use Rattle.list_laws.proofs.Lists.{contains-map}
+use Rattle.list_laws.proofs.Options.{some-there}
+use Rattle.list_laws.proofs.Tests.{and-both}
 use Rattle.family_check.specs.Family.{Member, is_there}
 use Rattle.family_check.specs.Verdicts.{AreDistinct, built_in_names, member_of, text_or_none}
 use Rattle.family_check.specs.Modules.{Entry, IsEntry, IsModule, IsTreeOf, AreModules, added, built_in}
 use Rattle.family_check.specs.Tables.{entry_of, names_in}
 use Rattle.family_check.specs.declared.read.Module.{Module}
 use Rattle.family_check.specs.declared.verdict.File.{File}
-use Rattle.family_check.proofs.Lists.{contains-at, mapped, maps, zip-left, zip-right, zip-push}
+use Rattle.family_check.proofs.Lists.{contains-at, mapped, zip-left, zip-right, zip-push}
 use Rattle.family_check.proofs.Members.{member-there, there-member}
 use Rattle.family_check.proofs.Tabling.{entry-found, entry-none, entry-some}
 
@@ -55,7 +58,7 @@ member-named family entries name are h =
 pub named-member : (family : List Member) (entries : List Entry) (m : Member) → AreModules family entries → Contains family m → Contains (names_in entries) m.name
 named-member family entries m are h =
     let e = zip-left IsEntry family entries m are h in
-    subst (λ n. Contains (names_in entries) n) (e.2).named (maps (λ (x : Entry). x.0) entries e.0 e.1)
+    subst (λ n. Contains (names_in entries) n) (e.2).named (contains-map (λ (x : Entry). x.0) entries e.0 e.1)
 
 -- ---- files
 
@@ -105,10 +108,6 @@ copied-some : {T : Type 0} (o : Option (Bor T)) → is_some o ≡ is_some (optio
 copied-some None = refl
 copied-some (Some x) = refl
 
-some-item : {T : Type 0} (o : Option T) → is_some o ≡ true → (x : T) × (o ≡ Some x)
-some-item None e = cc
-some-item (Some x) e = (x, refl)
-
 none-item : {T : Type 0} (o : Option T) (x : T) → is_some o ≡ false → o ≡ Some x → ⊥
 none-item None x e s = cc
 none-item (Some y) x e s = cc
@@ -120,7 +119,7 @@ unwrapped (Some x) r d e n = ap (λ (y : Bor (List ℕ)). y.now) e
 -- a name that is there is not added
 pub built-in-there : (members : List Member) (entries : List Entry) (name : List ℕ) (o : Option (Bor Module)) → option_copied o ≡ entry_of entries name → is_some o ≡ true → AreModules members entries → AreModules (added members (built_in name)) entries
 built-in-there members entries name o e some are =
-    let item = some-item (entry_of entries name) (ap is_some (sym e) ∙ (sym (copied-some o) ∙ some)) in
+    let item = some-there (entry_of entries name) (ap is_some (sym e) ∙ (sym (copied-some o) ∙ some)) in
     let h = entry-found entries name item.0 item.1 in
     let m = zip-right IsEntry members entries (name, item.0) are h in
     let there : is_there members name ≡ true = member-there members name m.0 m.1 (sym (m.2).named) in
@@ -150,11 +149,6 @@ abbrev pub are_apart : List (List ℕ) → Bool
 are_apart [] = true
 are_apart (name ∷ names) = is_apart name names && are_apart names
 
-pub both : (a b : Bool) → (a && b) ≡ true → (a ≡ true) × (b ≡ true)
-both true true e = (refl, refl)
-both true false e = cc
-both false b e = cc
-
 pub not-so : (a : Bool) → not a ≡ true → a ≡ false
 not-so true e = cc
 not-so false e = refl
@@ -169,7 +163,7 @@ visible members m = not (is_there members m.name)
 visible-same : (members : List Member) (name : List ℕ) (names : List (List ℕ)) → is_apart name names ≡ true → filter (visible (members ++ built_in name ∷ [])) (map built_in names) ≡ filter (visible members) (map built_in names)
 visible-same members name [] apart = refl
 visible-same members name (x ∷ xs) apart =
-    let parts = both (not (bytes_eq x name)) (is_apart name xs) apart in
+    let parts = and-both (not (bytes_eq x name)) (is_apart name xs) apart in
     let other : bytes_eq x name ≡ false = not-so (bytes_eq x name) parts.0 in
     let same : is_there (members ++ built_in name ∷ []) x ≡ is_there members x =
     list_any-append (λ (m : Member). bytes_eq x m.name) members (built_in name ∷ []) ∙ (ap (λ b. is_there members x || (b || false)) other ∙ or-false (is_there members x)) in
@@ -180,7 +174,7 @@ visible-same members name (x ∷ xs) apart =
 pub added-all : (members : List Member) (names : List (List ℕ)) → are_apart names ≡ true → fold (λ found name. added found (built_in name)) members names ≡ members ++ filter (visible members) (map built_in names)
 added-all members [] apart = sym (append-nil members)
 added-all members (name ∷ names) apart =
-    let parts = both (is_apart name names) (are_apart names) apart in
+    let parts = and-both (is_apart name names) (are_apart names) apart in
     let step : List Member → List ℕ → List Member = λ found n. added found (built_in n) in
     let rest : List Member = filter (visible members) (map built_in names) in
     ⊎_elim

@@ -4,8 +4,8 @@ use Rattle.std.specs.Prelude.{Contains, sum_by}
 use Rattle.std.specs.Str.{bytes_eq}
 use Rattle.std.proofs.lemmas.Bool.{cases_Bool}
 use Rattle.std.proofs.lemmas.List.Sums.{sum_by-cons}
+use Rattle.list_laws.proofs.Texts.{same-text, text-itself}
 use Rattle.family_check.specs.Plans.{AreOnce}
-use Rattle.family_check.proofs.Names.{same-name, name-itself}
 use Rattle.family_check.proofs.Lists.{behind, contains-at, first-or-rest, here, none-there}
 
 IsOnce : List (List ℕ) → Type 0
@@ -51,7 +51,7 @@ still-there : (x : List ℕ) (ys : List (List ℕ)) (z : List ℕ) → Contains 
 still-there x [] z h n = absurd (none-there z h)
 still-there x (y ∷ ys) z h n = ⊎_elim
     (λ (t : bytes_eq x y ≡ true). elim (first-or-rest y ys z h) as (λ _. Contains (without x (y ∷ ys)) z) [
-      | inl e ↦ absurd (n (sym (same-name x y t ∙ e)))
+      | inl e ↦ absurd (n (sym (same-text x y t ∙ e)))
       | inr r ↦ subst (λ l. Contains l z) (sym (without-here x y ys t)) r
     ])
     (λ (f : bytes_eq x y ≡ false). subst (λ l. Contains l z) (sym (without-later x y ys f)) (elim (first-or-rest y ys z h) as (λ _. Contains (y ∷ without x ys) z) [
@@ -72,9 +72,9 @@ gone : (x : List ℕ) (ys : List (List ℕ)) → IsOnce ys → Contains (without
 unfolding IsOnce
 gone x [] h c = none-there x (subst (λ l. Contains l x) (without-none x) c)
 gone x (y ∷ ys) h c = ⊎_elim
-    (λ (t : bytes_eq x y ≡ true). h.0 (subst (λ n. Contains ys n) (same-name x y t) (subst (λ l. Contains l x) (without-here x y ys t) c)))
+    (λ (t : bytes_eq x y ≡ true). h.0 (subst (λ n. Contains ys n) (same-text x y t) (subst (λ l. Contains l x) (without-here x y ys t) c)))
     (λ (f : bytes_eq x y ≡ false). elim (first-or-rest y (without x ys) x (subst (λ l. Contains l x) (without-later x y ys f) c)) as (λ _. ⊥) [
-      | inl e ↦ let k : true ≡ false = sym (name-itself x y (sym e)) ∙ f in cc
+      | inl e ↦ let k : true ≡ false = sym (text-itself x y (sym e)) ∙ f in cc
       | inr r ↦ gone x ys h.1 r
     ])
     (cases_Bool (bytes_eq x y))
@@ -82,9 +82,9 @@ gone x (y ∷ ys) h c = ⊎_elim
 sum-without : (f : List ℕ → ℕ) (x : List ℕ) (ys : List (List ℕ)) → Contains ys x → sum_by f ys ≡ f x + sum_by f (without x ys)
 sum-without f x [] h = absurd (none-there x h)
 sum-without f x (y ∷ ys) h = ⊎_elim
-    (λ (t : bytes_eq x y ≡ true). sum_by-cons f y ys ∙ (ap (λ n. f n + sum_by f ys) (sym (same-name x y t)) ∙ ap (λ l. f x + sum_by f l) (sym (without-here x y ys t))))
+    (λ (t : bytes_eq x y ≡ true). sum_by-cons f y ys ∙ (ap (λ n. f n + sum_by f ys) (sym (same-text x y t)) ∙ ap (λ l. f x + sum_by f l) (sym (without-here x y ys t))))
     (λ (g : bytes_eq x y ≡ false). elim (first-or-rest y ys x h) as (λ _. sum_by f (y ∷ ys) ≡ f x + sum_by f (without x (y ∷ ys))) [
-      | inl e ↦ let k : true ≡ false = sym (name-itself x y (sym e)) ∙ g in cc
+      | inl e ↦ let k : true ≡ false = sym (text-itself x y (sym e)) ∙ g in cc
       | inr r ↦
           let rest : sum_by f ys ≡ f x + sum_by f (without x ys) = sum-without f x ys r in
           let whole : sum_by f (without x (y ∷ ys)) ≡ f y + sum_by f (without x ys) = ap (sum_by f) (without-later x y ys g) ∙ sum_by-cons f y (without x ys) in

@@ -8,7 +8,7 @@ use Rattle.std.specs.String.{string_eq}
 use Rattle.std.specs.declared.alloc.Global.{Global}
 use Rattle.indexmap.specs.IndexMap.{IndexMap, insert_entry}
 use Rattle.indexmap.proofs.CallerLemmas.{insert_entry-new}
-use Rattle.family_check.proofs.Names.{same-name, name-itself}
+use Rattle.list_laws.proofs.Texts.{same-text, text-itself}
 use Rattle.family_check.specs.Tables.{entries_of, entry_of, names_in}
 
 pub lookup-named : {T : Type 0} (rows : List (String Global × T)) (name : List ℕ) → lookup (λ (key : String Global). bytes_eq name (string_bytes key)) rows ≡ entry_of (entries_of rows) name
@@ -35,7 +35,7 @@ entry-found [] name item e = cc
 entry-found {T} (entry ∷ rest) name item e = ⊎_elim
     (λ (t : bytes_eq name entry.0 ≡ true).
     let same : entry.1 ≡ item = (let k : Some entry.1 ≡ Some item = sym (ap (λ (b : Bool). cond b (Some entry.1) (entry_of rest name)) t) ∙ e in cc) in
-    (0, (omega arith), λ i. (sym (same-name name entry.0 t) i, same i)))
+    (0, (omega arith), λ i. (sym (same-text name entry.0 t) i, same i)))
     (λ (f : bytes_eq name entry.0 ≡ false).
     let r = entry-found rest name item (sym (ap (λ (b : Bool). cond b (Some entry.1) (entry_of rest name)) f) ∙ e) in
     (suc r.0, (omega (arith, r.1)), r.2))
@@ -45,7 +45,7 @@ entry-found {T} (entry ∷ rest) name item e = ⊎_elim
 pub entry-none : {T : Type 0} (entries : List (List ℕ × T)) (name : List ℕ) → (Contains (names_in entries) name → ⊥) → entry_of entries name ≡ None
 entry-none [] name h = refl
 entry-none {T} (entry ∷ rest) name h = ⊎_elim
-    (λ (t : bytes_eq name entry.0 ≡ true). absurd (h (0, (omega arith), sym (same-name name entry.0 t))))
+    (λ (t : bytes_eq name entry.0 ≡ true). absurd (h (0, (omega arith), sym (same-text name entry.0 t))))
     (λ (f : bytes_eq name entry.0 ≡ false).
     ap (λ (b : Bool). cond b (Some entry.1) (entry_of rest name)) f ∙ entry-none rest name (λ k. h (suc k.0, (omega (arith, k.1)), k.2)))
     (cases_Bool (bytes_eq name entry.0))
@@ -61,5 +61,5 @@ entry-some {T} (entry ∷ rest) name h = ⊎_elim
     (cases_Bool (bytes_eq name entry.0))
   where
     beyond : Contains (names_in (entry ∷ rest)) name → bytes_eq name entry.0 ≡ false → Contains (names_in rest) name
-    beyond (zero, l, e) f = let k : true ≡ false = sym (name-itself name entry.0 (sym e)) ∙ f in cc
+    beyond (zero, l, e) f = let k : true ≡ false = sym (text-itself name entry.0 (sym e)) ∙ f in cc
     beyond (suc i, l, e) f = (i, (omega (arith, l)), e)

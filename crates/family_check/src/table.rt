@@ -58,8 +58,8 @@ impl<T: Drop> Table<T> {
         self.rows.get(name)
     }
 
-    /// Puts an item behind the others, under a name that has none. After `Memory` the item is dropped,
-    /// and all is as before.
+    /// Puts an item behind the others, under a name that has none. `Memory` comes where there was no
+    /// room.
     pub fn add(&mut self, alloc: Global, name: &str, item: T) -> Result<(), Memory>
         requires { entry_of self.old name.now ≡ None }
         ensures { OnOk result (self.new ≡ self.old ++ (name.now, item) ∷ []) }

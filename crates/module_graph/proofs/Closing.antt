@@ -2,12 +2,13 @@
 use Rattle.std.proofs.Common.{◌≡◌, ◌≢◌, ℕ, zero, suc, ◌+◌, ◌<◌, ◌≤◌, Bool, true, false, List, [], ◌∷◌, ◌++◌, Some, refl, sym, ap, ◌∙◌, subst, inl, inr, take, drop, length, arith}
 use Rattle.std.specs.Prelude.{◌⊎◌, slice_get, slice_set, if◌then◌else◌}
 use Rattle.std.proofs.lemmas.List.{length-set, length-append, length-take}
+use Rattle.list_laws.proofs.Tests.{same-or-other}
 use Rattle.module_graph.specs.declared.components.Mark.{Mark}
 use Rattle.module_graph.specs.declared.components.Group.{Group}
 use Rattle.module_graph.specs.Family.{Leads, last, more}
 use Rattle.module_graph.specs.Places.{Has, Edges, Edge, IsBehind}
 use Rattle.module_graph.specs.Walks.{InGroup, Followed, left, closed, pending, ahead, AreMarked, AreParted, AreOpen, AreClosed, IsWalk, closed_marks}
-use Rattle.module_graph.proofs.Lists.{at-within, at-same, at-left, at-either, at-last, at-pushed, at-taken, at-take, at-dropped, at-drop, at-set-same, at-set-other, same-or-other, has-left, has-right, has-either}
+use Rattle.module_graph.proofs.Lists.{at-within, at-same, at-left, at-either, at-last, at-pushed, at-taken, at-take, at-dropped, at-drop, at-set-same, at-set-other, has-left, has-right, has-either}
 use Rattle.module_graph.proofs.Walking.{cases, less-or, open-closed, open-open, new-closed}
 
 -- the marks after places were closed

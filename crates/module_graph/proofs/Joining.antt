@@ -2,11 +2,12 @@
 use Rattle.std.proofs.Common.{◌≡◌, ℕ, ◌<◌, ◌≤◌, true, false, List, [], ◌∷◌, ◌++◌, Some, refl, sym, ap, ◌∙◌, subst, inl, inr, take, length, arith}
 use Rattle.std.specs.Prelude.{◌⊎◌, slice_get}
 use Rattle.std.proofs.lemmas.List.{length-append, length-take}
+use Rattle.list_laws.proofs.Tests.{same-or-other}
 use Rattle.module_graph.specs.declared.components.Mark.{Mark}
 use Rattle.module_graph.specs.declared.components.Group.{Group}
 use Rattle.module_graph.specs.Places.{Edges, Edge, Way}
 use Rattle.module_graph.specs.Walks.{InGroup, Followed, left, closed, pending, ahead, IsOwned, AreParted, AreOpen, IsWalk}
-use Rattle.module_graph.proofs.Lists.{at-within, at-there, at-same, at-left, at-one, at-last, at-pushed, at-taken, at-take, same-or-other}
+use Rattle.module_graph.proofs.Lists.{at-within, at-there, at-same, at-left, at-one, at-last, at-pushed, at-taken, at-take}
 use Rattle.module_graph.proofs.Walking.{cases, less-or, GroupOf, group-of, to-last}
 use Rattle.module_graph.proofs.Ways.{edge-way, way-leads, way-way, way-edge}
 

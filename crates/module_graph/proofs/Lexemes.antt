@@ -9,10 +9,10 @@ use Rattle.tla_tree.specs.Syntax.{Tree, Trees, Node, Nil, Cons}
 use Rattle.tla_model.specs.Lexemes.{LexemesLie, held, lexemes, all_lexemes, unit_lexemes, units_lexemes, module_lexemes}
 use Rattle.unit_grammar.specs.Units.{UnitTree, Variables, Constants, OperatorDefinition, FunctionDefinition, ModuleDefinition, Instance, Assumption, Theorem, Line, ModuleBegin, ModuleEnd, ModuleUnits}
 use Rattle.tla_model.specs.ModuleNames.{instantiated, instances, instances_in, module_names}
+use Rattle.list_laws.proofs.Lists.{all-both, all-left, all-right}
 use Rattle.module_graph.specs.Imports.{Scope, LiesIn, AreNamesPlaced, compared, is_needed, scope_at, imports_from, imports_of, outside, round_at, enclosing_from, enclosing_of, spelled}
 use Rattle.module_graph.specs.Rounds.{is_enclosed}
 use Rattle.module_graph.proofs.Needs.{names-compared}
-use Rattle.module_graph.proofs.WithinUnits.{all-left, all-right, all-both}
 
 module _ (P : Lexeme → Type 0) where
   held-instantiated : (form : Form.the_data) → AllByRecursion P (held form) → AllByRecursion P (instantiated form)

@@ -3,12 +3,6 @@ use Rattle.std.proofs.Common.{◌≡◌, ◌≢◌, ℕ, zero, suc, ◌+◌, ◌
 use Rattle.std.specs.Prelude.{◌⊎◌, slice_get, slice_set}
 use Rattle.module_graph.specs.Places.{Has}
 
-pub same-or-other : (i j : ℕ) → (i ≡ j) ⊎ (i ≢ j)
-same-or-other zero zero = inl refl
-same-or-other zero (suc j) = inr (λ e. cc)
-same-or-other (suc i) zero = inr (λ e. cc)
-same-or-other (suc i) (suc j) = elim (same-or-other i j) as (λ _. (suc i ≡ suc j) ⊎ (suc i ≢ suc j)) [ inl e ↦ inl (ap suc e) | inr n ↦ inr (λ e. n (cc e)) ]
-
 module _ {A : Type 0} where
   pub at-within : (xs : List A) (i : ℕ) (x : A) → slice_get xs i ≡ Some x → i < length xs
   at-within [] zero x e = cc

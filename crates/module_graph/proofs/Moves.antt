@@ -3,12 +3,13 @@ use Rattle.std.proofs.Common.{◌≡◌, ℕ, zero, suc, ◌+◌, ◌<◌, ◌�
 use Rattle.std.specs.Prelude.{OnOk, slice_get, slice_set, if◌then◌else◌}
 use Rattle.std.proofs.lemmas.List.{length-set, length-append, length-take, take_more}
 use Rattle.std.proofs.lemmas.Option.{slice_get-get_or}
+use Rattle.list_laws.proofs.Tests.{same-or-other}
 use Rattle.module_graph.specs.declared.components.Mark.{Mark}
 use Rattle.module_graph.specs.declared.components.Group.{Group}
 use Rattle.module_graph.specs.declared.components.Walk.{Walk}
 use Rattle.module_graph.specs.Places.{Has, Edges, Way, HasPlaces, IsOrdered}
 use Rattle.module_graph.specs.Walks.{AreParted, IsWalk, AreWalk, IsTop, IsPopped, AreJoined, WentOn, closed_marks, unvisited, work, KeepsFound}
-use Rattle.module_graph.proofs.Lists.{at-within, at-there, at-same, at-taken, at-last, at-set-same, at-set-other, same-or-other}
+use Rattle.module_graph.proofs.Lists.{at-within, at-there, at-same, at-taken, at-last, at-set-same, at-set-other}
 use Rattle.module_graph.proofs.Ways.{way-edge}
 use Rattle.module_graph.proofs.Walking.{cases, less-or, new-open, to-last, walk-loose, walk-closed, walk-popped, walk-opened}
 use Rattle.module_graph.proofs.Joining.{walk-joined-at}

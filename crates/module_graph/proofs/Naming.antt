@@ -20,6 +20,8 @@ use Rattle.std.proofs.lemmas.Map.Text.{is_eq-slice_cmp}
 use Rattle.std.proofs.lemmas.Map.Views.{Contains-from_any, list_any-from_Contains}
 use Rattle.std.proofs.lemmas.Option.{slice_get-map, slice_get-get_or, get_or_from_slice_get}
 use Rattle.indexmap.specs.IndexMap.{insert_entry}
+use Rattle.list_laws.proofs.Lists.{at-map, at-mapped}
+use Rattle.list_laws.proofs.Texts.{any-contains, contains-any, same-text, text-itself}
 use Rattle.module_graph.specs.Family.{name_cmp, needs_or_none, Needs, Leads, last, more, Reaches}
 use Rattle.module_graph.specs.Places.{Has, Edge, Way, HasPlaces, AreReached}
 use Rattle.module_graph.specs.Rows.{Rows, AreDistinct, named, family_of, place_of, places_of, edges_of, SomeNeeds}
@@ -32,18 +34,6 @@ Row = String Global × List (List ℕ)
 abbrev pub name : Row → List ℕ
 name row = string_bytes row.0
 
--- two names are the same where their bytes are
-tie : (o : Ordering) → is_eq o ≡ true → o ≡ Equal
-tie Less e = cc
-tie Equal e = refl
-tie Greater e = cc
-
-pub same-name : (a b : List ℕ) → bytes_eq a b ≡ true → a ≡ b
-same-name a b e = slice_cmp-IsAntisymmetric nat_cmp-IsAntisymmetric a b (tie (name_cmp a b) (is_eq-slice_cmp a b ∙ e))
-
-pub name-itself : (a b : List ℕ) → a ≡ b → bytes_eq a b ≡ true
-name-itself a b e = ap (bytes_eq a) (sym e) ∙ nat_list_eq_equiv.refl a
-
 tied : (a b : List ℕ) → eq_by_cmp name_cmp a b ≡ bytes_eq a b
 tied a b = is_eq-slice_cmp a b
 
@@ -53,15 +43,6 @@ has-contains xs x h = (h.0, at-within xs h.0 x h.1, get_or_from_slice_get xs h.0
 
 pub contains-has : {A : Type 0} (xs : List A) (x : A) → Contains xs x → Has xs x
 contains-has xs x h = (h.0, slice_get-get_or xs h.0 x h.1 ∙ ap Some h.2)
-
-pub at-map : {A B : Type 0} (f : A → B) (xs : List A) (i : ℕ) (x : A) → slice_get xs i ≡ Some x → slice_get (map f xs) i ≡ Some (f x)
-at-map f xs i x e = slice_get-map f xs i ∙ ap (option_map f) e
-
-pub at-mapped : {A B : Type 0} (f : A → B) (xs : List A) (i : ℕ) (y : B) → slice_get (map f xs) i ≡ Some y → (x : A) × (slice_get xs i ≡ Some x) × (f x ≡ y)
-at-mapped f [] zero y e = cc
-at-mapped f [] (suc i) y e = cc
-at-mapped f (x ∷ xs) zero y e = (x, refl, cc)
-at-mapped f (x ∷ xs) (suc i) y e = at-mapped f xs i y e
 
 -- what is found of some item
 has-found : {A B : Type 0} (h : A → Option B) (xs : List A) (x : A) (y : B) → Has xs x → h x ≡ Some y → Has (filter_map h xs) y
@@ -93,7 +74,7 @@ place-some (a ∷ rows) q i h =
     let l : i < length (a ∷ rows) = omega (arith, r.0, length-map (a ∷ rows) (λ (e : Row). e.0)) in
     let e = at-there (a ∷ rows) i l in
     let g : get_or (keys_of (a ∷ rows)) i a.0 ≡ (e.0).0 = get_or_from_slice_get (keys_of (a ∷ rows)) i (e.0).0 a.0 (at-map (λ (z : Row). z.0) (a ∷ rows) i e.0 e.1) in
-    (e.0, e.1, sym (same-name q (name e.0) (ap p (sym g) ∙ r.1)))
+    (e.0, e.1, sym (same-text q (name e.0) (ap p (sym g) ∙ r.1)))
 
 pub place-none : (rows : Rows) (q : List ℕ) → place_of rows q ≡ None → (i : ℕ) (row : Row) → slice_get rows i ≡ Some row → name row ≡ q → ⊥
 place-none rows q h i row e n = by (nat_lt (position_or_len p (keys_of rows)) (length (keys_of rows))) refl
@@ -106,7 +87,7 @@ place-none rows q h i row e n = by (nat_lt (position_or_len p (keys_of rows)) (l
     by false t =
         let g : get_or (keys_of rows) i row.0 ≡ row.0 = get_or_from_slice_get (keys_of rows) i row.0 row.0 (at-map (λ (z : Row). z.0) rows i row e) in
         let f : p (get_or (keys_of rows) i row.0) ≡ false = fails_before_first p (keys_of rows) i row.0 (omega (arith, ltb-false (position_or_len p (keys_of rows)) (length (keys_of rows)) t, at-within rows i row e, length-map rows (λ (z : Row). z.0))) in
-        let k : true ≡ false = sym (name-itself q (name row) (sym n)) ∙ sym (ap p g) ∙ f in
+        let k : true ≡ false = sym (text-itself q (name row) (sym n)) ∙ sym (ap p g) ∙ f in
         cc k
 
 -- no name stands twice
@@ -139,7 +120,7 @@ distinct-rows rows d i j a b e f n = elim (order-of i j) as (λ _. i ≡ j) [
     apart : (i j : ℕ) (a b : Row) → slice_get rows i ≡ Some a → slice_get rows j ≡ Some b → name a ≡ name b → i < j → ⊥
     apart i j a b e f n l =
         let q : string_eq a.0 b.0 ≡ false = distinct-at string_eq (keys_of rows) d i j a.0 b.0 (at-map (λ (z : Row). z.0) rows i a e) (at-map (λ (z : Row). z.0) rows j b f) l in
-        let k : true ≡ false = sym (name-itself (name a) (name b) n) ∙ q in
+        let k : true ≡ false = sym (text-itself (name a) (name b) n) ∙ q in
         cc k
 
 -- what the family has of a name
@@ -148,11 +129,11 @@ find-there [] d zero row e = cc
 find-there [] d (suc i) row e = cc
 find-there (z ∷ rows) d zero row e =
     let s : z ≡ row = cc in
-    ap (λ b. cond b (Some z.1) (find name_cmp (name row) (named rows))) (tied (name row) (name z) ∙ name-itself (name row) (name z) (ap name (sym s))) ∙ ap (λ (r : Row). Some r.1) s
+    ap (λ b. cond b (Some z.1) (find name_cmp (name row) (named rows))) (tied (name row) (name z) ∙ text-itself (name row) (name z) (ap name (sym s))) ∙ ap (λ (r : Row). Some r.1) s
 find-there (z ∷ rows) d (suc i) row e = by (eq_by_cmp name_cmp (name row) (name z)) refl (find-there rows (λ a b x y f g n. let k : suc a ≡ suc b = d (suc a) (suc b) x y f g n in cc k) i row e)
   where
     by : (b : Bool) → eq_by_cmp name_cmp (name row) (name z) ≡ b → find name_cmp (name row) (named rows) ≡ Some row.1 → cond b (Some z.1) (find name_cmp (name row) (named rows)) ≡ Some row.1
-    by true t rest = let k : suc i ≡ zero = d (suc i) zero row z e refl (same-name (name row) (name z) (sym (tied (name row) (name z)) ∙ t)) in cc k
+    by true t rest = let k : suc i ≡ zero = d (suc i) zero row z e refl (same-text (name row) (name z) (sym (tied (name row) (name z)) ∙ t)) in cc k
     by false t rest = rest
 
 find-some : (rows : Rows) (q : List ℕ) (needs : List (List ℕ)) → find name_cmp q (named rows) ≡ Some needs → (i : ℕ) × (row : Row) × (slice_get rows i ≡ Some row) × (name row ≡ q) × (row.1 ≡ needs)
@@ -162,7 +143,7 @@ find-some (z ∷ rows) q needs h = by (eq_by_cmp name_cmp q (name z)) refl (find
     by : (b : Bool) → eq_by_cmp name_cmp q (name z) ≡ b
         → (find name_cmp q (named rows) ≡ Some needs → (i : ℕ) × (row : Row) × (slice_get rows i ≡ Some row) × (name row ≡ q) × (row.1 ≡ needs))
         → cond b (Some z.1) (find name_cmp q (named rows)) ≡ Some needs → (i : ℕ) × (row : Row) × (slice_get (z ∷ rows) i ≡ Some row) × (name row ≡ q) × (row.1 ≡ needs)
-    by true t rest e = (0, z, refl, sym (same-name q (name z) (sym (tied q (name z)) ∙ t)), cc)
+    by true t rest e = (0, z, refl, sym (same-text q (name z) (sym (tied q (name z)) ∙ t)), cc)
     by false t rest e = let r = rest e in (suc r.0, r.1, r.2, r.3, r.4)
 
 pub family-there : (rows : Rows) → AreDistinct rows → (i : ℕ) (row : Row) → slice_get rows i ≡ Some row → get (family_of rows) (name row) ≡ Some row.1
@@ -261,13 +242,6 @@ pub absent-reaches : (rows : Rows) (q need : List ℕ) → place_of rows q ≡ N
 absent-reaches rows q need h (last n) = let r = needs-row rows _ _ n in place-none rows q h r.0 r.1 r.2 r.3
 absent-reaches rows q need h (more n l) = let r = needs-row rows _ _ n in place-none rows q h r.0 r.1 r.2 r.3
 
--- a list of names that was searched
-pub any-contains : (names : List (List ℕ)) (q : List ℕ) → list_any (bytes_eq q) names ≡ true → Contains names q
-any-contains names q h = Contains-from_any same-name q names h
-
-pub contains-any : (names : List (List ℕ)) (q : List ℕ) → Contains names q → list_any (bytes_eq q) names ≡ true
-contains-any names q h = list_any-from_Contains nat_list_eq_equiv q names h
-
 pub needs-here : (rows : Rows) (seen : List Bool) (k : ℕ) (needs : List (List ℕ)) (q : List ℕ) → slice_get seen k ≡ Some true → slice_get (map (λ (row : Row). row.1) rows) k ≡ Some needs → list_any (bytes_eq q) needs ≡ true → SomeNeeds rows seen q
 needs-here rows seen k needs q m e h =
     let r = at-mapped (λ (row : Row). row.1) rows k needs e in
@@ -326,15 +300,15 @@ put-find (z ∷ rows) key needs q = by (string_eq key z.0) refl (put-find rows k
 
     by : (b : Bool) → string_eq key z.0 ≡ b → find name_cmp q (named (insert_entry string_eq rows key needs)) ≡ cond (eq_by_cmp name_cmp q (string_bytes key)) (Some needs) rest → find name_cmp q (named (cond b ((z.0, needs) ∷ rows) (z ∷ insert_entry string_eq rows key needs))) ≡ cond (eq_by_cmp name_cmp q (string_bytes key)) (Some needs) (cond (eq_by_cmp name_cmp q (name z)) (Some z.1) rest)
     by true t grown =
-        let same : string_bytes key ≡ name z = same-name (string_bytes key) (name z) t in
+        let same : string_bytes key ≡ name z = same-text (string_bytes key) (name z) t in
         shadowed (eq_by_cmp name_cmp q (name z)) (Some needs) (Some z.1) rest ∙ ap (λ n. cond (eq_by_cmp name_cmp q n) (Some needs) (cond (eq_by_cmp name_cmp q (name z)) (Some z.1) rest)) (sym same)
     by false t grown =
         ap (cond (eq_by_cmp name_cmp q (name z)) (Some z.1)) grown
         ∙ swapped (eq_by_cmp name_cmp q (name z)) (eq_by_cmp name_cmp q (string_bytes key)) (Some z.1) (Some needs) rest
         (λ a b.
-        let here : q ≡ name z = same-name q (name z) (sym (tied q (name z)) ∙ a) in
-        let there : q ≡ string_bytes key = same-name q (string_bytes key) (sym (tied q (string_bytes key)) ∙ b) in
-        let k : true ≡ false = sym (name-itself (string_bytes key) (name z) (sym there ∙ here)) ∙ t in
+        let here : q ≡ name z = same-text q (name z) (sym (tied q (name z)) ∙ a) in
+        let there : q ≡ string_bytes key = same-text q (string_bytes key) (sym (tied q (string_bytes key)) ∙ b) in
+        let k : true ≡ false = sym (text-itself (string_bytes key) (name z) (sym there ∙ here)) ∙ t in
         cc k)
 
 pub family-put : (rows : Rows) (key : String Global) (needs : List (List ℕ)) → family_of (insert_entry string_eq rows key needs) ≡ insert (family_of rows) (string_bytes key) needs

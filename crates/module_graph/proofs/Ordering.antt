@@ -8,11 +8,13 @@ use Rattle.std.specs.declared.cmp.Ordering.{Ordering}
 use Rattle.std.specs.declared.cmp.Ordering.TheVariants.{Less, Equal, Greater}
 use Rattle.std.proofs.lemmas.List.{length-map}
 use Rattle.std.proofs.lemmas.Option.{slice_get-get_or}
+use Rattle.list_laws.proofs.Lists.{at-map, at-mapped}
+use Rattle.list_laws.proofs.Tests.{less-is, same-or-other}
 use Rattle.module_graph.specs.Family.{name_cmp, Leads, last, more, Reaches, IsOrder, IsFirstCyclic}
 use Rattle.module_graph.specs.Places.{Has, Edge, IsOrdered}
 use Rattle.module_graph.specs.Rows.{Rows, AreDistinct, name_of, name_at, family_of, places_of, edges_of, IsFirst}
-use Rattle.module_graph.proofs.Lists.{at-within, at-there, at-same, same-or-other}
-use Rattle.module_graph.proofs.Naming.{Row, name, has-contains, contains-has, at-map, at-mapped, family-there, family-some, needs-row, row-needs, edge-needs, needs-edge, row-at, first-row, reach-way}
+use Rattle.module_graph.proofs.Lists.{at-within, at-there, at-same}
+use Rattle.module_graph.proofs.Naming.{Row, name, has-contains, contains-has, family-there, family-some, needs-row, row-needs, edge-needs, needs-edge, row-at, first-row, reach-way}
 use Rattle.module_graph.proofs.Walking.{cases}
 use Rattle.module_graph.proofs.Ways.{way-leads}
 
@@ -143,11 +145,6 @@ first-next rows places k first place next e f (inr q) = subst (IsFirstOf rows pl
       λ z. q.0 (ap (λ p. name_cmp (name_at rows p) (name_at rows first)) (sym s) ∙ z))
       (λ n. f.first j other (omega (arith, m, n)) g);
 })
-
-less-is : (o : Ordering) → is_lt o ≡ true → o ≡ Less
-less-is Less e = refl
-less-is Equal e = cc
-less-is Greater e = cc
 
 less-not : (o : Ordering) → is_lt o ≡ false → o ≡ Less → ⊥
 less-not o e q = let k : is_lt o ≡ true = ap is_lt q in cc

@@ -2,9 +2,10 @@
 use Rattle.std.proofs.Common.{◌≡◌, ℕ, zero, suc, ◌+◌, ◌<◌, Bool, true, false, List, [], ◌∷◌, ◌++◌, Some, sym, ap, ◌∙◌, subst, inl, inr, length, arith}
 use Rattle.std.specs.Prelude.{◌⊎◌, slice_get, slice_set}
 use Rattle.std.proofs.lemmas.List.{length-set, length-append}
+use Rattle.list_laws.proofs.Tests.{same-or-other}
 use Rattle.module_graph.specs.Family.{Leads, last, more}
 use Rattle.module_graph.specs.Places.{Has, Edges, Edge, Way, HasPlaces, AreReached}
-use Rattle.module_graph.proofs.Lists.{at-set-same, at-set-other, same-or-other, at-pushed, at-last, at-same, at-there, at-within, has-left, has-right, has-either}
+use Rattle.module_graph.proofs.Lists.{at-set-same, at-set-other, at-pushed, at-last, at-same, at-there, at-within, has-left, has-right, has-either}
 use Rattle.module_graph.proofs.Ways.{way-edge}
 
 -- what is seen has had its row put among what is to do

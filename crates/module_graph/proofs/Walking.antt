@@ -2,11 +2,12 @@
 use Rattle.std.proofs.Common.{◌≡◌, ◌≢◌, ℕ, zero, suc, ◌+◌, ◌<◌, ◌≤◌, true, false, List, [], ◌∷◌, ◌++◌, Some, sym, ap, ◌∙◌, subst, inl, inr, length, arith}
 use Rattle.std.specs.Prelude.{◌⊎◌, slice_get, slice_set}
 use Rattle.std.proofs.lemmas.List.{length-set, length-append}
+use Rattle.list_laws.proofs.Tests.{same-or-other}
 use Rattle.module_graph.specs.declared.components.Mark.{Mark}
 use Rattle.module_graph.specs.declared.components.Group.{Group}
 use Rattle.module_graph.specs.Places.{Has, Edges, Way}
 use Rattle.module_graph.specs.Walks.{InGroup, Followed, left, closed, pending, ahead, IsOwned, AreMarked, AreParted, AreOpen, IsWalk}
-use Rattle.module_graph.proofs.Lists.{at-within, at-there, at-same, at-left, at-right, at-either, at-one, at-last, at-pushed, at-set-same, at-set-other, same-or-other}
+use Rattle.module_graph.proofs.Lists.{at-within, at-there, at-same, at-left, at-right, at-either, at-one, at-last, at-pushed, at-set-same, at-set-other}
 use Rattle.module_graph.proofs.Ways.{way-way}
 
 pub cases : {A B C : Type 0} → A ⊎ B → (A → C) → (B → C) → C

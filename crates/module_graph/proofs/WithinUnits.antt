@@ -8,6 +8,7 @@ use Rattle.tla_tree.specs.Syntax.{Tree, Node}
 use Rattle.unit_grammar.specs.Units.{UnitTree, Instance, Assumption, Theorem, ModuleEnd, ModuleUnits, defined}
 use Rattle.unit_grammar.specs.Derivation as d
 use Rattle.tla_model.specs.ModuleNames.{module_names, instances}
+use Rattle.list_laws.proofs.Lists.{all-both, all-left, all-right}
 use Rattle.module_graph.specs.Imports.{Scope, spelled, begun, outside, is_needed, imports_from, imports_of, compared, LiesIn, AreNamesPlaced}
 use Rattle.module_graph.specs.Within.{IsWithin, none, other, next}
 use Rattle.module_graph.proofs.Within.{after, both, before, last, filtered, all-within}
@@ -62,18 +63,6 @@ module _ (text outermost : List ℕ) where
 -- the needs of a module stand in its lexemes, in their order
 pub imports-in : (text : List ℕ) (found : ModuleUnits) (lexemes : List Lexeme) → d.DerivesModule found lexemes → IsWithin (imports_of text found) lexemes
 imports-in text _ _ (d.outermost {n} {names} {a} {b} {units} c k us m) = both (extends-in k) (before (c ∷ []) (units-in text (spelled text n) us outside))
-
-pub all-left : {A : Type 0} (P : A → Type 0) (a b : List A) → AllByRecursion P (a ++ b) → AllByRecursion P a
-all-left P [] b all = tt
-all-left P (x ∷ a) b all = (all.0, all-left P a b all.1)
-
-pub all-right : {A : Type 0} (P : A → Type 0) (a b : List A) → AllByRecursion P (a ++ b) → AllByRecursion P b
-all-right P [] b all = all
-all-right P (x ∷ a) b all = all-right P a b all.1
-
-pub all-both : {A : Type 0} (P : A → Type 0) (a b : List A) → AllByRecursion P a → AllByRecursion P b → AllByRecursion P (a ++ b)
-all-both P [] b all more = more
-all-both P (x ∷ a) b all more = (all.0, all-both P a b all.1 more)
 
 module _ (P : Lexeme → Type 0) where
   abbrev Compares : UnitTree → Type 0

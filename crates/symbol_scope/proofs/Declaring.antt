@@ -10,9 +10,9 @@ use Rattle.tla_tree.proofs.Nodes.{before-there}
 use Rattle.tla_model.specs.declared.names.Binder.{Binder}
 use Rattle.tla_model.specs.Entities.{Binding, binding_in, binding_of, bound_as, declared_among, declared_in, declared_round, defined as defined_by, follows_first, placed}
 use Rattle.symbol_scope.specs.declared.declared.Due.TheVariants as due
-use Rattle.symbol_scope.specs.Nodes.{form_at, parts_at, defined_at}
+use Rattle.tree_scope.specs.Nodes.{form_at, parts_at, defined_at}
 use Rattle.symbol_scope.specs.Collecting.{Due, AreDue, IsOpened, IsTaken, all_due, all_size, due_of, lead, names_of, size, sizes, stack}
-use Rattle.symbol_scope.proofs.Nodewise.{tree-at}
+use Rattle.tree_scope.proofs.Nodewise.{tree-at}
 
 regroup : {A : Type 0} (a b c d e : List A) → (a ++ (b ++ (c ++ d))) ++ e ≡ a ++ (b ++ (c ++ (d ++ e)))
 regroup a b c d e = append_assoc a (b ++ (c ++ d)) e ∙ ap (λ z. a ++ z) (append_assoc b (c ++ d) e ∙ ap (λ z. b ++ z) (append_assoc c d e))

@@ -11,10 +11,11 @@ use Rattle.tla_model.specs.Entities.{Meaning, Text, meant, name_of}
 use Rattle.tla_model.specs.Exports.{Exports, exports_of}
 use Rattle.tla_model.specs.Modules.{Place, Reading, brings, clashes, declare, declare_all, extended, extends_all, with_entry}
 use Rattle.tla_model.specs.Tables.{Named, Table, Word, Symbol, added, has, lookup, same_symbol}
-use Rattle.symbol_scope.specs.declared.table.Mark.{Mark}
+use Rattle.name_context.specs.declared.context.Mark.{Mark}
 use Rattle.symbol_scope.specs.declared.nesting.Outer.{Outer}
-use Rattle.symbol_scope.specs.Held.{cut, mark_of}
-use Rattle.symbol_scope.specs.Readings.{Files, ModuleNames, brought, modules_of, taken_by}
+use Rattle.name_context.specs.AsTables.{cut, mark_of}
+use Rattle.symbol_scope.specs.Readings.{Files, modules_of, taken_by}
+use Rattle.name_context.specs.Brought.{ModuleNames, brought}
 use Rattle.symbol_scope.specs.Rounds.{AreRound, IsAt, IsOuter, begun_in, behind, left_by, outside_of}
 use Rattle.symbol_scope.specs.declared.nesting.Nesting.{Nesting}
 

@@ -9,18 +9,7 @@ use Rattle.tla_model.specs.declared.names.Binder.{Binder}
 use Rattle.tla_model.specs.Entities.{Binding, binding_in, binding_of, bound_as, declared_among, declared_in, declared_round, defined, follows_first, placed, variables}
 use Rattle.tla_model.specs.Lexemes.{all_lexemes, held, lexemes}
 use Rattle.tla_model.specs.Modules.{definition}
-
-pub all-left : {A : Type 0} (P : A → Type 0) (a b : List A) → AllByRecursion P (a ++ b) → AllByRecursion P a
-all-left P [] b all = tt
-all-left P (x ∷ a) b all = (all.0, all-left P a b all.1)
-
-pub all-right : {A : Type 0} (P : A → Type 0) (a b : List A) → AllByRecursion P (a ++ b) → AllByRecursion P b
-all-right P [] b all = all
-all-right P (x ∷ a) b all = all-right P a b all.1
-
-pub all-both : {A : Type 0} (P : A → Type 0) (a b : List A) → AllByRecursion P a → AllByRecursion P b → AllByRecursion P (a ++ b)
-all-both P [] b first second = second
-all-both P (x ∷ a) b first second = (first.0, all-both P a b first.1 second)
+use Rattle.list_laws.proofs.Lists.{all-both, all-left, all-right}
 
 module _ (P : Lexeme → Type 0) where
   abbrev Named : List Binder → Type 0

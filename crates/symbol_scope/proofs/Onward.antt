@@ -16,6 +16,7 @@ use Rattle.tla_model.specs.Entities.{Text, declared_by, variables}
 use Rattle.tla_model.specs.Lexemes.{module_lexemes, unit_lexemes, units_lexemes}
 use Rattle.tla_model.specs.Scopes.{Finding}
 use Rattle.tla_model.specs.Modules.{Place, Reading, constants, definition}
+use Rattle.list_laws.proofs.Lists.{all-left, all-right}
 use Rattle.symbol_scope.specs.WithoutInstances.{after, found_from, found_in, read_all}
 use Rattle.symbol_scope.specs.declared.nesting.Nesting.{Nesting}
 use Rattle.symbol_scope.specs.Modules.{reading_of}
@@ -23,7 +24,7 @@ use Rattle.symbol_scope.specs.Plain.{found_by, read_by}
 use Rattle.symbol_scope.specs.Readings.{Files, no_files}
 use Rattle.symbol_scope.specs.Rounds.{AreRound, IsAt, found_here}
 use Rattle.symbol_scope.proofs.Growing.{Went, round-went, waits, went-declares}
-use Rattle.symbol_scope.proofs.Lexemes.{all-left, all-right, among-lies, variables-lie}
+use Rattle.symbol_scope.proofs.Lexemes.{among-lies, variables-lie}
 use Rattle.symbol_scope.proofs.Taking.{same-declared}
 
 pub take-mapped : {A B : Type 0} (f : A → B) (xs : List A) (i : ℕ) (d : A) → i < length xs → d ≡ get_or xs i d → map f (take (i + 1) xs) ≡ map f (take i xs) ++ f d ∷ []

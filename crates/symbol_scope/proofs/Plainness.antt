@@ -23,7 +23,9 @@ use Rattle.tla_model.specs.Scopes.{all_refused, behind, binders, found, has_set,
 use Rattle.tla_model.specs.declared.ids.DeclId.{DeclId}
 use Rattle.tla_model.specs.Tables.{lookup}
 use Rattle.symbol_scope.specs.Given.{IsWithoutInstances}
+use Rattle.name_context.specs.Brought as in_brought
 use Rattle.symbol_scope.specs.WithoutInstances as plain
+use Rattle.tree_scope.specs.TreeFindings as in_trees
 
 -- ---- lists that are empty
 
@@ -100,13 +102,13 @@ module _ (text : Text) (around : Around) (none_behind : IsNone around.behind) wh
   no-behind (Some (Declared entity callee)) = none_behind callee.decl
 
   -- a form that declares or binds names
-  with-names : (context : Context) (form : Form.the_data) (parts : Trees) → whole.walk_sets text around (reserved text context form parts) parts ≡ plain.walk_sets text (reserved text context form parts) parts → whole.walk_rest text around (scope text context form parts) parts ≡ plain.walk_rest text (scope text context form parts) parts →
+  with-names : (context : Context) (form : Form.the_data) (parts : Trees) → whole.walk_sets text around (reserved text context form parts) parts ≡ in_trees.walk_sets text (reserved text context form parts) parts → whole.walk_rest text around (scope text context form parts) parts ≡ in_trees.walk_rest text (scope text context form parts) parts →
       all_refused text context (defined form parts) ++ whole.walk_sets text around (reserved text context form parts) parts ++ all_refused text (inside text context form parts) (binders form parts) ++ whole.walk_rest text around (scope text context form parts) parts
-      ≡ all_refused text context (defined form parts) ++ plain.walk_sets text (reserved text context form parts) parts ++ all_refused text (inside text context form parts) (binders form parts) ++ plain.walk_rest text (scope text context form parts) parts
+      ≡ all_refused text context (defined form parts) ++ in_trees.walk_sets text (reserved text context form parts) parts ++ all_refused text (inside text context form parts) (binders form parts) ++ in_trees.walk_rest text (scope text context form parts) parts
   with-names context form parts sets rest = λ i. all_refused text context (defined form parts) ++ sets i ++ all_refused text (inside text context form parts) (binders form parts) ++ rest i
 
   mutual
-    walk-plain : (context : Context) (x : Tree) → instances x ≡ [] → whole.walk text around context x ≡ plain.walk text context x
+    walk-plain : (context : Context) (x : Tree) → instances x ≡ [] → whole.walk text around context x ≡ in_trees.walk text context x
     walk-plain context (Node Form.Identifier s parts) none = segments-plain context parts none
     walk-plain context (Node (Form.Symbol l) s parts) none = refl
     walk-plain context (Node (Form.Prefix l) s parts) none = ap (λ z. symbol context prefixed l l.kind ++ z) (each-plain context parts none)
@@ -122,40 +124,40 @@ module _ (text : Text) (around : Around) (none_behind : IsNone around.behind) wh
         let inner = right-none (instantiated form) (instances_in parts) none in
         with-names context form parts (sets-plain (reserved text context form parts) parts inner) (rest-plain (scope text context form parts) parts inner)
 
-    each-plain : (context : Context) (parts : Trees) → instances_in parts ≡ [] → whole.walk_each text around context parts ≡ plain.walk_each text context parts
+    each-plain : (context : Context) (parts : Trees) → instances_in parts ≡ [] → whole.walk_each text around context parts ≡ in_trees.walk_each text context parts
     each-plain context Nil none = refl
     each-plain context (Cons x rest) none =
-        both-same (whole.walk text around context x) (plain.walk text context x) (whole.walk_each text around context rest) (plain.walk_each text context rest) (walk-plain context x (left-none (instances x) (instances_in rest) none))
+        both-same (whole.walk text around context x) (in_trees.walk text context x) (whole.walk_each text around context rest) (in_trees.walk_each text context rest) (walk-plain context x (left-none (instances x) (instances_in rest) none))
         (each-plain context rest (right-none (instances x) (instances_in rest) none))
 
-    round-plain : (context : Context) (l : Lexeme) (parts : Trees) → instances_in parts ≡ [] → whole.walk_round text around context l parts ≡ plain.walk_round text context l parts
+    round-plain : (context : Context) (l : Lexeme) (parts : Trees) → instances_in parts ≡ [] → whole.walk_round text around context l parts ≡ in_trees.walk_round text context l parts
     round-plain context l Nil none = refl
     round-plain context l (Cons x rest) none =
         let first = walk-plain context x (left-none (instances x) (instances_in rest) none) in
         let more = each-plain context rest (right-none (instances x) (instances_in rest) none) in
         λ i. first i ++ symbol context itself l l.kind ++ more i
 
-    chain-plain : (context : Context) (parts : Trees) → instances_in parts ≡ [] → whole.walk_chain text around context parts ≡ plain.walk_chain text context parts
+    chain-plain : (context : Context) (parts : Trees) → instances_in parts ≡ [] → whole.walk_chain text around context parts ≡ in_trees.walk_chain text context parts
     chain-plain context Nil none = refl
     chain-plain context (Cons x rest) none =
-        both-same (whole.walk text around context x) (plain.walk text context x) (whole.walk_chain text around (behind text context x) rest) (plain.walk_chain text (behind text context x) rest) (walk-plain context x (left-none (instances x) (instances_in rest) none))
+        both-same (whole.walk text around context x) (in_trees.walk text context x) (whole.walk_chain text around (behind text context x) rest) (in_trees.walk_chain text (behind text context x) rest) (walk-plain context x (left-none (instances x) (instances_in rest) none))
         (chain-plain (behind text context x) rest (right-none (instances x) (instances_in rest) none))
 
-    sets-plain : (context : Context) (parts : Trees) → instances_in parts ≡ [] → whole.walk_sets text around context parts ≡ plain.walk_sets text context parts
+    sets-plain : (context : Context) (parts : Trees) → instances_in parts ≡ [] → whole.walk_sets text around context parts ≡ in_trees.walk_sets text context parts
     sets-plain context Nil none = refl
     sets-plain context (Cons (Node form s parts) rest) none =
         let first = walk-plain context (Node form s parts) (left-none (instances (Node form s parts)) (instances_in rest) none) in
         let more = sets-plain context rest (right-none (instances (Node form s parts)) (instances_in rest) none) in
         λ i. (if has_set form then first i else []) ++ more i
 
-    rest-plain : (context : Context) (parts : Trees) → instances_in parts ≡ [] → whole.walk_rest text around context parts ≡ plain.walk_rest text context parts
+    rest-plain : (context : Context) (parts : Trees) → instances_in parts ≡ [] → whole.walk_rest text around context parts ≡ in_trees.walk_rest text context parts
     rest-plain context Nil none = refl
     rest-plain context (Cons (Node form s parts) rest) none =
         let first = walk-plain context (Node form s parts) (left-none (instances (Node form s parts)) (instances_in rest) none) in
         let more = rest-plain context rest (right-none (instances (Node form s parts)) (instances_in rest) none) in
         λ i. (if has_set form then [] else first i) ++ more i
 
-    segments-plain : (context : Context) (parts : Trees) → instances_in parts ≡ [] → whole.segments text around context parts ≡ plain.segments text context parts
+    segments-plain : (context : Context) (parts : Trees) → instances_in parts ≡ [] → whole.segments text around context parts ≡ in_trees.segments text context parts
     segments-plain context Nil none = refl
     segments-plain context (Cons (Node (Form.Segment l) s arguments) rest) none =
         let meaning = meaning_of context (name_of text.source l) in
@@ -165,7 +167,7 @@ module _ (text : Text) (around : Around) (none_behind : IsNone around.behind) wh
         λ i. found l meaning ++ first i ++ (if is_some meaning then onward i else [])
     segments-plain context (Cons (Node _ s arguments) rest) none = refl
 
-    path-plain : (context : Context) (number : ℕ) (parts : Trees) → instances_in parts ≡ [] → whole.path text around context number [] parts ≡ plain.unfound text context parts
+    path-plain : (context : Context) (number : ℕ) (parts : Trees) → instances_in parts ≡ [] → whole.path text around context number [] parts ≡ in_trees.unfound text context parts
     path-plain context number Nil none = refl
     path-plain context number (Cons (Node (Form.Segment l) s arguments) rest) none =
         let first = each-plain context arguments (left-none (instances_in arguments) (instances_in rest) none) in
@@ -238,7 +240,7 @@ module _ (text : Text) (files : List ℕ → Outside) (words : List ℕ) where
     found-plain position (FunctionDefinition local x) none = walk-plain text (round position) none_behind position.place.here.context x none
     found-plain position (ModuleDefinition local x) none = walk-plain text (round position) none_behind position.place.here.context x none
     found-plain position (Instance local x) none =
-        (λ i. walk-plain text (round position) none_behind position.place.here.context x none i ++ clashes-none position x none i) ∙ append-nil (plain.walk text position.place.here.context x)
+        (λ i. walk-plain text (round position) none_behind position.place.here.context x none i ++ clashes-none position x none i) ∙ append-nil (in_trees.walk text position.place.here.context x)
     found-plain position (Assumption word name x) none = walk-plain text (round position) none_behind position.place.here.context x none
     found-plain position (Theorem word name x) none = walk-plain text (round position) none_behind position.place.here.context x none
     found-plain position (Line dashes) none = refl
@@ -275,7 +277,7 @@ module _ (files : List ℕ → Outside) (source : List ℕ) (units : ModuleUnits
 
 -- ---- imports
 
-import-plain : (import' : Option Import) → plain.import_exports import' ≡ (import_outside import').exports
+import-plain : (import' : Option Import) → in_brought.import_exports import' ≡ (import_outside import').exports
 import-plain None = refl
 import-plain (Some Import.Unknown) = refl
 import-plain (Some Import.Cyclic) = refl

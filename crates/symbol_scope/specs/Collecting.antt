@@ -7,7 +7,7 @@ use Rattle.tla_tree.specs.Syntax.{Tree, Trees}
 use Rattle.tla_model.specs.declared.names.Binder.{Binder}
 use Rattle.tla_model.specs.Entities.{Binding, bound_as, declared_in, placed}
 use Rattle.symbol_scope.specs.declared.declared.Due.TheVariants as due
-use Rattle.symbol_scope.specs.Nodes.{defined_at}
+use Rattle.tree_scope.specs.Nodes.{defined_at}
 
 abbrev pub Due : Type 0
 Due = due.the_data

@@ -1,11 +1,5 @@
 pub mod Given
-pub mod Held
-pub mod Listed
-pub mod Nodes
 pub mod Collecting
-pub mod Places
-pub mod Lying
-pub mod Walking
 pub mod Readings
 pub mod Modules
 pub mod Rounds

@@ -1,7 +1,8 @@
 -- The module that is read in code, as that of the definitions.
 use Rattle.tla_model.specs.Modules.{Reading}
 use Rattle.symbol_scope.specs.declared.reading.Reading.{Reading as Read}
-use Rattle.symbol_scope.specs.Readings.{as_read, modules_of}
+use Rattle.name_context.specs.Brought.{as_read}
+use Rattle.symbol_scope.specs.Readings.{modules_of}
 
 abbrev pub reading_of : Read → Reading
 reading_of read = as_read read.name.now (modules_of read.modules.entries) read.names

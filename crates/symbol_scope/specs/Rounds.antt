@@ -13,9 +13,10 @@ use Rattle.tla_symbols.specs.declared.lexeme.Lexeme.{Lexeme}
 use Rattle.tla_model.specs.Tables.{added, empty}
 use Rattle.symbol_scope.specs.declared.nesting.Outer.{Outer}
 use Rattle.symbol_scope.specs.declared.nesting.Nesting.{Nesting}
-use Rattle.symbol_scope.specs.Held.{cut}
+use Rattle.name_context.specs.AsTables.{cut}
 use Rattle.symbol_scope.specs.Modules.{reading_of}
-use Rattle.symbol_scope.specs.Readings.{Files, ModuleNames}
+use Rattle.symbol_scope.specs.Readings.{Files}
+use Rattle.name_context.specs.Brought.{ModuleNames}
 
 -- a nested module of this title that begins
 abbrev pub begun_in : Reading → List ℕ → Reading

@@ -2,11 +2,11 @@
 ghost use Rattle.std.specs.Prelude.{◌≡◌, ◌++◌, IfOk, OnOk, map};
 ghost use Rattle.tla_model.specs.Bindings as bindings;
 
-use crate::text::ModuleText;
 use std::alloc::Global;
 use tla_model::{Binder, Callee, Decl, Diagnostic, Entity, Finding, Implied, Level, Meaning, Use};
 use tla_symbols::Lexeme;
 use tool_list::{Chars, List, Memory};
+use tree_scope::ModuleText;
 
 /// Uses, what each stands for and calls, the replacements that are not written, and faults.
 #[derive(Drop)]

@@ -6,13 +6,12 @@ ghost use Rattle.tla_model.specs.Entities as entities;
 ghost use Rattle.unit_grammar.specs.UnitNodes.{HasNodes, nodes_in, module_of, unit_at};
 ghost use Rattle.symbol_scope.specs.Collecting as due;
 
-use crate::forms::{binding_in, follows_first};
-use crate::parts::{defined, push_placed};
 use std::alloc::Global;
 use tla_model::{Binder, Binding, Entity};
 use tla_symbols::Lexeme;
 use tla_tree::{ModuleTree, Tree, Unit};
 use tool_list::{List, Memory};
+use tree_scope::{binding_in, defined, follows_first, push_placed};
 
 /// What is due of a tree whose declaring names are collected.
 #[derive(Clone, Copy)]

@@ -1,27 +1,14 @@
-//! What the names of a module stand for.
+//! What the names of a module stand for, and what the module exports.
+//!
+//! Answers both over the modules that it names. Knows nothing of where those come from, and of which of
+//! them are refused.
 #![tactic(auto)]
 
 mod bound;
 mod declared;
-mod due;
-mod exported;
-mod extend;
-mod forms;
 mod nesting;
-mod parts;
 mod reading;
 mod resolution;
-mod same;
-mod scopes;
-mod table;
-mod tasks;
-mod text;
 mod units;
-mod uses;
-mod visits;
-mod walk;
 
 pub use resolution::{exports, resolve};
-
-#[cfg(test)]
-mod tests;

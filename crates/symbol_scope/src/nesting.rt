@@ -4,9 +4,8 @@ ghost use Rattle.tla_model.specs.Modules.{Place, Reading as Read};
 ghost use Rattle.symbol_scope.specs.Modules.{reading_of};
 ghost use Rattle.symbol_scope.specs.Rounds.{IsAt, IsOuter, begun_in, behind, outside_of};
 
-use crate::exported::Exported;
 use crate::reading::{Reading, take_name};
-use crate::table::Mark;
+use name_context::{Exported, Mark};
 use std::alloc::Global;
 use std::mem;
 use tool_list::Memory;

@@ -10,25 +10,22 @@ ghost use Rattle.tla_model.specs.Lexemes.{LiesIn, lexemes};
 ghost use Rattle.tla_model.specs.Scopes as scopes;
 ghost use Rattle.tla_model.specs.Modules as in_modules;
 ghost use Rattle.tla_model.specs.Tables as tables;
-ghost use Rattle.symbol_scope.specs.Held.{held};
-ghost use Rattle.symbol_scope.specs.Listed.{listed};
-ghost use Rattle.symbol_scope.specs.Lying.{BindersLie};
+ghost use Rattle.name_context.specs.AsTables.{context_of};
+ghost use Rattle.tree_scope.specs.Listed.{listed};
+ghost use Rattle.tree_scope.specs.Lying.{BindersLie};
 ghost use Rattle.symbol_scope.specs.Readings as readings;
-ghost use Rattle.symbol_scope.specs.Readings.{IsBrought, modules_of, no_files};
+ghost use Rattle.name_context.specs.Brought.{IsBrought};
+ghost use Rattle.symbol_scope.specs.Readings.{modules_of, no_files};
 ghost use Rattle.symbol_scope.specs.Modules.{reading_of};
 
-use crate::exported::{Exported, Names};
-use crate::extend::{bring_import, bring_nested};
-use crate::parts::defined;
-use crate::scopes::refuse;
-use crate::table::{Context, Named};
-use crate::text::ModuleText;
 use indexmap::IndexMap;
+use name_context::{Context, Exported, Named, Names, bring_import, bring_nested};
 use std::alloc::Global;
-use tla_model::{Binder, Finding, Imported, Meaning};
+use tla_model::{Binder, Finding, Imported, Meaning, NameTable};
 use tla_symbols::Lexeme;
 use tla_tree::Tree;
 use tool_list::{List, Memory};
+use tree_scope::{ModuleText, defined, refuse};
 
 /// Module names that are taken, and what those export that can be named.
 pub type Taken<'a> = IndexMap<&'a str, Option<Exported<'a>>>;
@@ -41,15 +38,24 @@ pub struct Reading<'a> {
     pub modules: Taken<'a>,
 }
 
-/// The context before all names of a module.
-fn built_in(alloc: Global) -> Result<Context<'static>, Memory>
-    ensures { IfOk result (λ context. held context ≡ built_in) }
+// Puts the built-in words.
+fn put_built_in(context: &mut Context<'_>) -> Result<(), Memory>
+    requires { context_of context.old ≡ tables.empty }
+    ensures { OnOk result (context_of context.new ≡ built_in) }
 {
-    let mut context = Context::new(alloc);
     context.put(Named::Word("TRUE"), Some(Meaning::BuiltIn))?;
     context.put(Named::Word("FALSE"), Some(Meaning::BuiltIn))?;
     context.put(Named::Word("BOOLEAN"), Some(Meaning::BuiltIn))?;
     context.put(Named::Word("STRING"), Some(Meaning::BuiltIn))?;
+    Ok(())
+}
+
+// The context before all names of a module.
+fn built_in(alloc: Global) -> Result<Context<'static>, Memory>
+    ensures { IfOk result (λ context. context_of context ≡ built_in) }
+{
+    let mut context = Context::new(alloc);
+    put_built_in(&mut context)?;
     Ok(context)
 }
 
@@ -174,7 +180,7 @@ impl<'a> Reading<'a> {
     ) -> Result<(), Memory>
         requires { LiesIn text.now.source binder.name }
         ensures reading { OnOk result (reading_of self.new ≡ in_modules.declare text.now no_files local (reading_of self.old) binder) }
-        ensures context { OnOk result (held self.new.names.context ≡ contexts.bind text.now (held self.old.names.context) binder) }
+        ensures context { OnOk result (context_of self.new.names.context ≡ contexts.bind text.now (context_of self.old.names.context) binder) }
     {
         let name = text.name_of(binder.name);
         if self.names.context.get(name).is_some() {
@@ -201,7 +207,7 @@ impl<'a> Reading<'a> {
     ) -> Result<(), Memory>
         requires { BindersLie text.now.source binders }
         ensures reading { OnOk result (reading_of self.new ≡ in_modules.declare_all text.now no_files false (reading_of self.old) binders) }
-        ensures findings { OnOk result (findings.new ≡ findings.old ++ scopes.all_refused text.now (held self.old.names.context) binders) }
+        ensures findings { OnOk result (findings.new ≡ findings.old ++ scopes.all_refused text.now (context_of self.old.names.context) binders) }
     {
         for binder in binders.into_vec() {
             refuse(text, &self.names.context, binder.name, findings)?;
@@ -227,6 +233,13 @@ impl<'a> Reading<'a> {
             self.declare(alloc, text, local, binder)?;
         }
         Ok(())
+    }
+
+    /// What the module exports so far.
+    pub fn exported(&self, alloc: Global) -> Result<NameTable, Memory>
+        ensures { IfOk result (λ table. table ≡ (reading_of self.now).exports) }
+    {
+        self.names.exports.listed(alloc)
     }
 
     /// Whether a module name is taken.

@@ -1,6 +1,6 @@
 // What the names of a module mean, and what it exports.
-ghost use Rattle.std.specs.Prelude.{◌≡◌, ◌++◌, IfOk};
-ghost use Rattle.tla_model.specs.Bindings.{IsBound, IsBoundBy};
+ghost use Rattle.std.specs.Prelude.{◌≡◌, ◌++◌, IfOk, OnOk};
+ghost use Rattle.tla_model.specs.Bindings.{AreInOrder, IsBound, IsBoundBy};
 ghost use Rattle.tla_model.specs.Entities as entities;
 ghost use Rattle.tla_model.specs.Exports.{exports_of};
 ghost use Rattle.symbol_scope.specs.WithoutInstances.{files_of};
@@ -13,15 +13,15 @@ ghost use Rattle.unit_grammar.specs.UnitNodes.{HasNodes, module_of};
 ghost use Rattle.symbol_scope.specs.Given.{IsReadable, IsWithoutInstances};
 ghost use Rattle.symbol_scope.specs.Modules.{reading_of};
 
-use crate::bound::{declarations, sorted_out};
+use crate::bound::{Found, declarations, sorted_out};
 use crate::declared::declaring;
 use crate::nesting::Nesting;
 use crate::reading::Reading;
-use crate::text::ModuleText;
 use std::alloc::Global;
-use tla_model::{Binder, Bound, Finding, Imported, NameTable, in_order, spelled};
+use tla_model::{Binder, Bound, Decl, Finding, Imported, NameTable, in_order, spelled};
 use tla_tree::ModuleTree;
 use tool_list::{List, Memory};
+use tree_scope::ModuleText;
 
 // The text of a module, by the names that it declares.
 fn text_of<'a>(
@@ -38,48 +38,75 @@ fn text_of<'a>(
     ModuleText::new(alloc, file, source, names)
 }
 
-/// A module that was read, and what was found in it.
-#[derive(Drop)]
-struct ModuleRead<'a> {
-    reading: Reading<'a>,
-    findings: List<Finding>,
-}
-
 // Reads a module, over the modules that it names.
 fn read_module<'a>(
     alloc: Global,
     text: &ModuleText<'a>,
     tree: &'a ModuleTree,
     imported: &'a Imported,
-) -> Result<ModuleRead<'a>, Memory>
+    findings: &mut List<Finding>,
+) -> Result<Nesting<'a>, Memory>
     requires nodes { HasNodes tree.now }
     requires lie { LexemesLie text.now.source (module_of tree.now) }
-    ensures reading { IfOk result (λ read. reading_of read.reading ≡ (plain.read_all text.now (files_of imported.now) (in_modules.begun text.now (files_of imported.now) tree.now.extends) (module_of tree.now).units).here) }
-    ensures findings { IfOk result (λ read. read.findings ≡ in_modules.all_clashing text.now (files_of imported.now) (in_modules.unread text.now (files_of imported.now)) tree.now.extends ++ plain.found_from text.now (files_of imported.now) (in_modules.begun text.now (files_of imported.now) tree.now.extends) (module_of tree.now).units) }
+    ensures reading { IfOk result (λ nesting. reading_of nesting.here ≡ plain.read_within text.now (files_of imported.now) (module_of tree.now)) }
+    ensures findings { OnOk result (findings.new ≡ findings.old ++ plain.found_within text.now (files_of imported.now) (module_of tree.now)) }
+{
+    let reading = Reading::new(alloc, text)?;
+    let mut nesting = Nesting::new(alloc, reading);
+    nesting.read_module(alloc, text, imported, tree, findings)?;
+    Ok(nesting)
+}
+
+// What is found in a module.
+fn found_in<'a>(
+    alloc: Global,
+    text: &ModuleText<'a>,
+    tree: &'a ModuleTree,
+    imported: &'a Imported,
+) -> Result<List<Finding>, Memory>
+    requires nodes { HasNodes tree.now }
+    requires lie { LexemesLie text.now.source (module_of tree.now) }
+    ensures { IfOk result (λ findings. findings ≡ plain.found_within text.now (files_of imported.now) (module_of tree.now)) }
 {
     let mut findings = List::new(alloc);
-    let mut reading = Reading::new(alloc, text)?;
-    reading.extend_all(
-        alloc,
-        text,
-        imported,
-        tree.extends.as_slice(),
-        &mut findings,
-    )?;
-    let mut nesting = Nesting::new(alloc, reading);
-    nesting.read_all(
-        alloc,
-        text,
-        imported,
-        &tree.tree,
-        tree.units.as_slice(),
-        &mut findings,
-    )?;
-    let Nesting { here, .. } = nesting;
-    Ok(ModuleRead {
-        reading: here,
-        findings,
-    })
+    read_module(alloc, text, tree, imported, &mut findings)?;
+    Ok(findings)
+}
+
+// What a module exports, by its text.
+fn exported_by<'a>(
+    alloc: Global,
+    text: &ModuleText<'a>,
+    tree: &'a ModuleTree,
+    imported: &'a Imported,
+) -> Result<NameTable, Memory>
+    requires nodes { HasNodes tree.now }
+    requires lie { LexemesLie text.now.source (module_of tree.now) }
+    ensures { IfOk result (λ table. table ≡ (plain.read_within text.now (files_of imported.now) (module_of tree.now)).exports) }
+{
+    let mut findings = List::new(alloc);
+    let nesting = read_module(alloc, text, tree, imported, &mut findings)?;
+    let table = nesting.here.exported(alloc)?;
+    Ok(table)
+}
+
+// What was found, with the declarations, as the meaning of a module's names.
+fn bound(found: Found, decls: List<Decl>) -> Bound
+    ensures uses { result.uses ≡ found.uses }
+    ensures entities { result.entities ≡ found.entities }
+    ensures callees { result.callees ≡ found.callees }
+    ensures implied { result.implied ≡ found.implied }
+    ensures decls { result.decls ≡ decls }
+    ensures faults { AreInOrder found.faults result.faults }
+{
+    Bound {
+        uses: found.uses,
+        entities: found.entities,
+        callees: found.callees,
+        implied: found.implied,
+        decls,
+        faults: in_order(found.faults),
+    }
 }
 
 // What names stand for, by what is said of modules without INSTANCE.
@@ -89,17 +116,10 @@ fn bound_of(alloc: Global, tree: &ModuleTree, imported: &Imported) -> Result<Bou
 {
     let names = declaring(alloc, tree)?;
     let text = text_of(alloc, tree, names.as_slice())?;
-    let ModuleRead { findings, .. } = read_module(alloc, &text, tree, imported)?;
+    let findings = found_in(alloc, &text, tree, imported)?;
     let found = sorted_out(alloc, findings)?;
     let decls = declarations(alloc, &text, names)?;
-    Ok(Bound {
-        uses: found.uses,
-        entities: found.entities,
-        callees: found.callees,
-        implied: found.implied,
-        decls,
-        faults: in_order(found.faults),
-    })
+    Ok(bound(found, decls))
 }
 
 /// What the names of a module without INSTANCE stand for, over the modules that it names, which bring
@@ -121,7 +141,6 @@ pub fn exports(alloc: Global, tree: &ModuleTree, imported: &Imported) -> Result<
 {
     let names = declaring(alloc, tree)?;
     let text = text_of(alloc, tree, names.as_slice())?;
-    let module = read_module(alloc, &text, tree, imported)?;
-    let table = module.reading.names.exports.listed(alloc)?;
+    let table = exported_by(alloc, &text, tree, imported)?;
     Ok(table)
 }

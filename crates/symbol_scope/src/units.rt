@@ -3,16 +3,17 @@ ghost use Rattle.std.specs.Prelude.{◌≡◌, [], false, if◌then◌else◌, �
 ghost use Rattle.std.specs.List.{AllByRecursion};
 ghost use Rattle.tla_tree.specs.Arena.{AreThere, tree_at};
 ghost use Rattle.symbol_scope.specs.WithoutInstances.{files_of};
-ghost use Rattle.tla_model.specs.Lexemes.{LiesIn, lexemes, unit_lexemes};
+ghost use Rattle.tla_model.specs.Lexemes.{LexemesLie, LiesIn, lexemes, unit_lexemes};
 ghost use Rattle.tla_model.specs.Scopes as scopes;
 ghost use Rattle.tla_model.specs.Modules as in_modules;
 ghost use Rattle.symbol_scope.specs.WithoutInstances as plain;
+ghost use Rattle.tree_scope.specs.TreeFindings as in_trees;
 ghost use Rattle.tla_model.specs.Modules.{Place};
-ghost use Rattle.unit_grammar.specs.UnitNodes.{nodes_in, unit_at};
+ghost use Rattle.unit_grammar.specs.UnitNodes.{HasNodes, module_of, nodes_in, unit_at};
 ghost use Rattle.tla_model.specs.Entities.{declared_by};
 ghost use Rattle.tla_model.specs.declared.names.Finding.TheVariants.{Taken};
-ghost use Rattle.symbol_scope.specs.Held.{held};
-ghost use Rattle.symbol_scope.specs.Lying.{BindersLie};
+ghost use Rattle.name_context.specs.AsTables.{context_of};
+ghost use Rattle.tree_scope.specs.Lying.{BindersLie};
 ghost use Rattle.symbol_scope.specs.Modules.{reading_of};
 ghost use Rattle.symbol_scope.specs.Plain.{found_by, read_by};
 ghost use Rattle.symbol_scope.specs.Readings.{no_files};
@@ -21,13 +22,12 @@ ghost use Rattle.symbol_scope.specs.Rounds.{IsAt, begin_found, found_here};
 use crate::declared::push_unit;
 use crate::nesting::Nesting;
 use crate::reading::Reading;
-use crate::text::ModuleText;
-use crate::walk::walk;
 use std::alloc::Global;
 use tla_model::{Finding, Imported};
 use tla_symbols::Lexeme;
-use tla_tree::{Tree, Unit};
+use tla_tree::{ModuleTree, Tree, Unit};
 use tool_list::{List, Memory};
+use tree_scope::{ModuleText, walk};
 
 impl<'a> Reading<'a> {
     // Reads a definition, which can be used behind it.
@@ -43,7 +43,7 @@ impl<'a> Reading<'a> {
         requires there { node < length tree.now }
         requires lie { AllByRecursion (LiesIn text.now.source) (lexemes (tree_at tree.now node)) }
         ensures reading { OnOk result (reading_of self.new ≡ in_modules.declare_all text.now no_files local (reading_of self.old) (in_modules.definition (tree_at tree.now node))) }
-        ensures findings { OnOk result (findings.new ≡ findings.old ++ plain.walk text.now (held self.old.names.context) (tree_at tree.now node)) }
+        ensures findings { OnOk result (findings.new ≡ findings.old ++ in_trees.walk text.now (context_of self.old.names.context) (tree_at tree.now node)) }
     {
         walk(alloc, text, tree, node, &mut self.names.context, findings)?;
         self.define(alloc, text, local, tree, node)?;
@@ -62,7 +62,7 @@ impl<'a> Reading<'a> {
         requires there { node < length tree.now }
         requires lie { AllByRecursion (LiesIn text.now.source) (lexemes (tree_at tree.now node)) }
         ensures reading { OnOk result (reading_of self.new ≡ reading_of self.old) }
-        ensures findings { OnOk result (findings.new ≡ findings.old ++ plain.walk text.now (held self.old.names.context) (tree_at tree.now node)) }
+        ensures findings { OnOk result (findings.new ≡ findings.old ++ in_trees.walk text.now (context_of self.old.names.context) (tree_at tree.now node)) }
     {
         walk(alloc, text, tree, node, &mut self.names.context, findings)?;
         Ok(())
@@ -80,7 +80,7 @@ impl<'a> Reading<'a> {
         requires there { AreThere tree.now (nodes_in unit.now) }
         requires lie { BindersLie text.now.source (declared_by (unit_at tree.now unit.now)) }
         ensures reading { OnOk result (reading_of self.new ≡ in_modules.declare_all text.now no_files false (reading_of self.old) (declared_by (unit_at tree.now unit.now))) }
-        ensures findings { OnOk result (findings.new ≡ findings.old ++ scopes.all_refused text.now (held self.old.names.context) (declared_by (unit_at tree.now unit.now))) }
+        ensures findings { OnOk result (findings.new ≡ findings.old ++ scopes.all_refused text.now (context_of self.old.names.context) (declared_by (unit_at tree.now unit.now))) }
     {
         let mut binders = List::new(alloc);
         push_unit(alloc, &mut binders, tree, unit)?;
@@ -162,6 +162,7 @@ impl<'a> Nesting<'a> {
             .extend_all(alloc, text, imported, extends, findings)?;
         Ok(())
     }
+
     // Reads a unit.
     fn read(
         &mut self,
@@ -207,6 +208,34 @@ impl<'a> Nesting<'a> {
         for unit in units {
             self.read(alloc, text, imported, tree, unit, findings)?;
         }
+        Ok(())
+    }
+
+    /// Reads a module that was not begun: what it extends, and its units. Appends what is found.
+    pub fn read_module(
+        &mut self,
+        alloc: Global,
+        text: &ModuleText<'a>,
+        imported: &'a Imported,
+        tree: &'a ModuleTree,
+        findings: &mut List<Finding>,
+    ) -> Result<(), Memory>
+        requires nodes { HasNodes tree.now }
+        requires lie { LexemesLie text.now.source (module_of tree.now) }
+        requires unread { IsAt self.old (record { here = in_modules.unread text.now (files_of imported.now); round = [] }) }
+        ensures reading { OnOk result (reading_of self.new.here ≡ plain.read_within text.now (files_of imported.now) (module_of tree.now)) }
+        ensures findings { OnOk result (findings.new ≡ findings.old ++ plain.found_within text.now (files_of imported.now) (module_of tree.now)) }
+    {
+        self.here
+            .extend_all(alloc, text, imported, tree.extends.as_slice(), findings)?;
+        self.read_all(
+            alloc,
+            text,
+            imported,
+            &tree.tree,
+            tree.units.as_slice(),
+            findings,
+        )?;
         Ok(())
     }
 }

@@ -10,6 +10,7 @@ use Rattle.tla_symbols.specs.declared.op.Op.TheVariants as Op
 use Rattle.tla_tree.specs.declared.form.Form.TheVariants as Form
 use Rattle.tla_tree.specs.Syntax.{Tree, Trees, Node, Nil, Cons}
 use Rattle.unit_grammar.specs.Units.{UnitTree, Variables, Constants, OperatorDefinition, FunctionDefinition, ModuleDefinition, Instance, Assumption, Theorem, ModuleBegin, ModuleUnits}
+use Rattle.list_laws.proofs.Lists.{all-both, all-left, all-right}
 use Rattle.tla_model.specs.declared.Diagnostic.{Diagnostic}
 use Rattle.tla_model.specs.declared.ids.DeclId.{DeclId}
 use Rattle.tla_model.specs.Bindings.{faults}
@@ -26,18 +27,6 @@ use Rattle.tla_model.specs.Resolution.{Around, Position, findings}
 use Rattle.tla_model.specs.Scopes as s
 use Rattle.tla_model.specs.Scopes.{Finding, Means, Unknown, Taken, Clashes, InstanceClashes, NotReplaceable, ReplacedTwice, Unreplaced, Implied}
 use Rattle.tla_model.specs.Tables.{Named, Symbol, has, is_among}
-
-all-left : {A : Type 0} (P : A → Type 0) (a b : List A) → AllByRecursion P (a ++ b) → AllByRecursion P a
-all-left P [] b all = tt
-all-left P (x ∷ a) b all = (all.0, all-left P a b all.1)
-
-all-right : {A : Type 0} (P : A → Type 0) (a b : List A) → AllByRecursion P (a ++ b) → AllByRecursion P b
-all-right P [] b all = all
-all-right P (x ∷ a) b all = all-right P a b all.1
-
-all-both : {A : Type 0} (P : A → Type 0) (a b : List A) → AllByRecursion P a → AllByRecursion P b → AllByRecursion P (a ++ b)
-all-both P [] b all more = more
-all-both P (x ∷ a) b all more = (all.0, all-both P a b all.1 more)
 
 all-three : {A : Type 0} (P : A → Type 0) (a b c : List A) → AllByRecursion P a → AllByRecursion P b → AllByRecursion P c → AllByRecursion P (a ++ b ++ c)
 all-three P a b c all more last = all-both P (a ++ b) c (all-both P a b all more) last

@@ -14,6 +14,7 @@ use Rattle.std.proofs.lemmas.List.Kept.{Contains-dedup, Contains-from_dedup, IsS
 use Rattle.std.proofs.lemmas.List.Sorted.{Contains-permutation, IsPermutation-sym}
 use Rattle.std.proofs.lemmas.Map.Keys.{Less-from_sorted}
 use Rattle.std.proofs.lemmas.Option.{slice_get_within, get_or_from_slice_get, slice_get-get_or}
+use Rattle.list_laws.proofs.Tests.{and-both, less-is}
 use Rattle.tla_model.specs.declared.Diagnostic.{Diagnostic}
 use Rattle.tla_model.specs.Bindings.{AreInOrder, is_before}
 
@@ -73,13 +74,9 @@ before-place a b =
     before-by (nat_cmp a.span.start b.span.start) (nat_cmp a.span.end b.span.end) (nat_cmp a.code b.code) _ _ _ _ _
     (lt-numbers a.span.start b.span.start) (eq-numbers a.span.start b.span.start) (lt-numbers a.span.end b.span.end) (eq-numbers a.span.end b.span.end) (lt-numbers a.code b.code)
 
-both : (p q : Bool) → (p && q) ≡ true → (p ≡ true) × (q ≡ true)
-both true q e = (refl, e)
-both false q e = cc
-
 same-fault : (a b : Diagnostic) → same_fault a b ≡ true → a ≡ b
 same-fault a b e =
-    let code = both (nat_eq a.code b.code) _ e in let span = both (nat_eq a.span.start b.span.start) _ code.1 in
+    let code = and-both (nat_eq a.code b.code) _ e in let span = and-both (nat_eq a.span.start b.span.start) _ code.1 in
     grind (arith, nat_tests, code.0, span.0, span.1)
 
 -- what a sort and a dedup leave
@@ -134,16 +131,11 @@ first-or-later x y xs (suc k, low, is) = inr (k, omega (arith, low), is)
 none-there : (x : Diagnostic) → Contains [] x → ⊥
 none-there x there = absurd (omega (arith, there.1))
 
-less-back : (o : Ordering) → is_lt o ≡ true → o ≡ Less
-less-back Less e = refl
-less-back Equal e = cc
-less-back Greater e = cc
-
 -- no diagnostic stands before one that stands before it
 not-both : (a b : Diagnostic) → is_before a b ≡ true → is_before b a ≡ true → ⊥
 not-both a b before behind =
-    let one : by_place a b ≡ Less = less-back (by_place a b) (sym (before-place a b) ∙ before) in
-    let other : by_place b a ≡ Less = less-back (by_place b a) (sym (before-place b a) ∙ behind) in
+    let one : by_place a b ≡ Less = less-is (by_place a b) (sym (before-place a b) ∙ before) in
+    let other : by_place b a ≡ Less = less-is (by_place b a) (sym (before-place b a) ∙ behind) in
     let turned : Less ≡ Greater = sym one ∙ place-total.antisymm a b ∙ ap ordering_reverse other in
     cc
 

@@ -12,6 +12,7 @@ use Rattle.std.specs.String.{string_eq}
 use Rattle.std.specs.declared.alloc.Global.{Global}
 use Rattle.indexmap.specs.IndexMap.{IndexMap, insert_entry}
 use Rattle.indexmap.proofs.CallerLemmas.{insert_entry-new}
+use Rattle.list_laws.proofs.Lists.{at-map, drop-at}
 use Rattle.tla_model.specs.Entities.{Meaning}
 use Rattle.tla_model.specs.Stretches.{words_of}
 use Rattle.tla_model.specs.Tables.{AreNew, lookup}
@@ -26,10 +27,6 @@ drop-next (y ∷ xs) zero x at = ap (λ z. z ∷ xs) (some-same y x at)
     some-same a b e = cc
 drop-next (y ∷ xs) (suc i) x at = drop-next xs i x at
 
--- what stands from a place on begins with what stands there
-pub drop-at : {A : Type 0} (xs : List A) (i : ℕ) (x : A) → slice_get xs i ≡ Some x → drop i xs ≡ x ∷ drop (i + 1) xs
-drop-at xs i x at = rw add-one (drop-next xs i x at)
-
 take-next : {A : Type 0} (xs : List A) (i : ℕ) (x : A) → slice_get xs i ≡ Some x → take (suc i) xs ≡ take i xs ++ x ∷ []
 take-next [] i x at = cc
 take-next (y ∷ xs) zero x at = ap (λ z. z ∷ []) (some-same y x at)
@@ -43,11 +40,6 @@ take-at xs i x at = rw add-one (take-next xs i x at)
 
 pub split-at : {A : Type 0} (xs : List A) (i : ℕ) (x : A) → slice_get xs i ≡ Some x → xs ≡ take i xs ++ x ∷ drop (i + 1) xs
 split-at xs i x at = sym (take-append-drop i xs) ∙ ap (λ z. take i xs ++ z) (drop-at xs i x at)
-
-pub get-map : {A B : Type 0} (f : A → B) (xs : List A) (i : ℕ) (x : A) → slice_get xs i ≡ Some x → slice_get (map f xs) i ≡ Some (f x)
-get-map f [] i x at = cc
-get-map f (y ∷ xs) zero x at = cc
-get-map f (y ∷ xs) (suc i) x at = get-map f xs i x at
 
 -- the first of two lists
 pub take-both : {A : Type 0} (n : ℕ) (a b : List A) → take n (a ++ b) ≡ take n a ++ take (n - length a) b
@@ -198,7 +190,7 @@ pub words-added : {S : Type 0} (table : IndexMap (String Global) Meaning S) (row
 words-added table rows old more i key word value meaning so new at k v e =
     let first : take i (words_of more) ≡ words_of (take i more) = take-map (λ (entry : Row). (string_bytes entry.0, entry.1)) i more in
     let missed : lookup bytes_eq (words_of old ++ take i (words_of more)) (string_bytes word) ≡ None =
-    new-at bytes_eq (words_of old) (words_of more) i (string_bytes word, meaning) new (get-map (λ (entry : Row). (string_bytes entry.0, entry.1)) more i (word, meaning) at) in
+    new-at bytes_eq (words_of old) (words_of more) i (string_bytes word, meaning) new (at-map (λ (entry : Row). (string_bytes entry.0, entry.1)) more i (word, meaning) at) in
     let absent : lookup bytes_eq (words_of table.entries) (string_bytes key) ≡ None =
     (λ j. lookup bytes_eq (so j) (k j)) ∙ ap (λ (z : List (List ℕ × Meaning)). lookup bytes_eq (words_of old ++ z) (string_bytes word)) (sym first) ∙ missed in
     ap words_of (e ∙ insert_entry-new string_eq table key value (lookup-named string_bytes bytes_eq table.entries (string_bytes key) ∙ absent))

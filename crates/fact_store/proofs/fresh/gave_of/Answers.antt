@@ -1,9 +1,10 @@
 use Rattle.std.proofs.Common.{refl, sym, ap, ◌∙◌, arith}
 use Rattle.std.proofs.lemmas.Option.{slice_get_within}
+use Rattle.list_laws.proofs.Options.{none-there, some-there}
 use Rattle.fact_store.specs.declared.slot.Slot.{Slot}
 use Rattle.fact_store.specs.States.{fact}
 use Rattle.fact_store.proofs.Gifts.{gives-none}
-use Rattle.fact_store.proofs.GaveLemmas.{gave-cyclic, gave-broken, gave-kept, gave-fact, some_needs, no_needs, one_at}
+use Rattle.fact_store.proofs.GaveLemmas.{gave-cyclic, gave-broken, gave-kept, gave-fact, one_at}
 use Rattle.fact_store.proofs.Rows.{slot_at}
 use Rattle.fact_store.proofs.fresh.gave_of.Goals as goal
 
@@ -30,14 +31,14 @@ returns-then-is_none g c = λ slot at.
     let s = one_at c.args.slots.now c.in-Some.other c.at-slot.result.now p.0 c.at-slot.ensures p.1 in
     gave-broken g.D.Derive.own_of g.D.Derive.needs_of g.D.Derive.fact_of g.D.Derive.same c.args.slots.now c.args.current.now c.args.plan.now c.requires.right c.requires.plan
     c.args.place c.in-Some.other slot c.args.need.now at p (c.requires.need slot at) _ _ c.index.ensures c.index-2.ensures c.if-index.false
-    (ap (λ (z : Slot g.row.D-Own.Denot g.row.D-Fact.Denot). z.needs) (sym s) ∙ no_needs c.at-slot.result.now.needs c.if-is_none.ensures)
+    (ap (λ (z : Slot g.row.D-Own.Denot g.row.D-Fact.Denot). z.needs) (sym s) ∙ none-there c.at-slot.result.now.needs c.if-is_none.ensures)
 
 pub unreachable-requires : goal.unreachable-requires
 unreachable-requires g c =
     let p = c.in-Some.ensures in
     let s = one_at c.args.slots.now c.in-Some.other c.at-slot.result.now p.0 c.at-slot.ensures p.1 in
     let slot = slot_at c.args.slots.now c.args.place c.requires.place in
-    let ns = some_needs c.at-slot.result.now.needs c.if-is_none.ensures in
+    let ns = some-there c.at-slot.result.now.needs c.if-is_none.ensures in
     gave-kept g.D.Derive.own_of g.D.Derive.needs_of g.D.Derive.fact_of g.D.Derive.same c.args.slots.now c.args.current.now c.args.plan.now c.requires.right c.requires.plan
     c.args.place c.in-Some.other slot.0 c.args.need.now slot.1 p (c.requires.need slot.0 slot.1) _ _ c.index.ensures c.index-2.ensures c.requires.ready c.if-index.false ns.0
     (ap (λ (z : Slot g.row.D-Own.Denot g.row.D-Fact.Denot). z.needs) (sym s) ∙ ns.1) (ap (λ (z : Slot g.row.D-Own.Denot g.row.D-Fact.Denot). z.kept) (sym s) ∙ c.in_default-kept.is)
@@ -46,7 +47,7 @@ pub returns : goal.returns
 returns g c = λ slot at.
     let p = c.in-Some.ensures in
     let s = one_at c.args.slots.now c.in-Some.other c.at-slot.result.now p.0 c.at-slot.ensures p.1 in
-    let ns = some_needs c.at-slot.result.now.needs c.if-is_none.ensures in
+    let ns = some-there c.at-slot.result.now.needs c.if-is_none.ensures in
     ap fact c.in_ok-try_clone.ensures
     ∙ gave-fact g.D.Derive.own_of g.D.Derive.needs_of g.D.Derive.fact_of g.D.Derive.same c.args.slots.now c.args.current.now c.args.plan.now c.requires.right c.requires.plan
     c.args.place c.in-Some.other slot c.args.need.now at p (c.requires.need slot at) _ _ c.index.ensures c.index-2.ensures c.requires.ready g.met.D.Derive.respects c.if-index.false ns.0 c.in-Some-kept.kept

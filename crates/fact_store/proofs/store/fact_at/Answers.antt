@@ -1,27 +1,28 @@
 use Rattle.std.proofs.Common.{sym, ap, ◌∙◌}
+use Rattle.list_laws.proofs.Options.{none-there, some-there}
 use Rattle.fact_store.specs.declared.slot.Slot.{Slot}
 use Rattle.fact_store.specs.States.{fact}
 use Rattle.fact_store.specs.Slots.{texts_of}
 use Rattle.fact_store.specs.Values.{value}
 use Rattle.fact_store.proofs.Gifts.{value-broken}
-use Rattle.fact_store.proofs.GaveLemmas.{done-kept, done-value, some_needs, no_needs, one_at}
+use Rattle.fact_store.proofs.GaveLemmas.{done-kept, done-value, one_at}
 use Rattle.fact_store.proofs.store.fact_at.Goals as goal
 
 pub returns-then-is_none : goal.returns-then-is_none
 returns-then-is_none g c = λ slot at.
     let s = one_at c.args.slots.now c.args.place c.at-slot.result.now slot c.at-slot.ensures at in
     sym (value-broken g.D.Derive.own_of g.D.Derive.needs_of g.D.Derive.fact_of c.args.slots.now c.requires.right.sound c.args.place slot at
-    (ap (λ (z : Slot g.row.D-Own.Denot g.row.D-Fact.Denot). z.needs) (sym s) ∙ no_needs c.at-slot.result.now.needs c.if-is_none.ensures))
+    (ap (λ (z : Slot g.row.D-Own.Denot g.row.D-Fact.Denot). z.needs) (sym s) ∙ none-there c.at-slot.result.now.needs c.if-is_none.ensures))
 
 pub unreachable-requires : goal.unreachable-requires
 unreachable-requires g c =
-    let x = c.at-slot.result.now in let ns = some_needs x.needs c.if-is_none.ensures in
+    let x = c.at-slot.result.now in let ns = some-there x.needs c.if-is_none.ensures in
     let at = c.at-slot.ensures in
     done-kept g.D.Derive.own_of g.D.Derive.needs_of g.D.Derive.fact_of g.D.Derive.same c.args.slots.now c.args.current.now c.requires.right c.args.place x at ns.0 ns.1 (c.requires.done x at) c.in_default.is
 
 pub returns : goal.returns
 returns g c = λ slot at.
-    let x = c.at-slot.result.now in let ns = some_needs x.needs c.if-is_none.ensures in
+    let x = c.at-slot.result.now in let ns = some-there x.needs c.if-is_none.ensures in
     let here = c.at-slot.ensures in
     let s = one_at c.args.slots.now c.args.place x slot c.at-slot.ensures at in
     ap fact c.in_ok-try_clone.ensures

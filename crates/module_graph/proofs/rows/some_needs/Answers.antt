@@ -3,7 +3,8 @@ use Rattle.std.proofs.lemmas.Option.{slice_get-get_or, get_or_from_slice_get}
 use Rattle.std.specs.List.{list_any}
 use Rattle.std.specs.Prelude.{slice_get}
 use Rattle.std.specs.Str.{bytes_eq}
-use Rattle.module_graph.proofs.Lists.{at-within, same-or-other}
+use Rattle.list_laws.proofs.Tests.{same-or-other}
+use Rattle.module_graph.proofs.Lists.{at-within}
 use Rattle.module_graph.proofs.Naming.{needs-here, needs-not}
 use Rattle.module_graph.proofs.rows.some_needs.Goals.{else-seen-place-via-then-seen-place+else-is_among, else-seen-place-via-else-seen-place}
 use Rattle.module_graph.proofs.rows.some_needs.Goals as goal

@@ -3,7 +3,8 @@ use Rattle.std.specs.Str.{bytes_eq}
 use Rattle.indexmap.proofs.CallerLemmas.{insert_entry-new}
 use Rattle.symbol_scope.specs.Readings.{modules_of, taken_by}
 use Rattle.symbol_scope.proofs.Taking.{modules-append, some-modules}
-use Rattle.symbol_scope.proofs.Words.{added-new, added-there, none-there}
+use Rattle.name_context.proofs.Words.{added-new, added-there}
+use Rattle.list_laws.proofs.Options.{none-there}
 use Rattle.symbol_scope.proofs.reading.take_name.Goals as goal
 
 pub returns-then-contains_key : goal.returns-then-contains_key

@@ -1,8 +1,9 @@
 use Rattle.std.proofs.Common.{◌∙◌, ap, sym}
 use Rattle.std.specs.Prelude.{is_some}
-use Rattle.symbol_scope.specs.Held.{meant_by}
+use Rattle.name_context.specs.AsTables.{meant_by}
 use Rattle.symbol_scope.specs.Modules.{reading_of}
-use Rattle.symbol_scope.specs.Readings.{as_read, modules_of, no_files}
+use Rattle.name_context.specs.Brought.{as_read}
+use Rattle.symbol_scope.specs.Readings.{modules_of, no_files}
 use Rattle.symbol_scope.proofs.Taking.{mapped-some, declared-new, new-bound}
 use Rattle.symbol_scope.proofs.reading.Reading.declare.Goals as goal
 

@@ -1,0 +1,6 @@
+mod Bringing
+mod Exporting
+pub mod Words
+mod Looking
+mod Over
+mod Owning

@@ -1,0 +1,2 @@
+pub mod AsTables
+pub mod Brought

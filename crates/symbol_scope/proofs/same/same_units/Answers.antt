@@ -1,5 +1,0 @@
-use Rattle.symbol_scope.proofs.Exporting.{units-apart}
-use Rattle.symbol_scope.proofs.same.same_units.Goals as goal
-
-pub returns-then-left-right : goal.returns-then-left-right
-returns-then-left-right c = units-apart c.args.left.now c.args.right.now c.if-left-right.true

@@ -1,0 +1,15 @@
+use Rattle.std.proofs.Common.{◌<◌, subst, sym}
+use Rattle.std.specs.List.{AllByRecursion}
+use Rattle.tree_scope.specs.Lying.{BindersLie}
+use Rattle.tree_scope.specs.Nodes.{form_at, parts_at}
+use Rattle.tree_scope.proofs.Lies.{binders-lie, parts-lie}
+use Rattle.tree_scope.proofs.Nodewise.{tree-at}
+use Rattle.tree_scope.proofs.found.bind_names.Goals as goal
+
+pub bind_all-requires : goal.bind_all-requires
+bind_all-requires c =
+    let source = c.args.text.now.source in
+    let nodes = c.args.tree.now in
+    let node = c.args.node in
+    let whole = tree-at nodes node c.requires.there (subst (AllByRecursion (λ child. child < node)) c.children.ensures.children c.children.ensures.before) in
+    subst (BindersLie source) (sym c.in_ok-names.ensures) (binders-lie source (form_at nodes node) (parts_at nodes node) (parts-lie source nodes node whole c.requires.lie))

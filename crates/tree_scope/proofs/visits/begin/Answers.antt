@@ -1,0 +1,20 @@
+use Rattle.std.proofs.Common.{◌∙◌, ap, subst, sym}
+use Rattle.tree_scope.specs.Listed.{listed}
+use Rattle.tree_scope.specs.Lying.{BindersLie}
+use Rattle.tree_scope.specs.Nodes.{form_at, parts_at}
+use Rattle.tree_scope.proofs.Lies.{defined-lies, held-lies}
+use Rattle.tree_scope.proofs.visits.begin.Goals as goal
+
+pub refuse-requires : goal.refuse-requires
+refuse-requires c =
+    let source = c.args.text.now.source in
+    let nodes = c.args.tree.now in
+    let node = c.args.node in
+    (subst (BindersLie source) (sym c.in_ok-binder.ensures ∙ ap listed c.in-Some.is) (defined-lies source (form_at nodes node) (parts_at nodes node) (held-lies source nodes node c.requires.node.there c.requires.node.lie))).0
+
+pub reserve-requires : goal.reserve-requires
+reserve-requires c =
+    let source = c.args.text.now.source in
+    let nodes = c.args.tree.now in
+    let node = c.args.node in
+    (subst (BindersLie source) (sym c.in_ok-binder.ensures ∙ ap listed c.in-Some.is) (defined-lies source (form_at nodes node) (parts_at nodes node) (held-lies source nodes node c.requires.node.there c.requires.node.lie))).0

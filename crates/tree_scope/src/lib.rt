@@ -1,0 +1,21 @@
+//! What is found of names in one tree, over the context of its place.
+//!
+//! Answers what each name in the tree means, and which names are unknown or taken. Knows nothing of units,
+//! and of what modules export.
+#![tactic(auto)]
+
+mod due;
+mod forms;
+mod found;
+mod parts;
+mod scopes;
+mod tasks;
+mod text;
+mod uses;
+mod visits;
+
+pub use forms::{binding_in, follows_first};
+pub use found::walk;
+pub use parts::{defined, push_placed};
+pub use scopes::refuse;
+pub use text::ModuleText;

@@ -1,0 +1,145 @@
+// A text whose names are resolved.
+ghost use Rattle.std.specs.Prelude.{◌≡◌, ◌<◌, ◌^◌, ◌+◌, ◌++◌, ◌∷◌, [], IfOk, OnOk, length, map};
+ghost use Rattle.tla_model.specs.Entities as entities;
+ghost use Rattle.tla_model.specs.Lexemes.{LiesIn, spelled as spelled_in};
+ghost use Rattle.name_context.specs.AsTables.{meant_by};
+ghost use Rattle.tree_scope.specs.Places.{AreNoted};
+
+use indexmap::IndexMap;
+use name_context::Named;
+use std::alloc::Global;
+use std::marker::Model;
+use tla_model::{Binder, Callee, DeclId, Meaning, spelled};
+use tla_symbols::{LexKind, Lexeme};
+use tool_list::{Chars, List, Memory};
+
+/// The text of a module: its name, its bytes, and where its declaring names begin. Contracts see it as
+/// the text of the definitions.
+#[derive(Drop)]
+pub struct ModuleText<'a> {
+    file: &'a str,
+    source: &'a str,
+    // Where the declaring names begin, in order.
+    starts: Vec<u32>,
+    // For each of these numbers, how many names stand before the first that begins there.
+    places: IndexMap<u32, u32>,
+}
+
+impl<'a> Model for ModuleText<'a> {
+    ghost use Rattle.tla_model.specs.Entities.{Text};
+    ghost use Rattle.tree_scope.specs.Places.{AreNoted};
+
+    ghost Value = { Text };
+
+    ghost view = { λ t. record { file = t.file.now; source = t.source.now; starts = t.starts.items } };
+
+    ghost invariant = { λ t. AreNoted t.places.entries t.starts.items };
+}
+
+// Appends where a declaring name begins, and notes its place unless another one begins there.
+fn note(places: &mut IndexMap<u32, u32>, starts: &mut Vec<u32>, start: u32) -> Result<(), Memory>
+    requires few { length starts.old.items + 1 < 2 ^ 32 }
+    requires noted { AreNoted places.old.entries starts.old.items }
+    ensures noted { OnOk result (AreNoted places.new.entries starts.new.items) }
+    ensures starts { OnOk result (starts.new.items ≡ starts.old.items ++ start ∷ []) }
+{
+    let place = starts.len() as u32;
+    starts.push(start)?;
+    if places.contains_key(&start) {
+        return Ok(());
+    }
+    places.insert(start, place)?;
+    Ok(())
+}
+
+impl<'a> ModuleText<'a> {
+    /// The text of a module, by the names that it declares.
+    pub fn new(
+        alloc: Global,
+        file: &'a str,
+        source: &'a str,
+        names: &[Binder],
+    ) -> Result<ModuleText<'a>, Memory>
+        requires few { length names.now < 2 ^ 32 }
+        ensures { IfOk result (λ text. text ≡ record { file = file.now; source = source.now; starts = map (λ binder. binder.name.span.start) names.now }) }
+    {
+        let mut starts = Vec::new(alloc);
+        let mut places = IndexMap::new(alloc);
+        for binder in names {
+            note(&mut places, &mut starts, binder.name.span.start)?;
+        }
+        Ok(ModuleText {
+            file,
+            source,
+            starts,
+            places,
+        })
+    }
+
+    /// The bytes of a lexeme.
+    pub fn spelled(&self, lexeme: Lexeme) -> &'a str
+        requires { LiesIn self.now.source lexeme }
+        ensures { result.now ≡ spelled_in self.now.source lexeme }
+    {
+        spelled(self.source, &lexeme)
+    }
+
+    /// The name that a lexeme is.
+    pub fn name_of(&self, lexeme: Lexeme) -> Named<'a>
+        requires { LiesIn self.now.source lexeme }
+        ensures { meant_by result ≡ entities.name_of self.now.source lexeme }
+    {
+        match lexeme.kind {
+            LexKind::Sym(op) => Named::Symbol(op),
+            _ => Named::Word(self.spelled(lexeme)),
+        }
+    }
+
+    // How many declaring names stand before the first that begins there.
+    fn place_of(&self, start: u32) -> u32
+        ensures { result ≡ entities.place_in self.now.starts start }
+    {
+        match self.places.get(&start) {
+            Some(place) => *place,
+            None => self.starts.len() as u32,
+        }
+    }
+
+    /// The name of the module.
+    pub fn file(&self) -> &'a str
+        ensures { result.now ≡ self.now.file }
+    {
+        self.file
+    }
+
+    /// What a declared name calls.
+    pub fn own(&self, alloc: Global, name: Lexeme) -> Result<Callee, Memory>
+        ensures { IfOk result (λ callee. callee ≡ entities.own self.now name) }
+    {
+        let decl = self.declaration(alloc, name)?;
+        Ok(Callee {
+            instance: 0,
+            decl,
+            via: List::new(alloc),
+        })
+    }
+
+    /// The declaration of a name.
+    pub fn declaration(&self, alloc: Global, name: Lexeme) -> Result<DeclId, Memory>
+        ensures { IfOk result (λ decl. decl ≡ entities.declaration self.now name) }
+    {
+        Ok(DeclId {
+            module: Chars::from_str(alloc, self.file)?,
+            place: self.place_of(name.span.start),
+        })
+    }
+
+    /// What a declared name means.
+    pub fn meaning(&self, alloc: Global, binder: Binder) -> Result<Meaning, Memory>
+        ensures { IfOk result (λ meaning. meaning ≡ entities.meant self.now binder) }
+    {
+        let Binder { name, entity } = binder;
+        let callee = self.own(alloc, name)?;
+        Ok(Meaning::Declared { entity, callee })
+    }
+}

@@ -1,0 +1,131 @@
+// Uses of names and symbols.
+ghost use Rattle.std.specs.Prelude.{◌≡◌, ◌++◌, ◌∷◌, [], IfOk, OnOk, is_some};
+ghost use Rattle.std.specs.Option.{option_map};
+ghost use Rattle.tla_model.specs.Contexts as contexts;
+ghost use Rattle.tla_model.specs.Entities as entities;
+ghost use Rattle.tla_model.specs.Lexemes.{LiesIn};
+ghost use Rattle.tla_model.specs.Scopes as scopes;
+ghost use Rattle.tla_model.specs.Tables.{Symbol};
+ghost use Rattle.name_context.specs.AsTables.{context_of, meant_by};
+ghost use Rattle.tree_scope.specs.Walking as walking;
+
+use crate::forms::{is_free, prefixed};
+use crate::scopes::bind;
+use crate::text::ModuleText;
+use name_context::{Context, Named};
+use std::alloc::Global;
+use tla_model::{Binder, Entity, Finding, Meaning};
+use tla_symbols::{LexKind, Lexeme, Op};
+use tool_list::{List, Memory};
+
+// What a name means, for a use.
+fn meaning_of<'a>(
+    alloc: Global,
+    context: &Context<'a>,
+    name: Named<'a>,
+) -> Result<Option<Meaning>, Memory>
+    ensures { IfOk result (λ meaning. meaning ≡ contexts.meaning_of (context_of context.now) (meant_by name.entry)) }
+{
+    match context.get(name) {
+        Some(Some(meaning)) => Ok(Some(meaning.copied(alloc)?)),
+        _ => Ok(None),
+    }
+}
+
+// Appends what a use is found to mean, and answers whether it means something.
+fn push_use(
+    findings: &mut List<Finding>,
+    at: Lexeme,
+    meaning: Option<Meaning>,
+) -> Result<bool, Memory>
+    ensures known { IfOk result (λ known. known ≡ is_some meaning) }
+    ensures findings { OnOk result (findings.new ≡ findings.old ++ scopes.found at meaning) }
+{
+    match meaning {
+        Some(meaning) => {
+            findings.push(Finding::Means { at, meaning })?;
+            Ok(true)
+        }
+        None => {
+            findings.push(Finding::Unknown { at })?;
+            Ok(false)
+        }
+    }
+}
+
+/// Looks at the use of an identifier, and answers whether it means something.
+pub fn use_name<'a>(
+    alloc: Global,
+    text: &ModuleText<'a>,
+    context: &Context<'a>,
+    at: Lexeme,
+    findings: &mut List<Finding>,
+) -> Result<bool, Memory>
+    requires { LiesIn text.now.source at }
+    ensures known { IfOk result (λ known. known ≡ is_some (contexts.meaning_of (context_of context.now) (entities.name_of text.now.source at))) }
+    ensures findings { OnOk result (findings.new ≡ findings.old ++ scopes.found at (contexts.meaning_of (context_of context.now) (entities.name_of text.now.source at))) }
+{
+    let meaning = meaning_of(alloc, context, text.name_of(at))?;
+    push_use(findings, at, meaning)
+}
+
+// Looks at the use of a symbol, unless it is built in.
+fn use_op<'a>(
+    alloc: Global,
+    context: &Context<'a>,
+    at: Lexeme,
+    op: Op,
+    findings: &mut List<Finding>,
+) -> Result<(), Memory>
+    ensures { OnOk result (findings.new ≡ findings.old ++ scopes.used_as (context_of context.now) at op) }
+{
+    if is_free(op) {
+        let meaning = meaning_of(alloc, context, Named::Symbol(op))?;
+        push_use(findings, at, meaning)?;
+    }
+    Ok(())
+}
+
+/// Looks at the use of a symbol.
+pub fn use_symbol<'a>(
+    alloc: Global,
+    context: &Context<'a>,
+    at: Lexeme,
+    findings: &mut List<Finding>,
+) -> Result<(), Memory>
+    ensures { OnOk result (findings.new ≡ findings.old ++ scopes.symbol (context_of context.now) scopes.itself at at.kind) }
+{
+    match at.kind {
+        LexKind::Sym(op) => use_op(alloc, context, at, op, findings),
+        _ => Ok(()),
+    }
+}
+
+/// Looks at the use of a symbol before its operand.
+pub fn use_prefix<'a>(
+    alloc: Global,
+    context: &Context<'a>,
+    at: Lexeme,
+    findings: &mut List<Finding>,
+) -> Result<(), Memory>
+    ensures { OnOk result (findings.new ≡ findings.old ++ scopes.symbol (context_of context.now) scopes.prefixed at at.kind) }
+{
+    match at.kind {
+        LexKind::Sym(op) => use_op(alloc, context, at, prefixed(op), findings),
+        _ => Ok(()),
+    }
+}
+
+/// Puts the name of a function into the context of its body, as a bound name.
+pub fn bind_function<'a>(
+    alloc: Global,
+    text: &ModuleText<'a>,
+    context: &mut Context<'a>,
+    name: Lexeme,
+) -> Result<(), Memory>
+    requires { LiesIn text.now.source name }
+    ensures { OnOk result (context_of context.new ≡ contexts.bind text.now (context_of context.old) (walking.function_name name)) }
+{
+    let entity = Entity::Bound { state: false };
+    bind(alloc, text, context, Binder { name, entity })
+}

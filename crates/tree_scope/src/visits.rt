@@ -1,0 +1,140 @@
+// Visits of nodes.
+ghost use Rattle.std.specs.Prelude.{◌≡◌, ◌++◌, OnOk};
+ghost use Rattle.tla_tree.specs.Arena.{AreThere, node_at};
+ghost use Rattle.tla_model.specs.Scopes as scopes;
+ghost use Rattle.name_context.specs.AsTables.{context_of};
+ghost use Rattle.tree_scope.specs.Nodes.{defined_at, form_at, parts_at};
+ghost use Rattle.tree_scope.specs.Walking as walking;
+ghost use Rattle.tree_scope.specs.Walking.{AreReady, IsDone, IsNode, IsPath, stack, visited};
+
+use crate::due::{
+    push_behind, push_between, push_definitions, push_function, push_image, push_rest, push_scope,
+};
+use crate::parts::defined;
+use crate::scopes::{refuse, reserve};
+use crate::tasks::{Naming, Task, naming_of, push_each};
+use crate::text::ModuleText;
+use crate::uses::{use_name, use_prefix, use_symbol};
+use name_context::Context;
+use std::alloc::Global;
+use tla_model::Finding;
+use tla_symbols::Lexeme;
+use tla_tree::{Form, Tree};
+use tool_list::{List, Memory};
+
+// Finds fault with the name that a node defines, where it is taken, and takes it.
+fn begin<'a>(
+    alloc: Global,
+    text: &ModuleText<'a>,
+    tree: &Tree,
+    node: u32,
+    children: &[u32],
+    context: &mut Context<'a>,
+    findings: &mut List<Finding>,
+) -> Result<(), Memory>
+    requires node { IsNode text.now tree.now node }
+    requires children { children.now ≡ (node_at tree.now node).children }
+    requires there { AreThere tree.now children.now }
+    ensures context { OnOk result (context_of context.new ≡ scopes.reserved text.now (context_of context.old) (form_at tree.now node) (parts_at tree.now node)) }
+    ensures findings { OnOk result (findings.new ≡ findings.old ++ scopes.all_refused text.now (context_of context.old) (defined_at tree.now node)) }
+{
+    if let Some(binder) = defined(alloc, tree, node, children)? {
+        refuse(text, context, binder.name, findings)?;
+        reserve(text, context, binder.name)?;
+    }
+    Ok(())
+}
+
+// The name of a segment.
+fn segment_of(form: Form) -> Option<Lexeme>
+    ensures { result ≡ walking.segment_of form }
+{
+    match form {
+        Form::Segment(name) => Some(name),
+        _ => None,
+    }
+}
+
+// Looks at the first segment of an identifier, and at the second one where the first means something.
+fn visit_segments<'a>(
+    alloc: Global,
+    text: &ModuleText<'a>,
+    tree: &Tree,
+    segments: &[u32],
+    context: &Context<'a>,
+    findings: &mut List<Finding>,
+    tasks: &mut Vec<Task>,
+) -> Result<(), Memory>
+    requires { IsPath text.now tree.now segments.now }
+    ensures { OnOk result (walking.AreSegments text.now tree.now segments.now (context_of context.now) findings.old findings.new (stack tasks.old.items) (stack tasks.new.items)) }
+{
+    let Some((&first, rest)) = segments.split_first() else {
+        return Ok(());
+    };
+    let Some(name) = segment_of(tree.form(first)) else {
+        return Ok(());
+    };
+    let known = use_name(alloc, text, context, name, findings)?;
+    push_rest(tasks, tree, rest, known)?;
+    push_each(tasks, tree.children(first))?;
+    Ok(())
+}
+
+/// Looks at a node: what is due of it is put on top.
+pub fn visit<'a>(
+    alloc: Global,
+    text: &ModuleText<'a>,
+    tree: &Tree,
+    node: u32,
+    context: &mut Context<'a>,
+    findings: &mut List<Finding>,
+    tasks: &mut Vec<Task>,
+) -> Result<(), Memory>
+    requires node { IsNode text.now tree.now node }
+    requires tasks { AreReady text.now tree.now (stack tasks.old.items) }
+    ensures { OnOk result (IsDone text.now tree.now (visited node) (context_of context.old) (context_of context.new) findings.old findings.new (stack tasks.old.items) (stack tasks.new.items)) }
+{
+    let children = tree.children(node);
+    let mark = context.mark()?;
+    match naming_of(tree.form(node)) {
+        Naming::Path => {
+            visit_segments(alloc, text, tree, children, context, findings, tasks)?;
+            Ok(())
+        }
+        Naming::Bare(at) => {
+            use_symbol(alloc, context, at, findings)?;
+            Ok(())
+        }
+        Naming::Prefix(at) => {
+            use_prefix(alloc, context, at, findings)?;
+            push_each(tasks, children)?;
+            Ok(())
+        }
+        Naming::Infix(at) => {
+            push_between(tasks, children, at)?;
+            Ok(())
+        }
+        Naming::Postfix(at) => {
+            push_behind(tasks, children, at)?;
+            Ok(())
+        }
+        Naming::InOrder => {
+            push_definitions(tasks, children, mark)?;
+            Ok(())
+        }
+        Naming::BoundsLast => {
+            push_image(alloc, tasks, tree, node, children, mark)?;
+            Ok(())
+        }
+        Naming::Function(name) => {
+            begin(alloc, text, tree, node, children, context, findings)?;
+            push_function(alloc, tasks, tree, node, name, children, mark)?;
+            Ok(())
+        }
+        Naming::BoundsFirst => {
+            begin(alloc, text, tree, node, children, context, findings)?;
+            push_scope(alloc, tasks, tree, node, children, mark)?;
+            Ok(())
+        }
+    }
+}
