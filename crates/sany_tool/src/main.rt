@@ -1,31 +1,19 @@
 //! The program: reads a folder of modules and reports on them.
 //!
-//! `run` does all that the program does, over any folder, input and output. `main` makes the
-//! adapters over std and nothing else.
+//! `main` makes the adapters over std, and leaves all else to `run` of `sany_run`. The tests run that
+//! over devices in memory.
 #![tactic(auto)]
 
-mod bytes;
-mod check;
-#[cfg(test)]
-mod family_tests;
-mod files;
-mod laws;
-#[cfg(test)]
-mod limit_tests;
-#[cfg(test)]
-mod name_tests;
-mod output;
-mod report;
-mod run;
-#[cfg(test)]
-mod scope_tests;
-mod slices;
 #[cfg(test)]
 mod tests;
-mod words;
 
-ghost use Rattle.std.specs.Prelude.{◌↔◌, ◌≤◌, ◌||◌, ◌==◌, IsSome, IsTrue};
+ghost use Rattle.std.specs.Prelude.{◌≡◌};
+ghost use Rattle.std.specs.Option.{option_copied};
+ghost use Rattle.std.specs.IoError.{error_kind};
+ghost use Rattle.std.specs.Process.{exit_status};
+ghost use Rattle.sany_tool.specs.Lines as lines;
 
+use sany_run::run;
 use std::alloc::Global;
 use std::io::ErrorKind;
 use std::process::ExitCode;
@@ -43,20 +31,19 @@ fn words_of(rt: &(impl Env + AllocGlobal), alloc: Global) -> io::Result<Vec<Stri
     Ok(words)
 }
 
-// Words that were not read are no request, unless it was for want of memory.
+// The status where the words can't be read.
 fn status_without_words(error: &io::Error) -> u8
-    ensures { IsTrue (result == 2 || result == 6) }
+    ensures { result ≡ lines.status_without_words (error_kind error.now) }
 {
-    if error.kind() == ErrorKind::OutOfMemory {
-        6
-    } else {
-        2
+    match error.kind() {
+        ErrorKind::OutOfMemory => 6,
+        _ => 2,
     }
 }
 
 // The line for a status that is no verdict.
 fn line_of(status: u8) -> Option<&'static str>
-    ensures { IsSome result ↔ (2 ≤ status × status ≤ 9) }
+    ensures { option_copied result ≡ lines.line_of status }
 {
     match status {
         2 => Some("sany: usage: check FOLDER [--facts] | serve | gen N"),
@@ -71,6 +58,13 @@ fn line_of(status: u8) -> Option<&'static str>
     }
 }
 
+// What the process answers for a status.
+fn exit_code(status: u8) -> ExitCode
+    ensures { exit_status result ≡ status }
+{
+    ExitCode::from(status)
+}
+
 fn main(rt: HostRuntime) -> ExitCode {
     let alloc = rt.alloc();
     let status = match words_of(&rt, alloc) {
@@ -79,7 +73,7 @@ fn main(rt: HostRuntime) -> ExitCode {
             let mut output = StdSink::new(rt.stdout());
             let mut steps = Steps::new(());
             let folder = StdFolder::new(&rt);
-            let (status, _) = run::run(alloc, &words, folder, &mut input, &mut output, &mut steps);
+            let (status, _) = run(alloc, &words, folder, &mut input, &mut output, &mut steps);
             status
         }
         Err(error) => status_without_words(&error),
@@ -87,5 +81,5 @@ fn main(rt: HostRuntime) -> ExitCode {
     if let Some(line) = line_of(status) {
         let _ = eprintln!(rt; "{line}");
     }
-    ExitCode::from(status)
+    exit_code(status)
 }

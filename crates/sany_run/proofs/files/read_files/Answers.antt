@@ -1,0 +1,38 @@
+use Rattle.std.proofs.Common.{◌≡◌, ◌∙◌, ◌+◌, ◌-◌, ◌^◌, ◌++◌, [], min, ap, sym}
+use Rattle.sany_run.specs.Program.{with_read}
+use Rattle.sany_run.proofs.NamedLemmas.{named-more, distinct-more}
+use Rattle.sany_run.proofs.ReadingLemmas.{reads-more, reads-over, told-more, count-more}
+use Rattle.sany_run.proofs.files.read_files.Goals as goal
+
+pub returns-then-total-gt-MOST_BYTES-clause-files : goal.returns-then-total-gt-MOST_BYTES-clause-files
+returns-then-total-gt-MOST_BYTES-clause-files g c =
+    let inv = c.loop-name.invariant in
+    let read = c.in_ok-bytes.ensures in
+    reads-over (g.F.Folder.told c.args.folder.now) (g.F.Folder.told c.loop-name.folder) (g.F.Folder.told c.read_module.new.folder) c.args.path.now c.args.names.now
+    c.loop-name.name-index c.name-item.result c.as_str.result.now c.in_ok-bytes.bytes c.loop-name.files c.loop-name.total c.saturating_add-total.result
+    c.loop-name-test.true (c.as_str.ensures ∙ c.name-item.is) inv.told read.goes inv.files read.bytes inv.total
+    (c.saturating_add-total.ensures ∙ ap (λ n. min (c.loop-name.total + n) (2 ^ 64 - 1)) c.read_len.ensures) c.if-total-gt-MOST_BYTES.true
+
+pub loop-name-preserved : goal.loop-name-preserved
+loop-name-preserved g c =
+    let inv = c.loop-name.invariant in
+    let read = c.in_ok-bytes.ensures in
+    let added : c.add_file.new.files ≡ c.loop-name.files ++ with_read c.as_str.result.now c.in_ok-bytes.bytes [] =
+    c.in_ok-add_file.ensures.files ∙ ap (λ n. c.loop-name.files ++ with_read n c.in_ok-bytes.bytes []) (c.as_str-in-loop-name.ensures ∙ sym c.as_str.ensures) in record {
+      told = told-more (g.F.Folder.told c.args.folder.now) (g.F.Folder.told c.loop-name.folder) (g.F.Folder.told c.read_module.new.folder) c.loop-name.name-index inv.told read.goes;
+      files =
+          reads-more (g.F.Folder.told c.args.folder.now) (g.F.Folder.told c.loop-name.folder) (g.F.Folder.told c.read_module.new.folder) c.args.path.now c.args.names.now
+          c.loop-name.name-index c.name-item.result c.as_str.result.now c.in_ok-bytes.bytes c.loop-name.files c.add_file.new.files c.loop-name-test.true
+          (c.as_str.ensures ∙ c.name-item.is) inv.told read.goes inv.files read.bytes added;
+      named =
+          named-more c.args.names.now c.loop-name.name-index c.name-item.result c.as_str.result.now c.in_ok-bytes.bytes c.loop-name.files c.add_file.new.files c.loop-name-test.true
+          (c.as_str.ensures ∙ c.name-item.is) added inv.named;
+      distinct =
+          distinct-more c.args.names.now c.loop-name.name-index c.name-item.result c.as_str.result.now c.in_ok-bytes.bytes c.loop-name.files c.add_file.new.files c.loop-name-test.true
+          (c.as_str.ensures ∙ c.name-item.is) added inv.named c.requires inv.distinct;
+      total =
+          count-more c.loop-name.files c.add_file.new.files c.as_str.result.now c.in_ok-bytes.bytes c.loop-name.total c.saturating_add-total.result added inv.total
+          (c.saturating_add-total.ensures ∙ ap (λ n. min (c.loop-name.total + n) (2 ^ 64 - 1)) c.read_len.ensures) c.if-total-gt-MOST_BYTES.false;
+      small = c.if-total-gt-MOST_BYTES.false;
+      count = read.cause ∙ inv.count;
+    }

@@ -1,0 +1,17 @@
+use Rattle.std.proofs.Common.{◌≡◌, ◌≤◌, take, IfSome}
+use Rattle.std.specs.Option.{option_map}
+use Rattle.family_check.specs.Verdicts.{AreDistinct}
+use Rattle.sany_run.specs.Program.{after_calls, byte_count, reads, MOST_BYTES}
+use Rattle.sany_run.specs.Reading.{AreNamed}
+use Rattle.sany_run.proofs.files.read_files.Given as goal
+
+abbrev pub invariant-loop-name : goal.invariant-loop-name
+invariant-loop-name g l = record {
+  told : g.F.Folder.told l.folder ≡ option_map (λ t. after_calls l.name-index t) (g.F.Folder.told l.fn.folder);
+  files : IfSome (g.F.Folder.told l.fn.folder) (λ t. l.files ≡ reads t l.path (take l.name-index l.names));
+  named : AreNamed l.files l.names l.name-index;
+  distinct : AreDistinct l.files;
+  total : l.total ≡ byte_count l.files;
+  small : l.total ≤ MOST_BYTES;
+  count : g.F.Folder.fault_count l.folder ≡ g.F.Folder.fault_count l.fn.folder;
+}

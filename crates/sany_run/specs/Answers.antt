@@ -1,0 +1,35 @@
+-- How a run answers.
+use Rattle.std.specs.Prelude.{◌≡◌, ◌≢◌, ℕ, List, ◌++◌, Bool, ◌||◌, ◌==◌, Option}
+use Rattle.std.specs.Bool.{OnFalse}
+use Rattle.std.specs.Io.KnownBytes.{Appends}
+use Rattle.tool_io.specs.Causes.{Rose}
+use Rattle.sany_run.specs.declared.check.Outcome.{Outcome}
+
+-- a fault of the folder, a fault of the output, or want of memory
+abbrev pub is_fault : ℕ → Bool
+is_fault status = status == 3 || status == 5 || status == 6
+
+-- the same, or a limit that is passed
+abbrev pub is_cut_short : ℕ → Bool
+is_cut_short status = is_fault status || status == 7
+
+-- a report was written, or some module holds the word INSTANCE
+abbrev pub is_done : ℕ → Bool
+is_done status = status == 0 || status == 1 || status == 9
+
+abbrev pub is_status : ℕ → Bool
+is_status status = is_cut_short status || is_done status || status == 2
+
+-- known bytes grow by some bytes from the front
+abbrev pub AppendsFront : Option (List ℕ) → Option (List ℕ) → List ℕ → Type 0
+AppendsFront old new bytes = (front : List ℕ) × (rest : List ℕ) × (bytes ≡ front ++ rest) × Appends old new front
+
+-- The bytes written are from the front of the outcome's. A run that is not cut short has its status and has written all its bytes.
+pub record Answers (outcome : Outcome) (status : ℕ) (old new : Option (List ℕ)) : Type 0 where
+  pub front : AppendsFront old new outcome.bytes
+  pub whole : OnFalse (is_cut_short status) ((status ≡ outcome.status) × Appends old new outcome.bytes)
+
+-- this status comes only where the count rose, and otherwise the count stays
+pub record TellsFault (fault status before now : ℕ) : Type 0 where
+  pub rose : status ≡ fault → Rose before now
+  pub stays : status ≢ fault → now ≡ before

@@ -1,0 +1,8 @@
+pub mod Answers
+pub mod Output
+pub mod Program
+pub mod Reading
+pub mod Report
+pub mod Spans
+pub mod Texts
+pub mod Verdicts

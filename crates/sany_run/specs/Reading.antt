@@ -1,0 +1,36 @@
+-- Parts of the reading of a folder.
+use Rattle.std.specs.Prelude.{◌≡◌, ◌<◌, ℕ, List, [], ◌∷◌, length, Option, Some, None, Result, Ok, Err, if◌then◌else◌, nat_lt, slice_get}
+use Rattle.tool_io.specs.Folder.{Told, after_call}
+use Rattle.tool_io.specs.declared.IoFault.{IoFault}
+use Rattle.family_check.specs.declared.verdict.File.{File}
+use Rattle.sany_run.specs.Program.{modules_of_listing, module_names, files_of, byte_count, MOST_BYTES, MOST_MODULES}
+
+-- the module that a file stands for, if it stands for one, as a list
+abbrev pub modules_of_file : List ℕ → List (List ℕ)
+modules_of_file file = modules_of_listing (file ∷ [])
+
+-- no name stands twice
+abbrev pub AreNamesDistinct : List (List ℕ) → Type 0
+AreNamesDistinct names = (i j : ℕ) (name : List ℕ) → slice_get names i ≡ Some name → slice_get names j ≡ Some name → i ≡ j
+
+-- the files are of the first so many names
+abbrev pub AreNamed : List File → List (List ℕ) → ℕ → Type 0
+AreNamed files names count = (i : ℕ) (f : File) → slice_get files i ≡ Some f → (at : ℕ) × (at < count) × (slice_get names at ≡ Some f.name)
+
+-- how many bytes were read
+abbrev pub read_len : Option (List ℕ) → ℕ
+read_len None = 0
+read_len (Some bytes) = length bytes
+
+-- files that have not too many bytes
+abbrev pub within : List File → Option (List File)
+within files = if nat_lt MOST_BYTES (byte_count files) then None else Some files
+
+-- the files of a folder, where no limit is passed
+abbrev pub files_within : Told → List ℕ → Option (List File)
+files_within t folder = if nat_lt MOST_MODULES (length (module_names (after_call t) folder)) then None else within (files_of t folder)
+
+-- the only fault is want of memory
+abbrev pub OnlyMemory : {T : Type 0} → Result T IoFault → Type 0
+OnlyMemory (Ok value) = Unit {0}
+OnlyMemory (Err fault) = fault ≡ IoFault.Memory

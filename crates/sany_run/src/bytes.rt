@@ -1,0 +1,38 @@
+// Classes of bytes.
+ghost use Rattle.std.specs.Prelude.{◌≡◌};
+ghost use Rattle.std.specs.List.{list_all, list_any};
+ghost use Rattle.std.specs.Char.{is_ascii_alphabetic};
+ghost use Rattle.sany_run.specs.Program as program;
+
+fn is_word_byte(c: u8) -> bool
+    ensures { result ≡ program.is_word_byte c }
+{
+    c.is_ascii_alphanumeric() || c == b'_'
+}
+
+/// Whether a folder's path may begin with a byte.
+pub fn begins_path(c: u8) -> bool
+    ensures { result ≡ program.begins_path c }
+{
+    c.is_ascii_alphanumeric() || c == b'.' || c == b'/' || c == b'_'
+}
+
+/// Whether all bytes are letters, digits or `_`.
+pub fn all_word_bytes(run: &[u8]) -> bool
+    ensures { result ≡ list_all program.is_word_byte run.now }
+{
+    run.iter().all(|c| is_word_byte(*c))
+}
+
+pub fn has_letter(run: &[u8]) -> bool
+    ensures { result ≡ list_any is_ascii_alphabetic run.now }
+{
+    run.iter().any(|c| c.is_ascii_alphabetic())
+}
+
+/// Whether a run is `WF_` or `SF_`, or goes on with it.
+pub fn is_fair(run: &[u8]) -> bool
+    ensures { result ≡ program.is_fair run.now }
+{
+    run.starts_with(b"WF_") || run.starts_with(b"SF_")
+}

@@ -1,0 +1,118 @@
+// The outcome for the modules of a folder.
+ghost use Rattle.std.specs.Prelude.{◌≡◌, ◌≤◌, IfOk, IfSome, Some, true, is_none, nat_le};
+ghost use Rattle.std.specs.Bool.{OnTrue};
+ghost use Rattle.std.specs.List.{All};
+ghost use Rattle.std.specs.Option.{option_map};
+ghost use Rattle.tool_io.specs.Causes.{HasCause};
+ghost use Rattle.family_check.specs.Verdicts.{AreDistinct, IsStepped, IsVerdictPlaced};
+ghost use Rattle.sany_run.specs.Answers.{is_done};
+ghost use Rattle.sany_run.specs.Program as program;
+ghost use Rattle.sany_run.specs.Reading as reading;
+ghost use Rattle.sany_run.specs.Verdicts.{IsOutcome, OfVerdicts};
+
+use crate::files::{modules_of, read_files};
+use crate::laws::verdicts_are_one;
+use crate::report::{report_on, report_status};
+use family_check::{File, Verdict, check_family};
+use std::alloc::Global;
+use step_count::Steps;
+use tool_io::{Folder, IoFault};
+use tool_list::{List, Memory};
+
+/// The most modules of a folder.
+const MOST_MODULES: usize = 1024;
+
+/// What a run is to write, and its status.
+#[derive(Drop)]
+pub struct Outcome {
+    pub status: u8,
+    pub bytes: List<u8>,
+}
+
+fn not_built(alloc: Global) -> Outcome
+    ensures { result ≡ program.NOT_BUILT }
+{
+    Outcome {
+        status: 9,
+        bytes: List::new(alloc),
+    }
+}
+
+fn reported(alloc: Global, verdicts: &[Verdict]) -> Result<Outcome, Memory>
+    requires { All IsVerdictPlaced verdicts.now }
+    ensures outcome { IfOk result (λ outcome. outcome ≡ program.reported verdicts.now) }
+    ensures verdict { IfOk result (λ outcome. nat_le outcome.status 1 ≡ true) }
+{
+    let report = report_on(alloc, verdicts)?;
+    Ok(Outcome {
+        status: report_status(verdicts),
+        bytes: List::from_vec(report.into_bytes()),
+    })
+}
+
+/// The outcome for the files of a folder. Files have no two lists of verdicts (`verdicts_are_one`).
+fn outcome_of_files<L>(
+    alloc: Global,
+    files: &[File],
+    steps: &mut Steps<L>,
+) -> Result<Outcome, Memory>
+    requires distinct { AreDistinct files.now }
+    requires small { program.byte_count files.now ≤ program.MOST_BYTES }
+    ensures outcome { IfOk result (IsOutcome files.now) }
+    ensures only { IfOk result (λ outcome. OfVerdicts files.now (λ verdicts. outcome ≡ program.outcome_of_verdicts verdicts)) }
+    ensures done { IfOk result (λ outcome. is_done outcome.status ≡ true) }
+    ensures ticks { IfOk result (λ outcome. OnTrue (nat_le outcome.status 1) (IsStepped files.now steps.old steps.new)) }
+{
+    verdicts_are_one();
+    match check_family(alloc, files, steps)? {
+        Some(verdicts) => reported(alloc, verdicts.as_slice()),
+        None => Ok(not_built(alloc)),
+    }
+}
+
+// The files of a folder, by one listing and one read of each module. None where there are too many
+// modules or bytes.
+fn files_of_folder<F: Folder>(
+    alloc: Global,
+    folder: &mut F,
+    path: &str,
+) -> Result<Option<List<File>>, IoFault>
+    ensures files { IfOk result (λ found. IfSome (F.told folder.old) (λ t. found ≡ reading.files_within t path.now)) }
+    ensures distinct { IfOk result (λ found. IfSome found AreDistinct) }
+    ensures small { IfOk result (λ found. IfSome found (λ files. program.byte_count files ≤ program.MOST_BYTES)) }
+    ensures told { IfOk result (λ found. IfSome found (λ files. F.told folder.new ≡ option_map (λ t. program.told_after_request t (Some path.now)) (F.told folder.old))) }
+    ensures cause { HasCause (F.fault_count folder.old) (F.fault_count folder.new) result }
+{
+    let listed = folder.names(alloc, path)?;
+    let Ok(names) = modules_of(alloc, listed.as_slice()) else {
+        return Err(IoFault::Memory);
+    };
+    if names.len() > MOST_MODULES {
+        return Ok(None);
+    }
+    read_files(alloc, folder, path, names.as_slice())
+}
+
+/// The outcome for a folder. None where a limit is passed.
+pub fn outcome_of_folder<F: Folder, L>(
+    alloc: Global,
+    folder: &mut F,
+    path: &str,
+    steps: &mut Steps<L>,
+) -> Result<Option<Outcome>, IoFault>
+    ensures outcome { IfOk result (λ outcome. IfSome outcome (λ o. IfSome (F.told folder.old) (λ t. IsOutcome (program.files_of t path.now) o))) }
+    ensures only { IfOk result (λ outcome. IfSome outcome (λ o. IfSome (F.told folder.old) (λ t. OfVerdicts (program.files_of t path.now) (λ verdicts. o ≡ program.outcome_of_verdicts verdicts)))) }
+    ensures limit { IfOk result (λ outcome. IfSome (F.told folder.old) (λ t. program.is_over_folder t path.now ≡ is_none outcome)) }
+    ensures done { IfOk result (λ outcome. IfSome outcome (λ o. is_done o.status ≡ true)) }
+    ensures ticks { IfOk result (λ outcome. IfSome outcome (λ o. IfSome (F.told folder.old) (λ t. OnTrue (nat_le o.status 1) (IsStepped (program.files_of t path.now) steps.old steps.new)))) }
+    ensures told { IfOk result (λ outcome. IfSome outcome (λ o. F.told folder.new ≡ option_map (λ t. program.told_after_request t (Some path.now)) (F.told folder.old))) }
+    ensures cause { HasCause (F.fault_count folder.old) (F.fault_count folder.new) result }
+{
+    let Some(files) = files_of_folder(alloc, folder, path)? else {
+        return Ok(None);
+    };
+    match outcome_of_files(alloc, files.as_slice(), steps) {
+        Ok(outcome) => Ok(Some(outcome)),
+        Err(Memory) => Err(IoFault::Memory),
+    }
+}

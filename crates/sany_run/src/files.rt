@@ -1,0 +1,140 @@
+// The module files of a folder.
+ghost use Rattle.std.specs.Prelude.{◌≡◌, ◌++◌, ◌+◌, ◌≤◌, [], IfOk, IfSome, OnOk, length};
+ghost use Rattle.std.specs.Option.{option_copied, option_map};
+ghost use Rattle.tool_io.specs.Causes.{HasCause};
+ghost use Rattle.tool_io.specs.Folder.{after_call, read_at};
+ghost use Rattle.family_check.specs.Verdicts.{AreDistinct};
+ghost use Rattle.sany_run.specs.Program as program;
+ghost use Rattle.sany_run.specs.Reading as reading;
+
+use crate::bytes::{all_word_bytes, has_letter, is_fair};
+use family_check::File;
+use std::alloc::Global;
+use tla_symbols::{op_of, word_of};
+use tool_io::{Folder, IoFault};
+use tool_list::{Chars, List, Memory};
+
+/// The most bytes that are read of a file.
+const MOST: u64 = (1 << 25) + 1;
+
+/// The most bytes of all files of a folder.
+const MOST_BYTES: u64 = 1 << 25;
+
+#[tactic(auto, unfolding(crate::specs::Program::is_identifier))]
+fn is_identifier(name: &[u8]) -> bool
+    ensures { result ≡ program.is_identifier name.now }
+{
+    all_word_bytes(name)
+        && has_letter(name)
+        && !is_fair(name)
+        && word_of(name).is_none()
+        && op_of(name).is_none()
+}
+
+/// The module that a file stands for, by its name.
+fn module_of_file(file: &str) -> Option<&str>
+    ensures { option_copied result ≡ program.module_of_file file.now }
+{
+    let stem = file.strip_suffix(".tla")?;
+    if is_identifier(stem.as_bytes()) {
+        Some(stem)
+    } else {
+        None
+    }
+}
+
+// Appends the name of the module that a file stands for, if it stands for one.
+fn add_module(alloc: Global, found: &mut List<Chars>, file: &str) -> Result<(), Memory>
+    ensures { OnOk result (found.new ≡ found.old ++ reading.modules_of_file file.now) }
+{
+    let Some(name) = module_of_file(file) else {
+        return Ok(());
+    };
+    found.push(Chars::from_str(alloc, name)?)
+}
+
+/// The modules of a listing, in order.
+pub fn modules_of(alloc: Global, names: &[Chars]) -> Result<List<Chars>, Memory>
+    ensures { IfOk result (λ found. found ≡ program.modules_of_listing names.now) }
+{
+    let mut found = List::new(alloc);
+    for name in names {
+        add_module(alloc, &mut found, name.as_str())?;
+    }
+    Ok(found)
+}
+
+// Reads the file of a module. None where it is gone.
+fn read_module<F: Folder>(
+    alloc: Global,
+    folder: &mut F,
+    path: &str,
+    name: &str,
+) -> Result<Option<List<u8>>, IoFault>
+    ensures goes { OnOk result (F.told folder.new ≡ option_map after_call (F.told folder.old)) }
+    ensures bytes { IfOk result (λ bytes. IfSome (F.told folder.new) (λ t. bytes ≡ read_at t path.now (program.file_of name.now) program.MOST)) }
+    ensures cause { HasCause (F.fault_count folder.old) (F.fault_count folder.new) result }
+{
+    let Ok(file) = format!(in alloc; "{name}.tla") else {
+        return Err(IoFault::Memory);
+    };
+    folder.read(alloc, path, file.as_str(), MOST)
+}
+
+fn read_len(bytes: &Option<List<u8>>) -> u64
+    ensures { result ≡ reading.read_len bytes.now }
+{
+    match bytes {
+        Some(bytes) => bytes.len() as u64,
+        None => 0,
+    }
+}
+
+// Appends a file that was read. One that is gone is no module.
+fn add_file(
+    alloc: Global,
+    files: &mut List<File>,
+    name: &str,
+    bytes: Option<List<u8>>,
+) -> Result<(), IoFault>
+    ensures files { OnOk result (files.new ≡ files.old ++ program.with_read name.now bytes []) }
+    ensures memory { reading.OnlyMemory result }
+{
+    let Some(bytes) = bytes else {
+        return Ok(());
+    };
+    let Ok(name) = Chars::from_str(alloc, name) else {
+        return Err(IoFault::Memory);
+    };
+    match files.push(File { name, bytes }) {
+        Ok(()) => Ok(()),
+        Err(Memory) => Err(IoFault::Memory),
+    }
+}
+
+/// Reads the file of each module once, in order. None as soon as they have too many bytes.
+pub fn read_files<F: Folder>(
+    alloc: Global,
+    folder: &mut F,
+    path: &str,
+    names: &[Chars],
+) -> Result<Option<List<File>>, IoFault>
+    requires { reading.AreNamesDistinct names.now }
+    ensures files { IfOk result (λ found. IfSome (F.told folder.old) (λ t. found ≡ reading.within (program.reads t path.now names.now))) }
+    ensures distinct { IfOk result (λ found. IfSome found AreDistinct) }
+    ensures small { IfOk result (λ found. IfSome found (λ files. program.byte_count files ≤ program.MOST_BYTES)) }
+    ensures told { IfOk result (λ found. IfSome found (λ files. F.told folder.new ≡ option_map (program.after_calls (length names.now)) (F.told folder.old))) }
+    ensures cause { HasCause (F.fault_count folder.old) (F.fault_count folder.new) result }
+{
+    let mut files = List::new(alloc);
+    let mut total = 0u64;
+    for name in names {
+        let bytes = read_module(alloc, folder, path, name.as_str())?;
+        total = total.saturating_add(read_len(&bytes));
+        if total > MOST_BYTES {
+            return Ok(None);
+        }
+        add_file(alloc, &mut files, name.as_str(), bytes)?;
+    }
+    Ok(Some(files))
+}

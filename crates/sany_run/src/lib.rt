@@ -1,0 +1,17 @@
+//! All that the program does, over any folder, input and output.
+//!
+//! Knows nothing of std's files and streams, and leaves to `family_check` what a module's text means.
+#![tactic(auto)]
+
+mod bytes;
+mod check;
+mod files;
+mod laws;
+mod output;
+mod program;
+mod report;
+mod slices;
+mod words;
+
+pub use laws::verdicts_are_one;
+pub use program::run;

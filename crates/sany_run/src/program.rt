@@ -1,0 +1,106 @@
+// All that the program does.
+ghost use Rattle.std.specs.Prelude.{◌≡◌, ◌↔◌, ◌||◌, ◌==◌, IfSome, None, true, nat_le, []};
+ghost use Rattle.std.specs.Io.KnownBytes.{Appends};
+ghost use Rattle.std.specs.Bool.{OnFalse, OnTrue};
+ghost use Rattle.std.specs.Option.{option_map};
+ghost use Rattle.family_check.specs.Verdicts.{IsStepped};
+ghost use Rattle.sany_run.specs.Answers.{Answers, TellsFault, is_cut_short, is_fault, is_status};
+ghost use Rattle.sany_run.specs.Program.{program, files_in, folder_of as folder_in, is_over, told_after};
+ghost use Rattle.sany_run.specs.Texts.{texts};
+ghost use Rattle.sany_run.specs.Verdicts.{IsNotBuilt, OfVerdicts, Shows, is_shown};
+
+use crate::check::outcome_of_folder;
+use crate::output::write_all;
+use crate::words::folder_of;
+use std::alloc::Global;
+use step_count::Steps;
+use tool_io::{Folder, IoFault, Sink, Source};
+
+/// The words do not ask for anything.
+const USAGE: u8 = 2;
+
+/// The folder failed.
+const FOLDER_FAULT: u8 = 3;
+
+/// The output failed.
+const OUTPUT_FAULT: u8 = 5;
+
+/// There was no room.
+const NO_MEMORY: u8 = 6;
+
+/// A limit was passed.
+const LIMIT: u8 = 7;
+
+fn status_of_run<F: Folder, K: Sink, L>(
+    alloc: Global,
+    words: &[String],
+    folder: &mut F,
+    output: &mut K,
+    steps: &mut Steps<L>,
+) -> u8
+    ensures answers { IfSome (F.told folder.old) (λ t. OfVerdicts (files_in (texts words.now) t) (λ verdicts. Answers (program (texts words.now) verdicts) result (K.taken output.old) (K.taken output.new))) }
+    ensures shown { IfSome (F.told folder.old) (λ t. OnTrue (is_shown result) (Shows (files_in (texts words.now) t) result (K.taken output.old) (K.taken output.new))) }
+    ensures status { is_status result ≡ true }
+    ensures usage { (result ≡ 2) ↔ (folder_in (texts words.now) ≡ None) }
+    ensures folder_fault { TellsFault 3 result (F.fault_count folder.old) (F.fault_count folder.new) }
+    ensures output_fault { TellsFault 5 result (K.fault_count output.old) (K.fault_count output.new) }
+    ensures limit { IfSome (F.told folder.old) (λ t. OnFalse (is_fault result) ((result ≡ 7) ↔ (is_over (texts words.now) t ≡ true))) }
+    ensures not_built { IfSome (F.told folder.old) (λ t. OnFalse (is_cut_short result) ((result ≡ 9) ↔ IsNotBuilt (texts words.now) t)) }
+    ensures silent { OnTrue (result == 3 || result == 7) (Appends (K.taken output.old) (K.taken output.new) []) }
+    ensures ticks { IfSome (F.told folder.old) (λ t. OnTrue (nat_le result 1) (IsStepped (files_in (texts words.now) t) steps.old steps.new)) }
+    ensures told { OnFalse (result == 3 || result == 6 || result == 7) (F.told folder.new ≡ option_map (told_after (texts words.now)) (F.told folder.old)) }
+{
+    let Some(path) = folder_of(words) else {
+        return USAGE;
+    };
+    let outcome = match outcome_of_folder(alloc, folder, path, steps) {
+        Ok(Some(outcome)) => outcome,
+        Ok(None) => return LIMIT,
+        Err(IoFault::Failed) => return FOLDER_FAULT,
+        Err(IoFault::Memory) => return NO_MEMORY,
+    };
+    match write_all(output, outcome.bytes.as_slice()) {
+        Ok(()) => outcome.status,
+        Err(IoFault::Failed) => OUTPUT_FAULT,
+        Err(IoFault::Memory) => NO_MEMORY,
+    }
+}
+
+/// Does all that the program does, and hands the folder back. Its first answer is the status: 0
+/// where each module is accepted, 1 where some module is refused, 2 where the words ask for
+/// nothing, 3 and 5 where the folder and the output failed, 6 where there was no room, 7 where a
+/// limit is passed, 9 where some module holds the word INSTANCE. The input is not read.
+pub fn run<F: Folder, S: Source, K: Sink, L>(
+    alloc: Global,
+    words: &[String],
+    mut folder: F,
+    input: &mut S,
+    output: &mut K,
+    steps: &mut Steps<L>,
+) -> (u8, F)
+    // Whatever the status, the bytes written are from the front of the program's. Where no object
+    // failed and there was room, all of them are written and the status is the program's. The files
+    // have at most one list of verdicts (`verdicts_are_one`).
+    ensures answers { IfSome (F.told folder) (λ t. OfVerdicts (files_in (texts words.now) t) (λ verdicts. Answers (program (texts words.now) verdicts) result.0 (K.taken output.old) (K.taken output.new))) }
+
+    // With 0, 1 and 5 the files have verdicts, and the bytes are those of the report on them.
+    ensures shown { IfSome (F.told folder) (λ t. OnTrue (is_shown result.0) (Shows (files_in (texts words.now) t) result.0 (K.taken output.old) (K.taken output.new))) }
+    ensures status { is_status result.0 ≡ true }
+
+    // When each status comes that is no verdict.
+    ensures usage { (result.0 ≡ 2) ↔ (folder_in (texts words.now) ≡ None) }
+    ensures folder_fault { TellsFault 3 result.0 (F.fault_count folder) (F.fault_count result.1) }
+    ensures output_fault { TellsFault 5 result.0 (K.fault_count output.old) (K.fault_count output.new) }
+    ensures limit { IfSome (F.told folder) (λ t. OnFalse (is_fault result.0) ((result.0 ≡ 7) ↔ (is_over (texts words.now) t ≡ true))) }
+    ensures not_built { IfSome (F.told folder) (λ t. OnFalse (is_cut_short result.0) ((result.0 ≡ 9) ↔ IsNotBuilt (texts words.now) t)) }
+
+    // What it leaves.
+    ensures folder_after { OnFalse (result.0 == 3 || result.0 == 6 || result.0 == 7) (F.told result.1 ≡ option_map (told_after (texts words.now)) (F.told folder)) }
+    ensures silent { OnTrue (result.0 == 3 || result.0 == 7) (Appends (K.taken output.old) (K.taken output.new) []) }
+    ensures ticks { IfSome (F.told folder) (λ t. OnTrue (nat_le result.0 1) (IsStepped (files_in (texts words.now) t) steps.old steps.new)) }
+    ensures input_after { input.new ≡ input.old }
+{
+    let _ = &*input;
+    let status = status_of_run(alloc, words, &mut folder, output, steps);
+    (status, folder)
+}

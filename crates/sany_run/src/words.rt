@@ -1,0 +1,32 @@
+// The words of the command line.
+ghost use Rattle.std.specs.Prelude.{◌≡◌};
+ghost use Rattle.std.specs.Option.{option_copied};
+ghost use Rattle.sany_run.specs.Program as program;
+ghost use Rattle.sany_run.specs.Texts.{texts};
+
+use crate::bytes::begins_path;
+
+fn is_path(text: &[u8]) -> bool
+    ensures { result ≡ program.is_path text.now }
+{
+    match text {
+        [] => false,
+        [first, ..] => begins_path(*first),
+    }
+}
+
+/// The folder that the words ask to check.
+pub fn folder_of(words: &[String]) -> Option<&str>
+    ensures { option_copied result ≡ program.folder_of (texts words.now) }
+{
+    match words {
+        [command, folder] => {
+            if command.as_str() == "check" && is_path(folder.as_bytes()) {
+                Some(folder.as_str())
+            } else {
+                None
+            }
+        }
+        _ => None,
+    }
+}

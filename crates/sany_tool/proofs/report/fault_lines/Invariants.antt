@@ -1,6 +1,0 @@
-use Rattle.std.proofs.Common.{◌≡◌, ◌++◌, drop, string_bytes}
-use Rattle.sany_tool.specs.Report.{fault_lines}
-use Rattle.sany_tool.proofs.report.fault_lines.Given as goal
-
-abbrev pub invariant-loop-fault : goal.invariant-loop-fault
-invariant-loop-fault l = string_bytes l.lines ++ fault_lines l.text (drop l.fault-index l.faults) ≡ fault_lines l.text l.faults
