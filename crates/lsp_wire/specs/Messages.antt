@@ -8,7 +8,7 @@ use Rattle.lsp_wire.specs.declared.types.Incoming.{Incoming}
 use Rattle.lsp_wire.specs.declared.types.Incoming.TheVariants.{Request, Notice, Dropped, Invalid}
 use Rattle.lsp_wire.specs.declared.read.FoundId.{FoundId}
 use Rattle.lsp_wire.specs.declared.read.FoundId.TheVariants.{Absent, Valid, Refused}
-use Rattle.lsp_wire.specs.declared.errors.TheConstants.{PARSE_ERROR, INVALID_REQUEST}
+use Rattle.lsp_wire.specs.Errors.{parse_error, invalid_request}
 use Rattle.lsp_wire.specs.Params.{params_of}
 use Rattle.lsp_wire.specs.Methods.{call_of, notice_of}
 
@@ -32,9 +32,9 @@ found_id (Some (object ms)) = Refused
 
 -- a refusal names its message where that has a name
 abbrev pub refusal : FoundId → Incoming
-refusal Absent = Invalid INVALID_REQUEST Null
-refusal (Valid id) = Invalid INVALID_REQUEST id
-refusal Refused = Invalid INVALID_REQUEST Null
+refusal Absent = Invalid invalid_request Null
+refusal (Valid id) = Invalid invalid_request id
+refusal Refused = Invalid invalid_request Null
 
 -- an answer to nothing is dropped
 abbrev pub without_method : FoundId → Data → Incoming
@@ -42,9 +42,9 @@ without_method id d = if is_some (get (codes "result") d) || is_some (get (codes
 
 -- a method asks for an answer where the message has a name
 abbrev pub with_method : FoundId → Option (List ℕ) → Data → Incoming
-with_method Refused method d = Invalid INVALID_REQUEST Null
-with_method (Valid id) None d = Invalid INVALID_REQUEST id
-with_method Absent None d = Invalid INVALID_REQUEST Null
+with_method Refused method d = Invalid invalid_request Null
+with_method (Valid id) None d = Invalid invalid_request id
+with_method Absent None d = Invalid invalid_request Null
 with_method (Valid id) (Some method) d = Request id (call_of method (params_of d))
 with_method Absent (Some method) d = Notice (notice_of method (params_of d))
 
@@ -55,7 +55,7 @@ message_by (Some method) id d = with_method id (as_str method) d
 -- what a value is as a message
 abbrev pub message_of : Data → Incoming
 message_of d =
-    if is_some (as_object d) then message_by (get (codes "method") d) (found_id (get (codes "id") d)) d else Invalid INVALID_REQUEST Null
+    if is_some (as_object d) then message_by (get (codes "method") d) (found_id (get (codes "id") d)) d else Invalid invalid_request Null
 
 -- the content is a value, which is this message
 pub record IsRead (content : List ℕ) (message : Incoming) : Type 0 where
@@ -67,4 +67,4 @@ pub record IsRead (content : List ℕ) (message : Incoming) : Type 0 where
 -- the content is this message: what no text or no JSON is, is an error that names no request
 abbrev pub IsMessage : List ℕ → Incoming → Type 0
 IsMessage content message =
-    IsRead content message ⊎ ((IsUtf8 content → read content ≡ None) × (message ≡ Invalid PARSE_ERROR Null))
+    IsRead content message ⊎ ((IsUtf8 content → read content ≡ None) × (message ≡ Invalid parse_error Null))
