@@ -1,5 +1,5 @@
 -- What a framer holds, and what it answers of it.
-use Rattle.std.specs.Prelude.{◌≡◌, ℕ, ◌+◌, ◌<◌, ◌≤◌, ◌⊎◌, List, [], ◌++◌, length, take, drop}
+use Rattle.std.specs.Prelude.{◌≡◌, ℕ, ◌+◌, ◌<◌, ◌≤◌, ◌^◌, ◌⊎◌, List, [], ◌++◌, length, take, drop}
 use Rattle.rpc_frame.specs.declared.framer.FrameNext.{FrameNext}
 use Rattle.rpc_frame.specs.declared.framer.FrameNext.TheVariants.{Message, NotYet, BadHeader, TooLong}
 use Rattle.rpc_frame.specs.declared.header.Found.{Found}
@@ -11,6 +11,10 @@ pub record Held : Type 0 where
   pub taken : ℕ
   pub content : List ℕ
   pub waiting : List ℕ
+
+-- so many bytes may be fed
+abbrev pub HasRoom : Held → ℕ → Type 0
+HasRoom held count = (length held.waiting + count < 2 ^ 26) × (held.taken + length held.waiting + count < 2 ^ 63)
 
 -- the answer to what waits, and what is held afterwards
 abbrev pub IsNext : Held → FrameNext → Held → Type 0

@@ -3,7 +3,7 @@
 ghost use Rattle.std.specs.Prelude.{◌≡◌, ◌+◌, ◌^◌, ◌<◌, ◌≤◌, ◌↔◌, [], ◌++◌, length, drop, vec_len};
 ghost use Rattle.std.specs.Prelude.{IsTrue, OnOk, OnErr};
 ghost use Rattle.rpc_frame.specs.Frames.{EndsInside};
-ghost use Rattle.rpc_frame.specs.Framing.{IsNext};
+ghost use Rattle.rpc_frame.specs.Framing.{HasRoom, IsNext};
 ghost use Rattle.rpc_frame.specs.HeaderMachine.{HasRead};
 
 use crate::header::{Found, Progress};
@@ -77,6 +77,16 @@ impl Framer {
         self.let_go();
         self.bytes.extend_from_slice(piece)?;
         Ok(())
+    }
+
+    /// Whether a piece may be fed: fewer than 2^26 bytes wait then, and fewer than 2^63 have come in all.
+    pub fn has_room_for(&self, piece: &[u8]) -> bool
+        ensures { IsTrue result ↔ HasRoom self.now (length piece.now) }
+    {
+        let waiting = behind(&self.bytes, self.start)
+            .len()
+            .saturating_add(piece.len());
+        waiting < 1 << 26 && self.taken.saturating_add(waiting as u64) < 1 << 63
     }
 
     /// Lets go of the bytes before the last content, once they are more than the others. So the
