@@ -9,7 +9,7 @@ use Rattle.lsp_wire.specs.declared.types.Notice.TheVariants.{Exit, Open, Change,
 use Rattle.lsp_wire.specs.declared.types.Incoming.{Incoming}
 use Rattle.lsp_wire.specs.declared.types.Incoming.TheVariants.{Request, Notice, Dropped, Invalid}
 use Rattle.lsp_wire.specs.declared.types.Reply.TheVariants.{Initialized, Null}
-use Rattle.lsp_wire.specs.declared.errors.TheConstants.{INVALID_REQUEST, METHOD_NOT_FOUND, INVALID_PARAMS, SERVER_NOT_INITIALIZED}
+use Rattle.lsp_wire.specs.Errors.{invalid_request, method_not_found, invalid_params, server_not_initialized}
 use Rattle.rpc_frame.specs.Frames.{frame_of}
 use Rattle.lsp_wire.specs.Replies.{reply_content}
 use Rattle.lsp_wire.specs.Written.{error_content, notes_content}
@@ -45,16 +45,16 @@ refused id code = frame_of (error_content id code)
 -- a second `initialize`, an unknown method, bad parameters
 abbrev pub refusal : Phase → Call → Option ℤ
 refusal Uninitialized (Initialize root) = None
-refusal Uninitialized Shutdown = Some SERVER_NOT_INITIALIZED
-refusal Uninitialized (Definition uri at) = Some SERVER_NOT_INITIALIZED
-refusal Uninitialized (References uri at declared) = Some SERVER_NOT_INITIALIZED
-refusal Uninitialized (Symbols uri) = Some SERVER_NOT_INITIALIZED
-refusal Uninitialized BadParams = Some SERVER_NOT_INITIALIZED
-refusal Uninitialized Unknown = Some SERVER_NOT_INITIALIZED
-refusal Stopped call = Some INVALID_REQUEST
-refusal Running (Initialize root) = Some INVALID_REQUEST
-refusal Running Unknown = Some METHOD_NOT_FOUND
-refusal Running BadParams = Some INVALID_PARAMS
+refusal Uninitialized Shutdown = Some server_not_initialized
+refusal Uninitialized (Definition uri at) = Some server_not_initialized
+refusal Uninitialized (References uri at declared) = Some server_not_initialized
+refusal Uninitialized (Symbols uri) = Some server_not_initialized
+refusal Uninitialized BadParams = Some server_not_initialized
+refusal Uninitialized Unknown = Some server_not_initialized
+refusal Stopped call = Some invalid_request
+refusal Running (Initialize root) = Some invalid_request
+refusal Running Unknown = Some method_not_found
+refusal Running BadParams = Some invalid_params
 refusal Running Shutdown = None
 refusal Running (Definition uri at) = None
 refusal Running (References uri at declared) = None
@@ -195,12 +195,20 @@ Tells s (Notice Other) = ⊤
 Tells s Dropped = ⊤
 Tells s (Invalid code id) = ⊤
 
--- what stands behind the bytes, and the state, where the call was not refused
+-- of some bytes the first ones were appended, and the rest was not
+pub record IsCut (old new whole : List ℕ) : Type 0 where
+  pub more : List ℕ
+  pub rest : List ℕ
+  pub appended : new ≡ old ++ more
+  pub cut : whole ≡ more ++ rest
+
+-- what stands behind the bytes, and the state, where the call was not refused; where there was no room, a
+-- beginning of what was to be written
 abbrev pub IsDone : {T : Type 0} → Outcome → List ℕ → List ℕ → State → Result T SessionFault → Type 0
 IsDone outcome old new s (Ok _) = (outcome.limit ≡ None) × (new ≡ old ++ outcome.bytes) × (s ≡ outcome.state)
 IsDone outcome old new s (Err Folder) = ⊤
 IsDone outcome old new s (Err (Limit said)) = outcome.limit ≡ Some said
-IsDone outcome old new s (Err Memory) = ⊤
+IsDone outcome old new s (Err Memory) = IsCut old new outcome.bytes
 IsDone outcome old new s (Err Spent) = ⊥
 
 -- and the session's phase, and how it goes on

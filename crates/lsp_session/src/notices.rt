@@ -3,7 +3,7 @@
 ghost use Rattle.std.specs.Prelude.{◌≡◌, ◌++◌, List, ℕ, IfErr, IsSome, OnOk, OnErr};
 ghost use Rattle.lsp_answers.specs.States.{judged, dues_of, after_dues};
 ghost use Rattle.lsp_session.specs.SessionOutput.{noticed, notified, notice_frames, told_running};
-ghost use Rattle.lsp_session.specs.SessionOutput.{Tells, IsDone, HasSessionCause, Adds};
+ghost use Rattle.lsp_session.specs.SessionOutput.{Tells, IsCut, IsDone, HasSessionCause, Adds};
 
 use crate::phase::{Phase, SessionFault, fault_of};
 use lsp_answers::{Answers, Due};
@@ -12,10 +12,10 @@ use std::alloc::Global;
 use step_count::Steps;
 use tool_list::{Chars, List, Memory};
 
-/// Appends the frames of notices. After `Memory` some of them may stand there.
+/// Appends the frames of notices. After `Memory` the first of them may stand there.
 fn write_dues(alloc: Global, dues: &[Due], out: &mut List<u8>) -> Result<(), Memory>
     ensures ok { OnOk result (out.new ≡ out.old ++ notice_frames dues.now) }
-    ensures err { OnErr result ((more : List ℕ) × (out.new ≡ out.old ++ more)) }
+    ensures err { OnErr result (IsCut out.old out.new (notice_frames dues.now)) }
 {
     'dues: for due in dues {
         write_notes(alloc, &due.uri, &due.notes, out)?;
@@ -33,6 +33,8 @@ fn notices<A: Answers, L>(
     ensures ok { OnOk result ((out.new
         ≡ out.old ++ notice_frames (dues_of A.meaning.notes_of (A.state answers.old)))
         × (A.state answers.new ≡ after_dues A.meaning.notes_of (A.state answers.old))) }
+    ensures cut { OnErr result (IsCut out.old out.new
+        (notice_frames (dues_of A.meaning.notes_of (A.state answers.old)))) }
     ensures cause { A.fault_count answers.new ≡ A.fault_count answers.old }
     ensures adds { Adds out.old out.new result }
     ensures memory { IfErr result (λ fault. fault ≡ SessionFault.Memory) }

@@ -119,8 +119,8 @@ impl<A: Answers> Session<A> {
     }
 
     /// Handles the message that is a frame's content, and appends the frames that answer it: the
-    /// answer first, then notices. After a fault only frames of notices may stand behind the old
-    /// bytes.
+    /// answer first, then notices. After want of memory a beginning of them stands behind the old
+    /// bytes, and after any other fault nothing.
     pub fn message<L>(
         &mut self,
         alloc: Global,
