@@ -12,6 +12,3 @@ mod parts;
 
 pub use checked::{Checked, check_module};
 pub use laws::{faults_stand_at_lexemes, none_in_order, one_order};
-
-#[cfg(test)]
-mod tests;

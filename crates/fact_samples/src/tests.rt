@@ -1,17 +1,112 @@
 // The store over small texts: what is answered, and how many derivations it costs.
-ghost use Rattle.std.specs.Prelude.{◌<◌};
-
 use crate::*;
 use fact_store::{Answer, FactStore};
+use std::process::Abort;
 use std::test::Fail;
 
-/// What a demand answered, and what it cost.
+/// What is done to a store: a name gets a text or loses it, or its value is asked for.
+#[derive(Clone, Copy)]
+enum Step<'a> {
+    Put(&'a str, &'a str),
+    Remove(&'a str),
+    Demand(&'a str),
+}
+
+/// What came of a step.
 #[derive(Clone, Copy, Debug, PartialEq, Eq)]
 enum Said {
+    Done,
     NoText,
     Broken,
-    Fact(SampleFact, u64),
+    /// The fact's face, its hidden byte and its digest, and how many derivations it took.
+    Fact(u8, u8, u32, u64),
 }
+
+use Said::{Broken, Done, Fact, NoText};
+use Step::{Demand, Put, Remove};
+
+/// Steps on one store, each with what has to come of it.
+type Script = &'static [(Step<'static>, Said)];
+
+/// Edits: those alone cost a derivation that show.
+static EDITS: [(Step, Said); 17] = [
+    (Put("Bb", "b1Aa"), Done),
+    (Demand("Bb"), Fact(b'b', b'1', 0, 1)),
+    (Put("Aa", "a1"), Done),
+    (Demand("Bb"), Fact(b'b', b'1', 100, 2)),
+    (Demand("Aa"), Fact(b'a', b'1', 0, 0)),
+    // An edit and its undoing.
+    (Put("Aa", "c1"), Done),
+    (Put("Aa", "a1"), Done),
+    (Demand("Bb"), Fact(b'b', b'1', 100, 0)),
+    // An edit that the face does not show.
+    (Put("Aa", "a2"), Done),
+    (Demand("Bb"), Fact(b'b', b'1', 100, 1)),
+    (Demand("Aa"), Fact(b'a', b'2', 0, 0)),
+    // An edit of the face.
+    (Put("Aa", "d2"), Done),
+    (Demand("Bb"), Fact(b'b', b'1', 103, 2)),
+    // A text that is removed.
+    (Remove("Aa"), Done),
+    (Remove("Zz"), Done),
+    (Demand("Bb"), Fact(b'b', b'1', 0, 1)),
+    (Demand("Aa"), NoText),
+];
+
+/// Demands in the middle of puts.
+static PUTS: [(Step, Said); 12] = [
+    (Put("Dd", "d1Bb"), Done),
+    (Put("Bb", "b1AaCc"), Done),
+    (Put("Aa", "a1"), Done),
+    (Demand("Dd"), Fact(b'd', b'1', 101, 3)),
+    // Below "Bb" a face comes and a hidden byte changes; its own face stays, and "Dd" is not made anew.
+    (Put("Cc", "c1"), Done),
+    (Put("Aa", "a2"), Done),
+    (Demand("Dd"), Fact(b'd', b'1', 101, 3)),
+    (Demand("Bb"), Fact(b'b', b'1', 100 * 31 + 102, 0)),
+    (Put("Dd", "e1Bb"), Done),
+    (Put("Ee", "f1DdAa"), Done),
+    (Demand("Ee"), Fact(b'f', b'1', 104 * 31 + 100, 2)),
+    (Demand("Dd"), Fact(b'e', b'1', 101, 0)),
+];
+
+/// Cycles that are made and broken, and a broken text.
+static CYCLES: [(Step, Said); 13] = [
+    (Put("Aa", "a1Bb"), Done),
+    (Put("Bb", "b1Aa"), Done),
+    (Put("Cc", "c1AaCc"), Done),
+    (Demand("Aa"), Fact(b'a', b'1', 1, 1)),
+    (Demand("Bb"), Fact(b'b', b'1', 1, 1)),
+    (Demand("Cc"), Fact(b'c', b'1', 100 * 31 + 1, 1)),
+    (Put("Bb", "!"), Done),
+    (Demand("Bb"), Broken),
+    (Demand("Aa"), Fact(b'a', b'1', 2, 1)),
+    (Put("Bb", "b1"), Done),
+    (Demand("Aa"), Fact(b'a', b'1', 101, 2)),
+    // The text that made the cycle again.
+    (Put("Bb", "b1Aa"), Done),
+    (Demand("Cc"), Fact(b'c', b'1', 100 * 31 + 1, 1)),
+];
+
+/// Behind a chain of a thousand names, from "TX" down to "Aa".
+static CHAIN: [(Step, Said); 5] = [
+    (Demand("TX"), Fact(b'f', b'1', 105, 1000)),
+    (Put("Aa", "f2"), Done),
+    (Demand("TX"), Fact(b'f', b'1', 105, 1)),
+    // The end needs the top: each need of the chain leads back.
+    (Put("Aa", "f1TX"), Done),
+    (Demand("TX"), Fact(b'f', b'1', 1, 1)),
+];
+
+/// Behind a star of a thousand names that need "01", and "02" that needs them all.
+static STAR: [(Step, Said); 6] = [
+    (Put("01", "m1"), Done),
+    (Demand("Aa"), Fact(b'g', b'1', 112, 2)),
+    (Demand("TX"), Fact(b'g', b'1', 112, 1)),
+    (Demand("02"), Fact(b'f', b'1', 33024, 999)),
+    (Put("01", "m2"), Done),
+    (Demand("02"), Fact(b'f', b'1', 33024, 1)),
+];
 
 /// A store with its way to derive facts, and the count of derivations.
 #[derive(Drop)]
@@ -30,172 +125,108 @@ impl Trial {
         }
     }
 
-    fn put(&mut self, alloc: Global, name: &str, text: &str) -> Result<(), Memory> {
-        let bytes = text.as_bytes();
-        self.store
-            .put_text(alloc, name, Some(bytes), &mut self.sample)
+    fn put(&mut self, alloc: Global, name: &str, bytes: Option<&[u8]>) -> Result<Said, Memory> {
+        self.store.put_text(alloc, name, bytes, &mut self.sample)?;
+        Ok(Done)
     }
 
-    fn remove(&mut self, alloc: Global, name: &str) -> Result<(), Memory> {
-        self.store.put_text(alloc, name, None, &mut self.sample)
-    }
-
-    fn ask(&mut self, alloc: Global, name: &str) -> Result<Said, Memory> {
+    fn demand(&mut self, alloc: Global, name: &str) -> Result<Said, Memory> {
         let before = self.steps.count();
         let answer = self
             .store
             .demand(alloc, name, &mut self.sample, &mut self.steps)?;
         let cost = self.steps.count().saturating_sub(before);
         Ok(match answer {
-            Answer::NoText => Said::NoText,
-            Answer::Broken => Said::Broken,
-            Answer::Fact(fact) => Said::Fact(*fact, cost),
+            Answer::NoText => NoText,
+            Answer::Broken => Broken,
+            Answer::Fact(fact) => Fact(fact.face, fact.hidden, fact.below, cost),
         })
+    }
+
+    fn takes(&mut self, alloc: Global, step: Step) -> Result<Said, Memory> {
+        match step {
+            Put(name, text) => self.put(alloc, name, Some(text.as_bytes())),
+            Remove(name) => self.put(alloc, name, None),
+            Demand(name) => self.demand(alloc, name),
+        }
+    }
+
+    fn follows(&mut self, rt: &impl Abort, alloc: Global, script: Script) -> Result<(), Fail> {
+        for (place, (step, want)) in script.iter().enumerate() {
+            let said = self.takes(alloc, *step)?;
+            assert_eq!(rt; said, *want, "step {place}");
+        }
+        Ok(())
     }
 }
 
 fn crosses_threads<T: Send + Sync>(_: &T) {}
 
-fn fact(face: u8, hidden: u8, below: u32, cost: u64) -> Said {
-    Said::Fact(
-        SampleFact {
-            face,
-            hidden,
-            below,
-        },
-        cost,
-    )
-}
-
 #[test]
-fn derives_what_changed_alone(rt: HostRuntime) -> Result<(), Fail> {
+fn answers_at_little_cost(rt: HostRuntime) -> Result<(), Fail> {
     let alloc = rt.alloc();
-    let mut trial = Trial::new(alloc);
-    trial.put(alloc, "Bb", "b1Aa")?;
-    assert!(rt; trial.ask(alloc, "Bb")? == fact(b'b', b'1', 0, 1));
-    trial.put(alloc, "Aa", "a1")?;
-    assert!(rt; trial.ask(alloc, "Bb")? == fact(b'b', b'1', 100, 2));
-    assert!(rt; trial.ask(alloc, "Aa")? == fact(b'a', b'1', 0, 0));
-    // An edit and its undoing.
-    trial.put(alloc, "Aa", "c1")?;
-    trial.put(alloc, "Aa", "a1")?;
-    assert!(rt; trial.ask(alloc, "Bb")? == fact(b'b', b'1', 100, 0));
-    // An edit that the face does not show.
-    trial.put(alloc, "Aa", "a2")?;
-    assert!(rt; trial.ask(alloc, "Bb")? == fact(b'b', b'1', 100, 1));
-    assert!(rt; trial.ask(alloc, "Aa")? == fact(b'a', b'2', 0, 0));
-    // An edit of the face.
-    trial.put(alloc, "Aa", "d2")?;
-    assert!(rt; trial.ask(alloc, "Bb")? == fact(b'b', b'1', 103, 2));
-    // A text that is removed.
-    trial.remove(alloc, "Aa")?;
-    trial.remove(alloc, "Zz")?;
-    assert!(rt; trial.ask(alloc, "Bb")? == fact(b'b', b'1', 0, 1));
-    assert!(rt; trial.ask(alloc, "Aa")? == Said::NoText);
-    crosses_threads(&trial.store);
+    let scripts: [Script; 3] = [&EDITS, &PUTS, &CYCLES];
+    for script in scripts {
+        let mut trial = Trial::new(alloc);
+        trial.follows(&rt, alloc, script)?;
+        crosses_threads(&trial.store);
+    }
     Ok(())
 }
 
-#[test]
-fn answers_in_the_middle_of_puts(rt: HostRuntime) -> Result<(), Fail> {
-    let alloc = rt.alloc();
-    let mut trial = Trial::new(alloc);
-    trial.put(alloc, "Dd", "d1Bb")?;
-    trial.put(alloc, "Bb", "b1AaCc")?;
-    trial.put(alloc, "Aa", "a1")?;
-    assert!(rt; trial.ask(alloc, "Dd")? == fact(b'd', b'1', 101, 3));
-    // Below "Bb" a face comes and a hidden byte changes; its own face stays, and "Dd" is not made anew.
-    trial.put(alloc, "Cc", "c1")?;
-    trial.put(alloc, "Aa", "a2")?;
-    assert!(rt; trial.ask(alloc, "Dd")? == fact(b'd', b'1', 101, 3));
-    assert!(rt; trial.ask(alloc, "Bb")? == fact(b'b', b'1', 100 * 31 + 102, 0));
-    trial.put(alloc, "Dd", "e1Bb")?;
-    trial.put(alloc, "Ee", "f1DdAa")?;
-    assert!(rt; trial.ask(alloc, "Ee")? == fact(b'f', b'1', 104 * 31 + 100, 2));
-    assert!(rt; trial.ask(alloc, "Dd")? == fact(b'e', b'1', 101, 0));
-    assert!(rt; trial.steps.count() == 8);
-    Ok(())
+/// A thousand names, from "Aa" to "TX".
+fn thousand_names(alloc: Global) -> Result<Vec<String>, Memory> {
+    let mut names = Vec::new(alloc);
+    for first in "ABCDEFGHIJKLMNOPQRST".chars() {
+        for second in "abcdefghijklmnopqrstuvwxyzABCDEFGHIJKLMNOPQRSTUVWX".chars() {
+            names.push(name_of(alloc, first, second)?)?;
+        }
+    }
+    Ok(names)
 }
 
-#[test]
-fn tells_cycles_and_broken_texts(rt: HostRuntime) -> Result<(), Fail> {
-    let alloc = rt.alloc();
-    let mut trial = Trial::new(alloc);
-    trial.put(alloc, "Aa", "a1Bb")?;
-    trial.put(alloc, "Bb", "b1Aa")?;
-    trial.put(alloc, "Cc", "c1AaCc")?;
-    assert!(rt; trial.ask(alloc, "Aa")? == fact(b'a', b'1', 1, 1));
-    assert!(rt; trial.ask(alloc, "Bb")? == fact(b'b', b'1', 1, 1));
-    assert!(rt; trial.ask(alloc, "Cc")? == fact(b'c', b'1', 100 * 31 + 1, 1));
-    trial.put(alloc, "Bb", "!")?;
-    assert!(rt; trial.ask(alloc, "Bb")? == Said::Broken);
-    assert!(rt; trial.ask(alloc, "Aa")? == fact(b'a', b'1', 2, 1));
-    trial.put(alloc, "Bb", "b1")?;
-    assert!(rt; trial.ask(alloc, "Aa")? == fact(b'a', b'1', 101, 2));
-    // The text that made the cycle again.
-    trial.put(alloc, "Bb", "b1Aa")?;
-    assert!(rt; trial.ask(alloc, "Cc")? == fact(b'c', b'1', 100 * 31 + 1, 1));
-    Ok(())
-}
-
-/// One of a thousand names.
-fn name_of(alloc: Global, number: usize) -> Result<String, Memory>
-    requires { number < 1000 }
-{
+fn name_of(alloc: Global, first: char, second: char) -> Result<String, Memory> {
     let mut name = String::new(alloc);
-    name.push((b'0' + (number / 50) as u8) as char)?;
-    name.push((b'0' + (number % 50) as u8) as char)?;
+    name.push(first)?;
+    name.push(second)?;
     Ok(name)
 }
 
-#[test]
-fn follows_a_long_chain(rt: HostRuntime) -> Result<(), Fail> {
-    let alloc = rt.alloc();
+/// A text that needs the name.
+fn needing(alloc: Global, name: &str) -> Result<String, Memory> {
+    let mut text = String::from_str(alloc, "f1")?;
+    text.push_str(name)?;
+    Ok(text)
+}
+
+/// Gives each of the names a text that needs the one before.
+fn chain(alloc: Global, names: &[String]) -> Result<Trial, Memory> {
     let mut trial = Trial::new(alloc);
-    for number in (0..1000usize).rev() {
-        let name = name_of(alloc, number)?;
-        let mut text = String::from_str(alloc, "f1")?;
-        if number > 0 {
-            text.push_str(&name_of(alloc, number - 1)?)?;
-        }
-        trial.put(alloc, &name, &text)?;
+    let mut text = needing(alloc, "")?;
+    for name in names {
+        trial.takes(alloc, Put(name.as_str(), text.as_str()))?;
+        text = needing(alloc, name.as_str())?;
     }
-    let top = name_of(alloc, 999)?;
-    assert!(rt; trial.ask(alloc, &top)? == fact(b'f', b'1', 105, 1000));
-    trial.put(alloc, "00", "f2")?;
-    assert!(rt; trial.ask(alloc, &top)? == fact(b'f', b'1', 105, 1));
-    // The end needs the top: each need of the chain leads back.
-    trial.put(alloc, "00", "f1Ca")?;
-    assert!(rt; trial.ask(alloc, &top)? == fact(b'f', b'1', 1, 1));
-    Ok(())
+    Ok(trial)
+}
+
+/// Gives each of the names a text that needs "01", and "02" one that needs them all.
+fn star(alloc: Global, names: &[String]) -> Result<Trial, Memory> {
+    let mut trial = Trial::new(alloc);
+    let mut text = needing(alloc, "")?;
+    for name in names {
+        trial.takes(alloc, Put(name.as_str(), "g101"))?;
+        text.push_str(name.as_str())?;
+    }
+    trial.takes(alloc, Put("02", text.as_str()))?;
+    Ok(trial)
 }
 
 #[test]
-fn follows_a_wide_star(rt: HostRuntime) -> Result<(), Fail> {
+fn follows_a_thousand_names(rt: HostRuntime) -> Result<(), Fail> {
     let alloc = rt.alloc();
-    let mut trial = Trial::new(alloc);
-    let mut middle = String::from_str(alloc, "f1")?;
-    for number in 0..1000usize {
-        let name = name_of(alloc, number)?;
-        trial.put(alloc, &name, "g1Mm")?;
-        middle.push_str(&name)?;
-    }
-    trial.put(alloc, "Mm", "m1")?;
-    trial.put(alloc, "Ll", &middle)?;
-    let mut cost = 0;
-    for number in 0..1000usize {
-        let name = name_of(alloc, number)?;
-        if let Said::Fact(_, steps) = trial.ask(alloc, &name)? {
-            cost = steps.max(cost);
-        }
-    }
-    assert!(rt; cost == 2);
-    assert!(rt; trial.steps.count() == 1001);
-    trial.put(alloc, "Mm", "m2")?;
-    let below = match trial.ask(alloc, "Ll")? {
-        Said::Fact(fact, 2) => fact.below,
-        _ => 0,
-    };
-    assert!(rt; below > 2);
+    let names = thousand_names(alloc)?;
+    chain(alloc, &names)?.follows(&rt, alloc, &CHAIN)?;
+    star(alloc, &names)?.follows(&rt, alloc, &STAR)?;
     Ok(())
 }

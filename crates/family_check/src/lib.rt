@@ -16,6 +16,3 @@ mod verdict;
 pub use family::check_family;
 pub use laws::{names_differ, one_verdict};
 pub use verdict::{File, Verdict};
-
-#[cfg(test)]
-mod tests;

@@ -114,6 +114,3 @@ fn is_junction(bullet: Op, kind: LexKind) -> bool
         _ => false,
     }
 }
-
-#[cfg(test)]
-mod tests;

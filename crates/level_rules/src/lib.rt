@@ -111,36 +111,3 @@ fn plain(level: u8) -> Kind
         _ => Kind::Temporal,
     }
 }
-
-#[cfg(test)]
-mod tests {
-    use super::*;
-
-    #[test]
-    fn judges_rows_of_the_table(rt: HostRuntime) {
-        let rows = [
-            (Rule::Always, Kind::BoxAction, Ok(Kind::Temporal)),
-            (Rule::Always, Kind::Action, Err(Breaks { operand: 0 })),
-            (
-                Rule::Eventually,
-                Kind::BoxAction,
-                Err(Breaks { operand: 0 }),
-            ),
-            (Rule::Boolean, Kind::BoxAction, Ok(Kind::Action)),
-            (Rule::Prime, Kind::State, Ok(Kind::Action)),
-            (Rule::Enabled, Kind::DiamondAction, Ok(Kind::State)),
-            (Rule::Leads, Kind::DiamondAction, Err(Breaks { operand: 0 })),
-        ];
-        for (rule, operand, outcome) in rows {
-            assert!(rt; apply(rule, &[operand]) == outcome);
-        }
-        assert!(rt; apply(Rule::Plain, &[]) == Ok(Kind::Const));
-        assert!(rt;
-            apply(Rule::Plain, &[Kind::State, Kind::Temporal]) == Err(Breaks { operand: 1 })
-        );
-        assert!(rt; apply(Rule::Square, &[Kind::Action, Kind::Const]) == Ok(Kind::BoxAction));
-        assert!(rt;
-            apply(Rule::Angle, &[Kind::Action, Kind::Action]) == Err(Breaks { operand: 1 })
-        );
-    }
-}

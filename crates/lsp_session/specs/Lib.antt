@@ -1,2 +1,1 @@
 pub mod SessionOutput
-pub mod Silent

@@ -12,6 +12,3 @@ mod session;
 
 pub use phase::{SessionFault, Turn};
 pub use session::Session;
-
-#[cfg(test)]
-mod tests;

@@ -25,6 +25,3 @@ pub use types::{
     Uri,
 };
 pub use write::{write_error, write_notes, write_reply};
-
-#[cfg(test)]
-mod tests;

@@ -50,6 +50,3 @@ impl From<Memory> for GraphError {
         GraphError::Memory
     }
 }
-
-#[cfg(test)]
-mod tests;

@@ -40,6 +40,3 @@ pub fn meets(outer: Range, inner: Range) -> bool
 pub fn one_order()
     ensures { (earlier later : Edge) → Meets earlier later → Joins later earlier → ⊥ }
 {}
-
-#[cfg(test)]
-mod tests;

@@ -10,6 +10,3 @@ mod header;
 pub mod laws;
 
 pub use framer::{FrameNext, Framer};
-
-#[cfg(test)]
-mod tests;

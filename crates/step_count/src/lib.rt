@@ -43,16 +43,3 @@ impl<L> Steps<L> {
         self.count
     }
 }
-
-#[cfg(test)]
-mod tests {
-    use super::*;
-
-    #[test]
-    fn counts_ticks(rt: HostRuntime) {
-        let mut steps = Steps::new(());
-        steps.tick();
-        steps.tick();
-        assert_eq!(rt; steps.count(), 2);
-    }
-}

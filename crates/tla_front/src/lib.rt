@@ -8,7 +8,5 @@ mod fault;
 mod high;
 mod module;
 mod name;
-#[cfg(test)]
-mod tests;
 
 pub use module::{FrontError, front, one_front};

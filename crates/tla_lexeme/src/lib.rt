@@ -17,8 +17,6 @@ mod sign;
 mod slices;
 mod string;
 mod table;
-#[cfg(test)]
-mod tests;
 mod word;
 
 ghost use Rattle.std.specs.Prelude.{◌≡◌, ℕ, ◌≤◌, ◌^◌, List, Some, length, IfOk, MatchResult};

@@ -36,6 +36,3 @@ pub struct Diagnostic {
     pub code: u16,
     pub span: Span,
 }
-
-#[cfg(test)]
-mod tests;

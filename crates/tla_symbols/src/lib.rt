@@ -16,6 +16,3 @@ pub use lexeme::{LexKind, Lexeme, Mark, Span, Word};
 pub use op::Op;
 pub use place::{Fix, Range, definable, range_of, rule_of};
 pub use spelling::{mark_of, op_of, word_of};
-
-#[cfg(test)]
-mod tests;

@@ -12,6 +12,3 @@ mod unit;
 pub use form::{Form, helps};
 pub use tree::Tree;
 pub use unit::{ModuleTree, Unit};
-
-#[cfg(test)]
-mod tests;

@@ -68,6 +68,3 @@ pub struct FileChange {
 /// What a folder in memory holds. Of two entries for one path, or of two files of one name, the
 /// first counts.
 pub type FileMap = List<FolderFiles>;
-
-#[cfg(test)]
-mod tests;

@@ -19,6 +19,3 @@ mod whole;
 
 pub use ending::ends_once;
 pub use parse::{ParseError, parse_module};
-
-#[cfg(test)]
-mod tests;

@@ -1,7 +1,7 @@
 // Worked places: tabs, the three line ends, and characters of one to four bytes.
-use super::*;
 use std::process::Abort;
 use std::test::Fail;
+use tla_text::{Text, TextError};
 
 // All that is known of an offset that stands at a character.
 fn places(rt: &impl Abort, text: &Text, offset: u32) -> [u32; 5] {

@@ -1,7 +1,7 @@
 // What no clause says of open lists: they cross threads, and the call that takes memory answers.
-use super::*;
+use junction_lists::ListStack;
 use std::test::Fail;
-use tla_symbols::Span;
+use tla_symbols::{LexKind, Lexeme, Op, Span};
 
 fn crosses_threads<T: Send + Sync>(_: &T) {}
 

@@ -1,8 +1,12 @@
 // The objects in memory, and one call of each adapter.
-use crate::*;
 use std::alloc::Global;
 use std::io::{self, Read, Write};
 use std::test::Fail;
+use tool_io::{
+    Failed, FileBytes, Folder, FolderFiles, IoFault, MemoryFolder, MemorySink, QuietSource, Sink,
+    Source, StdFolder, StdSink, StdSource,
+};
+use tool_list::{Chars, List};
 
 fn crosses_threads<T: Send + Sync>(_: &T) {}
 

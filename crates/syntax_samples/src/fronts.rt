@@ -1,8 +1,8 @@
 // Fronts of texts beside what the sentences of the language ask of them.
-use crate::{FrontError, front};
 use std::alloc::Global;
 use std::process::Abort;
 use std::test::Fail;
+use tla_front::{FrontError, front};
 use tla_model::Diagnostic;
 
 /// What the front of a text is.

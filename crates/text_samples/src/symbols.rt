@@ -1,5 +1,7 @@
 // Values from the tables of the language.
-use crate::*;
+use tla_symbols::{
+    Fix, Kind, Mark, Op, Rule, Word, definable, mark_of, op_of, range_of, rule_of, word_of,
+};
 
 fn crosses_threads<T: Send + Sync>(_: &T) {}
 

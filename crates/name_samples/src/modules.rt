@@ -1,10 +1,14 @@
+// Imports by name, tables and lists in stretches, faults in order.
 ghost use Rattle.std.specs.Prelude.{◌<◌};
 
-use super::*;
 use indexmap::IndexMap;
 use std::alloc::Global;
 use std::sync::Arc;
 use std::test::Fail;
+use tla_model::{
+    Bound, Callee, DeclId, Diagnostic, Entity, Face, Import, Imported, Interface, Meaning,
+    ModuleId, NameTable, Part, Parts, in_order,
+};
 use tla_symbols::Span;
 use tla_tree::Tree;
 use tool_list::{Chars, List, Memory};
