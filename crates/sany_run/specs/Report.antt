@@ -11,11 +11,15 @@ use Rattle.family_check.specs.declared.verdict.Verdict.{Verdict}
 abbrev pub shown_place : Place → List ℕ → List ℕ
 shown_place place more = decimal (place.line + 1) ++ (codes ":" ++ (decimal (place.column + 1) ++ more))
 
+-- the line on a fault between two places
+abbrev pub line_between : Place → Place → ℕ → List ℕ
+line_between start end code =
+    codes "  " ++ shown_place start (codes "-" ++ shown_place end (codes " E" ++ (decimal code ++ codes "\n")))
+
 -- the line on a fault
 abbrev pub fault_line : List ℕ → Diagnostic → List ℕ
 fault_line text fault =
-    codes "  " ++ shown_place (place_at Characters text fault.span.start)
-    (codes "-" ++ shown_place (place_at Characters text fault.span.end) (codes " E" ++ (decimal fault.code ++ codes "\n")))
+    line_between (place_at Characters text fault.span.start) (place_at Characters text fault.span.end) fault.code
 
 abbrev pub fault_lines : List ℕ → List Diagnostic → List ℕ
 fault_lines text [] = []

@@ -3,26 +3,88 @@ ghost use Rattle.std.specs.Prelude.{◌≡◌, ◌++◌, ◌∷◌, [], IfOk, st
 ghost use Rattle.std.specs.List.{All};
 ghost use Rattle.family_check.specs.Verdicts.{IsVerdictPlaced};
 ghost use Rattle.sany_run.specs.Report as report;
+ghost use Rattle.sany_run.specs.Cursors.{IsCursor, cursor_at};
 ghost use Rattle.sany_run.specs.Spans.{FaultsPlaced};
+ghost use Rattle.std.specs.Str.{IsCharBoundary};
 ghost use Rattle.tla_lexeme.specs.Spans.{IsPlaced};
+ghost use Rattle.tla_text.specs.Places.{place_at};
+ghost use Rattle.tla_text.specs.declared.Measure.TheVariants.{Characters};
 
 use family_check::Verdict;
 use std::alloc::{AllocError, Global};
 use tla_model::Diagnostic;
-use tla_text::Text;
+use tla_text::{Measure, Place, Text};
 
-fn fault_line(alloc: Global, text: &Text, fault: &Diagnostic) -> Result<String, AllocError>
-    requires { IsPlaced text.now fault.now.span }
+/// Where a report has come to in a text: an offset in bytes, with its place in characters.
+#[derive(Clone, Copy)]
+struct Cursor {
+    offset: u32,
+    place: Place,
+}
+
+/// The last offset to which places go forward: no text of a module is longer.
+const FORWARD: u32 = 1 << 27;
+
+// The cursor at the start of a text.
+fn start_of(text: &Text) -> Cursor
+    ensures { IsCursor text.now result }
+{
+    // The proof needs that a text is UTF-8.
+    let _bytes = text.bytes();
+    Cursor {
+        offset: 0,
+        place: place_of(text, 0),
+    }
+}
+
+// The cursor at an offset, by one that is mostly before it.
+fn moved(text: &Text, from: Cursor, offset: u32) -> Cursor
+    requires from { IsCursor text.now from }
+    requires offset { IsCharBoundary text.now offset }
+    ensures at { result ≡ cursor_at text.now offset }
+    ensures cursor { IsCursor text.now result }
+{
+    let place = if from.offset <= offset && offset <= FORWARD {
+        text.place_near(Measure::Characters, from.offset, from.place, offset)
+    } else {
+        place_of(text, offset)
+    };
+    Cursor { offset, place }
+}
+
+// The place of an offset, from the start of its line.
+fn place_of(text: &Text, offset: u32) -> Place
+    requires { IsCharBoundary text.now offset }
+    ensures { result ≡ place_at Characters text.now offset }
+{
+    let (line, column) = text.line_col(offset);
+    Place { line, column }
+}
+
+fn line_between(alloc: Global, start: Place, end: Place, code: u16) -> Result<String, AllocError>
+    ensures { IfOk result (λ line. string_bytes line ≡ report.line_between start end code) }
+{
+    let line = u64::from(start.line) + 1;
+    let col = u64::from(start.column) + 1;
+    let last_line = u64::from(end.line) + 1;
+    let last_col = u64::from(end.column) + 1;
+    format!(in alloc; "  {line}:{col}-{last_line}:{last_col} E{code}\n")
+}
+
+// The line on a fault, by the cursor at its start.
+fn fault_line(
+    alloc: Global,
+    text: &Text,
+    start: Cursor,
+    fault: &Diagnostic,
+) -> Result<String, AllocError>
+    requires placed { IsPlaced text.now fault.now.span }
+    requires cursor { IsCursor text.now start }
+    requires start { start ≡ cursor_at text.now fault.now.span.start }
     ensures { IfOk result (λ line. string_bytes line ≡ report.fault_line text.now fault.now) }
 {
-    let (start_line, start_col) = text.line_col(fault.span.start);
-    let (end_line, end_col) = text.line_col(fault.span.end);
-    let line = u64::from(start_line) + 1;
-    let col = u64::from(start_col) + 1;
-    let last_line = u64::from(end_line) + 1;
-    let last_col = u64::from(end_col) + 1;
-    let code = fault.code;
-    format!(in alloc; "  {line}:{col}-{last_line}:{last_col} E{code}\n")
+    let end = moved(text, start, fault.span.end);
+    line_between(alloc, start.place, end.place, fault.code)
 }
 
 fn fault_lines(alloc: Global, text: &Text, faults: &[Diagnostic]) -> Result<String, AllocError>
@@ -30,8 +92,10 @@ fn fault_lines(alloc: Global, text: &Text, faults: &[Diagnostic]) -> Result<Stri
     ensures { IfOk result (λ lines. string_bytes lines ≡ report.fault_lines text.now faults.now) }
 {
     let mut lines = String::new(alloc);
+    let mut cursor = start_of(text);
     for fault in faults {
-        lines.push_str(fault_line(alloc, text, fault)?.as_str())?;
+        cursor = moved(text, cursor, fault.span.start);
+        lines.push_str(fault_line(alloc, text, cursor, fault)?.as_str())?;
     }
     Ok(lines)
 }

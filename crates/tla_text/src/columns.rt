@@ -4,7 +4,6 @@ ghost use Rattle.std.specs.Str.{chars, IsUtf8};
 ghost use Rattle.tla_text.specs.Places.{next_column, bytes_of_units, stops_before, utf16_len, ends_line, begins_with_line_feed, place_after};
 ghost use Rattle.tla_text.specs.Places as places;
 ghost use Rattle.tla_text.specs.LineStarts as lines;
-ghost use Rattle.tla_text.specs.declared.Measure.TheVariants.{Alignment};
 
 use crate::lines::begins_with_line_feed as begins_with;
 use crate::{Measure, Place};
@@ -77,10 +76,10 @@ fn line_feed_comes(more: &str, after: &str) -> bool
 }
 
 /// The place behind a character.
-fn behind(place: Place, c: char, ends: bool) -> Place
+fn behind(measure: Measure, place: Place, c: char, ends: bool) -> Place
     requires line { place.line + 1 < 2 ^ 32 }
     requires column { place.column + 8 < 2 ^ 32 }
-    ensures { result ≡ places.behind Alignment place c ends }
+    ensures { result ≡ places.behind measure place c ends }
 {
     if ends {
         return Place {
@@ -90,20 +89,20 @@ fn behind(place: Place, c: char, ends: bool) -> Place
     }
     Place {
         line: place.line,
-        column: Measure::Alignment.after(place.column, c),
+        column: measure.after(place.column, c),
     }
 }
 
 /// The place behind a piece of text, by the place before it and what follows the piece.
-pub(crate) fn place_behind(place: Place, piece: &str, after: &str) -> Place
+pub(crate) fn place_behind(measure: Measure, place: Place, piece: &str, after: &str) -> Place
     requires line { place.line + length piece.now < 2 ^ 32 }
     requires column { place.column + 8 * length piece.now < 2 ^ 32 }
-    ensures { result ≡ place_after Alignment place (chars piece.now) (chars after.now) }
+    ensures { result ≡ place_after measure place (chars piece.now) (chars after.now) }
 {
     let mut rest = piece;
     let mut place = place;
     while let Some((c, more)) = first_char(rest) {
-        place = behind(place, c, ends_line(c, more, after));
+        place = behind(measure, place, c, ends_line(c, more, after));
         rest = more;
     }
     place

@@ -157,9 +157,40 @@ impl Text {
         requires known { place ≡ place_at Alignment self.now from }
         ensures { result ≡ place_at Alignment self.now to }
     {
+        self.further(Measure::Alignment, from, place, to)
+    }
+
+    /// The line and the column of an offset, by those of an offset before it. What stands between the
+    /// two is read, or the line up to the offset where that is a further one: many places in a row
+    /// cost no more than one walk over the text, and a text of many lines is not read whole.
+    pub fn place_near(&self, measure: Measure, from: u32, place: Place, to: u32) -> Place
+        requires from_at_char { IsCharBoundary self.now from }
+        requires to_at_char { IsCharBoundary self.now to }
+        requires in_order { from ≤ to }
+        requires low { to ≤ 2 ^ 27 }
+        requires known { place ≡ place_at measure self.now from }
+        ensures { result ≡ place_at measure self.now to }
+    {
+        let line = self.line_of(to);
+        if line == place.line {
+            return self.further(measure, from, place, to);
+        }
+        let column = column_after(measure, self.line_before(line, to));
+        Place { line, column }
+    }
+
+    /// The place of an offset, by that of an offset before it. What stands between them is read.
+    fn further(&self, measure: Measure, from: u32, place: Place, to: u32) -> Place
+        requires from_at_char { IsCharBoundary self.now from }
+        requires to_at_char { IsCharBoundary self.now to }
+        requires in_order { from ≤ to }
+        requires low { to ≤ 2 ^ 27 }
+        requires known { place ≡ place_at measure self.now from }
+        ensures { result ≡ place_at measure self.now to }
+    {
         let text = self.text.as_str();
         let between = &text[from as usize..to as usize];
-        place_behind(place, between, &text[to as usize..])
+        place_behind(measure, place, between, &text[to as usize..])
     }
 
     /// The line of an offset and the number of UTF-16 units before it in the line, both from 0, as LSP

@@ -1,6 +1,10 @@
 use Rattle.std.proofs.Common.{◌≡◌, ◌++◌, drop, string_bytes}
+use Rattle.sany_run.specs.Cursors.{IsCursor}
 use Rattle.sany_run.specs.Report.{fault_lines}
 use Rattle.sany_run.proofs.report.fault_lines.Given as goal
 
 abbrev pub invariant-loop-fault : goal.invariant-loop-fault
-invariant-loop-fault l = string_bytes l.lines ++ fault_lines l.text (drop l.fault-index l.faults) ≡ fault_lines l.text l.faults
+invariant-loop-fault l = record {
+  cursor : IsCursor l.text l.cursor;
+  lines : string_bytes l.lines ++ fault_lines l.text (drop l.fault-index l.faults) ≡ fault_lines l.text l.faults;
+}
