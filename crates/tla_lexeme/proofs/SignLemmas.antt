@@ -8,7 +8,7 @@ use Rattle.tla_lexeme.specs.declared.class.Class.{Class}
 use Rattle.tla_lexeme.specs.declared.class.Class.TheVariants.{WordChar, Digit, Dash, EqualSign}
 use Rattle.tla_lexeme.specs.LexemeSets.{is_in, is_run, is_fraction, is_based, is_long_run, base_of, table_kind, open_kind, kind_of}
 use Rattle.tla_lexeme.specs.Lexing.{lexeme_at, longest_of}
-use Rattle.tla_lexeme.specs.Lengths.{fraction_len, base_len, after_backslash_len, based_len, long_run_len, open_sign, goes_on, most_len}
+use Rattle.tla_lexeme.specs.Lengths.{fraction_len, base_len, after_backslash_len, based_len, long_run_len, open_sign, goes_on, most_further, most_len}
 use Rattle.tla_lexeme.proofs.LongestLemmas.{longest_some, longest_same, longest_down}
 use Rattle.tla_lexeme.proofs.TableLemmas.{open-none, sign-none, is_not_open}
 use Rattle.tla_lexeme.proofs.SetLemmas.{prefix-take, prefix-le, too-long, length-front, fraction-at, fraction-shape, with_one-is, with_one-some, based-le, based-at, long-le, long-is, long-front}
@@ -143,9 +143,9 @@ open_cons c cs start is pos le = longest_some kind_of (length (c ∷ cs)) start.
 short-spelling : (c : ℕ) (cs : List ℕ) → is_in WordChar c ≡ false → (k : ℕ) → most_len (c ∷ cs) < suc k → suc k ≤ length (c ∷ cs) → table_kind (c ∷ take k cs) ≡ None
 short-spelling c cs word k lt le =
     sign-none (c ∷ take k cs) (or_from _ _ word (⊎_elim
-    (λ (many : 10 < k). and_left _ _ (lt-leb (length (take k cs)) 10 (omega (arith, length-front k cs (omega arith)))))
-    (λ (few : k ≤ 10). and_right _ _ (too-long (goes_on c) k cs (omega arith) (omega (arith, lt))))
-    (cases_lt 10 k)))
+    (λ (many : most_further c < k). and_left _ _ (lt-leb (length (take k cs)) (most_further c) (omega (arith, length-front k cs (omega arith)))))
+    (λ (few : k ≤ most_further c). and_right _ _ (too-long (goes_on c) k cs (omega arith) (omega (arith, lt))))
+    (cases_lt (most_further c) k)))
 
 spelled_cons : (c : ℕ) (cs : List ℕ) (start : Member) → is_in WordChar c ≡ false → IsOpen c cs start → start.len ≡ 0 → lexeme_at (c ∷ cs) ≡ longest_of table_kind (most_len (c ∷ cs)) (c ∷ cs)
 spelled_cons c cs start word is none =
@@ -161,9 +161,9 @@ spelled_is [] start most filled word quote e none ismost = absurd (omega arith)
 spelled_is (c ∷ cs) start most filled word quote e none ismost =
     ap (λ n. longest_of table_kind n (c ∷ cs)) ismost ∙ sym (spelled_cons c cs start word (subst (λ o. IsOpen c cs o) (sym e) (is_open c cs word (ne_eqb c 34 quote))) (omega arith))
 
--- of what follows the first byte, ten bytes are enough
-pub most_short : (text more few : List ℕ) (n k : ℕ) → 0 < length text → more ≡ drop 1 text → n ≡ min (length more) 10 → few ≡ take n more → k ≡ prefix_len (goes_on (slice_index text 0)) few → 1 + k ≡ most_len text
-most_short [] more few n k filled ismore isn isfew isk = absurd (omega arith)
-most_short (c ∷ cs) more few n k filled ismore isn isfew isk =
+-- of what follows the first byte, so many bytes are enough
+pub most_short : (text more few : List ℕ) (most n k : ℕ) → 0 < length text → most ≡ most_further (slice_index text 0) → more ≡ drop 1 text → n ≡ min (length more) most → few ≡ take n more → k ≡ prefix_len (goes_on (slice_index text 0)) few → 1 + k ≡ most_len text
+most_short [] more few most n k filled ismost ismore isn isfew isk = absurd (omega arith)
+most_short (c ∷ cs) more few most n k filled ismost ismore isn isfew isk =
     let size : k ≡ min n (prefix_len (goes_on c) cs) = isk ∙ ap (prefix_len (goes_on c)) (isfew ∙ ap (take n) ismore) ∙ prefix-take (goes_on c) n cs in
-    omega (arith, size, isn, ap length ismore, prefix-le (goes_on c) cs)
+    omega (arith, size, isn, ismost, ap length ismore, prefix-le (goes_on c) cs)

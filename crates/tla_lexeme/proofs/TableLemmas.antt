@@ -7,7 +7,7 @@ use Rattle.std.specs.Str.{bytes_eq}
 use Rattle.tla_symbols.specs.Spellings.{Table, in_table, WORDS, SYMBOLS, MARKS}
 use Rattle.tla_lexeme.specs.declared.class.Class.TheVariants.{WordChar, Digit}
 use Rattle.tla_lexeme.specs.LexemeSets.{is_in, table_kind, is_fair}
-use Rattle.tla_lexeme.specs.Lengths.{has_letter, open_sign, goes_on}
+use Rattle.tla_lexeme.specs.Lengths.{has_letter, open_sign, goes_on, most_further}
 
 missed : {M : Type 0} (test : List ℕ → Bool) (table : Table M) (w : List ℕ) → list_all (λ e. test e.0) table ≡ true → test w ≡ false → in_table table w ≡ None
 missed test [] w all fails = refl
@@ -50,7 +50,7 @@ is_not_open w = eqb (open_sign w).len 0
 
 abbrev pub goes_on_short : List ℕ → Bool
 goes_on_short [] = false
-goes_on_short (c ∷ cs) = is_in WordChar c || (leb (length cs) 10 && list_all (goes_on c) cs)
+goes_on_short (c ∷ cs) = is_in WordChar c || (leb (length cs) (most_further c) && list_all (goes_on c) cs)
 
 pub word-none : (w : List ℕ) → is_word_spelling w ≡ false → table_kind w ≡ None
 word-none w h = none_from is_word_spelling w refl h

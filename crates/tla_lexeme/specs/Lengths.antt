@@ -68,10 +68,14 @@ goes_on first byte =
     if first == 92 then byte == 47 || is_in Letter byte else
     (byte == 95 || byte == 88 || (not (is_in WordChar byte) && not (is_in Blank byte)))
 
+-- how many bytes a symbol or a mark has at most behind the one that begins it
+abbrev pub most_further : ℕ → ℕ
+most_further first = if first == 92 then 10 else 3
+
 -- a symbol or a mark: at most so many bytes
 abbrev pub most_len : List ℕ → ℕ
 most_len [] = 0
-most_len (c ∷ cs) = 1 + min (prefix_len (goes_on c) cs) 10
+most_len (c ∷ cs) = 1 + min (prefix_len (goes_on c) cs) (most_further c)
 
 -- what a byte does in a string
 abbrev pub string_step : Bool → ℕ → Step

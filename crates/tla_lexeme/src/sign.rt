@@ -74,8 +74,12 @@ fn goes_on_len(first: u8, more: &[u8]) -> usize
     more.len()
 }
 
-/// No symbol or mark has more bytes behind its first.
-const MOST_FURTHER: usize = 10;
+/// How many bytes a symbol or a mark has at most behind the one that begins it.
+fn most_further(first: u8) -> usize
+    ensures { result ≡ lengths.most_further first }
+{
+    if first == b'\\' { 10 } else { 3 }
+}
 
 /// How many bytes a symbol or a mark at a text's front has at most.
 fn most_len(text: &[u8]) -> usize
@@ -84,7 +88,7 @@ fn most_len(text: &[u8]) -> usize
     ensures within { result ≤ length text.now }
 {
     let more = skip(text, 1);
-    let few = front(more, more.len().min(MOST_FURTHER));
+    let few = front(more, more.len().min(most_further(text[0])));
     1 + goes_on_len(text[0], few)
 }
 
