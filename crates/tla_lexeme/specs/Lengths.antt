@@ -62,15 +62,23 @@ open_sign text =
     if slice_index text 0 == 61 then record { len = long_run_len EqualSign text; kind = Equals } else
     record { len = 0; kind = Name })))
 
+-- whether a byte stands in symbols and marks as their first byte alone
+abbrev pub stands_first : ℕ → Bool
+stands_first byte = byte == 40 || byte == 91 || byte == 123 || byte == 125 || byte == 44 || byte == 39
+
 -- whether a byte may stand in a symbol or a mark that begins with another
 abbrev pub goes_on : ℕ → ℕ → Bool
 goes_on first byte =
     if first == 92 then byte == 47 || is_in Letter byte else
-    (byte == 95 || byte == 88 || (not (is_in WordChar byte) && not (is_in Blank byte)))
+    (byte == 95 || byte == 88 || (not (is_in WordChar byte) && not (is_in Blank byte) && not (stands_first byte)))
 
 -- how many bytes a symbol or a mark has at most behind the one that begins it
 abbrev pub most_further : ℕ → ℕ
-most_further first = if first == 92 then 10 else 3
+most_further first =
+    if first == 92 then 10 else (
+    if first == 40 || first == 45 then 3 else (
+    if first == 60 || first == 62 || first == 58 || first == 46 || first == 124 then 2 else (
+    if first == 41 || first == 123 || first == 125 || first == 44 || first == 39 then 0 else 1)))
 
 -- a symbol or a mark: at most so many bytes
 abbrev pub most_len : List ℕ → ℕ

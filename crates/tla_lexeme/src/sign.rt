@@ -52,6 +52,13 @@ fn open_sign(text: &[u8]) -> Member
     }
 }
 
+/// Whether a byte stands in symbols and marks as their first byte alone.
+fn stands_first(byte: u8) -> bool
+    ensures { result ≡ lengths.stands_first byte }
+{
+    matches!(byte, b'(' | b'[' | b'{' | b'}' | b',' | b'\'')
+}
+
 /// Whether a byte may stand in a symbol or a mark that begins with another.
 fn goes_on(first: u8, byte: u8) -> bool
     ensures { result ≡ lengths.goes_on first byte }
@@ -59,7 +66,9 @@ fn goes_on(first: u8, byte: u8) -> bool
     if first == b'\\' {
         return byte == b'/' || Class::Letter.has(byte);
     }
-    byte == b'_' || byte == b'X' || (!Class::WordChar.has(byte) && !Class::Blank.has(byte))
+    byte == b'_'
+        || byte == b'X'
+        || (!Class::WordChar.has(byte) && !Class::Blank.has(byte) && !stands_first(byte))
 }
 
 fn goes_on_len(first: u8, more: &[u8]) -> usize
@@ -78,7 +87,13 @@ fn goes_on_len(first: u8, more: &[u8]) -> usize
 fn most_further(first: u8) -> usize
     ensures { result ≡ lengths.most_further first }
 {
-    if first == b'\\' { 10 } else { 3 }
+    match first {
+        b'\\' => 10,
+        b'(' | b'-' => 3,
+        b'<' | b'>' | b':' | b'.' | b'|' => 2,
+        b')' | b'{' | b'}' | b',' | b'\'' => 0,
+        _ => 1,
+    }
 }
 
 /// How many bytes a symbol or a mark at a text's front has at most.
