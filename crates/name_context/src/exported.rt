@@ -63,7 +63,7 @@ fn put_copy(alloc: Global, copies: &mut Words, word: &str, meaning: &Meaning) ->
     ensures { OnOk result (stretch_words copies.new.entries ≡ stretch_words copies.old.entries ++ (word.now, meaning.now) ∷ []) }
 {
     let word = String::from_str(alloc, word)?;
-    let meaning = meaning.copied(alloc)?;
+    let meaning = meaning.copied()?;
     copies.insert(word, meaning)?;
     Ok(())
 }
@@ -89,7 +89,7 @@ fn copied(alloc: Global, symbols: &[(Op, Meaning)]) -> Result<List<(Op, Meaning)
 {
     let mut copies = List::new(alloc);
     for (op, meaning) in symbols {
-        copies.push((*op, meaning.copied(alloc)?))?;
+        copies.push((*op, meaning.copied()?))?;
     }
     Ok(copies)
 }
@@ -201,7 +201,7 @@ fn export<'a>(
     if local {
         return Ok(());
     }
-    exports.put(name, meaning.copied(alloc)?)
+    exports.put(name, meaning.copied()?)
 }
 
 impl<'a> Names<'a> {

@@ -32,7 +32,7 @@ fn bring<'a>(
     if differs(names.context.get(name), meaning) {
         return Ok(true);
     }
-    let meaning = meaning.copied(alloc)?;
+    let meaning = meaning.copied()?;
     names.put(alloc, false, name, meaning)?;
     Ok(false)
 }

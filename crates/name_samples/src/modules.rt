@@ -11,7 +11,7 @@ use tla_model::{
 };
 use tla_symbols::Span;
 use tla_tree::Tree;
-use tool_list::{Chars, List, Memory};
+use tool_list::{Chars, List, Memory, SharedList};
 
 fn crosses_threads<T: Send + Sync>(_: &T) {}
 
@@ -147,7 +147,7 @@ fn constant(alloc: Global, place: u32) -> Result<Meaning, Memory> {
                 module: Chars::from_str(alloc, "M")?,
                 place,
             },
-            via: List::new(alloc),
+            via: SharedList::new(),
         },
     })
 }

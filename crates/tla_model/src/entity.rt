@@ -2,9 +2,8 @@
 ghost use Rattle.std.specs.Prelude.{◌≡◌, IfOk};
 
 use crate::ids::DeclId;
-use std::alloc::Global;
 use tla_symbols::Span;
-use tool_list::{Chars, List, Memory};
+use tool_list::{Chars, Memory, SharedList};
 
 /// What a name stands for. Orders are those of the parameters of a definition or of an instance: 0 for
 /// an expression, and the number of its places for an operator.
@@ -15,9 +14,9 @@ pub enum Entity {
     /// A declared variable.
     Variable,
     /// The definition of an operator or of a function; a function's has no orders.
-    Definition { orders: List<u32> },
+    Definition { orders: SharedList<u32> },
     /// An instance that a module definition names.
-    Instance { orders: List<u32> },
+    Instance { orders: SharedList<u32> },
     /// A parameter of a definition, by its number of places.
     Parameter { arity: u32 },
     /// A bound name. `state` is true of the names that `\AA` and `\EE` bind.
@@ -27,33 +26,24 @@ pub enum Entity {
 }
 
 impl Entity {
-    /// The same entity. `Memory` comes where there was no room.
-    pub fn copied(&self, alloc: Global) -> Result<Entity, Memory>
+    /// The same entity, which shares its orders. `Memory` comes where so many can't be counted.
+    pub fn copied(&self) -> Result<Entity, Memory>
         ensures { IfOk result (λ copy. copy ≡ self.now) }
     {
         match self {
             Entity::Constant { arity } => Ok(Entity::Constant { arity: *arity }),
             Entity::Variable => Ok(Entity::Variable),
-            Entity::Definition { orders } => {
-                let orders = orders_copied(alloc, orders.as_slice())?;
-                Ok(Entity::Definition { orders })
-            }
-            Entity::Instance { orders } => {
-                let orders = orders_copied(alloc, orders.as_slice())?;
-                Ok(Entity::Instance { orders })
-            }
+            Entity::Definition { orders } => Ok(Entity::Definition {
+                orders: orders.copied()?,
+            }),
+            Entity::Instance { orders } => Ok(Entity::Instance {
+                orders: orders.copied()?,
+            }),
             Entity::Parameter { arity } => Ok(Entity::Parameter { arity: *arity }),
             Entity::Bound { state } => Ok(Entity::Bound { state: *state }),
             Entity::Module => Ok(Entity::Module),
         }
     }
-}
-
-// The same orders.
-fn orders_copied(alloc: Global, orders: &[u32]) -> Result<List<u32>, Memory>
-    ensures { IfOk result (λ copy. copy ≡ orders.now) }
-{
-    Ok(List::from_vec(orders.iter().copied().collect(alloc)?))
 }
 
 /// The level of what a name means, as a user reads it.

@@ -1,8 +1,7 @@
 // Names for what stands in texts: declarations and units, by where their text counts them.
 ghost use Rattle.std.specs.Prelude.{◌≡◌, IfOk};
 
-use std::alloc::Global;
-use tool_list::{Chars, List, Memory};
+use tool_list::{Chars, Memory, SharedList};
 
 /// A declaration: a declaring name in the text of a module.
 #[derive(Drop)]
@@ -14,12 +13,12 @@ pub struct DeclId {
 }
 
 impl DeclId {
-    /// The same declaration. `Memory` comes where there was no room.
-    pub fn copied(&self, alloc: Global) -> Result<DeclId, Memory>
+    /// The same declaration. It shares the module's name.
+    pub fn copied(&self) -> Result<DeclId, Memory>
         ensures { IfOk result (λ copy. copy ≡ self.now) }
     {
         Ok(DeclId {
-            module: Chars::from_str(alloc, self.module.as_str())?,
+            module: self.module.copied()?,
             place: self.place,
         })
     }
@@ -35,12 +34,12 @@ pub struct UnitId {
 }
 
 impl UnitId {
-    /// The same unit. `Memory` comes where there was no room.
-    pub fn copied(&self, alloc: Global) -> Result<UnitId, Memory>
+    /// The same unit. It shares the module's name.
+    pub fn copied(&self) -> Result<UnitId, Memory>
         ensures { IfOk result (λ copy. copy ≡ self.now) }
     {
         Ok(UnitId {
-            module: Chars::from_str(alloc, self.module.as_str())?,
+            module: self.module.copied()?,
             place: self.place,
         })
     }
@@ -64,29 +63,18 @@ pub struct Callee {
     /// The declaration that the name resolves to.
     pub decl: DeclId,
     /// The INSTANCE units without a name through which the declaration came, in order.
-    pub via: List<UnitId>,
+    pub via: SharedList<UnitId>,
 }
 
 impl Callee {
-    /// The same callee. `Memory` comes where there was no room.
-    pub fn copied(&self, alloc: Global) -> Result<Callee, Memory>
+    /// The same callee. It shares what it names.
+    pub fn copied(&self) -> Result<Callee, Memory>
         ensures { IfOk result (λ copy. copy ≡ self.now) }
     {
         Ok(Callee {
             instance: self.instance,
-            decl: self.decl.copied(alloc)?,
-            via: units_copied(alloc, self.via.as_slice())?,
+            decl: self.decl.copied()?,
+            via: self.via.copied()?,
         })
     }
-}
-
-// The same units, in order.
-fn units_copied(alloc: Global, units: &[UnitId]) -> Result<List<UnitId>, Memory>
-    ensures { IfOk result (λ copies. copies ≡ units.now) }
-{
-    let mut copies = List::new(alloc);
-    for unit in units {
-        copies.push(unit.copied(alloc)?)?;
-    }
-    Ok(copies)
 }

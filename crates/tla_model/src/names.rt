@@ -3,7 +3,6 @@ ghost use Rattle.std.specs.Prelude.{◌≡◌, IfOk};
 
 use crate::entity::Entity;
 use crate::ids::Callee;
-use std::alloc::Global;
 use tla_symbols::Lexeme;
 use tool_list::Memory;
 
@@ -17,15 +16,15 @@ pub enum Meaning {
 }
 
 impl Meaning {
-    /// The same meaning.
-    pub fn copied(&self, alloc: Global) -> Result<Meaning, Memory>
+    /// The same meaning. It shares what it names.
+    pub fn copied(&self) -> Result<Meaning, Memory>
         ensures { IfOk result (λ copy. copy ≡ self.now) }
     {
         match self {
             Meaning::BuiltIn => Ok(Meaning::BuiltIn),
             Meaning::Declared { entity, callee } => Ok(Meaning::Declared {
-                entity: entity.copied(alloc)?,
-                callee: callee.copied(alloc)?,
+                entity: entity.copied()?,
+                callee: callee.copied()?,
             }),
         }
     }

@@ -66,7 +66,7 @@ fn append(alloc: Global, words: &mut Words, more: &Words) -> Result<(), Memory>
             unreachable!();
         };
         let word = String::from_str(alloc, word.as_str())?;
-        words.insert(word, meaning.copied(alloc)?)?;
+        words.insert(word, meaning.copied()?)?;
     }
     Ok(())
 }

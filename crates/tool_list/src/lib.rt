@@ -15,6 +15,7 @@ ghost use Rattle.std.proofs.Common.{refl};
 use std::alloc::{AllocError, AllocFailed, Global};
 use std::cmp::Ordering;
 use std::marker::Model;
+use std::sync::{ArcSlice, ArcStr};
 
 /// There was no room for what a call was to make: the fault of a call that has no other.
 #[derive(Clone, Copy, Debug, PartialEq, Eq)]
@@ -107,27 +108,103 @@ impl<T: Drop> List<T> {
     }
 }
 
-/// A text: valid UTF-8, which contracts see as its bytes.
+impl<T: Drop> List<T> {
+    /// The same items, to be shared.
+    pub fn into_shared(self) -> Result<SharedList<T>, Memory>
+        ensures { IfOk result (λ shared. shared ≡ self) }
+    {
+        let List { items } = self;
+        if items.is_empty() {
+            return Ok(SharedList { items: None });
+        }
+        Ok(SharedList {
+            items: Some(ArcSlice::from_vec(items)?),
+        })
+    }
+}
+
+/// A list of items that stays as it is. Copies share it.
+#[derive(Drop)]
+pub struct SharedList<T: Drop> {
+    // None where there is no item.
+    items: Option<ArcSlice<T>>,
+}
+
+impl<T: Drop> Model for SharedList<T> {
+    ghost use Rattle.std.specs.Prelude.{List};
+    ghost use Rattle.std.specs.Coded.{coded_list};
+    ghost use Rattle.tool_list.specs.Shared.{shared_items};
+
+    ghost Value = { List T };
+
+    ghost coded = { coded_list T.code };
+
+    ghost view = { λ l. shared_items l.items };
+}
+
+impl<T: Drop> SharedList<T> {
+    /// The empty list. It takes no memory.
+    pub fn new() -> SharedList<T>
+        ensures { result ≡ [] }
+    {
+        SharedList { items: None }
+    }
+
+    /// The items in order.
+    pub fn as_slice(&self) -> &[T]
+        ensures { result.now ≡ self.now }
+    {
+        match &self.items {
+            Some(items) => items.as_slice(),
+            None => &[],
+        }
+    }
+
+    /// The same list. `Memory` comes where so many copies can't be counted.
+    pub fn copied(&self) -> Result<SharedList<T>, Memory>
+        ensures { IfOk result (λ shared. shared ≡ self.now) }
+    {
+        match &self.items {
+            Some(items) => Ok(SharedList {
+                items: Some(items.clone()?),
+            }),
+            None => Ok(SharedList { items: None }),
+        }
+    }
+}
+
+/// A text: valid UTF-8, which contracts see as its bytes. Copies share it.
 #[derive(Drop)]
 pub struct Chars {
-    text: String,
+    text: ArcStr,
 }
 
 impl Model for Chars {
-    ghost use Rattle.std.specs.Prelude.{List, ℕ, string_bytes};
+    ghost use Rattle.std.specs.Prelude.{List, ℕ};
+    ghost use Rattle.std.specs.Arc.{arc_str_bytes};
 
     ghost Value = { List ℕ };
 
-    ghost view = { λ c. string_bytes c.text };
+    ghost view = { λ c. arc_str_bytes c.text };
 }
 
 impl Chars {
-    /// The same text.
+    /// The same text, in memory of its own.
     pub fn from_str(alloc: Global, text: &str) -> Result<Chars, Memory>
         ensures { IfOk result (λ chars. chars ≡ text.now) }
     {
         Ok(Chars {
-            text: String::from_str(alloc, text)?,
+            text: ArcStr::from_str(alloc, text)?,
+        })
+    }
+
+    /// The same text. It shares the memory of this one. `Memory` comes where so many copies can't be
+    /// counted.
+    pub fn copied(&self) -> Result<Chars, Memory>
+        ensures { IfOk result (λ chars. chars ≡ self.now) }
+    {
+        Ok(Chars {
+            text: self.text.clone()?,
         })
     }
 

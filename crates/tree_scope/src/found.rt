@@ -78,7 +78,7 @@ fn perform<'a>(
             Ok(())
         }
         Task::Symbol { at } => {
-            use_symbol(alloc, context, at, findings)?;
+            use_symbol(context, at, findings)?;
             Ok(())
         }
         Task::Missing { at } => {

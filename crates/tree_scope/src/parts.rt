@@ -13,7 +13,7 @@ use std::alloc::Global;
 use tla_model::{Binder, Binding, Entity};
 use tla_symbols::Lexeme;
 use tla_tree::{Form, Tree};
-use tool_list::{List, Memory};
+use tool_list::{List, Memory, SharedList};
 
 /// Appends the name at a form, as what it is bound.
 pub fn push_placed(names: &mut List<Binder>, binding: Binding, form: Form) -> Result<(), Memory>
@@ -110,7 +110,7 @@ fn push_order(orders: &mut List<u32>, form: Form) -> Result<(), Memory>
 }
 
 // The numbers of places of the names of nodes.
-fn orders(alloc: Global, tree: &Tree, nodes: &[u32]) -> Result<List<u32>, Memory>
+fn orders(alloc: Global, tree: &Tree, nodes: &[u32]) -> Result<SharedList<u32>, Memory>
     requires { AreThere tree.now nodes.now }
     ensures { IfOk result (λ orders. orders ≡ entities.orders (trees (map (tree_at tree.now) nodes.now))) }
 {
@@ -118,7 +118,7 @@ fn orders(alloc: Global, tree: &Tree, nodes: &[u32]) -> Result<List<u32>, Memory
     for node in nodes {
         push_order(&mut orders, tree.form(*node))?;
     }
-    Ok(orders)
+    orders.into_shared()
 }
 
 /// The name that a node with these children defines.
@@ -142,7 +142,7 @@ pub fn defined(
             (name, Entity::Definition { orders })
         }
         Form::FunctionDefinition(name) => {
-            let orders = List::new(alloc);
+            let orders = SharedList::new();
             (name, Entity::Definition { orders })
         }
         Form::ModuleDefinition(name) => {

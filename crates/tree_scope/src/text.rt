@@ -11,7 +11,7 @@ use std::alloc::Global;
 use std::marker::Model;
 use tla_model::{Binder, Callee, DeclId, Meaning, spelled};
 use tla_symbols::{LexKind, Lexeme};
-use tool_list::{Chars, List, Memory};
+use tool_list::{Chars, Memory, SharedList};
 
 /// The text of a module: its name, its bytes, and where its declaring names begin. Contracts see it as
 /// the text of the definitions.
@@ -120,7 +120,7 @@ impl<'a> ModuleText<'a> {
         Ok(Callee {
             instance: 0,
             decl,
-            via: List::new(alloc),
+            via: SharedList::new(),
         })
     }
 

@@ -19,15 +19,11 @@ use tla_symbols::{LexKind, Lexeme, Op};
 use tool_list::{List, Memory};
 
 // What a name means, for a use.
-fn meaning_of<'a>(
-    alloc: Global,
-    context: &Context<'a>,
-    name: Named<'a>,
-) -> Result<Option<Meaning>, Memory>
+fn meaning_of<'a>(context: &Context<'a>, name: Named<'a>) -> Result<Option<Meaning>, Memory>
     ensures { IfOk result (λ meaning. meaning ≡ contexts.meaning_of (context_of context.now) (meant_by name.entry)) }
 {
     match context.get(name) {
-        Some(Some(meaning)) => Ok(Some(meaning.copied(alloc)?)),
+        Some(Some(meaning)) => Ok(Some(meaning.copied()?)),
         _ => Ok(None),
     }
 }
@@ -55,7 +51,6 @@ fn push_use(
 
 /// Looks at the use of an identifier, and answers whether it means something.
 pub fn use_name<'a>(
-    alloc: Global,
     text: &ModuleText<'a>,
     context: &Context<'a>,
     at: Lexeme,
@@ -65,13 +60,12 @@ pub fn use_name<'a>(
     ensures known { IfOk result (λ known. known ≡ is_some (contexts.meaning_of (context_of context.now) (entities.name_of text.now.source at))) }
     ensures findings { OnOk result (findings.new ≡ findings.old ++ scopes.found at (contexts.meaning_of (context_of context.now) (entities.name_of text.now.source at))) }
 {
-    let meaning = meaning_of(alloc, context, text.name_of(at))?;
+    let meaning = meaning_of(context, text.name_of(at))?;
     push_use(findings, at, meaning)
 }
 
 // Looks at the use of a symbol, unless it is built in.
 fn use_op<'a>(
-    alloc: Global,
     context: &Context<'a>,
     at: Lexeme,
     op: Op,
@@ -80,7 +74,7 @@ fn use_op<'a>(
     ensures { OnOk result (findings.new ≡ findings.old ++ scopes.used_as (context_of context.now) at op) }
 {
     if is_free(op) {
-        let meaning = meaning_of(alloc, context, Named::Symbol(op))?;
+        let meaning = meaning_of(context, Named::Symbol(op))?;
         push_use(findings, at, meaning)?;
     }
     Ok(())
@@ -88,7 +82,6 @@ fn use_op<'a>(
 
 /// Looks at the use of a symbol.
 pub fn use_symbol<'a>(
-    alloc: Global,
     context: &Context<'a>,
     at: Lexeme,
     findings: &mut List<Finding>,
@@ -96,14 +89,13 @@ pub fn use_symbol<'a>(
     ensures { OnOk result (findings.new ≡ findings.old ++ scopes.symbol (context_of context.now) scopes.itself at at.kind) }
 {
     match at.kind {
-        LexKind::Sym(op) => use_op(alloc, context, at, op, findings),
+        LexKind::Sym(op) => use_op(context, at, op, findings),
         _ => Ok(()),
     }
 }
 
 /// Looks at the use of a symbol before its operand.
 pub fn use_prefix<'a>(
-    alloc: Global,
     context: &Context<'a>,
     at: Lexeme,
     findings: &mut List<Finding>,
@@ -111,7 +103,7 @@ pub fn use_prefix<'a>(
     ensures { OnOk result (findings.new ≡ findings.old ++ scopes.symbol (context_of context.now) scopes.prefixed at at.kind) }
 {
     match at.kind {
-        LexKind::Sym(op) => use_op(alloc, context, at, prefixed(op), findings),
+        LexKind::Sym(op) => use_op(context, at, prefixed(op), findings),
         _ => Ok(()),
     }
 }

@@ -57,7 +57,6 @@ fn segment_of(form: Form) -> Option<Lexeme>
 
 // Looks at the first segment of an identifier, and at the second one where the first means something.
 fn visit_segments<'a>(
-    alloc: Global,
     text: &ModuleText<'a>,
     tree: &Tree,
     segments: &[u32],
@@ -74,7 +73,7 @@ fn visit_segments<'a>(
     let Some(name) = segment_of(tree.form(first)) else {
         return Ok(());
     };
-    let known = use_name(alloc, text, context, name, findings)?;
+    let known = use_name(text, context, name, findings)?;
     push_rest(tasks, tree, rest, known)?;
     push_each(tasks, tree.children(first))?;
     Ok(())
@@ -98,15 +97,15 @@ pub fn visit<'a>(
     let mark = context.mark()?;
     match naming_of(tree.form(node)) {
         Naming::Path => {
-            visit_segments(alloc, text, tree, children, context, findings, tasks)?;
+            visit_segments(text, tree, children, context, findings, tasks)?;
             Ok(())
         }
         Naming::Bare(at) => {
-            use_symbol(alloc, context, at, findings)?;
+            use_symbol(context, at, findings)?;
             Ok(())
         }
         Naming::Prefix(at) => {
-            use_prefix(alloc, context, at, findings)?;
+            use_prefix(context, at, findings)?;
             push_each(tasks, children)?;
             Ok(())
         }
