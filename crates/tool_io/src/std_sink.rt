@@ -41,13 +41,15 @@ impl<W: Write> Sink for StdSink<W> {
 
     ghost fault_count = { λ s. s.faults };
 
-    /// As the trait says; and each refusal is a failure.
+    /// As the trait says; each refusal is a failure, and what is taken stands in the writer behind what
+    /// stood there.
     fn write(&mut self, piece: &[u8]) -> Result<usize, IoFault>
         ensures bound { IfOk result (λ n. n ≤ length piece.now) }
         ensures some { IfOk result (λ n. 0 < length piece.now → 0 < n) }
         ensures bytes { WriteAppends None None result piece.now }
         ensures cause { HasOneCause self.old.faults self.new.faults result }
         ensures fault { OnErr result (result ≡ Err IoFault.Failed) }
+        ensures writer { IfOk result (λ n. Appends (W.contents self.old.inner) (W.contents self.new.inner) (take n piece.now)) }
     {
         match self.put(piece) {
             Some(count) if count > 0 || piece.is_empty() => Ok(count),

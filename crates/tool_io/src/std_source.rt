@@ -1,5 +1,8 @@
 // Any reader of std as an input.
 ghost use Rattle.std.specs.Prelude.{◌≡◌, None};
+ghost use Rattle.std.specs.Io.{ReadsAtMost};
+ghost use Rattle.std.specs.Io.KnownBytes.{ReadConsumes};
+ghost use Rattle.tool_io.specs.Causes.{HasOneCause};
 
 use crate::{Failed, Source};
 use std::io::Read;
@@ -25,7 +28,14 @@ impl<R: Read> Source for StdSource<R> {
 
     ghost fault_count = { λ s. s.faults };
 
-    fn read(&mut self, buf: &mut [u8]) -> Result<usize, Failed> {
+    /// As the trait says; and the bytes come from what the reader has left, so that zero for a `buf`
+    /// that is not empty means that it has nothing left.
+    fn read(&mut self, buf: &mut [u8]) -> Result<usize, Failed>
+        ensures bound { ReadsAtMost result buf.new }
+        ensures bytes { ReadConsumes None None result buf.new }
+        ensures cause { HasOneCause self.old.faults self.new.faults result }
+        ensures reader { ReadConsumes (R.remaining self.old.inner) (R.remaining self.new.inner) result buf.new }
+    {
         match self.inner.read(buf) {
             Ok(count) => Ok(count),
             Err(_) => {
