@@ -3,4 +3,5 @@ mod Growing
 mod Taking
 mod Lexemes
 mod Onward
+mod Sorting
 pub mod Plainness

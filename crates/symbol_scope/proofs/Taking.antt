@@ -4,11 +4,9 @@ use Rattle.std.specs.Prelude.{is_some, option_map}
 use Rattle.std.specs.Borrow.{Bor}
 use Rattle.std.specs.Map as map
 use Rattle.std.specs.Str.{bytes_eq}
-use Rattle.tla_model.specs.declared.ids.Callee.{Callee}
 use Rattle.tla_model.specs.declared.names.Binder.{Binder}
-use Rattle.tla_model.specs.declared.names.Meaning.TheVariants.{Declared}
 use Rattle.tla_model.specs.Contexts.{bind}
-use Rattle.tla_model.specs.Entities.{Meaning, Text, meant, name_of, own}
+use Rattle.tla_model.specs.Entities.{Meaning, Text, meant, name_of}
 use Rattle.tla_model.specs.Modules.{Reading, declare, declare_all, exports_under, with_entry}
 use Rattle.tla_model.specs.Tables.{Named, Table, Word, Symbol, find, lookup, put}
 use Rattle.name_context.specs.declared.exported.Names.{Names}
@@ -63,9 +61,9 @@ module _ (text : Text) (local : Bool) (reading : Reading) (binder : Binder) (nam
   pub there-bound : is_some (find reading.context name) ≡ true → reading.context ≡ bind text reading.context binder
   there-bound there = put-there reading.context (name_of text.source binder.name) (Some (meant text binder)) (sym (ap (λ n. is_some (find reading.context n)) is) ∙ there)
 
-  module _ (new : Reading) (callee : Callee) (calls : callee ≡ own text binder.name) (puts : new ≡ with_entry local reading name (Declared binder.entity callee)) where
+  module _ (new : Reading) (meaning : Meaning) (means : meaning ≡ meant text binder) (puts : new ≡ with_entry local reading name meaning) where
     put-as : new ≡ with_entry local reading (name_of text.source binder.name) (meant text binder)
-    put-as = puts ∙ (λ i. with_entry local reading (is i) (Declared binder.entity (calls i)))
+    put-as = puts ∙ (λ i. with_entry local reading (is i) (means i))
 
     pub declared-new : is_some (find reading.context name) ≡ false → (files : Files) → new ≡ declare text files local reading binder
     declared-new absent files = put-as ∙ ap (λ z. cond z reading (with_entry local reading (name_of text.source binder.name) (meant text binder))) (sym absent ∙ ap (λ n. is_some (find reading.context n)) is)

@@ -5,3 +5,4 @@ pub mod Modules
 pub mod Rounds
 pub mod Plain
 pub mod WithoutInstances
+pub mod Sorting

@@ -2,7 +2,7 @@
 use Rattle.std.specs.Prelude.{ℕ, List, [], ◌∷◌, Option, Some, None, map, if◌then◌else◌}
 use Rattle.std.specs.Borrow.{Bor}
 use Rattle.tla_symbols.specs.declared.lexeme.Lexeme.{Lexeme}
-use Rattle.tla_model.specs.Tables.{Table}
+use Rattle.tla_model.specs.Tables.{Table, empty}
 use Rattle.tla_model.specs.Entities.{Meaning, Text}
 use Rattle.tla_model.specs.Exports.{Exports, exports_of}
 use Rattle.tla_model.specs.Scopes.{Finding}
@@ -29,3 +29,7 @@ no_files name = []
 -- a module that is extended, where it brings a clash
 abbrev pub clash_at : Text → Files → Reading → Lexeme → List Finding
 clash_at text files reading l = if brings_clash reading (brings text files reading l) then Clashes l ∷ [] else []
+
+-- a module of this name before all names
+abbrev pub without_names : List ℕ → Reading
+without_names name = record { name = name; context = empty; exports = empty; modules = [] }

@@ -15,7 +15,7 @@ use Rattle.symbol_scope.specs.declared.nesting.Outer.{Outer}
 use Rattle.symbol_scope.specs.declared.nesting.Nesting.{Nesting}
 use Rattle.name_context.specs.AsTables.{cut}
 use Rattle.symbol_scope.specs.Modules.{reading_of}
-use Rattle.symbol_scope.specs.Readings.{Files}
+use Rattle.symbol_scope.specs.Readings.{Files, without_names}
 use Rattle.name_context.specs.Brought.{ModuleNames}
 
 -- a nested module of this title that begins
@@ -44,6 +44,11 @@ AreRound context taken _ _ = ⊥
 pub record IsAt (read : Nesting) (place : Place) : Type 0 where
   pub same : reading_of read.here ≡ place.here
   pub outside : AreRound place.here.context place.here.modules (reverse read.round.items) place.round
+
+-- a module of this name before all names, in no other one
+pub record IsUnread (read : Nesting) (name : List ℕ) : Type 0 where
+  pub same : reading_of read.here ≡ without_names name
+  pub alone : read.round.items ≡ []
 
 -- behind a nested module
 abbrev pub left_by : Reading → List Reading → Place

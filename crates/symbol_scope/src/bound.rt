@@ -1,160 +1,195 @@
 // What is found, as uses and faults.
-ghost use Rattle.std.specs.Prelude.{◌≡◌, ◌++◌, IfOk, OnOk, map};
+ghost use Rattle.std.specs.Prelude.{◌≡◌, ◌++◌, ◌∷◌, [], OnOk};
 ghost use Rattle.tla_model.specs.Bindings as bindings;
+ghost use Rattle.tla_model.specs.declared.names.Meaning.TheVariants as means;
+ghost use Rattle.tla_model.specs.declared.ids.Callee.{Callee as Called};
+ghost use Rattle.symbol_scope.specs.Sorting.{HasMore, IsNothing, use_of};
 
 use std::alloc::Global;
-use tla_model::{Binder, Callee, Decl, Diagnostic, Entity, Finding, Implied, Level, Meaning, Use};
+use std::mem;
+use tla_model::{
+    Binder, Bound, Callee, Decl, DeclId, Diagnostic, Entity, Finding, Implied, Level, Meaning, Use,
+    in_order,
+};
 use tla_symbols::Lexeme;
 use tool_list::{Chars, List, Memory};
 use tree_scope::ModuleText;
 
-/// Uses, what each stands for and calls, the replacements that are not written, and faults.
-#[derive(Drop)]
-pub struct Found {
-    pub uses: List<Use>,
-    pub entities: List<Entity>,
-    pub callees: List<Callee>,
-    pub implied: List<Implied>,
-    pub faults: List<Diagnostic>,
-}
-
-impl Found {
-    // Appends a use, unless its name is built in.
-    fn push_meaning(&mut self, alloc: Global, at: Lexeme, meaning: Meaning) -> Result<(), Memory>
-        ensures uses { OnOk result (self.new.uses ≡ self.old.uses ++ map (λ r. r.«use») (bindings.meant_by at meaning)) }
-        ensures entities { OnOk result (self.new.entities ≡ self.old.entities ++ map (λ r. r.entity) (bindings.meant_by at meaning)) }
-        ensures callees { OnOk result (self.new.callees ≡ self.old.callees ++ map (λ r. r.callee) (bindings.meant_by at meaning)) }
-        ensures implied { OnOk result (self.new.implied ≡ self.old.implied) }
-        ensures faults { OnOk result (self.new.faults ≡ self.old.faults) }
-    {
-        let Meaning::Declared { entity, callee } = meaning else {
-            return Ok(());
-        };
-        self.uses.push(Use {
-            name: at.span,
-            module: Chars::from_str(alloc, callee.decl.module.as_str())?,
-            place: callee.decl.place,
-            level: Level::Constant,
-        })?;
-        self.entities.push(entity)?;
-        self.callees.push(callee)?;
-        Ok(())
-    }
-
-    // Appends a fault.
-    fn push_fault(&mut self, code: u16, at: Lexeme) -> Result<(), Memory>
-        ensures uses { self.new.uses ≡ self.old.uses }
-        ensures entities { self.new.entities ≡ self.old.entities }
-        ensures callees { self.new.callees ≡ self.old.callees }
-        ensures implied { self.new.implied ≡ self.old.implied }
-        ensures faults { OnOk result (self.new.faults ≡ self.old.faults ++ bindings.at code at) }
-    {
-        self.faults.push(Diagnostic {
-            code,
-            span: at.span,
-        })?;
-        Ok(())
-    }
-
-    // Appends a replacement that is not written, unless a name is built in.
-    fn push_implied(
-        &mut self,
-        at: Lexeme,
-        parameter: Meaning,
-        meaning: Meaning,
-    ) -> Result<(), Memory>
-        ensures uses { self.new.uses ≡ self.old.uses }
-        ensures entities { self.new.entities ≡ self.old.entities }
-        ensures callees { self.new.callees ≡ self.old.callees }
-        ensures implied { OnOk result (self.new.implied ≡ self.old.implied ++ bindings.replaced_by at parameter meaning) }
-        ensures faults { self.new.faults ≡ self.old.faults }
-    {
-        let Meaning::Declared {
-            entity: parameter,
-            ..
-        } = parameter
-        else {
-            return Ok(());
-        };
-        let Meaning::Declared {
-            entity: symbol,
-            callee,
-        } = meaning
-        else {
-            return Ok(());
-        };
-        self.implied.push(Implied {
-            at: at.span,
-            parameter,
-            symbol,
-            callee,
-        })?;
-        Ok(())
-    }
-
-    // Appends what is found at a name.
-    fn push(&mut self, alloc: Global, finding: Finding) -> Result<(), Memory>
-        ensures uses { OnOk result (self.new.uses ≡ self.old.uses ++ map (λ r. r.«use») (bindings.resolved_at finding)) }
-        ensures entities { OnOk result (self.new.entities ≡ self.old.entities ++ map (λ r. r.entity) (bindings.resolved_at finding)) }
-        ensures callees { OnOk result (self.new.callees ≡ self.old.callees ++ map (λ r. r.callee) (bindings.resolved_at finding)) }
-        ensures implied { OnOk result (self.new.implied ≡ self.old.implied ++ bindings.implied_at finding) }
-        ensures faults { OnOk result (self.new.faults ≡ self.old.faults ++ bindings.fault finding) }
-    {
-        match finding {
-            Finding::Means { at, meaning } => self.push_meaning(alloc, at, meaning),
-            Finding::Unknown { at } => self.push_fault(401, at),
-            Finding::Taken { at } => self.push_fault(402, at),
-            Finding::Clashes { at } => self.push_fault(403, at),
-            Finding::InstanceClashes { at } => self.push_fault(404, at),
-            Finding::NotReplaceable { at } => self.push_fault(405, at),
-            Finding::ReplacedTwice { at } => self.push_fault(406, at),
-            Finding::Unreplaced { at } => self.push_fault(407, at),
-            Finding::Implied {
-                at,
-                parameter,
-                meaning,
-            } => self.push_implied(at, parameter, meaning),
-        }
-    }
-}
-
-/// The uses, the replacements that are not written, and the faults among what is found, in its order.
-pub fn sorted_out(alloc: Global, findings: List<Finding>) -> Result<Found, Memory>
-    ensures uses { IfOk result (λ found. found.uses ≡ map (λ r. r.«use») (bindings.resolved findings)) }
-    ensures entities { IfOk result (λ found. found.entities ≡ map (λ r. r.entity) (bindings.resolved findings)) }
-    ensures callees { IfOk result (λ found. found.callees ≡ map (λ r. r.callee) (bindings.resolved findings)) }
-    ensures implied { IfOk result (λ found. found.implied ≡ bindings.implied findings) }
-    ensures faults { IfOk result (λ found. found.faults ≡ bindings.faults findings) }
+/// No name that stands for anything.
+pub fn nothing(alloc: Global) -> Bound
+    ensures { IsNothing result }
 {
-    let mut found = Found {
+    Bound {
         uses: List::new(alloc),
         entities: List::new(alloc),
         callees: List::new(alloc),
         implied: List::new(alloc),
+        decls: List::new(alloc),
         faults: List::new(alloc),
-    };
-    for finding in findings.into_vec() {
-        found.push(alloc, finding)?;
     }
-    Ok(found)
 }
 
-/// The declarations of a text, by the names that it declares.
-pub fn declarations(
+// Appends a use of a declaration.
+fn push_use(alloc: Global, uses: &mut List<Use>, at: Lexeme, decl: &DeclId) -> Result<(), Memory>
+    ensures { OnOk result (uses.new ≡ uses.old ++ use_of at decl.now ∷ []) }
+{
+    let module = Chars::from_str(alloc, decl.module.as_str())?;
+    uses.push(Use {
+        name: at.span,
+        module,
+        place: decl.place,
+        level: Level::Constant,
+    })
+}
+
+// Appends a use, with what it stands for and calls.
+fn push_declared(
+    alloc: Global,
+    bound: &mut Bound,
+    at: Lexeme,
+    entity: Entity,
+    callee: Callee,
+) -> Result<(), Memory>
+    ensures { OnOk result (HasMore (bindings.meant_by at (means.Declared entity callee)) [] [] bound.old bound.new) }
+{
+    push_use(alloc, &mut bound.uses, at, &callee.decl)?;
+    bound.entities.push(entity)?;
+    bound.callees.push(callee)?;
+    Ok(())
+}
+
+// Appends a use, unless its name is built in.
+fn push_meaning(
+    alloc: Global,
+    bound: &mut Bound,
+    at: Lexeme,
+    meaning: Meaning,
+) -> Result<(), Memory>
+    ensures { OnOk result (HasMore (bindings.meant_by at meaning) [] [] bound.old bound.new) }
+{
+    match meaning {
+        Meaning::BuiltIn => Ok(()),
+        Meaning::Declared { entity, callee } => push_declared(alloc, bound, at, entity, callee),
+    }
+}
+
+// Appends a fault.
+fn push_fault(faults: &mut List<Diagnostic>, code: u16, at: Lexeme) -> Result<(), Memory>
+    ensures { OnOk result (faults.new ≡ faults.old ++ bindings.at code at) }
+{
+    faults.push(Diagnostic {
+        code,
+        span: at.span,
+    })
+}
+
+// Appends a replacement by a symbol of this meaning, unless it is built in.
+fn push_replaced(
+    implied: &mut List<Implied>,
+    at: Lexeme,
+    parameter: Entity,
+    meaning: Meaning,
+) -> Result<(), Memory>
+    ensures { OnOk result ((callee : Called) → implied.new ≡ implied.old ++ bindings.replaced_by at (means.Declared parameter callee) meaning) }
+{
+    match meaning {
+        Meaning::BuiltIn => Ok(()),
+        Meaning::Declared {
+            entity: symbol,
+            callee,
+        } => implied.push(Implied {
+            at: at.span,
+            parameter,
+            symbol,
+            callee,
+        }),
+    }
+}
+
+// Appends a replacement that is not written, unless a name is built in.
+fn push_implied(
+    implied: &mut List<Implied>,
+    at: Lexeme,
+    parameter: Meaning,
+    meaning: Meaning,
+) -> Result<(), Memory>
+    ensures { OnOk result (implied.new ≡ implied.old ++ bindings.replaced_by at parameter meaning) }
+{
+    match parameter {
+        Meaning::BuiltIn => Ok(()),
+        Meaning::Declared { entity, .. } => push_replaced(implied, at, entity, meaning),
+    }
+}
+
+// Appends what is found at a name.
+fn push(alloc: Global, bound: &mut Bound, finding: Finding) -> Result<(), Memory>
+    ensures { OnOk result (HasMore (bindings.resolved_at finding) (bindings.implied_at finding) (bindings.fault finding) bound.old bound.new) }
+{
+    match finding {
+        Finding::Means { at, meaning } => push_meaning(alloc, bound, at, meaning),
+        Finding::Unknown { at } => push_fault(&mut bound.faults, 401, at),
+        Finding::Taken { at } => push_fault(&mut bound.faults, 402, at),
+        Finding::Clashes { at } => push_fault(&mut bound.faults, 403, at),
+        Finding::InstanceClashes { at } => push_fault(&mut bound.faults, 404, at),
+        Finding::NotReplaceable { at } => push_fault(&mut bound.faults, 405, at),
+        Finding::ReplacedTwice { at } => push_fault(&mut bound.faults, 406, at),
+        Finding::Unreplaced { at } => push_fault(&mut bound.faults, 407, at),
+        Finding::Implied {
+            at,
+            parameter,
+            meaning,
+        } => push_implied(&mut bound.implied, at, parameter, meaning),
+    }
+}
+
+/// Appends the uses, the replacements that are not written, and the faults among what is found, in its
+/// order.
+pub fn sort_out(alloc: Global, findings: List<Finding>, bound: &mut Bound) -> Result<(), Memory>
+    ensures { OnOk result (HasMore (bindings.resolved findings) (bindings.implied findings) (bindings.faults findings) bound.old bound.new) }
+{
+    for finding in findings.into_vec() {
+        push(alloc, bound, finding)?;
+    }
+    Ok(())
+}
+
+/// Puts faults in order, each once.
+pub fn order(alloc: Global, faults: &mut List<Diagnostic>)
+    ensures { bindings.AreInOrder faults.old faults.new }
+{
+    let all = mem::replace(faults, List::new(alloc));
+    *faults = in_order(all);
+}
+
+// Appends the declaration of a name.
+fn push_declaration(
+    alloc: Global,
+    text: &ModuleText<'_>,
+    binder: Binder,
+    decls: &mut List<Decl>,
+) -> Result<(), Memory>
+    ensures { OnOk result (decls.new ≡ decls.old ++ bindings.decls text.now (binder ∷ [])) }
+{
+    let Binder { name, entity } = binder;
+    let id = text.declaration(alloc, name)?;
+    decls.push(Decl {
+        id,
+        name: name.span,
+        entity,
+    })
+}
+
+/// Appends the declarations of a text, by the names that it declares.
+pub fn push_declarations(
     alloc: Global,
     text: &ModuleText<'_>,
     names: List<Binder>,
-) -> Result<List<Decl>, Memory>
-    ensures { IfOk result (λ decls. decls ≡ bindings.decls text.now names) }
+    decls: &mut List<Decl>,
+) -> Result<(), Memory>
+    ensures { OnOk result (decls.new ≡ decls.old ++ bindings.decls text.now names) }
 {
-    let mut decls = List::new(alloc);
     for binder in names.into_vec() {
-        let Binder { name, entity } = binder;
-        decls.push(Decl {
-            id: text.declaration(alloc, name)?,
-            name: name.span,
-            entity,
-        })?;
+        push_declaration(alloc, text, binder, decls)?;
     }
-    Ok(decls)
+    Ok(())
 }

@@ -2,13 +2,14 @@
 ghost use Rattle.std.specs.Prelude.{◌≡◌, ◌∷◌, [], IfOk, OnOk};
 ghost use Rattle.tla_model.specs.Modules.{Place, Reading as Read};
 ghost use Rattle.symbol_scope.specs.Modules.{reading_of};
-ghost use Rattle.symbol_scope.specs.Rounds.{IsAt, IsOuter, begun_in, behind, outside_of};
+ghost use Rattle.symbol_scope.specs.Rounds.{IsAt, IsOuter, IsUnread, begun_in, behind, outside_of};
 
 use crate::reading::{Reading, take_name};
 use name_context::{Exported, Mark};
 use std::alloc::Global;
 use std::mem;
 use tool_list::Memory;
+use tree_scope::ModuleText;
 
 /// A module round the one that is read.
 #[derive(Drop)]
@@ -68,12 +69,12 @@ impl<'a> Reading<'a> {
 }
 
 impl<'a> Nesting<'a> {
-    /// A module that is in no other one.
-    pub fn new(alloc: Global, here: Reading<'a>) -> Nesting<'a>
-        ensures { IsAt result (record { here = reading_of here.entry; round = [] }) }
+    /// A module that is in no other one, before all names.
+    pub fn new(alloc: Global, text: &ModuleText<'a>) -> Nesting<'a>
+        ensures { IsUnread result text.now.file }
     {
         Nesting {
-            here,
+            here: Reading::new(alloc, text),
             round: Vec::new(alloc),
         }
     }

@@ -50,15 +50,6 @@ fn put_built_in(context: &mut Context<'_>) -> Result<(), Memory>
     Ok(())
 }
 
-// The context before all names of a module.
-fn built_in(alloc: Global) -> Result<Context<'static>, Memory>
-    ensures { IfOk result (λ context. context_of context ≡ built_in) }
-{
-    let mut context = Context::new(alloc);
-    put_built_in(&mut context)?;
-    Ok(context)
-}
-
 /// Takes a module name, unless it is taken.
 pub fn take_name<'a>(
     modules: &mut Taken<'a>,
@@ -107,22 +98,29 @@ fn definition(alloc: Global, tree: &Tree, node: u32) -> Result<Option<Binder>, M
 }
 
 impl<'a> Reading<'a> {
-    /// A module before what it extends.
-    pub fn new(alloc: Global, text: &ModuleText<'a>) -> Result<Reading<'a>, Memory>
-        ensures { IfOk result (λ reading. reading_of reading ≡ in_modules.unread text.now no_files) }
+    /// A module before all names.
+    pub fn new(alloc: Global, text: &ModuleText<'a>) -> Reading<'a>
+        ensures { reading_of result ≡ readings.without_names text.now.file }
     {
-        let name = text.file();
-        let mut modules = IndexMap::new(alloc);
-        take_name(&mut modules, name, None)?;
-        let names = Names {
-            context: built_in(alloc)?,
-            exports: Exported::new(alloc),
-        };
-        Ok(Reading {
-            name,
-            names,
-            modules,
-        })
+        Reading {
+            name: text.file(),
+            names: Names {
+                context: Context::new(alloc),
+                exports: Exported::new(alloc),
+            },
+            modules: IndexMap::new(alloc),
+        }
+    }
+
+    /// Puts the names that are there before what the module extends: the built-in words, and its own
+    /// name among those of modules.
+    pub fn put_first(&mut self, text: &ModuleText<'a>) -> Result<(), Memory>
+        requires { reading_of self.old ≡ readings.without_names text.now.file }
+        ensures { OnOk result (reading_of self.new ≡ in_modules.unread text.now no_files) }
+    {
+        put_built_in(&mut self.names.context)?;
+        take_name(&mut self.modules, self.name, None)?;
+        Ok(())
     }
 
     // Extends a module, and finds fault with one that clashes.
@@ -186,13 +184,8 @@ impl<'a> Reading<'a> {
         if self.names.context.get(name).is_some() {
             return Ok(());
         }
-        let Binder {
-            name: lexeme,
-            entity,
-        } = binder;
-        let callee = text.own(alloc, lexeme)?;
-        self.names
-            .put(alloc, local, name, Meaning::Declared { entity, callee })?;
+        let meaning = text.meaning(alloc, binder)?;
+        self.names.put(alloc, local, name, meaning)?;
         Ok(())
     }
 

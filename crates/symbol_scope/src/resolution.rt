@@ -1,6 +1,6 @@
 // What the names of a module mean, and what it exports.
-ghost use Rattle.std.specs.Prelude.{◌≡◌, ◌++◌, IfOk, OnOk};
-ghost use Rattle.tla_model.specs.Bindings.{AreInOrder, IsBound, IsBoundBy};
+ghost use Rattle.std.specs.Prelude.{◌≡◌, IfOk, OnOk};
+ghost use Rattle.tla_model.specs.Bindings.{IsBound, IsBoundBy};
 ghost use Rattle.tla_model.specs.Entities as entities;
 ghost use Rattle.tla_model.specs.Exports.{exports_of};
 ghost use Rattle.symbol_scope.specs.WithoutInstances.{files_of};
@@ -12,13 +12,14 @@ ghost use Rattle.tla_model.specs.Exports as imports;
 ghost use Rattle.unit_grammar.specs.UnitNodes.{HasNodes, module_of};
 ghost use Rattle.symbol_scope.specs.Given.{IsReadable, IsWithoutInstances};
 ghost use Rattle.symbol_scope.specs.Modules.{reading_of};
+ghost use Rattle.symbol_scope.specs.Rounds.{IsUnread};
+ghost use Rattle.symbol_scope.specs.Sorting.{IsNothing, IsSorted};
 
-use crate::bound::{Found, declarations, sorted_out};
+use crate::bound::{nothing, order, push_declarations, sort_out};
 use crate::declared::declaring;
 use crate::nesting::Nesting;
-use crate::reading::Reading;
 use std::alloc::Global;
-use tla_model::{Binder, Bound, Decl, Finding, Imported, NameTable, in_order, spelled};
+use tla_model::{Binder, Bound, Finding, Imported, NameTable, spelled};
 use tla_tree::ModuleTree;
 use tool_list::{List, Memory};
 use tree_scope::ModuleText;
@@ -38,39 +39,41 @@ fn text_of<'a>(
     ModuleText::new(alloc, file, source, names)
 }
 
-// Reads a module, over the modules that it names.
-fn read_module<'a>(
-    alloc: Global,
-    text: &ModuleText<'a>,
-    tree: &'a ModuleTree,
-    imported: &'a Imported,
-    findings: &mut List<Finding>,
-) -> Result<Nesting<'a>, Memory>
-    requires nodes { HasNodes tree.now }
-    requires lie { LexemesLie text.now.source (module_of tree.now) }
-    ensures reading { IfOk result (λ nesting. reading_of nesting.here ≡ plain.read_within text.now (files_of imported.now) (module_of tree.now)) }
-    ensures findings { OnOk result (findings.new ≡ findings.old ++ plain.found_within text.now (files_of imported.now) (module_of tree.now)) }
-{
-    let reading = Reading::new(alloc, text)?;
-    let mut nesting = Nesting::new(alloc, reading);
-    nesting.read_module(alloc, text, imported, tree, findings)?;
-    Ok(nesting)
-}
-
-// What is found in a module.
+// Reads a module that has no names yet, and answers what is found in it.
 fn found_in<'a>(
     alloc: Global,
     text: &ModuleText<'a>,
     tree: &'a ModuleTree,
     imported: &'a Imported,
+    nesting: &mut Nesting<'a>,
 ) -> Result<List<Finding>, Memory>
     requires nodes { HasNodes tree.now }
     requires lie { LexemesLie text.now.source (module_of tree.now) }
-    ensures { IfOk result (λ findings. findings ≡ plain.found_within text.now (files_of imported.now) (module_of tree.now)) }
+    requires unread { IsUnread nesting.old text.now.file }
+    ensures reading { OnOk result (reading_of nesting.new.here ≡ plain.read_within text.now (files_of imported.now) (module_of tree.now)) }
+    ensures findings { IfOk result (λ findings. findings ≡ plain.found_within text.now (files_of imported.now) (module_of tree.now)) }
 {
     let mut findings = List::new(alloc);
-    read_module(alloc, text, tree, imported, &mut findings)?;
+    nesting.read_module(alloc, text, imported, tree, &mut findings)?;
     Ok(findings)
+}
+
+// Reads a module that has no names yet, and answers what it exports.
+fn exported_in<'a>(
+    alloc: Global,
+    text: &ModuleText<'a>,
+    tree: &'a ModuleTree,
+    imported: &'a Imported,
+    nesting: &mut Nesting<'a>,
+) -> Result<NameTable, Memory>
+    requires nodes { HasNodes tree.now }
+    requires lie { LexemesLie text.now.source (module_of tree.now) }
+    requires unread { IsUnread nesting.old text.now.file }
+    ensures { IfOk result (λ table. table ≡ (plain.read_within text.now (files_of imported.now) (module_of tree.now)).exports) }
+{
+    found_in(alloc, text, tree, imported, nesting)?;
+    let table = nesting.here.exported(alloc)?;
+    Ok(table)
 }
 
 // What a module exports, by its text.
@@ -84,29 +87,65 @@ fn exported_by<'a>(
     requires lie { LexemesLie text.now.source (module_of tree.now) }
     ensures { IfOk result (λ table. table ≡ (plain.read_within text.now (files_of imported.now) (module_of tree.now)).exports) }
 {
-    let mut findings = List::new(alloc);
-    let nesting = read_module(alloc, text, tree, imported, &mut findings)?;
-    let table = nesting.here.exported(alloc)?;
-    Ok(table)
+    let mut nesting = Nesting::new(alloc, text);
+    exported_in(alloc, text, tree, imported, &mut nesting)
 }
 
-// What was found, with the declarations, as the meaning of a module's names.
-fn bound(found: Found, decls: List<Decl>) -> Bound
-    ensures uses { result.uses ≡ found.uses }
-    ensures entities { result.entities ≡ found.entities }
-    ensures callees { result.callees ≡ found.callees }
-    ensures implied { result.implied ≡ found.implied }
-    ensures decls { result.decls ≡ decls }
-    ensures faults { AreInOrder found.faults result.faults }
+// Reads a module that has no names yet, and puts what its names stand for and its faults into nothing.
+fn bind_uses<'a>(
+    alloc: Global,
+    text: &ModuleText<'a>,
+    tree: &'a ModuleTree,
+    imported: &'a Imported,
+    nesting: &mut Nesting<'a>,
+    bound: &mut Bound,
+) -> Result<(), Memory>
+    requires nodes { HasNodes tree.now }
+    requires lie { LexemesLie text.now.source (module_of tree.now) }
+    requires unread { IsUnread nesting.old text.now.file }
+    requires nothing { IsNothing bound.old }
+    ensures reading { OnOk result (reading_of nesting.new.here ≡ plain.read_within text.now (files_of imported.now) (module_of tree.now)) }
+    ensures sorted { OnOk result (IsSorted (plain.found_within text.now (files_of imported.now) (module_of tree.now)) bound.new) }
 {
-    Bound {
-        uses: found.uses,
-        entities: found.entities,
-        callees: found.callees,
-        implied: found.implied,
-        decls,
-        faults: in_order(found.faults),
-    }
+    let findings = found_in(alloc, text, tree, imported, nesting)?;
+    sort_out(alloc, findings, bound)?;
+    order(alloc, &mut bound.faults);
+    Ok(())
+}
+
+// Puts what the names of a text stand for and its faults into nothing.
+fn bind_text<'a>(
+    alloc: Global,
+    text: &ModuleText<'a>,
+    tree: &'a ModuleTree,
+    imported: &'a Imported,
+    bound: &mut Bound,
+) -> Result<(), Memory>
+    requires nodes { HasNodes tree.now }
+    requires lie { LexemesLie text.now.source (module_of tree.now) }
+    requires nothing { IsNothing bound.old }
+    ensures { OnOk result (IsSorted (plain.found_within text.now (files_of imported.now) (module_of tree.now)) bound.new) }
+{
+    let mut nesting = Nesting::new(alloc, text);
+    bind_uses(alloc, text, tree, imported, &mut nesting, bound)
+}
+
+// Puts what names stand for into nothing, by what is said of modules without INSTANCE.
+fn bind(
+    alloc: Global,
+    tree: &ModuleTree,
+    imported: &Imported,
+    bound: &mut Bound,
+) -> Result<(), Memory>
+    requires readable { IsReadable tree.now }
+    requires nothing { IsNothing bound.old }
+    ensures { OnOk result (IsBoundBy (plain.findings (files_of imported.now) tree.now.source (module_of tree.now)) tree.now.source (module_of tree.now) bound.new) }
+{
+    let names = declaring(alloc, tree)?;
+    let text = text_of(alloc, tree, names.as_slice())?;
+    bind_text(alloc, &text, tree, imported, bound)?;
+    push_declarations(alloc, &text, names, &mut bound.decls)?;
+    Ok(())
 }
 
 // What names stand for, by what is said of modules without INSTANCE.
@@ -114,12 +153,9 @@ fn bound_of(alloc: Global, tree: &ModuleTree, imported: &Imported) -> Result<Bou
     requires { IsReadable tree.now }
     ensures { IfOk result (IsBoundBy (plain.findings (files_of imported.now) tree.now.source (module_of tree.now)) tree.now.source (module_of tree.now)) }
 {
-    let names = declaring(alloc, tree)?;
-    let text = text_of(alloc, tree, names.as_slice())?;
-    let findings = found_in(alloc, &text, tree, imported)?;
-    let found = sorted_out(alloc, findings)?;
-    let decls = declarations(alloc, &text, names)?;
-    Ok(bound(found, decls))
+    let mut bound = nothing(alloc);
+    bind(alloc, tree, imported, &mut bound)?;
+    Ok(bound)
 }
 
 /// What the names of a module without INSTANCE stand for, over the modules that it names, which bring

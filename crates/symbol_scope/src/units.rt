@@ -17,7 +17,7 @@ ghost use Rattle.tree_scope.specs.Lying.{BindersLie};
 ghost use Rattle.symbol_scope.specs.Modules.{reading_of};
 ghost use Rattle.symbol_scope.specs.Plain.{found_by, read_by};
 ghost use Rattle.symbol_scope.specs.Readings.{no_files};
-ghost use Rattle.symbol_scope.specs.Rounds.{IsAt, begin_found, found_here};
+ghost use Rattle.symbol_scope.specs.Rounds.{IsAt, IsUnread, begin_found, found_here};
 
 use crate::declared::push_unit;
 use crate::nesting::Nesting;
@@ -211,8 +211,9 @@ impl<'a> Nesting<'a> {
         Ok(())
     }
 
-    /// Reads a module that was not begun: what it extends, and its units. Appends what is found.
-    pub fn read_module(
+    // Reads a module behind the names that are there first: what it extends, and its units. Appends what
+    // is found.
+    fn read_on(
         &mut self,
         alloc: Global,
         text: &ModuleText<'a>,
@@ -237,5 +238,24 @@ impl<'a> Nesting<'a> {
             findings,
         )?;
         Ok(())
+    }
+
+    /// Reads a module that has no names yet: what it extends, and its units. Appends what is found.
+    pub fn read_module(
+        &mut self,
+        alloc: Global,
+        text: &ModuleText<'a>,
+        imported: &'a Imported,
+        tree: &'a ModuleTree,
+        findings: &mut List<Finding>,
+    ) -> Result<(), Memory>
+        requires nodes { HasNodes tree.now }
+        requires lie { LexemesLie text.now.source (module_of tree.now) }
+        requires unread { IsUnread self.old text.now.file }
+        ensures reading { OnOk result (reading_of self.new.here ≡ plain.read_within text.now (files_of imported.now) (module_of tree.now)) }
+        ensures findings { OnOk result (findings.new ≡ findings.old ++ plain.found_within text.now (files_of imported.now) (module_of tree.now)) }
+    {
+        self.here.put_first(text)?;
+        self.read_on(alloc, text, imported, tree, findings)
     }
 }
