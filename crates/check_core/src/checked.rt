@@ -18,7 +18,7 @@ use std::marker::Model;
 use std::sync::Arc;
 use step_count::Steps;
 use symbol_scope::resolve;
-use tla_model::{Decl, Diagnostic, Face, Imported, Parts, Use, in_order};
+use tla_model::{Bound, Decl, Diagnostic, Face, Imported, Parts, Use, in_order};
 use tla_symbols::Lexeme;
 use tla_tree::ModuleTree;
 use tool_list::{List, Memory};
@@ -74,21 +74,34 @@ impl Checked {
     }
 }
 
+// A module without uses and declarations, which has these faults in some order.
+fn without_names(alloc: Global, faults: List<Diagnostic>, face: Arc<Face>) -> Checked
+    requires { (arc_value face).parts ≡ [] }
+    ensures { IsRefused faults result }
+{
+    Checked {
+        faults: in_order(faults),
+        uses: List::new(alloc),
+        decls: List::new(alloc),
+        face,
+    }
+}
+
+// A face of no parts.
+fn no_face(alloc: Global) -> Face
+    ensures { result.parts ≡ [] }
+{
+    Face {
+        parts: Parts::new(alloc),
+    }
+}
+
 // A module with faults of imports.
 fn refused(alloc: Global, faults: List<Diagnostic>) -> Result<Checked, Memory>
     ensures { IfOk result (λ checked. IsRefused faults checked) }
 {
-    Ok(Checked {
-        faults: in_order(faults),
-        uses: List::new(alloc),
-        decls: List::new(alloc),
-        face: Arc::new(
-            alloc,
-            Face {
-                parts: Parts::new(alloc),
-            },
-        )?,
-    })
+    let face = Arc::new(alloc, no_face(alloc))?;
+    Ok(without_names(alloc, faults, face))
 }
 
 // The face of a module with these faults, by the names of the modules that it needs.
@@ -109,9 +122,42 @@ fn face_of(
     if faults.is_empty() {
         return face(alloc, name, tree, imported, needed);
     }
-    Ok(Face {
-        parts: Parts::new(alloc),
-    })
+    Ok(no_face(alloc))
+}
+
+// The same face, to be shared.
+fn shared_face(
+    alloc: Global,
+    name: &str,
+    tree: &ModuleTree,
+    imported: &Imported,
+    needed: &[Lexeme],
+    faults: &[Diagnostic],
+) -> Result<Arc<Face>, Memory>
+    requires readable { IsReadable tree.now }
+    requires instances { IsWithoutInstances imported.now (module_of tree.now) }
+    requires name { spelled tree.now.source tree.now.name ≡ name.now }
+    requires needed { needed.now ≡ imports_of tree.now.source (module_of tree.now) }
+    ensures { IfOk result (λ face. IsFaceOf imported.now tree.now.source (module_of tree.now) faults.now (arc_value face).parts) }
+{
+    let face = face_of(alloc, name, tree, imported, needed, faults)?;
+    let shared = Arc::new(alloc, face)?;
+    Ok(shared)
+}
+
+// A module with what its names stand for, and its face.
+fn with_names(bound: Bound, face: Arc<Face>) -> Checked
+    ensures faults { result.faults ≡ bound.faults }
+    ensures uses { result.uses ≡ bound.uses }
+    ensures decls { result.decls ≡ bound.decls }
+    ensures parts { result.parts ≡ (arc_value face).parts }
+{
+    Checked {
+        faults: bound.faults,
+        uses: bound.uses,
+        decls: bound.decls,
+        face,
+    }
 }
 
 // A module whose imports are accepted, by the names of the modules that it needs.
@@ -129,13 +175,8 @@ fn resolved(
     ensures { IfOk result (λ checked. IsResolved imported.now tree.now.source (module_of tree.now) checked) }
 {
     let bound = resolve(alloc, tree, imported)?;
-    let face = face_of(alloc, name, tree, imported, needed, bound.faults.as_slice())?;
-    Ok(Checked {
-        faults: bound.faults,
-        uses: bound.uses,
-        decls: bound.decls,
-        face: Arc::new(alloc, face)?,
-    })
+    let face = shared_face(alloc, name, tree, imported, needed, bound.faults.as_slice())?;
+    Ok(with_names(bound, face))
 }
 
 /// Checks a module without INSTANCE over the modules that it names, which is one step. An accepted

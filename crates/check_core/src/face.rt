@@ -1,12 +1,13 @@
 // What an accepted module exports.
-ghost use Rattle.std.specs.Prelude.{◌≡◌, IfOk, OnOk, option_copied};
+ghost use Rattle.std.specs.Prelude.{◌≡◌, ◌++◌, ◌∷◌, [], IfOk, OnOk, option_copied};
+ghost use Rattle.std.specs.Arc.{arc_value};
 ghost use Rattle.std.specs.List.{AllByRecursion};
 ghost use Rattle.tla_model.specs.Exports.{exports_of};
 ghost use Rattle.tla_model.specs.Lexemes.{LiesIn, spelled};
 ghost use Rattle.unit_grammar.specs.UnitNodes.{module_of};
 ghost use Rattle.module_graph.specs.Imports.{imports_of};
 ghost use Rattle.symbol_scope.specs.Given.{IsReadable, IsWithoutInstances};
-ghost use Rattle.check_core.specs.Faces.{IsFace, IsOwn, with_import, with_imports};
+ghost use Rattle.check_core.specs.Faces.{IsFace, IsOwn, bare, with_import, with_imports};
 ghost use Rattle.check_core.specs.Parts.{AreGathered, held_by};
 
 use crate::parts::Gathered;
@@ -14,18 +15,18 @@ use module_graph::imports_are_lexemes;
 use std::alloc::Global;
 use std::sync::Arc;
 use symbol_scope::exports;
-use tla_model::{Face, Import, Imported, Interface, ModuleId, NameTable, Part, spelled};
+use tla_model::{Face, Import, Imported, Interface, ModuleId, NameTable, Parts, spelled};
 use tla_symbols::Lexeme;
 use tla_tree::{ModuleTree, Tree};
 use tool_list::{Chars, List, Memory};
 
-// What a module of this name holds that exports these.
-fn own(alloc: Global, name: &str, exports: NameTable) -> Result<Interface, Memory>
-    ensures { IfOk result (λ held. IsOwn name.now (exports_of exports) held) }
+// What a module holds that exports these.
+fn held(alloc: Global, title: Chars, exports: NameTable) -> Interface
+    ensures { IsOwn title (exports_of exports) result }
 {
-    Ok(Interface {
+    Interface {
         module: ModuleId {
-            module: Chars::from_str(alloc, name)?,
+            module: title,
             nested: None,
         },
         is_constant: false,
@@ -34,7 +35,16 @@ fn own(alloc: Global, name: &str, exports: NameTable) -> Result<Interface, Memor
         instances: List::new(alloc),
         tree: Tree::new(alloc),
         meanings: List::new(alloc),
-    })
+    }
+}
+
+// What a module of this name holds that exports these, to be shared.
+fn own(alloc: Global, name: &str, exports: NameTable) -> Result<Arc<Interface>, Memory>
+    ensures { IfOk result (λ held. IsOwn name.now (exports_of exports) (arc_value held)) }
+{
+    let title = Chars::from_str(alloc, name)?;
+    let shared = Arc::new(alloc, held(alloc, title, exports))?;
+    Ok(shared)
 }
 
 // Adds what is reached by an import.
@@ -75,6 +85,22 @@ fn add_imports<'a>(
     Ok(())
 }
 
+// The parts of the modules that are reached, and behind them what a module holds itself.
+fn reached(
+    alloc: Global,
+    imported: &Imported,
+    source: &str,
+    needed: &[Lexeme],
+    own: Arc<Interface>,
+) -> Result<Parts, Memory>
+    requires { AllByRecursion (LiesIn source.now) needed.now }
+    ensures { IfOk result (λ parts. parts ≡ with_imports imported.now source.now [] needed.now ++ bare (arc_value own) ∷ []) }
+{
+    let mut parts = Gathered::new(alloc);
+    add_imports(alloc, &mut parts, imported, source, needed)?;
+    parts.with_own(alloc, own)
+}
+
 /// What an accepted module exports, by the names of the modules that it needs: the parts of the modules
 /// that it reaches, in the order of its needs, and behind them its own part. Those of the first import
 /// stay as they are there; of others, a module that is there is not put again.
@@ -98,13 +124,7 @@ pub fn face(
 {
     imports_are_lexemes();
     let exports = exports(alloc, tree, imported)?;
-    let own = Part {
-        interface: Arc::new(alloc, own(alloc, name, exports)?)?,
-        places: List::new(alloc),
-    };
-    let mut parts = Gathered::new(alloc);
-    add_imports(alloc, &mut parts, imported, tree.source.as_str(), needed)?;
-    Ok(Face {
-        parts: parts.with_own(alloc, own)?,
-    })
+    let own = own(alloc, name, exports)?;
+    let parts = reached(alloc, imported, tree.source.as_str(), needed, own)?;
+    Ok(Face { parts })
 }

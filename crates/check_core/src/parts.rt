@@ -1,12 +1,14 @@
 // The parts of a face: those of its first import, and of others the modules that are not there.
 ghost use Rattle.std.specs.Prelude.{◌≡◌, ◌↔◌, ◌++◌, ◌∷◌, [], not, IfOk, IsTrue, OnOk};
+ghost use Rattle.std.specs.Arc.{arc_value};
 ghost use Rattle.tla_model.specs.Parts.{held, held_in};
-ghost use Rattle.check_core.specs.Faces.{is_among, key_in, keys_in, with_face, with_part, with_parts};
+ghost use Rattle.check_core.specs.Faces.{bare, is_among, key_in, keys_in, with_face, with_part, with_parts};
 ghost use Rattle.check_core.specs.Parts.{AreGathered, IsNoted, first_parts, held_by, keys_under, with_key, with_keys};
 
 use indexmap::IndexSet;
 use std::alloc::Global;
-use tla_model::{Part, Parts};
+use std::sync::Arc;
+use tla_model::{Interface, Part, Parts};
 use tool_list::{List, Memory};
 
 // Modules: the name of each, and the place of a nested one.
@@ -40,6 +42,17 @@ fn note_all<'a>(modules: &mut Modules<'a>, parts: &'a Parts) -> Result<(), Memor
     for stretch in stretches {
         note_stretch(modules, stretch.as_slice())?;
     }
+    Ok(())
+}
+
+// Puts what a module holds behind parts, without places.
+fn push_bare(alloc: Global, parts: &mut List<Part>, interface: Arc<Interface>) -> Result<(), Memory>
+    ensures { OnOk result (held parts.new ≡ held parts.old ++ bare (arc_value interface) ∷ []) }
+{
+    parts.push(Part {
+        interface,
+        places: List::new(alloc),
+    })?;
     Ok(())
 }
 
@@ -167,14 +180,14 @@ impl<'a> Gathered<'a> {
         Ok(())
     }
 
-    /// The parts, and behind them one more. They share what they can with the first face. `Memory`
-    /// comes where there was no room.
-    pub fn with_own(self, alloc: Global, own: Part) -> Result<Parts, Memory>
-        ensures { IfOk result (λ parts. parts ≡ held_by self.entry ++ held_in own ∷ []) }
+    /// The parts, and behind them what a module holds, without places. They share what they can with the
+    /// first face. `Memory` comes where there was no room.
+    pub fn with_own(self, alloc: Global, own: Arc<Interface>) -> Result<Parts, Memory>
+        ensures { IfOk result (λ parts. parts ≡ held_by self.entry ++ bare (arc_value own) ∷ []) }
     {
         let Gathered { first, more, .. } = self;
         let mut more = more;
-        more.push(own)?;
+        push_bare(alloc, &mut more, own)?;
         extended(alloc, first, more)
     }
 }

@@ -2,7 +2,7 @@ use Rattle.unit_grammar.specs.UnitNodes.{module_of}
 use Rattle.check_core.proofs.Lying.{names-lie}
 use Rattle.check_core.proofs.face.face.Goals as goal
 
-pub add_imports-requires-clause-lie : goal.add_imports-requires-clause-lie
-add_imports-requires-clause-lie c =
+pub reached-requires : goal.reached-requires
+reached-requires c =
     names-lie c.args.tree.now.source _ (module_of c.args.tree.now) _ _ c.requires.readable.lie (c.imports_are_lexemes.ensures c.args.tree.now.source (module_of c.args.tree.now)) c.as_str.ensures
     c.requires.needed
