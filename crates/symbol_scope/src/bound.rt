@@ -12,7 +12,7 @@ use tla_model::{
     in_order,
 };
 use tla_symbols::Lexeme;
-use tool_list::{Chars, List, Memory};
+use tool_list::{List, Memory};
 use tree_scope::ModuleText;
 
 /// No name that stands for anything.
@@ -30,10 +30,10 @@ pub fn nothing(alloc: Global) -> Bound
 }
 
 // Appends a use of a declaration.
-fn push_use(alloc: Global, uses: &mut List<Use>, at: Lexeme, decl: &DeclId) -> Result<(), Memory>
+fn push_use(uses: &mut List<Use>, at: Lexeme, decl: &DeclId) -> Result<(), Memory>
     ensures { OnOk result (uses.new ≡ uses.old ++ use_of at decl.now ∷ []) }
 {
-    let module = Chars::from_str(alloc, decl.module.as_str())?;
+    let module = decl.module.copied()?;
     uses.push(Use {
         name: at.span,
         module,
@@ -44,7 +44,6 @@ fn push_use(alloc: Global, uses: &mut List<Use>, at: Lexeme, decl: &DeclId) -> R
 
 // Appends a use, with what it stands for and calls.
 fn push_declared(
-    alloc: Global,
     bound: &mut Bound,
     at: Lexeme,
     entity: Entity,
@@ -52,24 +51,19 @@ fn push_declared(
 ) -> Result<(), Memory>
     ensures { OnOk result (HasMore (bindings.meant_by at (means.Declared entity callee)) [] [] bound.old bound.new) }
 {
-    push_use(alloc, &mut bound.uses, at, &callee.decl)?;
+    push_use(&mut bound.uses, at, &callee.decl)?;
     bound.entities.push(entity)?;
     bound.callees.push(callee)?;
     Ok(())
 }
 
 // Appends a use, unless its name is built in.
-fn push_meaning(
-    alloc: Global,
-    bound: &mut Bound,
-    at: Lexeme,
-    meaning: Meaning,
-) -> Result<(), Memory>
+fn push_meaning(bound: &mut Bound, at: Lexeme, meaning: Meaning) -> Result<(), Memory>
     ensures { OnOk result (HasMore (bindings.meant_by at meaning) [] [] bound.old bound.new) }
 {
     match meaning {
         Meaning::BuiltIn => Ok(()),
-        Meaning::Declared { entity, callee } => push_declared(alloc, bound, at, entity, callee),
+        Meaning::Declared { entity, callee } => push_declared(bound, at, entity, callee),
     }
 }
 
@@ -122,11 +116,11 @@ fn push_implied(
 }
 
 // Appends what is found at a name.
-fn push(alloc: Global, bound: &mut Bound, finding: Finding) -> Result<(), Memory>
+fn push(bound: &mut Bound, finding: Finding) -> Result<(), Memory>
     ensures { OnOk result (HasMore (bindings.resolved_at finding) (bindings.implied_at finding) (bindings.fault finding) bound.old bound.new) }
 {
     match finding {
-        Finding::Means { at, meaning } => push_meaning(alloc, bound, at, meaning),
+        Finding::Means { at, meaning } => push_meaning(bound, at, meaning),
         Finding::Unknown { at } => push_fault(&mut bound.faults, 401, at),
         Finding::Taken { at } => push_fault(&mut bound.faults, 402, at),
         Finding::Clashes { at } => push_fault(&mut bound.faults, 403, at),
@@ -144,11 +138,11 @@ fn push(alloc: Global, bound: &mut Bound, finding: Finding) -> Result<(), Memory
 
 /// Appends the uses, the replacements that are not written, and the faults among what is found, in its
 /// order.
-pub fn sort_out(alloc: Global, findings: List<Finding>, bound: &mut Bound) -> Result<(), Memory>
+pub fn sort_out(findings: List<Finding>, bound: &mut Bound) -> Result<(), Memory>
     ensures { OnOk result (HasMore (bindings.resolved findings) (bindings.implied findings) (bindings.faults findings) bound.old bound.new) }
 {
     for finding in findings.into_vec() {
-        push(alloc, bound, finding)?;
+        push(bound, finding)?;
     }
     Ok(())
 }

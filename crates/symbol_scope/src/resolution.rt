@@ -108,7 +108,7 @@ fn bind_uses<'a>(
     ensures sorted { OnOk result (IsSorted (plain.found_within text.now (files_of imported.now) (module_of tree.now)) bound.new) }
 {
     let findings = found_in(alloc, text, tree, imported, nesting)?;
-    sort_out(alloc, findings, bound)?;
+    sort_out(findings, bound)?;
     order(alloc, &mut bound.faults);
     Ok(())
 }
