@@ -55,7 +55,7 @@ says-faults : (faults : List Diagnostic) (outside : Outside) (o : outcome.the_da
 says-faults faults outside (outcome.Refused found) h = h.0
 says-faults faults outside (outcome.Accepted face) h = sym h.0
 
-file-there : (files : List File) (f : File) → Contains files f → Contains (family_of files) (member_of f)
+pub file-there : (files : List File) (f : File) → Contains files f → Contains (family_of files) (member_of f)
 file-there files f h = Contains-append_left (map member_of files) (filter (λ m. not (is_there (map member_of files) m.name)) built_in_members) (member_of f) (contains-map member_of files f h)
 
 verdict-of : (files : List File) (outcomes : List (List ℕ × Outcome)) → AreOutcomes (family_of files) outcomes → (f : File) (v : Verdict) → Contains files f → IsSaid outcomes f v → IsVerdict (family_of files) f v

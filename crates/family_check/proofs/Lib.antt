@@ -13,3 +13,6 @@ pub mod Sums
 pub mod Checking
 pub mod Once
 pub mod Answering
+pub mod Sorting
+pub mod Steps
+pub mod SomeVerdict

@@ -1,5 +1,5 @@
 -- What stands in lists.
-use Rattle.std.proofs.Common.{◌≡◌, ◌<◌, ℕ, zero, suc, ◌+◌, List, [], ◌∷◌, ◌++◌, Option, Some, refl, sym, ap, ◌∙◌, cond, map, filter, take, length, get_or, arith, true, false, Bool, ◌||◌, ⊎_elim, inl, inr}
+use Rattle.std.proofs.Common.{◌≡◌, ◌<◌, ℕ, zero, suc, ◌+◌, List, [], ◌∷◌, ◌++◌, Option, Some, refl, sym, ap, ◌∙◌, cond, map, filter, take, length, get_or, arith, true, false, Bool, ⊎_elim, inl, inr}
 use Rattle.std.specs.Prelude.{◌⊎◌, Contains, slice_get}
 use Rattle.std.specs.List.{list_any, AllZip}
 use Rattle.std.specs.Str.{bytes_eq}

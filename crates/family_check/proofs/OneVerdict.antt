@@ -52,7 +52,7 @@ module _ (one : HasNoOther) (family : List Member) (distinct : AreOneEach family
       let front' : IsFront m.name m.bytes (Tree n.found) = subst (λ (x : Member). IsFront x.name x.bytes (Tree n.found)) same n.front in
       tree-no-fault (one m.name m.bytes (Tree n.found) (Fault fault) front' front)
 
-  needs-or-not : (m : Member) (found : ModuleUnits) (need : List ℕ) → Contains family m → IsFront m.name m.bytes (Tree found) → Needs family m.name need ⊎ (Needs family m.name need → ⊥)
+  pub needs-or-not : (m : Member) (found : ModuleUnits) (need : List ℕ) → Contains family m → IsFront m.name m.bytes (Tree found) → Needs family m.name need ⊎ (Needs family m.name need → ⊥)
   needs-or-not m found need there front = elim (among-or-not (needed m.bytes found) need) as (λ _. Needs family m.name need ⊎ (Needs family m.name need → ⊥)) [
     | inl c ↦ inl (tree-needs m found m.name need there refl front c)
     | inr n ↦ inr (λ h. n (needs-tree m found m.name need there refl front h))
@@ -84,7 +84,7 @@ checked-same order family bytes units given given' list list' e o o' =
     let same : list ≡ list' = order (all_faults given bytes units) list list' o (subst (λ g. AreInOrder (all_faults g bytes units) list') (sym e) o') in
     λ i. record { faults = same i; outside = outside_in (files_given (e i)) bytes units }
 
-not-there : {b : Bool} → b ≡ false → b ≡ true → ⊥
+pub not-there : {b : Bool} → b ≡ false → b ≡ true → ⊥
 not-there f t = let k : true ≡ false = sym t ∙ f in cc
 
 module _ (one : HasNoOther) (order : OneOrder) (family : List Member) (distinct : AreOneEach family) where

@@ -1,8 +1,9 @@
 // Laws of the definitions: of functions that do nothing the contracts state them.
-ghost use Rattle.std.specs.Prelude.{◌≡◌, ℕ, List, Contains};
-ghost use Rattle.family_check.specs.Family.{Member, Diagnosed, IsDiagnosed, AreMembersDistinct};
-ghost use Rattle.family_check.specs.Verdicts.{AreDistinct, family_of};
+ghost use Rattle.std.specs.Prelude.{◌≡◌, ℕ, true, List, Contains};
+ghost use Rattle.family_check.specs.Family.{Member, Diagnosed, IsDiagnosed, AreMembersDistinct, is_there};
+ghost use Rattle.family_check.specs.Verdicts.{AreDistinct, AreVerdicts, family_of};
 ghost use Rattle.family_check.specs.declared.verdict.File.{File};
+ghost use Rattle.family_check.specs.declared.verdict.Verdict.{Verdict};
 
 use check_core::one_order;
 
@@ -17,4 +18,21 @@ pub fn one_verdict()
 {
     tla_front::one_front();
     one_order();
+}
+
+/// Of each module of a family in which no two have one name something is found.
+pub fn some_verdict()
+    ensures { (family : List Member) → AreMembersDistinct family
+        → (name : List ℕ) → is_there family name ≡ true
+        → (found : Diagnosed family) × IsDiagnosed family name found }
+{
+    tla_front::one_front();
+}
+
+/// Files with names of their own have verdicts.
+pub fn some_verdicts()
+    ensures { (files : List File) → AreDistinct files
+        → (verdicts : List Verdict) × AreVerdicts files verdicts }
+{
+    tla_front::one_front();
 }

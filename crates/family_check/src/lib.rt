@@ -14,5 +14,5 @@ mod table;
 mod verdict;
 
 pub use family::check_family;
-pub use laws::{names_differ, one_verdict};
+pub use laws::{names_differ, one_verdict, some_verdict, some_verdicts};
 pub use verdict::{File, Verdict};
