@@ -62,6 +62,26 @@ stretch-next f xs i x lt is = ap (λ z. flat_map f z) (take_more xs i x lt ∙ a
 at-place : {X : Type 0} (xs : List X) (i : ℕ) (x : X) → i < length xs → x ≡ get_or xs i x → drop i xs ≡ x ∷ drop (i + 1) xs
 at-place xs i x lt is = drop_more xs i x lt ∙ ap (λ z. z ∷ drop (i + 1) xs) (sym is)
 
+-- what stands at a place of two lists
+pub at-first : {A : Type 0} (a b : List A) (n : ℕ) (x : A) → slice_get a n ≡ Some x → slice_get (a ++ b) n ≡ Some x
+at-first [] b n x at = cc
+at-first (y ∷ a) b zero x at = at
+at-first (y ∷ a) b (suc n) x at = at-first a b n x at
+
+pub at-next : {A : Type 0} (a b : List A) (n : ℕ) → slice_get a n ≡ None → slice_get (a ++ b) n ≡ slice_get b (n - length a)
+at-next [] b n none = let all : n ≡ n - 0 = omega arith in ap (λ (m : ℕ). slice_get b m) all
+at-next (y ∷ a) b zero none = cc
+at-next (y ∷ a) b (suc n) none =
+    let left : n - length a ≡ suc n - length (y ∷ a) = omega arith in
+    at-next a b n none ∙ ap (λ (m : ℕ). slice_get b m) left
+
+-- and of stretches: it stands in the one at a place, or so many places on in those behind it
+pub stretch-at : {X A : Type 0} (f : X → List A) (xs : List X) (i left : ℕ) (x : X) (entry : A) → i < length xs → x ≡ get_or xs i x → slice_get (f x) left ≡ Some entry → slice_get (flat_map f (drop i xs)) left ≡ Some entry
+stretch-at f xs i left x entry lt is at = ap (λ z. slice_get (flat_map f z) left) (at-place xs i x lt is) ∙ at-first (f x) (flat_map f (drop (i + 1) xs)) left entry at
+
+pub stretch-past : {X A : Type 0} (f : X → List A) (xs : List X) (i left : ℕ) (x : X) → i < length xs → x ≡ get_or xs i x → slice_get (f x) left ≡ None → slice_get (flat_map f (drop (i + 1) xs)) (left - length (f x)) ≡ slice_get (flat_map f (drop i xs)) left
+stretch-past f xs i left x lt is none = sym (ap (λ z. slice_get (flat_map f z) left) (at-place xs i x lt is) ∙ at-next (f x) (flat_map f (drop (i + 1) xs)) left none)
+
 -- ---- look-ups
 
 module _ {K V : Type 0} (same : K → K → Bool) where

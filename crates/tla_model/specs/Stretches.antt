@@ -1,10 +1,15 @@
 -- Lists in stretches that are shared, one after another.
 use Rattle.std.specs.Prelude.{ℕ, List, map, flat_map, string_bytes, String}
 use Rattle.std.specs.Arc.{arc_value}
+use Rattle.std.specs.Borrow.{Bor}
 use Rattle.std.specs.declared.alloc.Global.{Global}
 use Rattle.std.specs.declared.sync.Arc.{Arc}
 use Rattle.indexmap.specs.IndexMap.{IndexMap}
 use Rattle.tla_model.specs.Entities.{Meaning}
+
+-- a word with what it means, as it is shown to who looks at it
+abbrev pub shown : Bor (List ℕ) × Bor Meaning → List ℕ × Meaning
+shown entry = (entry.0.now, entry.1.now)
 
 -- words with what they mean
 abbrev pub words_of : List (String Global × Meaning) → List (List ℕ × Meaning)

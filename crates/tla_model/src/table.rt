@@ -1,9 +1,9 @@
 // Names with what they mean, in stretches that tables share.
-ghost use Rattle.std.specs.Prelude.{◌≡◌, ◌++◌, ◌∷◌, [], length, option_copied, take, IfOk, IfNone, IfSome, OnOk};
+ghost use Rattle.std.specs.Prelude.{◌≡◌, ◌++◌, ◌∷◌, [], length, option_copied, option_map, slice_get, take, IfOk, IfNone, IfSome, OnOk};
 ghost use Rattle.std.specs.Str.{bytes_eq};
 ghost use Rattle.tla_model.specs.Tables as tables;
 ghost use Rattle.tla_model.specs.Tables.{AreNew};
-ghost use Rattle.tla_model.specs.Stretches.{all_words, words_of};
+ghost use Rattle.tla_model.specs.Stretches.{all_words, shown, words_of};
 
 use crate::names::Meaning;
 use indexmap::IndexMap;
@@ -125,6 +125,16 @@ fn word_in<'a>(words: &'a Words, count: usize, word: &str) -> Option<&'a Meaning
     }
 }
 
+// Which word stands at a place of a stretch, and what it means.
+fn entry_at(words: &Words, index: usize) -> Option<(&str, &Meaning)>
+    ensures { option_map shown result ≡ slice_get (words_of words.now.entries) index }
+{
+    match words.get_index(index) {
+        Some((word, meaning)) => Some((word.as_str(), meaning)),
+        None => None,
+    }
+}
+
 impl NameTable {
     /// The table of no name. It takes no memory.
     pub fn new(alloc: Global) -> NameTable
@@ -153,6 +163,20 @@ impl NameTable {
         for stretch in self.stretches.as_slice() {
             if let Some(meaning) = word_in(stretch, left, word) {
                 return Some(meaning);
+            }
+            left = left.saturating_sub(stretch.len());
+        }
+        None
+    }
+
+    /// Which word stands at a place, and what it means.
+    pub fn word_at(&self, index: usize) -> Option<(&str, &Meaning)>
+        ensures { option_map shown result ≡ slice_get self.now.words index }
+    {
+        let mut left = index;
+        for stretch in self.stretches.as_slice() {
+            if let Some(entry) = entry_at(stretch, left) {
+                return Some(entry);
             }
             left = left.saturating_sub(stretch.len());
         }
