@@ -1,6 +1,9 @@
 mod Bringing
+mod Equal
 mod Exporting
 pub mod Words
 mod Looking
 mod Over
 mod Owning
+mod Places
+mod There

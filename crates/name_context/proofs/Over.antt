@@ -15,7 +15,7 @@ use Rattle.name_context.specs.Brought.{IsBrought, ModuleNames, as_read, brought}
 use Rattle.name_context.proofs.Looking.{apart-first, apart-rest, lookup-usable, something-append}
 
 -- words are new behind others that are apart from them
-new-behind : (others : List (List ℕ × Option Meaning)) (before words : List (List ℕ × Meaning)) → AreApart words others → AreNew bytes_eq before words → AreNew bytes_eq (others ++ usable_words before) (usable_words words)
+pub new-behind : (others : List (List ℕ × Option Meaning)) (before words : List (List ℕ × Meaning)) → AreApart words others → AreNew bytes_eq before words → AreNew bytes_eq (others ++ usable_words before) (usable_words words)
 new-behind others before [] apart new = tt
 new-behind others before (word ∷ words) apart new = (
   found-next bytes_eq others (usable_words before) word.0 (apart-first word words others apart) ∙ lookup-usable before word.0 ∙ ap (λ found. option_map (λ meaning. Some meaning) found) new.0,
@@ -25,7 +25,7 @@ new-behind others before (word ∷ words) apart new = (
 )
 
 -- a module with words behind those of its context and of its exports
-abbrev over : Reading → List (List ℕ × Meaning) → Reading
+abbrev pub over : Reading → List (List ℕ × Meaning) → Reading
 over reading words = record {
   name = reading.name;
   context = record { words = reading.context.words ++ usable_words words; symbols = reading.context.symbols };
@@ -33,12 +33,12 @@ over reading words = record {
   modules = reading.modules;
 }
 
-record IsOver (reading : Reading) (words : List (List ℕ × Meaning)) : Type 0 where
+pub record IsOver (reading : Reading) (words : List (List ℕ × Meaning)) : Type 0 where
   pub reads : extended reading (of_words words) ≡ over reading words
   pub fits : brings_clash reading (of_words words) ≡ false
 
 -- new words are put behind, and none of them clashes
-all-over : (reading : Reading) (words : List (List ℕ × Meaning)) → AreNew bytes_eq reading.context.words (usable_words words) → AreNew bytes_eq reading.exports.words words → IsOver reading words
+pub all-over : (reading : Reading) (words : List (List ℕ × Meaning)) → AreNew bytes_eq reading.context.words (usable_words words) → AreNew bytes_eq reading.exports.words words → IsOver reading words
 all-over reading [] seen shown = record {
   reads = λ i. record reading { context = record { words = sym (append-nil reading.context.words) i; symbols = reading.context.symbols }; exports = record { words = sym (append-nil reading.exports.words) i; symbols = reading.exports.symbols } };
   fits = refl;

@@ -1,5 +1,5 @@
 -- Words of a table in code, as words of the definitions.
-use Rattle.std.proofs.Common.{◌≡◌, ℕ, zero, suc, take, List, [], ◌∷◌, ◌++◌, Option, Some, None, Bool, true, false, refl, ap, cond, true≢false}
+use Rattle.std.proofs.Common.{◌≡◌, ℕ, zero, suc, take, List, [], ◌∷◌, ◌++◌, Some, Bool, true, false, refl, ap, cond}
 use Rattle.std.specs.Prelude.{is_some}
 use Rattle.std.specs.Borrow.{Bor}
 use Rattle.std.specs.Map as map
@@ -26,12 +26,3 @@ added-there same entries key value there = rw there refl
 
 pub added-new : {K V : Type 0} (same : K → K → Bool) (entries : List (K × V)) (key : K) (value : V) → is_some (lookup same entries key) ≡ false → entries ++ (key, value) ∷ [] ≡ added same entries key value
 added-new same entries key value new = rw new refl
-
-abbrev not-empty : {A : Type 0} → List A → Bool
-not-empty [] = false
-not-empty (x ∷ xs) = true
-
--- what stands last in a list of nothing
-pub right-none : {A : Type 0} (a b : List A) → a ++ b ≡ [] → b ≡ []
-right-none [] b none = none
-right-none (x ∷ a) b none = absurd (true≢false (ap not-empty none))

@@ -20,11 +20,18 @@ taken_words None = []
 taken_words (Some table) = table.now.words
 
 -- in a context they can be used
+abbrev pub usable : List ℕ × Meaning → List ℕ × Option Meaning
+usable entry = (entry.0, Some entry.1)
+
 abbrev pub usable_words : List (List ℕ × Meaning) → List (List ℕ × Option Meaning)
-usable_words words = map (λ entry. (entry.0, Some entry.1)) words
+usable_words words = map usable words
+
+-- the words that stand behind the first ones: those that were taken over, then others
+abbrev pub behind : Context → List (List ℕ × Option Meaning)
+behind context = usable_words (take context.shared_len (taken_words context.taken)) ++ words_of context.words.entries
 
 abbrev pub context_of : Context → contexts.Context
-context_of context = record { words = words_of context.before.entries ++ (usable_words (take context.shared_len (taken_words context.taken)) ++ words_of context.words.entries); symbols = context.symbols.items }
+context_of context = record { words = words_of context.before.entries ++ behind context; symbols = context.symbols.items }
 
 -- none of the others is a word
 abbrev pub AreApart : List (List ℕ × Meaning) → List (List ℕ × Option Meaning) → Type 0

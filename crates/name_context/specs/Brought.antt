@@ -1,16 +1,16 @@
 -- The names that a module brings, put among those of a module that is read.
-use Rattle.std.specs.Prelude.{◌≡◌, ◌||◌, ℕ, Bool, false, ◌&&◌, List, [], Option, Some, None, nat_eq, if◌then◌else◌}
+use Rattle.std.specs.Prelude.{◌≡◌, ◌||◌, ℕ, Bool, false, ◌&&◌, List, [], Option, Some, None, nat_eq, take, if◌then◌else◌}
 use Rattle.std.specs.Str.{bytes_eq}
 use Rattle.std.specs.Arc.{arc_value}
 use Rattle.std.specs.Borrow.{Bor}
 use Rattle.tla_model.specs.declared.ids.UnitId.{UnitId}
 use Rattle.tla_model.specs.declared.imported.Import.{Import}
-use Rattle.tla_model.specs.Tables.{Table, Named as Name}
+use Rattle.tla_model.specs.Tables.{AreNew, Table, Named as Name}
 use Rattle.tla_model.specs.Entities.{Meaning}
 use Rattle.tla_model.specs.Exports.{Exports, exports_of, face_exports}
 use Rattle.tla_model.specs.Modules.{Reading, brings_clash, clashes, extended, with_entry}
 use Rattle.name_context.specs.declared.exported.Names.{Names}
-use Rattle.name_context.specs.AsTables.{context_of}
+use Rattle.name_context.specs.AsTables.{AreApart, behind, context_of, usable_words, words_of}
 
 abbrev pub same_unit : UnitId → UnitId → Bool
 same_unit a b = bytes_eq a.«module» b.«module» && nat_eq a.place b.place
@@ -46,3 +46,11 @@ pub record IsBrought (old new : Names) (clash : Bool) (entries : Exports) : Type
 pub record IsBringing (old now : Names) (clash : Bool) (rest all : Exports) : Type 0 where
   pub reads : (title : List ℕ) → (taken : ModuleNames) → extended (as_read title taken now) rest ≡ extended (as_read title taken old) all
   pub tells : (title : List ℕ) → (taken : ModuleNames) → (clash || brings_clash (as_read title taken now) rest) ≡ brings_clash (as_read title taken old) all
+
+-- so many words of a table are the first that a module exports, and the first behind the first ones of its context; the
+-- table has none of these, and no word twice
+pub record AreFirst (names : Names) (words : List (List ℕ × Meaning)) (count : ℕ) : Type 0 where
+  pub once : AreNew bytes_eq [] words
+  pub apart : AreApart words (words_of names.context.before.entries)
+  pub shown : take count names.exports.words ≡ take count words
+  pub seen : take count (behind names.context) ≡ usable_words (take count words)

@@ -1,12 +1,14 @@
 // Contexts: names with what they mean at a place.
-ghost use Rattle.std.specs.Prelude.{◌≡◌, ◌++◌, [], None, IfOk, IsTrue, OnOk, length, option_map, take};
+ghost use Rattle.std.specs.Prelude.{◌≡◌, ◌++◌, ◌≤◌, [], None, Some, IfOk, IsTrue, OnOk, length, option_map, slice_get, take};
 ghost use Rattle.std.specs.List.{AllByRecursion};
 ghost use Rattle.std.specs.Str.{bytes_eq};
 ghost use Rattle.std.specs.Option.{option_copied};
 ghost use Rattle.tla_model.specs.Tables as tables;
 ghost use Rattle.name_context.specs.AsTables as as_tables;
-ghost use Rattle.name_context.specs.AsTables.{cut, context_of, meant_by, mark_of, usable_words, taken_words, words_of};
+ghost use Rattle.tla_model.specs.Stretches.{shown};
+ghost use Rattle.name_context.specs.AsTables.{behind, cut, context_of, meant_by, mark_of, usable, usable_words, taken_words, words_of};
 
+use crate::same::equal_entries;
 use indexmap::IndexMap;
 use std::alloc::Global;
 use std::mem;
@@ -32,10 +34,10 @@ pub struct Mark {
 /// first took a name stays there, until the context is cut.
 ///
 /// The words of a module that is extended can be taken over as they stand, behind those that are there.
-/// Then they are not looked at one by one.
+/// Then they are not looked up one by one. Those of a longer table can take their place.
 #[derive(Drop)]
 pub struct Context<'a> {
-    // The words before those that were taken over.
+    // The first words, before those that were taken over.
     before: IndexMap<&'a str, Option<Meaning>>,
     // The table whose words were taken over, and how many of them are there, if it has so many.
     taken: Option<&'a NameTable>,
@@ -91,6 +93,43 @@ fn are_apart(words: &IndexMap<&str, Option<Meaning>>, table: &NameTable) -> bool
         }
     }
     true
+}
+
+/// How many words were taken over.
+pub fn taken_len(taken: Option<&NameTable>) -> usize
+    ensures { result ≡ length (taken_words taken.entry) }
+{
+    match taken {
+        Some(table) => table.len(),
+        None => 0,
+    }
+}
+
+/// Whether a word stands at a place of those that were taken over, and means this there.
+pub fn is_taken_at(taken: Option<&NameTable>, index: usize, given: (&str, &Meaning)) -> bool
+    ensures { IsTrue result → slice_get (taken_words taken.entry) index ≡ Some (shown given.entry) }
+{
+    let Some(table) = taken else {
+        return false;
+    };
+    match table.word_at(index) {
+        Some(found) => equal_entries(found, given),
+        None => false,
+    }
+}
+
+// Whether a word stands at a place of these, and means this there.
+fn is_usable_at(
+    words: &IndexMap<&str, Option<Meaning>>,
+    index: usize,
+    given: (&str, &Meaning),
+) -> bool
+    ensures { IsTrue result → slice_get (words_of words.now.entries) index ≡ Some (usable (shown given.entry)) }
+{
+    match words.get_index(index) {
+        Some((word, Some(meaning))) => equal_entries((*word, meaning), given),
+        _ => false,
+    }
 }
 
 impl<'a> Context<'a> {
@@ -217,6 +256,42 @@ impl<'a> Context<'a> {
             && self.before.is_empty()
             && self.words.len() <= table.len()
             && are_apart(&self.words, table)
+    }
+
+    /// Whether a word stands at a place of those behind the first ones, and means this there.
+    pub fn has_behind(&self, index: usize, given: (&str, &Meaning)) -> bool
+        ensures { IsTrue result → slice_get (behind self.now) index ≡ Some (usable (shown given.entry)) }
+    {
+        let shared_len = self.shared_len();
+        if index < shared_len {
+            is_taken_at(self.taken, index, given)
+        } else {
+            is_usable_at(&self.words, index - shared_len, given)
+        }
+    }
+
+    /// Whether no more words than so many stand behind the first ones.
+    pub fn has_at_most_behind(&self, count: usize) -> bool
+        ensures { IsTrue result → length (behind self.now) ≤ count }
+    {
+        let shared_len = self.shared_len();
+        shared_len <= count && self.words.len() <= count - shared_len
+    }
+
+    /// Whether there are at most so many first words, and a table has none of them.
+    pub fn is_apart(&self, table: &NameTable, count: usize) -> bool
+        ensures { IsTrue result → as_tables.AreApart table.now.words (words_of self.now.before.entries) }
+    {
+        self.before.len() <= count && are_apart(&self.before, table)
+    }
+
+    /// Takes over the words of a table, in place of those behind the first ones.
+    pub fn take_instead(&mut self, table: &'a NameTable)
+        ensures { context_of self.new ≡ record { words = words_of self.old.before.entries ++ usable_words table.now.words; symbols = (context_of self.old).symbols } }
+    {
+        self.words.truncate(0);
+        self.taken = Some(table);
+        self.shared_len = table.len();
     }
 
     /// Takes over the words of a table, behind those that are there.

@@ -1,14 +1,16 @@
 // The names of a module that is read: those that stand in its context, and those that it exports.
-ghost use Rattle.std.specs.Prelude.{◌≡◌, ◌++◌, ◌∷◌, ℕ, List as ListOf, [], None, false, IfOk, IsTrue, OnOk, if◌then◌else◌, is_some};
+ghost use Rattle.std.specs.Prelude.{◌≡◌, ◌++◌, ◌∷◌, ◌≤◌, ℕ, List as ListOf, [], None, Some, false, IfOk, IfSome, IsTrue, OnOk, if◌then◌else◌, is_some, length, slice_get, take};
 ghost use Rattle.std.specs.Str.{bytes_eq};
 ghost use Rattle.tla_model.specs.Exports.{of_words};
 ghost use Rattle.tla_model.specs.Modules as in_modules;
-ghost use Rattle.tla_model.specs.Stretches.{words_of as stretch_words};
+ghost use Rattle.tla_model.specs.Stretches.{shown, words_of as stretch_words};
 ghost use Rattle.tla_model.specs.Tables as tables;
-ghost use Rattle.name_context.specs.AsTables.{meant_by, taken_words, words_of};
-ghost use Rattle.name_context.specs.Brought.{IsBrought, ModuleNames, as_read};
+ghost use Rattle.tla_model.specs.Tables.{AreNew};
+ghost use Rattle.name_context.specs.AsTables.{behind, meant_by, taken_words, usable, usable_words, words_of};
+ghost use Rattle.name_context.specs.Brought.{AreFirst, IsBrought, ModuleNames, as_read};
 
-use crate::context::{Context, Named, symbol_in};
+use crate::context::{Context, Named, is_taken_at, symbol_in, taken_len};
+use crate::same::equal_entries;
 use indexmap::IndexMap;
 use std::alloc::Global;
 use std::marker::Model;
@@ -55,6 +57,16 @@ fn has_word(taken: Option<&NameTable>, words: &IndexMap<&str, Meaning>, word: &s
     ensures { result ≡ is_some (tables.lookup bytes_eq (taken_words taken.entry ++ words_of words.now.entries) word.now) }
 {
     is_taken(taken, word) || words.contains_key(word)
+}
+
+// Whether a word stands at a place of these, and means this there.
+fn is_own_at(words: &IndexMap<&str, Meaning>, index: usize, given: (&str, &Meaning)) -> bool
+    ensures { IsTrue result → slice_get (words_of words.now.entries) index ≡ Some (shown given.entry) }
+{
+    match words.get_index(index) {
+        Some((word, meaning)) => equal_entries((*word, meaning), given),
+        None => false,
+    }
 }
 
 // Puts a word that is not there behind the others, with a spelling of its own.
@@ -143,13 +155,33 @@ impl<'a> Exported<'a> {
         self.taken.is_none() && self.words.is_empty()
     }
 
-    /// Takes over the words of a table.
+    /// Whether a word stands at a place, and means this there.
+    pub fn has_at(&self, index: usize, given: (&str, &Meaning)) -> bool
+        ensures { IsTrue result → slice_get self.now.words index ≡ Some (shown given.entry) }
+    {
+        let len = taken_len(self.taken);
+        if index < len {
+            is_taken_at(self.taken, index, given)
+        } else {
+            is_own_at(&self.words, index - len, given)
+        }
+    }
+
+    /// Whether there are no more words than so many.
+    pub fn has_at_most(&self, count: usize) -> bool
+        ensures { IsTrue result → length self.now.words ≤ count }
+    {
+        let len = taken_len(self.taken);
+        len <= count && self.words.len() <= count - len
+    }
+
+    /// Takes over the words of a table, in place of those that are there.
     pub fn take(&mut self, table: &'a NameTable)
-        requires { self.old.words ≡ [] }
         ensures { self.new ≡ record { words = table.now.words; symbols = self.old.symbols } }
     {
         // The proof needs that no word of the table is there twice.
         let _len = table.len();
+        self.words.truncate(0);
         self.taken = Some(table);
     }
 
@@ -230,6 +262,61 @@ impl<'a> Names<'a> {
         }
         self.exports.take(table);
         self.context.take(table);
+        true
+    }
+
+    // Whether a word stands at a place of those that are exported, and of those behind the first ones
+    // of the context, and means this there.
+    fn has_at(&self, index: usize, given: (&str, &Meaning)) -> bool
+        ensures shown { IsTrue result → slice_get self.now.exports.words index ≡ Some (shown given.entry) }
+        ensures seen { IsTrue result → slice_get (behind self.now.context) index ≡ Some (usable (shown given.entry)) }
+    {
+        self.exports.has_at(index, given) && self.context.has_behind(index, given)
+    }
+
+    // How many of a table's words are the first that are exported, and the first behind the first
+    // ones of the context. No word of the table is there twice.
+    fn first_len(&self, table: &NameTable) -> usize
+        ensures once { AreNew bytes_eq [] table.now.words }
+        ensures shown { take result self.now.exports.words ≡ take result table.now.words }
+        ensures seen { take result (behind self.now.context) ≡ usable_words (take result table.now.words) }
+    {
+        let len = table.len();
+        for index in 0..len {
+            let Some(entry) = table.word_at(index) else {
+                return index;
+            };
+            if !self.has_at(index, entry) {
+                return index;
+            }
+        }
+        len
+    }
+
+    /// How many of a table's words are there as they stand in the table, from the first one on. It is
+    /// `None` where the table has words that stand before those, or to look them up were more work.
+    pub fn first_there(&self, table: &NameTable) -> Option<usize>
+        ensures { IfSome result (λ count. AreFirst self.now table.now.words count) }
+    {
+        let count = self.first_len(table);
+        if self.context.is_apart(table, count) {
+            return Some(count);
+        }
+        None
+    }
+
+    /// Takes over the words of a table of which so many are there, in place of these, where there are
+    /// no others, and answers whether it was: then none clashes.
+    pub fn take_longer(&mut self, table: &'a NameTable, count: usize) -> bool
+        requires { AreFirst self.old table.now.words count }
+        ensures taken { IsTrue result → IsBrought self.old self.new false (of_words table.now.words) }
+        ensures left { result ≡ false → self.new ≡ self.old }
+    {
+        if !self.exports.has_at_most(count) || !self.context.has_at_most_behind(count) {
+            return false;
+        }
+        self.exports.take(table);
+        self.context.take_instead(table);
         true
     }
 }

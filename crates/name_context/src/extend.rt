@@ -1,20 +1,18 @@
 // The names that other modules bring.
-ghost use Rattle.std.specs.Prelude.{◌≡◌, ◌||◌, ℕ, List as ListOf, IfOk, OnOk};
+ghost use Rattle.std.specs.Prelude.{◌≡◌, ◌||◌, ℕ, List as ListOf, IfOk, OnOk, drop};
 ghost use Rattle.std.specs.Option.{option_copied};
 ghost use Rattle.tla_model.specs.Exports.{exports_of, face_exports, of_symbols, of_words};
 ghost use Rattle.tla_model.specs.Modules.{clashes};
-ghost use Rattle.tla_model.specs.Stretches.{all_words, words_of as stretch_words};
 ghost use Rattle.name_context.specs.Brought.{import_exports};
 ghost use Rattle.name_context.specs.AsTables.{context_of, meant_by, taken_words, words_of};
-ghost use Rattle.name_context.specs.Brought.{IsBrought, ModuleNames, as_read, brought, shown_by};
+ghost use Rattle.name_context.specs.Brought.{AreFirst, IsBrought, ModuleNames, as_read, brought, shown_by};
 
 use crate::context::Named;
 use crate::exported::{Exported, Names};
 use crate::same::differs;
 use indexmap::IndexMap;
 use std::alloc::Global;
-use std::sync::Arc;
-use tla_model::{Import, Meaning, NameTable, Parts, Words};
+use tla_model::{Import, Meaning, NameTable, Parts};
 use tla_symbols::Op;
 use tool_list::Memory;
 
@@ -43,34 +41,41 @@ fn either(first: bool, second: bool) -> bool
     first || second
 }
 
-// Puts the words of a stretch, and answers whether one of them clashes.
-fn bring_words<'a>(alloc: Global, names: &mut Names<'a>, words: &'a Words) -> Result<bool, Memory>
-    ensures { IfOk result (λ clash. IsBrought names.old names.new clash (of_words (stretch_words words.now.entries))) }
+// Puts the words of a table from a place on, and answers whether one of them clashes.
+fn bring_words<'a>(
+    alloc: Global,
+    names: &mut Names<'a>,
+    table: &'a NameTable,
+    first: usize,
+) -> Result<bool, Memory>
+    ensures { IfOk result (λ clash. IsBrought names.old names.new clash (of_words (drop first table.now.words))) }
 {
     let mut clash = false;
-    for index in 0..words.len() {
-        let Some((word, meaning)) = words.get_index(index) else {
+    for index in first..table.len() {
+        let Some((word, meaning)) = table.word_at(index) else {
             unreachable!();
         };
-        let clashes = bring(alloc, names, Named::Word(word.as_str()), meaning)?;
+        let clashes = bring(alloc, names, Named::Word(word), meaning)?;
         clash = either(clashes, clash);
     }
     Ok(clash)
 }
 
-// Puts the words of stretches, and answers whether one of them clashes.
-fn bring_stretches<'a>(
+// Puts the words of a table of which so many are there already, all together where there are no
+// others, and answers whether one of them clashes.
+fn bring_longer<'a>(
     alloc: Global,
     names: &mut Names<'a>,
-    stretches: &'a [Arc<Words>],
+    table: &'a NameTable,
+    count: usize,
 ) -> Result<bool, Memory>
-    ensures { IfOk result (λ clash. IsBrought names.old names.new clash (of_words (all_words stretches.now))) }
+    requires { AreFirst names.old table.now.words count }
+    ensures { IfOk result (λ clash. IsBrought names.old names.new clash (of_words table.now.words)) }
 {
-    let mut clash = false;
-    for stretch in stretches {
-        let clashes = bring_words(alloc, names, stretch)?;
-        clash = either(clash, clashes);
+    if names.take_longer(table, count) {
+        return Ok(false);
     }
+    let clash = bring_words(alloc, names, table, count)?;
     Ok(clash)
 }
 
@@ -86,8 +91,10 @@ fn bring_table_words<'a>(
     if names.take_words(table) {
         return Ok(false);
     }
-    let clash = bring_stretches(alloc, names, table.stretches())?;
-    Ok(clash)
+    match names.first_there(table) {
+        Some(count) => bring_longer(alloc, names, table, count),
+        None => bring_words(alloc, names, table, 0),
+    }
 }
 
 // Puts words of a nested module, and answers whether one of them clashes.

@@ -1,11 +1,12 @@
 // Whether names mean the same.
-ghost use Rattle.std.specs.Prelude.{◌≡◌, option_map};
+ghost use Rattle.std.specs.Prelude.{◌≡◌, IsTrue, option_map};
 ghost use Rattle.std.specs.Option.{option_copied};
 ghost use Rattle.tla_model.specs.Entities as entities;
 ghost use Rattle.tla_model.specs.Modules as in_modules;
+ghost use Rattle.tla_model.specs.Stretches.{shown};
 ghost use Rattle.name_context.specs.Brought as in_brought;
 
-use tla_model::{DeclId, Meaning, UnitId};
+use tla_model::{Callee, DeclId, Entity, Meaning, UnitId};
 
 fn same_decl(left: &DeclId, right: &DeclId) -> bool
     ensures { result ≡ entities.same_decl left.now right.now }
@@ -45,6 +46,57 @@ fn same_meaning(left: &Meaning, right: &Meaning) -> bool
         }
         _ => false,
     }
+}
+
+// Whether callees are equal.
+fn equal_callees(left: &Callee, right: &Callee) -> bool
+    ensures { IsTrue result → left.now ≡ right.now }
+{
+    if left.instance != right.instance {
+        return false;
+    }
+    same_decl(&left.decl, &right.decl) && same_units(left.via.as_slice(), right.via.as_slice())
+}
+
+// Whether entities are equal.
+fn equal_entities(left: &Entity, right: &Entity) -> bool
+    ensures { IsTrue result → left.now ≡ right.now }
+{
+    match (left, right) {
+        (Entity::Constant { arity }, Entity::Constant { arity: other }) => arity == other,
+        (Entity::Variable, Entity::Variable) => true,
+        (Entity::Definition { orders }, Entity::Definition { orders: other }) => {
+            orders.as_slice() == other.as_slice()
+        }
+        (Entity::Instance { orders }, Entity::Instance { orders: other }) => {
+            orders.as_slice() == other.as_slice()
+        }
+        _ => false,
+    }
+}
+
+// Whether meanings are equal: also what a use shows of them.
+fn equal_meanings(left: &Meaning, right: &Meaning) -> bool
+    ensures { IsTrue result → left.now ≡ right.now }
+{
+    match (left, right) {
+        (Meaning::BuiltIn, Meaning::BuiltIn) => true,
+        (
+            Meaning::Declared { entity, callee },
+            Meaning::Declared {
+                entity: other,
+                callee: called,
+            },
+        ) => equal_callees(callee, called) && equal_entities(entity, other),
+        _ => false,
+    }
+}
+
+/// Whether words are equal, and what they mean.
+pub fn equal_entries(left: (&str, &Meaning), right: (&str, &Meaning)) -> bool
+    ensures { IsTrue result → shown left.entry ≡ shown right.entry }
+{
+    left.0 == right.0 && equal_meanings(left.1, right.1)
 }
 
 /// Whether a name is there with another meaning.

@@ -1,6 +1,5 @@
-use Rattle.std.proofs.Common.{◌∙◌, ◌∷◌, ap, sym, subst, drop, ◌+◌}
+use Rattle.std.proofs.Common.{◌+◌, ap, drop, subst, sym}
 use Rattle.tla_model.specs.Exports.{of_words}
-use Rattle.tla_model.specs.Stretches.{words_of}
 use Rattle.tla_model.specs.Tables.{Word}
 use Rattle.name_context.specs.Brought.{IsBringing}
 use Rattle.name_context.proofs.Bringing.{bring-at}
@@ -9,13 +8,14 @@ use Rattle.name_context.proofs.extend.bring_words.Goals as goal
 
 pub loop-index-preserved : goal.loop-index-preserved
 loop-index-preserved c =
-    let entries = c.args.words.now.entries in
+    let words = c.args.table.now.words in
+    let i = c.loop-index.index in
     let word = c.in-Some.word.now in
     let meaning = c.in-Some.meaning.now in
-    let rest = of_words (words_of (drop (c.loop-index.index + 1) entries)) in
-    let all = of_words (words_of entries) in
+    let rest = of_words (drop (i + 1) words) in
+    let all = of_words (drop c.args.first words) in
     subst (λ clash. IsBringing c.args.names.now c.bring.new.names clash rest all) (sym c.either-clash.ensures)
-    (bring-at c.args.names.now c.loop-index.names c.bring.new.names c.loop-index.clash c.in_ok-clashes.clashes (Word c.as_str.result.now, meaning)
-    (of_words (words_of (drop c.loop-index.index entries))) rest all
-    (ap (λ z. of_words (words_of z)) (drop-at entries c.loop-index.index (word, meaning) (sym c.in-Some.ensures.entry)) ∙ ap (λ name. (Word name, meaning) ∷ rest) (sym c.as_str.ensures.value))
+    (bring-at c.args.names.now c.loop-index.names c.bring.new.names c.loop-index.clash c.in_ok-clashes.clashes (Word word, meaning)
+    (of_words (drop i words)) rest all
+    (ap of_words (drop-at words i (word, meaning) (sym c.in-Some.ensures)))
     c.loop-index.invariant c.in_ok-clashes.ensures.clash c.in_ok-clashes.ensures.names)
