@@ -1,5 +1,5 @@
 -- Families of files that have each a name of their own.
-use Rattle.std.proofs.Common.{◌≡◌, ℕ, zero, suc, ◌+◌, List, [], ◌∷◌, ◌++◌, length, map, Some, Bool, true, false, not, ◌||◌, cond, refl, sym, ap, ◌∙◌, arith, slice_get, ⊎_elim, inl, inr, ◌⊎◌}
+use Rattle.std.proofs.Common.{◌≡◌, ℕ, zero, suc, ◌+◌, List, [], ◌∷◌, ◌++◌, length, map, Some, Bool, true, false, not, cond, refl, sym, ap, ◌∙◌, arith, slice_get, ⊎_elim, inl, inr, ◌⊎◌}
 use Rattle.std.specs.List.{IsDistinct, filter}
 use Rattle.std.specs.Str.{bytes_eq}
 use Rattle.std.proofs.lemmas.Slice.Eq.{bytes_eq-Decides}

@@ -1,3 +1,4 @@
+pub mod CallLemmas
 pub mod DistinctLemmas
 pub mod FamilyLemmas
 pub mod NamedLemmas

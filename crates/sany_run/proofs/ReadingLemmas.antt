@@ -7,8 +7,8 @@ use Rattle.std.proofs.lemmas.List.Sums.{sum_by-append}
 use Rattle.std.proofs.lemmas.Bool.{lt-ltb}
 use Rattle.tool_io.specs.Folder.{Told, after_call, read_at}
 use Rattle.family_check.specs.declared.verdict.File.{File}
-use Rattle.sany_run.specs.Program.{after_calls, byte_count, file_of, module_of_file, modules_of_listing, reads, with_read, MOST, MOST_BYTES}
-use Rattle.sany_run.specs.Reading.{modules_of_file, read_len, within}
+use Rattle.sany_run.specs.Program.{after_calls, byte_count, file_of, module_of_file, modules_of_listing, read_len, reads, with_read, MOST, MOST_BYTES}
+use Rattle.sany_run.specs.Reading.{modules_of_file, within}
 
 -- one more file of a listing
 pub modules-more : (names : List (List ℕ)) (i : ℕ) (d name : List ℕ) (found found' : List (List ℕ)) → i < length names → name ≡ get_or names i d →
@@ -29,7 +29,7 @@ told-more None between after i isbetween isafter = isafter ∙ ap (λ o. option_
 told-more (Some t) between after i isbetween isafter =
     isafter ∙ (ap (λ o. option_map after_call o) isbetween ∙ ap (λ x. Some x) (sym (after_calls-suc i t) ∙ ap (λ n. after_calls n t) (sym (add-one i))))
 
-with_read-append : (name : List ℕ) (bytes : Option (List ℕ)) (fs gs : List File) → with_read name bytes (fs ++ gs) ≡ with_read name bytes fs ++ gs
+pub with_read-append : (name : List ℕ) (bytes : Option (List ℕ)) (fs gs : List File) → with_read name bytes (fs ++ gs) ≡ with_read name bytes fs ++ gs
 with_read-append name None fs gs = refl
 with_read-append name (Some bytes) fs gs = refl
 
@@ -62,7 +62,7 @@ reads-more (Some t) between after path names i d name bytes files files' lt isna
     ∙ (ap (λ n. reads t path (take i names) ++ with_read n (read_at (after_call (after_calls i t)) path (file_of n) MOST) []) isname ∙ sym (reads-one t path names i d lt))))
 
 -- the bytes of one more file
-count-read : (name : List ℕ) (bytes : Option (List ℕ)) → byte_count (with_read name bytes []) ≡ read_len bytes
+pub count-read : (name : List ℕ) (bytes : Option (List ℕ)) → byte_count (with_read name bytes []) ≡ read_len bytes
 count-read name None = refl
 count-read name (Some bytes) = omega arith
 

@@ -3,7 +3,7 @@ use Rattle.std.specs.Prelude.{◌≡◌, ◌<◌, ℕ, List, [], ◌∷◌, leng
 use Rattle.tool_io.specs.Folder.{Told, after_call}
 use Rattle.tool_io.specs.declared.IoFault.{IoFault}
 use Rattle.family_check.specs.declared.verdict.File.{File}
-use Rattle.sany_run.specs.Program.{modules_of_listing, module_names, files_of, byte_count, MOST_BYTES, MOST_MODULES}
+use Rattle.sany_run.specs.Program.{modules_of_listing, module_names, after_calls, byte_count, calls_of_folder, files_of, reads_made, MOST_BYTES, MOST_MODULES}
 
 -- the module that a file stands for, if it stands for one, as a list
 abbrev pub modules_of_file : List ℕ → List (List ℕ)
@@ -17,11 +17,6 @@ AreNamesDistinct names = (i j : ℕ) (name : List ℕ) → slice_get names i ≡
 abbrev pub AreNamed : List File → List (List ℕ) → ℕ → Type 0
 AreNamed files names count = (i : ℕ) (f : File) → slice_get files i ≡ Some f → (at : ℕ) × (at < count) × (slice_get names at ≡ Some f.name)
 
--- how many bytes were read
-abbrev pub read_len : Option (List ℕ) → ℕ
-read_len None = 0
-read_len (Some bytes) = length bytes
-
 -- files that have not too many bytes
 abbrev pub within : List File → Option (List File)
 within files = if nat_lt MOST_BYTES (byte_count files) then None else Some files
@@ -29,6 +24,14 @@ within files = if nat_lt MOST_BYTES (byte_count files) then None else Some files
 -- the files of a folder, where no limit is passed
 abbrev pub files_within : Told → List ℕ → Option (List File)
 files_within t folder = if nat_lt MOST_MODULES (length (module_names (after_call t) folder)) then None else within (files_of t folder)
+
+-- what a folder holds after the reads of modules
+abbrev pub after_reads : List ℕ → List (List ℕ) → Told → Told
+after_reads folder names t = after_calls (reads_made 0 t folder names) t
+
+-- what a folder holds after its listing and the reads
+abbrev pub after_folder : List ℕ → Told → Told
+after_folder folder t = after_calls (calls_of_folder t folder) t
 
 -- the only fault is want of memory
 abbrev pub OnlyMemory : {T : Type 0} → Result T IoFault → Type 0

@@ -1,11 +1,11 @@
 // The outcome for the modules of a folder.
-ghost use Rattle.std.specs.Prelude.{◌≡◌, ◌≤◌, IfOk, IfSome, Some, true, is_none, nat_le};
+ghost use Rattle.std.specs.Prelude.{◌≡◌, ◌≤◌, IfOk, IfSome, OnErr, true, is_none, nat_le};
 ghost use Rattle.std.specs.Bool.{OnTrue};
 ghost use Rattle.std.specs.List.{All};
 ghost use Rattle.std.specs.Option.{option_map};
 ghost use Rattle.tool_io.specs.Causes.{HasCause};
 ghost use Rattle.family_check.specs.Verdicts.{AreDistinct, IsStepped, IsVerdictPlaced};
-ghost use Rattle.sany_run.specs.Answers.{is_done};
+ghost use Rattle.sany_run.specs.Answers.{IsLeftAfter, is_done};
 ghost use Rattle.sany_run.specs.Program as program;
 ghost use Rattle.sany_run.specs.Reading as reading;
 ghost use Rattle.sany_run.specs.Verdicts.{IsOutcome, OfVerdicts};
@@ -80,7 +80,8 @@ fn files_of_folder<F: Folder>(
     ensures files { IfOk result (λ found. IfSome (F.told folder.old) (λ t. found ≡ reading.files_within t path.now)) }
     ensures distinct { IfOk result (λ found. IfSome found AreDistinct) }
     ensures small { IfOk result (λ found. IfSome found (λ files. program.byte_count files ≤ program.MOST_BYTES)) }
-    ensures told { IfOk result (λ found. IfSome found (λ files. F.told folder.new ≡ option_map (λ t. program.told_after_request t (Some path.now)) (F.told folder.old))) }
+    ensures told { IfOk result (λ found. F.told folder.new ≡ option_map (reading.after_folder path.now) (F.told folder.old)) }
+    ensures part { OnErr result (IfSome (F.told folder.old) (λ t. IsLeftAfter 1 (program.calls_of_folder t path.now) t (F.told folder.new))) }
     ensures cause { HasCause (F.fault_count folder.old) (F.fault_count folder.new) result }
 {
     let listed = folder.names(alloc, path)?;
@@ -105,7 +106,8 @@ pub fn outcome_of_folder<F: Folder, L>(
     ensures limit { IfOk result (λ outcome. IfSome (F.told folder.old) (λ t. program.is_over_folder t path.now ≡ is_none outcome)) }
     ensures done { IfOk result (λ outcome. IfSome outcome (λ o. is_done o.status ≡ true)) }
     ensures ticks { IfOk result (λ outcome. IfSome outcome (λ o. IfSome (F.told folder.old) (λ t. OnTrue (nat_le o.status 1) (IsStepped (program.files_of t path.now) steps.old steps.new)))) }
-    ensures told { IfOk result (λ outcome. IfSome outcome (λ o. F.told folder.new ≡ option_map (λ t. program.told_after_request t (Some path.now)) (F.told folder.old))) }
+    ensures told { IfOk result (λ outcome. F.told folder.new ≡ option_map (reading.after_folder path.now) (F.told folder.old)) }
+    ensures part { OnErr result (IfSome (F.told folder.old) (λ t. IsLeftAfter 1 (program.calls_of_folder t path.now) t (F.told folder.new))) }
     ensures cause { HasCause (F.fault_count folder.old) (F.fault_count folder.new) result }
 {
     let Some(files) = files_of_folder(alloc, folder, path)? else {

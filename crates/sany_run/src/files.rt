@@ -1,9 +1,10 @@
 // The module files of a folder.
-ghost use Rattle.std.specs.Prelude.{◌≡◌, ◌++◌, ◌+◌, ◌≤◌, [], IfOk, IfSome, OnOk, length};
+ghost use Rattle.std.specs.Prelude.{◌≡◌, ◌++◌, ◌+◌, ◌≤◌, [], IfOk, IfSome, OnErr, OnOk, length};
 ghost use Rattle.std.specs.Option.{option_copied, option_map};
 ghost use Rattle.tool_io.specs.Causes.{HasCause};
 ghost use Rattle.tool_io.specs.Folder.{after_call, read_at};
 ghost use Rattle.family_check.specs.Verdicts.{AreDistinct};
+ghost use Rattle.sany_run.specs.Answers.{IsLeftAfter};
 ghost use Rattle.sany_run.specs.Program as program;
 ghost use Rattle.sany_run.specs.Reading as reading;
 
@@ -72,6 +73,7 @@ fn read_module<F: Folder>(
     name: &str,
 ) -> Result<Option<List<u8>>, IoFault>
     ensures goes { OnOk result (F.told folder.new ≡ option_map after_call (F.told folder.old)) }
+    ensures part { OnErr result (IfSome (F.told folder.old) (λ t. IsLeftAfter 0 1 t (F.told folder.new))) }
     ensures bytes { IfOk result (λ bytes. IfSome (F.told folder.new) (λ t. bytes ≡ read_at t path.now (program.file_of name.now) program.MOST)) }
     ensures cause { HasCause (F.fault_count folder.old) (F.fault_count folder.new) result }
 {
@@ -82,7 +84,7 @@ fn read_module<F: Folder>(
 }
 
 fn read_len(bytes: &Option<List<u8>>) -> u64
-    ensures { result ≡ reading.read_len bytes.now }
+    ensures { result ≡ program.read_len bytes.now }
 {
     match bytes {
         Some(bytes) => bytes.len() as u64,
@@ -123,7 +125,8 @@ pub fn read_files<F: Folder>(
     ensures files { IfOk result (λ found. IfSome (F.told folder.old) (λ t. found ≡ reading.within (program.reads t path.now names.now))) }
     ensures distinct { IfOk result (λ found. IfSome found AreDistinct) }
     ensures small { IfOk result (λ found. IfSome found (λ files. program.byte_count files ≤ program.MOST_BYTES)) }
-    ensures told { IfOk result (λ found. IfSome found (λ files. F.told folder.new ≡ option_map (program.after_calls (length names.now)) (F.told folder.old))) }
+    ensures told { IfOk result (λ found. F.told folder.new ≡ option_map (reading.after_reads path.now names.now) (F.told folder.old)) }
+    ensures part { OnErr result (IfSome (F.told folder.old) (λ t. IsLeftAfter 0 (program.reads_made 0 t path.now names.now) t (F.told folder.new))) }
     ensures cause { HasCause (F.fault_count folder.old) (F.fault_count folder.new) result }
 {
     let mut files = List::new(alloc);

@@ -4,8 +4,8 @@ ghost use Rattle.std.specs.Io.KnownBytes.{Appends};
 ghost use Rattle.std.specs.Bool.{OnFalse, OnTrue};
 ghost use Rattle.std.specs.Option.{option_map};
 ghost use Rattle.family_check.specs.Verdicts.{IsStepped};
-ghost use Rattle.sany_run.specs.Answers.{Answers, TellsFault, is_cut_short, is_fault, is_status};
-ghost use Rattle.sany_run.specs.Program.{program, files_in, folder_of as folder_in, is_over, told_after};
+ghost use Rattle.sany_run.specs.Answers.{Answers, IsLeftAfter, TellsFault, is_cut_short, is_status, is_stopped};
+ghost use Rattle.sany_run.specs.Program.{program, calls_made, files_in, folder_of as folder_in, is_over, told_after};
 ghost use Rattle.sany_run.specs.Texts.{texts};
 ghost use Rattle.sany_run.specs.Verdicts.{IsNotBuilt, OfVerdicts, Shows, is_shown};
 
@@ -44,11 +44,12 @@ fn status_of_run<F: Folder, K: Sink, L>(
     ensures usage { (result ≡ 2) ↔ (folder_in (texts words.now) ≡ None) }
     ensures folder_fault { TellsFault 3 result (F.fault_count folder.old) (F.fault_count folder.new) }
     ensures output_fault { TellsFault 5 result (K.fault_count output.old) (K.fault_count output.new) }
-    ensures limit { IfSome (F.told folder.old) (λ t. OnFalse (is_fault result) ((result ≡ 7) ↔ (is_over (texts words.now) t ≡ true))) }
+    ensures limit { IfSome (F.told folder.old) (λ t. OnFalse (is_stopped result) ((result ≡ 7) ↔ (is_over (texts words.now) t ≡ true))) }
     ensures not_built { IfSome (F.told folder.old) (λ t. OnFalse (is_cut_short result) ((result ≡ 9) ↔ IsNotBuilt (texts words.now) t)) }
     ensures silent { OnTrue (result == 3 || result == 7) (Appends (K.taken output.old) (K.taken output.new) []) }
     ensures ticks { IfSome (F.told folder.old) (λ t. OnTrue (nat_le result 1) (IsStepped (files_in (texts words.now) t) steps.old steps.new)) }
-    ensures told { OnFalse (result == 3 || result == 6 || result == 7) (F.told folder.new ≡ option_map (told_after (texts words.now)) (F.told folder.old)) }
+    ensures told { OnFalse (is_stopped result) (F.told folder.new ≡ option_map (told_after (texts words.now)) (F.told folder.old)) }
+    ensures part { IfSome (F.told folder.old) (λ t. OnTrue (is_stopped result) (IsLeftAfter 1 (calls_made (texts words.now) t) t (F.told folder.new))) }
 {
     let Some(path) = folder_of(words) else {
         return USAGE;
@@ -91,11 +92,13 @@ pub fn run<F: Folder, S: Source, K: Sink, L>(
     ensures usage { (result.0 ≡ 2) ↔ (folder_in (texts words.now) ≡ None) }
     ensures folder_fault { TellsFault 3 result.0 (F.fault_count folder) (F.fault_count result.1) }
     ensures output_fault { TellsFault 5 result.0 (K.fault_count output.old) (K.fault_count output.new) }
-    ensures limit { IfSome (F.told folder) (λ t. OnFalse (is_fault result.0) ((result.0 ≡ 7) ↔ (is_over (texts words.now) t ≡ true))) }
+    ensures limit { IfSome (F.told folder) (λ t. OnFalse (is_stopped result.0) ((result.0 ≡ 7) ↔ (is_over (texts words.now) t ≡ true))) }
     ensures not_built { IfSome (F.told folder) (λ t. OnFalse (is_cut_short result.0) ((result.0 ≡ 9) ↔ IsNotBuilt (texts words.now) t)) }
 
-    // What it leaves.
-    ensures folder_after { OnFalse (result.0 == 3 || result.0 == 6 || result.0 == 7) (F.told result.1 ≡ option_map (told_after (texts words.now)) (F.told folder)) }
+    // What it leaves. The folder is as the calls of the program leave it, and with 3 and 6 as the
+    // first ones of them do: none is made behind the one with which a limit is passed.
+    ensures folder_after { OnFalse (is_stopped result.0) (F.told result.1 ≡ option_map (told_after (texts words.now)) (F.told folder)) }
+    ensures folder_part { IfSome (F.told folder) (λ t. OnTrue (is_stopped result.0) (IsLeftAfter 1 (calls_made (texts words.now) t) t (F.told result.1))) }
     ensures silent { OnTrue (result.0 == 3 || result.0 == 7) (Appends (K.taken output.old) (K.taken output.new) []) }
     ensures ticks { IfSome (F.told folder) (λ t. OnTrue (nat_le result.0 1) (IsStepped (files_in (texts words.now) t) steps.old steps.new)) }
     ensures input_after { input.new ≡ input.old }

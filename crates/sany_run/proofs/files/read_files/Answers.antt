@@ -1,5 +1,6 @@
-use Rattle.std.proofs.Common.{◌≡◌, ◌∙◌, ◌+◌, ◌-◌, ◌^◌, ◌++◌, [], min, ap, sym}
+use Rattle.std.proofs.Common.{◌≡◌, ◌∙◌, ◌+◌, ◌-◌, ◌^◌, ◌++◌, [], min, ap, arith, sym}
 use Rattle.sany_run.specs.Program.{with_read}
+use Rattle.sany_run.proofs.CallLemmas.{on-err, part-call, part-read, told-all, told-over}
 use Rattle.sany_run.proofs.NamedLemmas.{named-more, distinct-more}
 use Rattle.sany_run.proofs.ReadingLemmas.{reads-more, reads-over, told-more, count-more}
 use Rattle.sany_run.proofs.files.read_files.Goals as goal
@@ -36,3 +37,33 @@ loop-name-preserved g c =
       small = c.if-total-gt-MOST_BYTES.false;
       count = read.cause ∙ inv.count;
     }
+
+pub returns-in_err-bytes-clause-part : goal.returns-in_err-bytes-clause-part
+returns-in_err-bytes-clause-part g c =
+    let inv = c.loop-name.invariant in
+    on-err c.from_residual.result _
+    (part-read (g.F.Folder.told c.args.folder.now) (g.F.Folder.told c.loop-name.folder) (g.F.Folder.told c.read_module.new.folder) c.args.path.now c.args.names.now
+    c.loop-name.name-index c.loop-name.files c.loop-name.total c.loop-name-test.true inv.told c.in_err-bytes.ensures.part inv.files inv.total inv.small)
+
+pub returns-in_err-add_file-clause-part : goal.returns-in_err-add_file-clause-part
+returns-in_err-add_file-clause-part g c =
+    let inv = c.loop-name.invariant in
+    on-err c.from_residual-in_err-add_file.result _
+    (part-read (g.F.Folder.told c.args.folder.now) (g.F.Folder.told c.loop-name.folder) (g.F.Folder.told c.read_module.new.folder) c.args.path.now c.args.names.now
+    c.loop-name.name-index c.loop-name.files c.loop-name.total c.loop-name-test.true inv.told
+    (part-call (g.F.Folder.told c.loop-name.folder) (g.F.Folder.told c.read_module.new.folder) c.in_ok-bytes.ensures.goes) inv.files inv.total inv.small)
+
+pub returns-then-total-gt-MOST_BYTES-clause-told : goal.returns-then-total-gt-MOST_BYTES-clause-told
+returns-then-total-gt-MOST_BYTES-clause-told g c =
+    let inv = c.loop-name.invariant in
+    let read = c.in_ok-bytes.ensures in
+    told-over (g.F.Folder.told c.args.folder.now) (g.F.Folder.told c.loop-name.folder) (g.F.Folder.told c.read_module.new.folder) c.args.path.now c.args.names.now
+    c.loop-name.name-index c.name-item.result c.as_str.result.now c.in_ok-bytes.bytes c.loop-name.files c.loop-name.total c.saturating_add-total.result
+    c.loop-name-test.true (c.as_str.ensures ∙ c.name-item.is) inv.told read.goes inv.files read.bytes inv.total inv.small
+    (c.saturating_add-total.ensures ∙ ap (λ n. min (c.loop-name.total + n) (2 ^ 64 - 1)) c.read_len.ensures) c.if-total-gt-MOST_BYTES.true
+
+pub returns-clause-told : goal.returns-clause-told
+returns-clause-told g c =
+    let inv = c.loop-name.invariant in
+    told-all (g.F.Folder.told c.args.folder.now) (g.F.Folder.told c.loop-name.folder) c.args.path.now c.args.names.now c.loop-name.name-index c.loop-name.files c.loop-name.total
+    (omega (arith, c.loop-name.auto.name-index-end, c.loop-name-test.false)) inv.told inv.files inv.total inv.small

@@ -1,5 +1,6 @@
 use Rattle.std.proofs.Common.{refl}
 use Rattle.sany_run.specs.Texts.{texts}
+use Rattle.sany_run.proofs.CallLemmas.{part-whole, part-words}
 use Rattle.sany_run.proofs.RunLemmas.{answers-front, answers-nothing, answers-usage, answers-whole, not_built-outcome, shown-front, shown-whole}
 use Rattle.sany_run.proofs.program.status_of_run.Goals as goal
 
@@ -43,3 +44,8 @@ pub returns-clause-answers : goal.returns-clause-answers
 returns-clause-answers g c =
     answers-front (g.F.Folder.told c.args.folder.now) (texts c.args.words.now) c.in-Some.path.now c.in-Ok-Some.outcome 6 (g.K.Sink.taken c.args.output.now) (g.K.Sink.taken c.write_all.new.output)
     c.in-Some.ensures refl (rw c.in-Ok-Some.field-0-is at c.in-Ok-Some.ensures.only) (rw c.as_slice.ensures at c.in-Err-Memory-write_all.ensures.bytes)
+
+pub returns-clause-part : goal.returns-clause-part
+returns-clause-part g c =
+    part-words (g.F.Folder.told c.args.folder.now) (g.F.Folder.told c.outcome_of_folder.new.folder) (texts c.args.words.now) c.in-Some.path.now c.in-Some.ensures
+    (part-whole (g.F.Folder.told c.args.folder.now) (g.F.Folder.told c.outcome_of_folder.new.folder) c.in-Some.path.now c.in-Ok-Some.ensures.told)
