@@ -1,10 +1,8 @@
 // Imports by name, tables and lists in stretches, faults in order.
-ghost use Rattle.std.specs.Prelude.{◌<◌};
-
 use indexmap::IndexMap;
 use std::alloc::Global;
+use std::process::Abort;
 use std::sync::Arc;
-use std::test::Fail;
 use tla_model::{
     Bound, Callee, DeclId, Diagnostic, Entity, Face, Import, Imported, Interface, Meaning,
     ModuleId, NameTable, Part, Parts, in_order,
@@ -13,13 +11,23 @@ use tla_symbols::Span;
 use tla_tree::Tree;
 use tool_list::{Chars, List, Memory, SharedList};
 
-fn crosses_threads<T: Send + Sync>(_: &T) {}
+fn crosses_threads<T: Send + Sync>() {}
 
-// A module that exports nothing, with no places.
-fn part(alloc: Global, name: &str) -> Result<Part, Memory> {
-    let interface = Interface {
+fn has_count(rt: &impl Abort, found: usize, count: usize) {
+    assert!(rt; found == count, "{found} for {count}");
+}
+
+#[test]
+fn crosses() {
+    crosses_threads::<Imported>();
+    crosses_threads::<Bound>();
+}
+
+// A module that exports nothing.
+fn interface(rt: &impl Abort, alloc: Global, name: &str) -> Interface {
+    Interface {
         module: ModuleId {
-            module: Chars::from_str(alloc, name)?,
+            module: Chars::from_str(alloc, name).expect(rt, name),
             nested: None,
         },
         is_constant: true,
@@ -28,25 +36,22 @@ fn part(alloc: Global, name: &str) -> Result<Part, Memory> {
         instances: List::new(alloc),
         tree: Tree::new(alloc),
         meanings: List::new(alloc),
-    };
-    Ok(Part {
-        interface: Arc::new(alloc, interface)?,
+    }
+}
+
+// A part of such a module, with no places.
+fn part(rt: &impl Abort, alloc: Global, name: &str) -> Part {
+    Part {
+        interface: Arc::new(alloc, interface(rt, alloc, name)).expect(rt, name),
         places: List::new(alloc),
-    })
+    }
 }
 
 // Parts with one more behind them.
-fn with_part(alloc: Global, parts: &Parts, name: &str) -> Result<Parts, Memory> {
+fn with_part(rt: &impl Abort, alloc: Global, parts: &Parts, name: &str) -> Parts {
     let mut more = List::new(alloc);
-    more.push(part(alloc, name)?)?;
-    parts.extended(alloc, more)
-}
-
-// A module that exports nothing, and reaches no other.
-fn bare(alloc: Global, name: &str) -> Result<Face, Memory> {
-    Ok(Face {
-        parts: with_part(alloc, &Parts::new(alloc), name)?,
-    })
+    more.push(part(rt, alloc, name)).expect(rt, name);
+    parts.extended(alloc, more).expect(rt, name)
 }
 
 // The name of the last of the parts.
@@ -57,84 +62,118 @@ fn last_name<'a>(parts: &'a Parts) -> &'a str {
     }
 }
 
-// The name of the module that a face is of.
-fn named<'a>(import: Option<&'a Import>) -> &'a str {
-    match import {
-        Some(Import::Module(face)) => last_name(&face.parts),
-        _ => "",
-    }
+// The last of the parts has that name.
+fn ends(rt: &impl Abort, parts: &Parts, name: &str) {
+    assert!(rt; last_name(parts) == name, "{name}");
 }
 
 #[test]
-fn finds_imports_by_name(rt: HostRuntime) -> Result<(), Fail> {
+fn keeps_parts_in_order(rt: HostRuntime) {
     let alloc = rt.alloc();
-    let mut imported = Imported::new(alloc);
-    assert!(rt; imported.is_empty() && imported.get("M").is_none());
-    imported.add(
-        alloc,
-        "M",
-        Import::Module(Arc::new(alloc, bare(alloc, "M")?)?),
-    )?;
-    imported.add(alloc, "N", Import::Cyclic)?;
-    imported.add(alloc, "", Import::Refused)?;
-    assert_eq!(rt; imported.len(), 3);
-    assert!(rt; named(imported.get("M")) == "M");
-    assert!(rt; matches!(imported.get("N"), Some(Import::Cyclic)));
-    assert!(rt; matches!(imported.get(""), Some(Import::Refused)));
-    assert!(rt; imported.get("m").is_none());
-    Ok(())
+    let one = with_part(&rt, alloc, &Parts::new(alloc), "A");
+    let two = with_part(&rt, alloc, &one, "B");
+    let parts = with_part(&rt, alloc, &two, "C");
+    ends(&rt, &one, "A");
+    ends(&rt, &two, "B");
+    ends(&rt, &parts, "C");
+    has_count(&rt, parts.stretches().len(), 2);
 }
 
-#[test]
-fn crosses(rt: HostRuntime) -> Result<(), Fail> {
-    let alloc = rt.alloc();
-    let mut imported = Imported::new(alloc);
-    imported.add(
-        alloc,
-        "M",
-        Import::Module(Arc::new(alloc, bare(alloc, "M")?)?),
-    )?;
-    crosses_threads(&imported);
-    let bound = Bound {
-        uses: List::new(alloc),
-        entities: List::new(alloc),
-        callees: List::new(alloc),
-        implied: List::new(alloc),
-        decls: List::new(alloc),
-        faults: List::new(alloc),
+// A module that reaches no other.
+fn bare(rt: &impl Abort, alloc: Global, name: &str) -> Import {
+    let face = Face {
+        parts: with_part(rt, alloc, &Parts::new(alloc), name),
     };
-    crosses_threads(&bound);
-    Ok(())
+    Import::Module(Arc::new(alloc, face).expect(rt, name))
 }
 
-// A fault over one byte.
-fn fault(code: u16, start: u32) -> Diagnostic
-    requires { start < 8 }
-{
-    Diagnostic {
-        code,
-        span: Span {
-            start,
-            end: start + 1,
-        },
+// The module's name, or a word for any other import.
+fn shown<'a>(import: Option<&'a Import>) -> &'a str {
+    match import {
+        None => "none",
+        Some(Import::Unknown) => "unknown",
+        Some(Import::Cyclic) => "cyclic",
+        Some(Import::Refused) => "refused",
+        Some(Import::Module(face)) => last_name(&face.parts),
+    }
+}
+
+// Adds an import under a name that has none.
+fn add(rt: &impl Abort, alloc: Global, imported: &mut Imported, name: &str, import: Import) {
+    assert!(rt; imported.get(name).is_none());
+    imported.add(alloc, name, import).expect(rt, name);
+}
+
+fn three_imports(rt: &impl Abort, alloc: Global) -> Imported {
+    let mut imported = Imported::new(alloc);
+    add(rt, alloc, &mut imported, "M", bare(rt, alloc, "M"));
+    add(rt, alloc, &mut imported, "N", Import::Cyclic);
+    add(rt, alloc, &mut imported, "", Import::Refused);
+    imported
+}
+
+/// Names, each with what is found under it.
+static IMPORTS: [(&str, &str); 4] = [("M", "M"), ("N", "cyclic"), ("", "refused"), ("m", "none")];
+
+fn has_imports(rt: &impl Abort, imported: &Imported) {
+    for (name, import) in &IMPORTS {
+        assert!(rt; shown(imported.get(*name)) == *import, "{name}");
     }
 }
 
 #[test]
-fn puts_faults_in_order(rt: HostRuntime) -> Result<(), Fail> {
-    let alloc = rt.alloc();
-    let mut faults = List::new(alloc);
-    faults.push(fault(303, 5))?;
-    faults.push(fault(301, 2))?;
-    faults.push(fault(301, 5))?;
-    faults.push(fault(303, 5))?;
-    let found = in_order(faults);
-    let found = found.as_slice();
-    assert_eq!(rt; found.len(), 3);
-    assert_eq!(rt; found[0].span.start, 2);
-    assert_eq!(rt; found[1].code, 301);
-    assert_eq!(rt; found[2].code, 303);
-    Ok(())
+fn finds_imports_by_name(rt: HostRuntime) {
+    let imported = three_imports(&rt, rt.alloc());
+    has_imports(&rt, &imported);
+    has_count(&rt, imported.len(), 3);
+}
+
+#[test]
+fn begins_with_no_import(rt: HostRuntime) {
+    let imported = Imported::new(rt.alloc());
+    assert!(rt; imported.is_empty());
+}
+
+/// Faults over one byte.
+static FAULTS: [Diagnostic; 4] = [
+    Diagnostic {
+        code: 303,
+        span: Span { start: 5, end: 6 },
+    },
+    Diagnostic {
+        code: 301,
+        span: Span { start: 2, end: 3 },
+    },
+    Diagnostic {
+        code: 301,
+        span: Span { start: 5, end: 6 },
+    },
+    Diagnostic {
+        code: 303,
+        span: Span { start: 5, end: 6 },
+    },
+];
+
+static IN_ORDER: [Diagnostic; 3] = [
+    Diagnostic {
+        code: 301,
+        span: Span { start: 2, end: 3 },
+    },
+    Diagnostic {
+        code: 301,
+        span: Span { start: 5, end: 6 },
+    },
+    Diagnostic {
+        code: 303,
+        span: Span { start: 5, end: 6 },
+    },
+];
+
+#[test]
+fn puts_faults_in_order(rt: HostRuntime) {
+    let faults = Vec::from_slice(rt.alloc(), &FAULTS).expect(&rt, "faults");
+    let found = in_order(List::from_vec(faults));
+    assert!(rt; found.as_slice() == IN_ORDER.as_slice());
 }
 
 // The constant that the module M declares at a place.
@@ -171,28 +210,33 @@ fn finds(table: &NameTable, count: usize, word: &str, place: u32) -> bool {
 }
 
 // A table to which three words came one by one.
-fn of_three(alloc: Global) -> Result<NameTable, Memory> {
-    let one = longer(alloc, &NameTable::new(alloc), "a", 0)?;
-    let two = longer(alloc, &one, "b", 1)?;
-    longer(alloc, &two, "c", 2)
+fn of_three(rt: &impl Abort, alloc: Global) -> NameTable {
+    let one = longer(alloc, &NameTable::new(alloc), "a", 0).expect(rt, "a");
+    let two = longer(alloc, &one, "b", 1).expect(rt, "b");
+    longer(alloc, &two, "c", 2).expect(rt, "c")
+}
+
+/// Words with their places, and whether each is found among so many.
+static FINDS: [(usize, &str, u32, bool); 4] = [
+    (1, "a", 0, true),
+    (2, "b", 1, true),
+    (3, "c", 2, true),
+    (2, "c", 2, false),
+];
+
+fn has_words(rt: &impl Abort, table: &NameTable) {
+    for (count, word, place, whether) in &FINDS {
+        assert!(rt;
+            finds(table, *count, *word, *place) == *whether,
+            "{word} of {count}"
+        );
+    }
 }
 
 #[test]
-fn finds_words_of_all_stretches(rt: HostRuntime) -> Result<(), Fail> {
-    let table = of_three(rt.alloc())?;
-    assert!(rt; table.len() == 3 && table.stretches().len() == 2);
-    assert!(rt; finds(&table, 1, "a", 0) && finds(&table, 2, "b", 1));
-    assert!(rt; finds(&table, 3, "c", 2) && !finds(&table, 2, "c", 2));
-    Ok(())
-}
-
-#[test]
-fn keeps_parts_in_order(rt: HostRuntime) -> Result<(), Fail> {
-    let alloc = rt.alloc();
-    let one = with_part(alloc, &Parts::new(alloc), "A")?;
-    let two = with_part(alloc, &one, "B")?;
-    let parts = with_part(alloc, &two, "C")?;
-    assert_eq!(rt; parts.stretches().len(), 2);
-    assert!(rt; last_name(&one) == "A" && last_name(&two) == "B" && last_name(&parts) == "C");
-    Ok(())
+fn finds_words_of_all_stretches(rt: HostRuntime) {
+    let table = of_three(&rt, rt.alloc());
+    has_words(&rt, &table);
+    has_count(&rt, table.len(), 3);
+    has_count(&rt, table.stretches().len(), 2);
 }
