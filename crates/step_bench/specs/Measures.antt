@@ -13,7 +13,14 @@ use Rattle.step_bench.specs.declared.measure.Fault.{Fault}
 abbrev pub IsLexed : List ℕ → List Lexeme → Type 0
 IsLexed text lexemes = module_part text ≡ Some lexemes
 
--- where a machine stops behind the first `==`, and how many nodes it makes: at most eight for each lexeme
+-- where a machine stops in lexemes, and how many nodes it makes: at most eight for each lexeme
+pub record HasFoundIn (lexemes : List Lexeme) (found : Found) : Type 0 where
+  pub nodes : List Arena.Node
+  pub made : found.nodes ≡ length nodes
+  pub few : found.nodes ≤ 8 * found.stop.lexemes
+  pub stopped : HasStopped lexemes nodes found.stop
+
+-- the same behind the first `==` of a text's module
 pub record HasFound (text : List ℕ) (found : Found) : Type 0 where
   pub lexemes : List Lexeme
   pub lexed : IsLexed text lexemes

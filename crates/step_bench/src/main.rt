@@ -43,37 +43,42 @@ fn word_of(step: Step) -> &'static str {
 /// The status of a fault, and what standard error says of it.
 fn told(fault: Fault) -> (u8, &'static str) {
     match fault {
-        Fault::NotUtf8 => (3, "the input is not UTF-8"),
-        Fault::NoHeader => (3, "the input has no module header"),
-        Fault::NoDefinition => (3, "the module has no =="),
-        Fault::Memory => (6, "there is no memory"),
+        Fault::NotUtf8 => (3, "step_bench: the input is not UTF-8"),
+        Fault::NoHeader => (3, "step_bench: the input has no module header"),
+        Fault::NoDefinition => (3, "step_bench: the module has no =="),
+        Fault::Memory => (6, "step_bench: there is no memory"),
     }
 }
 
+/// Prints what was found.
+fn show(rt: &impl Print, found: Found) -> io::Result<ExitCode> {
+    let word = word_of(found.stop.step);
+    println!(rt;
+        "lexemes={} answer={} nodes={}",
+        found.stop.lexemes, word, found.nodes
+    )?;
+    Ok(ExitCode::from(0))
+}
+
+/// Says on standard error why nothing is printed.
+fn refuse(rt: &impl Eprint, status: u8, line: &str) -> io::Result<ExitCode> {
+    eprintln!(rt; "{line}")?;
+    Ok(ExitCode::from(status))
+}
+
 fn main(rt: HostRuntime) -> io::Result<ExitCode> {
-    let alloc = rt.alloc();
     if has_words(&rt)? {
-        eprintln!(rt; "usage: step_bench <FILE")?;
-        return Ok(ExitCode::from(2));
+        return refuse(&rt, 2, "usage: step_bench <FILE");
     }
-    let input = bytes_of(alloc, &mut rt.stdin())?;
+    let input = bytes_of(rt.alloc(), &mut rt.stdin())?;
     if input.len() >= TOO_MANY {
-        eprintln!(rt; "step_bench: the input has 2^26 bytes or more")?;
-        return Ok(ExitCode::from(7));
+        return refuse(&rt, 7, "step_bench: the input has 2^26 bytes or more");
     }
-    match measure(alloc, &input) {
-        Ok(found) => {
-            let word = word_of(found.stop.step);
-            println!(rt;
-                "lexemes={} answer={} nodes={}",
-                found.stop.lexemes, word, found.nodes
-            )?;
-            Ok(ExitCode::from(0))
-        }
+    match measure(rt.alloc(), &input) {
+        Ok(found) => show(&rt, found),
         Err(fault) => {
-            let (status, what) = told(fault);
-            eprintln!(rt; "step_bench: {what}")?;
-            Ok(ExitCode::from(status))
+            let (status, line) = told(fault);
+            refuse(&rt, status, line)
         }
     }
 }

@@ -1,7 +1,7 @@
 //! What is found in a text.
 
-ghost use Rattle.std.specs.Prelude.{◌<◌, ◌^◌, length, MatchResult};
-ghost use Rattle.step_bench.specs.Measures.{HasFound, IsFault, IsLexed};
+ghost use Rattle.std.specs.Prelude.{◌<◌, ◌^◌, ℕ, List as ListOf, length, IfOk, MatchResult};
+ghost use Rattle.step_bench.specs.Measures.{HasFound, HasFoundIn, IsFault, IsLexed};
 
 use crate::body::body_at;
 use crate::stepping::{Stop, step_over};
@@ -13,7 +13,7 @@ use tla_tree::Tree;
 use tool_list::{List, Memory};
 
 /// What was found behind the first `==` of a module.
-#[derive(Clone, Copy, Debug, PartialEq, Eq)]
+#[derive(Clone, Copy)]
 pub struct Found {
     pub stop: Stop,
     /// How many nodes were made.
@@ -21,7 +21,7 @@ pub struct Found {
 }
 
 /// Why nothing was stepped over.
-#[derive(Clone, Copy, Debug, PartialEq, Eq)]
+#[derive(Clone, Copy)]
 pub enum Fault {
     /// The bytes are not UTF-8.
     NotUtf8,
@@ -50,12 +50,26 @@ pub fn measure(alloc: Global, input: &[u8]) -> Result<Found, Fault>
     ensures { MatchResult result (HasFound input.now) (IsFault input.now) }
 {
     let lexemes = lexemes_of(alloc, input)?;
-    let lexemes = lexemes.as_slice();
+    found_in(alloc, lexemes.as_slice())
+}
+
+/// Steps a machine over the lexemes behind the first `==` of a module.
+fn found_in(alloc: Global, lexemes: &[Lexeme]) -> Result<Found, Fault>
+    ensures { (text : ListOf ℕ) → IsLexed text lexemes.now → MatchResult result (HasFound text) (IsFault text) }
+{
     let Some(at) = body_at(lexemes) else {
         return Err(Fault::NoDefinition);
     };
+    let found = found_behind(alloc, &lexemes[at..])?;
+    Ok(found)
+}
+
+/// Steps a machine over the lexemes behind an `==`.
+fn found_behind(alloc: Global, lexemes: &[Lexeme]) -> Result<Found, Memory>
+    ensures { IfOk result (HasFoundIn lexemes.now) }
+{
     let mut tree = Tree::new(alloc);
-    let stop = step_over(alloc, &lexemes[at..], &mut tree)?;
+    let stop = step_over(alloc, lexemes, &mut tree)?;
     Ok(Found {
         stop,
         nodes: tree.len(),

@@ -10,7 +10,7 @@ use tla_tree::Tree;
 use tool_list::Memory;
 
 /// Where a machine stops.
-#[derive(Clone, Copy, Debug, PartialEq, Eq)]
+#[derive(Clone, Copy)]
 pub struct Stop {
     /// How many lexemes were stepped over, with the one at which the machine stops.
     pub lexemes: usize,
