@@ -1,4 +1,5 @@
 mod Lying
 mod Holding
 mod Checking
+mod Facing
 mod Standing

@@ -9,11 +9,13 @@ use Rattle.tla_model.specs.declared.Diagnostic.{Diagnostic}
 use Rattle.tla_model.specs.declared.face.Interface.{Interface}
 use Rattle.tla_model.specs.declared.ids.ModuleId.{ModuleId}
 use Rattle.tla_model.specs.declared.imported.Import.{Import}
+use Rattle.tla_model.specs.Entities.{Meaning}
 use Rattle.tla_model.specs.Exports.{Exports, exports_of, files_of}
 use Rattle.tla_model.specs.Imports.{Imports, import_of}
 use Rattle.tla_model.specs.Lexemes.{spelled}
 use Rattle.tla_model.specs.Parts.{Held}
 use Rattle.tla_model.specs.Resolution.{exports_in}
+use Rattle.tla_model.specs.Tables.{Table}
 use Rattle.module_graph.specs.Imports.{imports_of}
 use Rattle.unit_grammar.specs.Units.{ModuleUnits}
 
@@ -90,3 +92,14 @@ pub record IsFace (imports : Imports) (source : List ℕ) (units : ModuleUnits) 
 abbrev pub IsFaceOf : Imports → List ℕ → ModuleUnits → List Diagnostic → List Held → Type 0
 IsFaceOf imports source units [] parts = IsFace imports source units parts
 IsFaceOf imports source units (fault ∷ rest) parts = parts ≡ []
+
+-- the face of a module that exports these
+pub record IsFaceWith (imports : Imports) (source : List ℕ) (units : ModuleUnits) (exports : Exports) (parts : List Held) : Type 0 where
+  pub own : Interface
+  pub is_own : IsOwn (spelled source units.name) exports own
+  pub are : parts ≡ with_imports imports source [] (imports_of source units) ++ bare own ∷ []
+
+-- the face of a module by the table of what it exports; without one it has no part
+abbrev pub IsFaceBy : Imports → List ℕ → ModuleUnits → Option (Table Meaning) → List Held → Type 0
+IsFaceBy imports source units (Some table) parts = IsFaceWith imports source units (exports_of table) parts
+IsFaceBy imports source units None parts = parts ≡ []

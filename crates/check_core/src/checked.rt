@@ -6,7 +6,7 @@ ghost use Rattle.symbol_scope.specs.Given.{IsReadable, IsWithoutInstances};
 ghost use Rattle.tla_model.specs.Exports.{parts_behind};
 ghost use Rattle.module_graph.specs.Imports.{imports_of};
 ghost use Rattle.check_core.specs.Checks.{IsChecked, given_in};
-ghost use Rattle.check_core.specs.Faces.{IsFaceOf};
+ghost use Rattle.check_core.specs.Faces.{IsFaceBy, IsFaceOf};
 ghost use Rattle.check_core.specs.Outcomes.{IsRefused, IsResolved};
 ghost use Rattle.std.specs.Arc.{arc_value};
 
@@ -17,8 +17,8 @@ use std::alloc::Global;
 use std::marker::Model;
 use std::sync::Arc;
 use step_count::Steps;
-use symbol_scope::resolve;
-use tla_model::{Bound, Decl, Diagnostic, Face, Imported, Parts, Use, in_order};
+use symbol_scope::{Resolved, resolve};
+use tla_model::{Bound, Decl, Diagnostic, Face, Imported, NameTable, Parts, Use, in_order};
 use tla_symbols::Lexeme;
 use tla_tree::ModuleTree;
 use tool_list::{List, Memory};
@@ -104,25 +104,24 @@ fn refused(alloc: Global, faults: List<Diagnostic>) -> Result<Checked, Memory>
     Ok(without_names(alloc, faults, face))
 }
 
-// The face of a module with these faults, by the names of the modules that it needs.
-fn face_of(
+// The face of a module by the table of what it exports, and the names of the modules that it needs.
+fn face_by(
     alloc: Global,
     name: &str,
     tree: &ModuleTree,
     imported: &Imported,
     needed: &[Lexeme],
-    faults: &[Diagnostic],
+    exports: Option<NameTable>,
 ) -> Result<Face, Memory>
     requires readable { IsReadable tree.now }
-    requires instances { IsWithoutInstances imported.now (module_of tree.now) }
     requires name { spelled tree.now.source tree.now.name ≡ name.now }
     requires needed { needed.now ≡ imports_of tree.now.source (module_of tree.now) }
-    ensures { IfOk result (λ face. IsFaceOf imported.now tree.now.source (module_of tree.now) faults.now face.parts) }
+    ensures { IfOk result (λ face. IsFaceBy imported.now tree.now.source (module_of tree.now) exports face.parts) }
 {
-    if faults.is_empty() {
-        return face(alloc, name, tree, imported, needed);
+    match exports {
+        Some(table) => face(alloc, name, tree, imported, needed, table),
+        None => Ok(no_face(alloc)),
     }
-    Ok(no_face(alloc))
 }
 
 // The same face, to be shared.
@@ -132,15 +131,14 @@ fn shared_face(
     tree: &ModuleTree,
     imported: &Imported,
     needed: &[Lexeme],
-    faults: &[Diagnostic],
+    exports: Option<NameTable>,
 ) -> Result<Arc<Face>, Memory>
     requires readable { IsReadable tree.now }
-    requires instances { IsWithoutInstances imported.now (module_of tree.now) }
     requires name { spelled tree.now.source tree.now.name ≡ name.now }
     requires needed { needed.now ≡ imports_of tree.now.source (module_of tree.now) }
-    ensures { IfOk result (λ face. IsFaceOf imported.now tree.now.source (module_of tree.now) faults.now (arc_value face).parts) }
+    ensures { IfOk result (λ face. IsFaceBy imported.now tree.now.source (module_of tree.now) exports (arc_value face).parts) }
 {
-    let face = face_of(alloc, name, tree, imported, needed, faults)?;
+    let face = face_by(alloc, name, tree, imported, needed, exports)?;
     let shared = Arc::new(alloc, face)?;
     Ok(shared)
 }
@@ -174,8 +172,9 @@ fn resolved(
     requires needed { needed.now ≡ imports_of tree.now.source (module_of tree.now) }
     ensures { IfOk result (λ checked. IsResolved imported.now tree.now.source (module_of tree.now) checked) }
 {
-    let bound = resolve(alloc, tree, imported)?;
-    let face = shared_face(alloc, name, tree, imported, needed, bound.faults.as_slice())?;
+    let found = resolve(alloc, tree, imported)?;
+    let Resolved { bound, exports } = found;
+    let face = shared_face(alloc, name, tree, imported, needed, exports)?;
     Ok(with_names(bound, face))
 }
 

@@ -6,15 +6,14 @@ ghost use Rattle.tla_model.specs.Exports.{exports_of};
 ghost use Rattle.tla_model.specs.Lexemes.{LiesIn, spelled};
 ghost use Rattle.unit_grammar.specs.UnitNodes.{module_of};
 ghost use Rattle.module_graph.specs.Imports.{imports_of};
-ghost use Rattle.symbol_scope.specs.Given.{IsReadable, IsWithoutInstances};
-ghost use Rattle.check_core.specs.Faces.{IsFace, IsOwn, bare, with_import, with_imports};
+ghost use Rattle.symbol_scope.specs.Given.{IsReadable};
+ghost use Rattle.check_core.specs.Faces.{IsFaceWith, IsOwn, bare, with_import, with_imports};
 ghost use Rattle.check_core.specs.Parts.{AreGathered, held_by};
 
 use crate::parts::Gathered;
 use module_graph::imports_are_lexemes;
 use std::alloc::Global;
 use std::sync::Arc;
-use symbol_scope::exports;
 use tla_model::{Face, Import, Imported, Interface, ModuleId, NameTable, Parts, spelled};
 use tla_symbols::Lexeme;
 use tla_tree::{ModuleTree, Tree};
@@ -101,9 +100,9 @@ fn reached(
     parts.with_own(alloc, own)
 }
 
-/// What an accepted module exports, by the names of the modules that it needs: the parts of the modules
-/// that it reaches, in the order of its needs, and behind them its own part. Those of the first import
-/// stay as they are there; of others, a module that is there is not put again.
+/// The face of a module that exports these, by the names of the modules that it needs: the parts of the
+/// modules that it reaches, in the order of its needs, and behind them its own part. Those of the first
+/// import stay as they are there; of others, a module that is there is not put again.
 ///
 /// The own part has the module's name and its exports. Its definitions, its instances, and their nodes
 /// and meanings are left out as yet, and it says of no module that it is a constant module. The parts of
@@ -115,15 +114,14 @@ pub fn face(
     tree: &ModuleTree,
     imported: &Imported,
     needed: &[Lexeme],
+    exports: NameTable,
 ) -> Result<Face, Memory>
     requires readable { IsReadable tree.now }
-    requires instances { IsWithoutInstances imported.now (module_of tree.now) }
     requires name { spelled tree.now.source tree.now.name ≡ name.now }
     requires needed { needed.now ≡ imports_of tree.now.source (module_of tree.now) }
-    ensures { IfOk result (λ face. IsFace imported.now tree.now.source (module_of tree.now) face.parts) }
+    ensures { IfOk result (λ face. IsFaceWith imported.now tree.now.source (module_of tree.now) (exports_of exports) face.parts) }
 {
     imports_are_lexemes();
-    let exports = exports(alloc, tree, imported)?;
     let own = own(alloc, name, exports)?;
     let parts = reached(alloc, imported, tree.source.as_str(), needed, own)?;
     Ok(Face { parts })

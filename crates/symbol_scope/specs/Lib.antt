@@ -6,3 +6,4 @@ pub mod Rounds
 pub mod Plain
 pub mod WithoutInstances
 pub mod Sorting
+pub mod Exporting

@@ -11,4 +11,4 @@ mod reading;
 mod resolution;
 mod units;
 
-pub use resolution::{exports, resolve};
+pub use resolution::{Resolved, resolve};

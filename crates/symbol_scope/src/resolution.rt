@@ -10,6 +10,7 @@ ghost use Rattle.symbol_scope.specs.WithoutInstances as plain;
 ghost use Rattle.tla_model.specs.Resolution.{exports_in};
 ghost use Rattle.tla_model.specs.Exports as imports;
 ghost use Rattle.unit_grammar.specs.UnitNodes.{HasNodes, module_of};
+ghost use Rattle.symbol_scope.specs.Exporting.{AreExported};
 ghost use Rattle.symbol_scope.specs.Given.{IsReadable, IsWithoutInstances};
 ghost use Rattle.symbol_scope.specs.Modules.{reading_of};
 ghost use Rattle.symbol_scope.specs.Rounds.{IsUnread};
@@ -18,8 +19,9 @@ ghost use Rattle.symbol_scope.specs.Sorting.{IsNothing, IsSorted};
 use crate::bound::{nothing, order, push_declarations, sort_out};
 use crate::declared::declaring;
 use crate::nesting::Nesting;
+use crate::reading::Reading;
 use std::alloc::Global;
-use tla_model::{Binder, Bound, Finding, Imported, NameTable, spelled};
+use tla_model::{Binder, Bound, Diagnostic, Finding, Imported, NameTable, spelled};
 use tla_tree::ModuleTree;
 use tool_list::{List, Memory};
 use tree_scope::ModuleText;
@@ -58,39 +60,6 @@ fn found_in<'a>(
     Ok(findings)
 }
 
-// Reads a module that has no names yet, and answers what it exports.
-fn exported_in<'a>(
-    alloc: Global,
-    text: &ModuleText<'a>,
-    tree: &'a ModuleTree,
-    imported: &'a Imported,
-    nesting: &mut Nesting<'a>,
-) -> Result<NameTable, Memory>
-    requires nodes { HasNodes tree.now }
-    requires lie { LexemesLie text.now.source (module_of tree.now) }
-    requires unread { IsUnread nesting.old text.now.file }
-    ensures { IfOk result (λ table. table ≡ (plain.read_within text.now (files_of imported.now) (module_of tree.now)).exports) }
-{
-    found_in(alloc, text, tree, imported, nesting)?;
-    let table = nesting.here.exported(alloc)?;
-    Ok(table)
-}
-
-// What a module exports, by its text.
-fn exported_by<'a>(
-    alloc: Global,
-    text: &ModuleText<'a>,
-    tree: &'a ModuleTree,
-    imported: &'a Imported,
-) -> Result<NameTable, Memory>
-    requires nodes { HasNodes tree.now }
-    requires lie { LexemesLie text.now.source (module_of tree.now) }
-    ensures { IfOk result (λ table. table ≡ (plain.read_within text.now (files_of imported.now) (module_of tree.now)).exports) }
-{
-    let mut nesting = Nesting::new(alloc, text);
-    exported_in(alloc, text, tree, imported, &mut nesting)
-}
-
 // Reads a module that has no names yet, and puts what its names stand for and its faults into nothing.
 fn bind_uses<'a>(
     alloc: Global,
@@ -113,70 +82,99 @@ fn bind_uses<'a>(
     Ok(())
 }
 
-// Puts what the names of a text stand for and its faults into nothing.
+// What a module that was read exports, unless it has faults.
+fn exported<'a>(
+    alloc: Global,
+    reading: &Reading<'a>,
+    faults: &[Diagnostic],
+) -> Result<Option<NameTable>, Memory>
+    ensures { IfOk result (AreExported faults.now (exports_of (reading_of reading.now).exports)) }
+{
+    if !faults.is_empty() {
+        return Ok(None);
+    }
+    let table = reading.exported(alloc)?;
+    Ok(Some(table))
+}
+
+// Reads a module that has no names yet, puts what its names stand for and its faults into nothing, and
+// answers what it exports, unless it has faults.
+fn bind_module<'a>(
+    alloc: Global,
+    text: &ModuleText<'a>,
+    tree: &'a ModuleTree,
+    imported: &'a Imported,
+    nesting: &mut Nesting<'a>,
+    bound: &mut Bound,
+) -> Result<Option<NameTable>, Memory>
+    requires nodes { HasNodes tree.now }
+    requires lie { LexemesLie text.now.source (module_of tree.now) }
+    requires unread { IsUnread nesting.old text.now.file }
+    requires nothing { IsNothing bound.old }
+    ensures sorted { OnOk result (IsSorted (plain.found_within text.now (files_of imported.now) (module_of tree.now)) bound.new) }
+    ensures exports { IfOk result (AreExported bound.new.faults (exports_of (plain.read_within text.now (files_of imported.now) (module_of tree.now)).exports)) }
+{
+    bind_uses(alloc, text, tree, imported, nesting, bound)?;
+    exported(alloc, &nesting.here, bound.faults.as_slice())
+}
+
+// Puts what the names of a text stand for and its faults into nothing, and answers what the module
+// exports, unless it has faults.
 fn bind_text<'a>(
     alloc: Global,
     text: &ModuleText<'a>,
     tree: &'a ModuleTree,
     imported: &'a Imported,
     bound: &mut Bound,
-) -> Result<(), Memory>
+) -> Result<Option<NameTable>, Memory>
     requires nodes { HasNodes tree.now }
     requires lie { LexemesLie text.now.source (module_of tree.now) }
     requires nothing { IsNothing bound.old }
-    ensures { OnOk result (IsSorted (plain.found_within text.now (files_of imported.now) (module_of tree.now)) bound.new) }
+    ensures sorted { OnOk result (IsSorted (plain.found_within text.now (files_of imported.now) (module_of tree.now)) bound.new) }
+    ensures exports { IfOk result (AreExported bound.new.faults (exports_of (plain.read_within text.now (files_of imported.now) (module_of tree.now)).exports)) }
 {
     let mut nesting = Nesting::new(alloc, text);
-    bind_uses(alloc, text, tree, imported, &mut nesting, bound)
+    bind_module(alloc, text, tree, imported, &mut nesting, bound)
 }
 
-// Puts what names stand for into nothing, by what is said of modules without INSTANCE.
+// Puts what names stand for into nothing, and answers what the module exports, by what is said of
+// modules without INSTANCE.
 fn bind(
     alloc: Global,
     tree: &ModuleTree,
     imported: &Imported,
     bound: &mut Bound,
-) -> Result<(), Memory>
+) -> Result<Option<NameTable>, Memory>
     requires readable { IsReadable tree.now }
     requires nothing { IsNothing bound.old }
-    ensures { OnOk result (IsBoundBy (plain.findings (files_of imported.now) tree.now.source (module_of tree.now)) tree.now.source (module_of tree.now) bound.new) }
+    ensures bound { OnOk result (IsBoundBy (plain.findings (files_of imported.now) tree.now.source (module_of tree.now)) tree.now.source (module_of tree.now) bound.new) }
+    ensures exports { IfOk result (AreExported bound.new.faults (plain.exports_in (files_of imported.now) tree.now.source (module_of tree.now))) }
 {
     let names = declaring(alloc, tree)?;
     let text = text_of(alloc, tree, names.as_slice())?;
-    bind_text(alloc, &text, tree, imported, bound)?;
+    let exports = bind_text(alloc, &text, tree, imported, bound)?;
     push_declarations(alloc, &text, names, &mut bound.decls)?;
-    Ok(())
+    Ok(exports)
 }
 
-// What names stand for, by what is said of modules without INSTANCE.
-fn bound_of(alloc: Global, tree: &ModuleTree, imported: &Imported) -> Result<Bound, Memory>
-    requires { IsReadable tree.now }
-    ensures { IfOk result (IsBoundBy (plain.findings (files_of imported.now) tree.now.source (module_of tree.now)) tree.now.source (module_of tree.now)) }
-{
-    let mut bound = nothing(alloc);
-    bind(alloc, tree, imported, &mut bound)?;
-    Ok(bound)
+/// What the names of a module stand for, and what it exports.
+#[derive(Drop)]
+pub struct Resolved {
+    pub bound: Bound,
+    /// What the module exports. It is there exactly where the module has no fault.
+    pub exports: Option<NameTable>,
 }
 
 /// What the names of a module without INSTANCE stand for, over the modules that it names, which bring
-/// no instances. A module that is not accepted exports nothing. `Memory` comes where there was no room.
-pub fn resolve(alloc: Global, tree: &ModuleTree, imported: &Imported) -> Result<Bound, Memory>
+/// no instances, and what it exports. A module that is not accepted exports nothing. The table shares
+/// what it can with those of the modules that are named. `Memory` comes where there was no room.
+pub fn resolve(alloc: Global, tree: &ModuleTree, imported: &Imported) -> Result<Resolved, Memory>
     requires readable { IsReadable tree.now }
     requires instances { IsWithoutInstances imported.now (module_of tree.now) }
-    ensures { IfOk result (IsBound (imports.files_of imported.now) tree.now.source (module_of tree.now)) }
+    ensures bound { IfOk result (λ resolved. IsBound (imports.files_of imported.now) tree.now.source (module_of tree.now) resolved.bound) }
+    ensures exports { IfOk result (λ resolved. AreExported resolved.bound.faults (exports_in (imports.files_of imported.now) tree.now.source (module_of tree.now)) resolved.exports) }
 {
-    bound_of(alloc, tree, imported)
-}
-
-/// What a module without INSTANCE exports. The table shares what it can with those of the modules that
-/// it names. `Memory` comes where there was no room.
-pub fn exports(alloc: Global, tree: &ModuleTree, imported: &Imported) -> Result<NameTable, Memory>
-    requires readable { IsReadable tree.now }
-    requires instances { IsWithoutInstances imported.now (module_of tree.now) }
-    ensures { IfOk result (λ table. exports_of table ≡ exports_in (imports.files_of imported.now) tree.now.source (module_of tree.now)) }
-{
-    let names = declaring(alloc, tree)?;
-    let text = text_of(alloc, tree, names.as_slice())?;
-    let table = exported_by(alloc, &text, tree, imported)?;
-    Ok(table)
+    let mut bound = nothing(alloc);
+    let exports = bind(alloc, tree, imported, &mut bound)?;
+    Ok(Resolved { bound, exports })
 }
