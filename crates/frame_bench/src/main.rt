@@ -8,8 +8,6 @@ mod count;
 mod counts;
 mod refused;
 mod task;
-#[cfg(test)]
-mod tests;
 
 use std::alloc::Global;
 use std::env;

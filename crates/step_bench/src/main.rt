@@ -7,8 +7,6 @@
 mod body;
 mod measure;
 mod stepping;
-#[cfg(test)]
-mod tests;
 
 use crate::measure::{Fault, Found, measure};
 use expr_parse::Step;
