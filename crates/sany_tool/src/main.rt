@@ -1,11 +1,7 @@
 //! The program: reads a folder of modules and reports on them.
 //!
-//! `main` makes the adapters over std, and leaves all else to `run` of `sany_run`. The tests run that
-//! over devices in memory.
+//! `main` makes the adapters over std, and leaves all else to `run` of `sany_run`.
 #![tactic(auto)]
-
-#[cfg(test)]
-mod tests;
 
 ghost use Rattle.std.specs.Prelude.{◌≡◌};
 ghost use Rattle.std.specs.Option.{option_copied};
