@@ -87,7 +87,7 @@ IsAfter after (Err Folder) new = ⊤
 IsAfter after (Err (Limit said)) new = after.limit ≡ Some said
 IsAfter after (Err Memory) new = ⊤
 
--- a fault of the folder comes where its count rose; any other answer leaves the count
+-- a fault of the folder raises its count by one; any other answer leaves the count
 abbrev pub HasAnswerCause : {T : Type 0} → ℕ → ℕ → Result T AnswerFault → Type 0
 HasAnswerCause before now (Ok _) = now ≡ before
 HasAnswerCause before now (Err Folder) = Rose before now

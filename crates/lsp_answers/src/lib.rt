@@ -16,7 +16,7 @@ use tool_list::{Chars, List, Memory};
 /// Why a call of [`Answers`] was refused. The value then answers no further call.
 #[derive(Clone, Copy, Debug, PartialEq, Eq)]
 pub enum AnswerFault {
-    /// The folder failed: its count rose in the call, or stands at its last value.
+    /// The folder failed: its count rose by one in the call, or stands at its last value.
     Folder,
     /// The call would leave more than 1,024 modules or more than 2^25 bytes of texts, or a text
     /// passed 2^25 bytes within it: the number that is too large.

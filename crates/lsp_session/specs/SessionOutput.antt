@@ -216,7 +216,7 @@ abbrev pub GoesOn : Outcome → Phase → Result Turn SessionFault → Type 0
 GoesOn outcome phase (Ok turn) = (phase ≡ outcome.phase) × (turn ≡ outcome.turn)
 GoesOn outcome phase (Err fault) = ⊤
 
--- a fault of the folder comes where its count rose; any other answer of a session that is not spent leaves
+-- a fault of the folder raises its count by one; any other answer of a session that is not spent leaves
 -- the count
 abbrev pub HasSessionCause : {T : Type 0} → ℕ → ℕ → Result T SessionFault → Type 0
 HasSessionCause before now (Ok _) = now ≡ before

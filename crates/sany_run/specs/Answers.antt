@@ -35,7 +35,7 @@ pub record Answers (outcome : Outcome) (status : ℕ) (old new : Option (List �
   pub front : AppendsFront old new outcome.bytes
   pub whole : OnFalse (is_cut_short status) ((status ≡ outcome.status) × Appends old new outcome.bytes)
 
--- this status comes only where the count rose, and otherwise the count stays
+-- this status comes only where the count rose by one, and otherwise the count stays
 pub record TellsFault (fault status before now : ℕ) : Type 0 where
   pub rose : status ≡ fault → Rose before now
   pub stays : status ≢ fault → now ≡ before

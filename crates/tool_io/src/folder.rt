@@ -21,7 +21,7 @@ pub trait Folder {
     ghost fault_count: { Self → ℕ };
 
     /// The names of the files under a path, in byte order, each once. A path that is not there is
-    /// an empty folder or a failure. `Failed` comes only where the count rose or is at its last
+    /// an empty folder or a failure. `Failed` raises the count by one, or leaves it at its last
     /// value; any other answer leaves the count.
     fn names(&mut self, alloc: Global, folder: &str) -> Result<List<Chars>, IoFault>
         ensures goes { told self.new ≡ option_map after_call (told self.old) }

@@ -28,15 +28,15 @@ pub use std_folder::StdFolder;
 pub use std_sink::StdSink;
 pub use std_source::StdSource;
 
-/// The outside failed. The count of the object that answers it rose in the call, or stands at the
-/// last value of its type.
+/// The outside failed. The count of the object that answers it rose by one in the call, or stands at
+/// the last value of its type.
 #[derive(Clone, Copy, Debug, PartialEq, Eq)]
 pub struct Failed;
 
 /// A call of the outside failed, or there was no room for its answer.
 #[derive(Clone, Copy, Debug, PartialEq, Eq)]
 pub enum IoFault {
-    /// The outside failed: the object's count rose in the call, or stands at its last value.
+    /// The outside failed: the object's count rose by one in the call, or stands at its last value.
     Failed,
     /// There was no room. The object's count is as before.
     Memory,

@@ -14,7 +14,7 @@ pub trait Sink {
     ghost fault_count: { Self → ℕ };
 
     /// Takes some of the bytes from the front, and answers how many: at least one where there is
-    /// one. A refused write takes nothing. `Failed` comes only where the count rose or is at its
+    /// one. A refused write takes nothing. `Failed` raises the count by one, or leaves it at its
     /// last value; any other answer leaves the count.
     fn write(&mut self, piece: &[u8]) -> Result<usize, IoFault>
         ensures bound { IfOk result (λ n. n ≤ length piece.now) }

@@ -16,7 +16,7 @@ pub trait Source {
 
     /// Moves some of the bytes that are left to the front of `buf`, and answers how many. Zero for
     /// a `buf` that is not empty means that nothing is left. A refused read moves nothing. `Failed`
-    /// comes only where the count rose or is at its last value; an Ok leaves the count.
+    /// raises the count by one, or leaves it at its last value; an Ok leaves the count.
     fn read(&mut self, buf: &mut [u8]) -> Result<usize, Failed>
         ensures bound { ReadsAtMost result buf.new }
         ensures bytes { ReadConsumes (left self.old) (left self.new) result buf.new }
