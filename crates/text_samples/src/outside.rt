@@ -1,84 +1,185 @@
 // The objects in memory, and one call of each adapter.
 use std::alloc::Global;
 use std::io::{self, Read, Write};
-use std::test::Fail;
+use std::process::Abort;
 use tool_io::{
     Failed, FileBytes, Folder, FolderFiles, IoFault, MemoryFolder, MemorySink, QuietSource, Sink,
     Source, StdFolder, StdSink, StdSource,
 };
 use tool_list::{Chars, List};
 
-fn crosses_threads<T: Send + Sync>(_: &T) {}
+fn crosses_threads<T: Send + Sync>() {}
 
-fn numbers(alloc: Global, items: &[u32]) -> Result<List<u32>, Fail> {
-    Ok(List::from_vec(Vec::from_slice(alloc, items)?))
+#[test]
+fn crosses() {
+    crosses_threads::<MemoryFolder>();
+    crosses_threads::<MemorySink>();
+    crosses_threads::<QuietSource>();
 }
 
-fn bytes_of(alloc: Global, text: &str) -> Result<List<u8>, Fail> {
-    Ok(List::from_vec(Vec::from_slice(alloc, text.as_bytes())?))
+fn numbers(rt: &impl Abort, alloc: Global, items: &[u32]) -> List<u32> {
+    List::from_vec(Vec::from_slice(alloc, items).expect(rt, "numbers"))
 }
 
-// The folder `w` with two files.
-fn two_files(alloc: Global, fails: &[u32]) -> Result<MemoryFolder, Fail> {
-    let mut files = List::new(alloc);
-    for (name, text) in [("B.tla", "later"), ("A.tla", "")] {
-        files.push(FileBytes {
-            name: Chars::from_str(alloc, name)?,
-            bytes: bytes_of(alloc, text)?,
-        })?;
+fn bytes_of(rt: &impl Abort, alloc: Global, text: &str) -> List<u8> {
+    List::from_vec(Vec::from_slice(alloc, text.as_bytes()).expect(rt, text))
+}
+
+fn file_of(rt: &impl Abort, alloc: Global, name: &str, text: &str) -> FileBytes {
+    FileBytes {
+        name: Chars::from_str(alloc, name).expect(rt, name),
+        bytes: bytes_of(rt, alloc, text),
     }
+}
+
+// The folder `w` with two files, which fails at the fourth call.
+fn two_files(rt: &impl Abort, alloc: Global) -> MemoryFolder {
+    let mut files = List::new(alloc);
+    files
+        .push(file_of(rt, alloc, "B.tla", "later"))
+        .expect(rt, "B");
+    files.push(file_of(rt, alloc, "A.tla", "")).expect(rt, "A");
+    let path = Chars::from_str(alloc, "w").expect(rt, "w");
     let mut map = List::new(alloc);
-    map.push(FolderFiles {
-        path: Chars::from_str(alloc, "w")?,
-        files,
-    })?;
-    Ok(MemoryFolder::new(map, numbers(alloc, fails)?))
+    map.push(FolderFiles { path, files }).expect(rt, "w");
+    MemoryFolder::new(map, numbers(rt, alloc, &[4]))
+}
+
+// The names under a path, each with a blank behind it, or that they are refused.
+fn names_under(rt: &impl Abort, alloc: Global, folder: &mut impl Folder, path: &str) -> String {
+    let mut shown = String::new(alloc);
+    match folder.names(alloc, path) {
+        Ok(names) => {
+            for name in names.as_slice() {
+                shown.push_str(name.as_str()).expect(rt, path);
+                shown.push(' ').expect(rt, path);
+            }
+        }
+        Err(_) => shown.push_str("refused").expect(rt, path),
+    }
+    shown
+}
+
+// Whether the first three bytes of a file are these, where it is there.
+fn reads(
+    alloc: Global,
+    folder: &mut impl Folder,
+    path: &str,
+    file: &str,
+    front: Option<&[u8]>,
+) -> bool {
+    match folder.read(alloc, path, file, 3) {
+        Ok(Some(bytes)) => Some(bytes.as_slice()) == front,
+        Ok(None) => front.is_none(),
+        Err(_) => false,
+    }
+}
+
+/// What is asked of a folder, with its answer.
+enum Asked {
+    /// The names under a path.
+    Names(&'static str, &'static str),
+    /// The first bytes of a file under a path.
+    Front(&'static str, &'static str, Option<&'static [u8]>),
+}
+
+use Asked::{Front, Names};
+
+// Asks, and tells whether the answer is right.
+fn answers(rt: &impl Abort, alloc: Global, folder: &mut impl Folder, asked: &Asked) -> bool {
+    match asked {
+        Names(path, names) => names_under(rt, alloc, folder, *path).as_str() == *names,
+        Front(path, file, front) => reads(alloc, folder, *path, *file, *front),
+    }
+}
+
+fn ask(rt: &impl Abort, alloc: Global, folder: &mut impl Folder, rows: &[Asked]) {
+    for (place, asked) in rows.iter().enumerate() {
+        assert!(rt; answers(rt, alloc, folder, asked), "row {place}");
+    }
+}
+
+fn has_failed(rt: &impl Abort, faults: u64, times: u64) {
+    assert!(rt; faults == times, "{faults} for {times}");
+}
+
+static FILES: [Asked; 5] = [
+    Names("w", "A.tla B.tla "),
+    Front("w", "B.tla", Some(b"lat")),
+    Front("v", "B.tla", None),
+    Names("w", "refused"),
+    Names("v", "refused"),
+];
+
+#[test]
+fn lists_and_reads_files(rt: HostRuntime) {
+    let mut folder = two_files(&rt, rt.alloc());
+    ask(&rt, rt.alloc(), &mut folder, &FILES);
+    has_failed(&rt, folder.faults(), 2);
+}
+
+static NO_FILE: [Asked; 1] = [Front("no-such-folder", "A.tla", None)];
+
+static NO_FOLDER: [Asked; 1] = [Names("no-such-folder", "refused")];
+
+#[test]
+fn counts_errors_of_folders(rt: HostRuntime) {
+    let mut folder = StdFolder::new(&rt);
+    ask(&rt, rt.alloc(), &mut folder, &NO_FILE);
+    has_failed(&rt, folder.faults(), 0);
+    ask(&rt, rt.alloc(), &mut folder, &NO_FOLDER);
+    has_failed(&rt, folder.faults(), 1);
+}
+
+// Writes pieces, each of which has its answer.
+fn writes(rt: &impl Abort, sink: &mut impl Sink, rows: &[(&str, Result<usize, IoFault>)]) {
+    for (piece, answer) in rows {
+        assert!(rt; sink.write(piece.as_bytes()) == *answer, "{piece}");
+    }
+}
+
+static PIECES: [(&str, Result<usize, IoFault>); 5] = [
+    ("abc", Ok(2)),
+    ("c", Err(IoFault::Failed)),
+    ("cde", Ok(2)),
+    ("ef", Ok(1)),
+    ("f", Err(IoFault::Failed)),
+];
+
+fn has_bytes(rt: &impl Abort, found: &[u8], bytes: &str) {
+    assert!(rt; found == bytes.as_bytes(), "{bytes}");
 }
 
 #[test]
-fn lists_and_reads_files(rt: HostRuntime) -> Result<(), Fail> {
-    let alloc = rt.alloc();
-    let mut folder = two_files(alloc, &[4])?;
-    crosses_threads(&folder);
-    let names = folder.names(alloc, "w")?;
-    let mut found = names.as_slice().iter().map(|name| name.as_str());
-    assert!(rt; found.next() == Some("A.tla") && found.next() == Some("B.tla"));
-    let front = folder.read(alloc, "w", "B.tla", 3)?.ok_or("no file")?;
-    assert_eq!(rt; front.as_slice(), b"lat".as_slice());
-    assert!(rt; folder.read(alloc, "v", "B.tla", 3)?.is_none());
-    assert!(rt; folder.names(alloc, "w").is_err());
-    assert!(rt; folder.names(alloc, "v").is_err());
-    assert_eq!(rt; folder.faults(), 2);
-    Ok(())
+fn takes_pieces(rt: HostRuntime) {
+    let fails = numbers(&rt, rt.alloc(), &[2]);
+    let mut sink = MemorySink::new(rt.alloc(), 5, 2, fails).expect(&rt, "a sink");
+    writes(&rt, &mut sink, &PIECES);
+    has_bytes(&rt, sink.bytes(), "abcde");
+    has_failed(&rt, sink.faults(), 2);
 }
 
-#[test]
-fn takes_pieces(rt: HostRuntime) -> Result<(), Fail> {
-    let alloc = rt.alloc();
-    let mut sink = MemorySink::new(alloc, 5, 2, numbers(alloc, &[2])?)?;
-    crosses_threads(&sink);
-    assert_eq!(rt; sink.write(b"abc"), Ok(2));
-    assert_eq!(rt; sink.write(b"c"), Err(IoFault::Failed));
-    assert_eq!(rt; sink.write(b"cde"), Ok(2));
-    assert_eq!(rt; sink.write(b"ef"), Ok(1));
-    assert_eq!(rt; sink.write(b"f"), Err(IoFault::Failed));
-    assert_eq!(rt; sink.bytes(), b"abcde".as_slice());
-    assert_eq!(rt; sink.faults(), 2);
-    Ok(())
+// Reads so often, each time with its answer.
+fn gives(
+    rt: &impl Abort,
+    source: &mut impl Source,
+    buf: &mut [u8],
+    answers: &[Result<usize, Failed>],
+) {
+    for answer in answers {
+        assert!(rt; source.read(buf) == *answer, "{answer:?}");
+    }
 }
 
+static READS: [Result<usize, Failed>; 3] = [Ok(2), Ok(1), Ok(0)];
+
 #[test]
-fn gives_pieces(rt: HostRuntime) -> Result<(), Fail> {
-    let alloc = rt.alloc();
-    let mut source = QuietSource::new(bytes_of(alloc, "abc")?);
-    crosses_threads(&source);
+fn gives_pieces(rt: HostRuntime) {
+    let mut source = QuietSource::new(bytes_of(&rt, rt.alloc(), "abc"));
     let mut buf = [0u8; 2];
-    assert_eq!(rt; source.read(&mut buf), Ok(2));
-    assert_eq!(rt; source.read(&mut buf), Ok(1));
-    assert_eq!(rt; buf, [b'c', b'b']);
-    assert_eq!(rt; source.read(&mut buf), Ok(0));
-    assert_eq!(rt; source.faults(), 0);
-    Ok(())
+    gives(&rt, &mut source, &mut buf, &READS);
+    has_bytes(&rt, &buf, "cb");
+    has_failed(&rt, source.faults(), 0);
 }
 
 // Refuses each read and each flush.
@@ -101,30 +202,30 @@ impl Write for Refusing {
     }
 }
 
-#[test]
-fn counts_errors_of_readers_and_writers(rt: HostRuntime) -> Result<(), Fail> {
-    let mut buf = [0u8; 4];
-    let mut plain = StdSource::new(b"ab".as_slice());
-    assert_eq!(rt; plain.read(&mut buf), Ok(2));
-    assert_eq!(rt; plain.faults(), 0);
-    let mut source = StdSource::new(Refusing);
-    assert_eq!(rt; source.read(&mut buf), Err(Failed));
-    assert_eq!(rt; source.faults(), 1);
-    let mut kept = StdSink::new(Vec::new(rt.alloc()));
-    assert_eq!(rt; kept.write(b"ab"), Ok(2));
-    let mut sink = StdSink::new(Refusing);
-    assert_eq!(rt; sink.write(b"ab"), Err(IoFault::Failed));
-    assert_eq!(rt; sink.faults(), 1);
-    Ok(())
-}
+static WHOLE_READ: [Result<usize, Failed>; 1] = [Ok(2)];
+
+static REFUSED_READ: [Result<usize, Failed>; 1] = [Err(Failed)];
 
 #[test]
-fn counts_errors_of_folders(rt: HostRuntime) -> Result<(), Fail> {
-    let alloc = rt.alloc();
-    let mut folder = StdFolder::new(&rt);
-    assert!(rt; folder.read(alloc, "no-such-folder", "A.tla", 9)?.is_none());
-    assert_eq!(rt; folder.faults(), 0);
-    assert!(rt; folder.names(alloc, "no-such-folder").is_err());
-    assert_eq!(rt; folder.faults(), 1);
-    Ok(())
+fn counts_errors_of_readers(rt: HostRuntime) {
+    let mut buf = [0u8; 4];
+    let mut plain = StdSource::new(b"ab".as_slice());
+    gives(&rt, &mut plain, &mut buf, &WHOLE_READ);
+    has_failed(&rt, plain.faults(), 0);
+    let mut source = StdSource::new(Refusing);
+    gives(&rt, &mut source, &mut buf, &REFUSED_READ);
+    has_failed(&rt, source.faults(), 1);
+}
+
+static WHOLE_WRITE: [(&str, Result<usize, IoFault>); 1] = [("ab", Ok(2))];
+
+static REFUSED_WRITE: [(&str, Result<usize, IoFault>); 1] = [("ab", Err(IoFault::Failed))];
+
+#[test]
+fn counts_errors_of_writers(rt: HostRuntime) {
+    let mut kept = StdSink::new(Vec::new(rt.alloc()));
+    writes(&rt, &mut kept, &WHOLE_WRITE);
+    let mut sink = StdSink::new(Refusing);
+    writes(&rt, &mut sink, &REFUSED_WRITE);
+    has_failed(&rt, sink.faults(), 1);
 }

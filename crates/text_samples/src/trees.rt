@@ -1,10 +1,17 @@
 // What no clause says of trees: they cross threads, and each call that takes memory answers.
-use std::test::Fail;
+use std::alloc::Global;
+use std::process::Abort;
 use tla_symbols::{LexKind, Lexeme, Span};
 use tla_tree::{Form, ModuleTree, Tree, Unit};
-use tool_list::{Chars, List};
+use tool_list::{Chars, List, Memory};
 
-fn crosses_threads<T: Send + Sync>(_: &T) {}
+fn crosses_threads<T: Send + Sync>() {}
+
+#[test]
+fn crosses() {
+    crosses_threads::<ModuleTree>();
+    crosses_threads::<Form>();
+}
 
 fn lexeme(kind: LexKind, start: u32) -> Lexeme {
     Lexeme {
@@ -18,33 +25,50 @@ fn lexeme(kind: LexKind, start: u32) -> Lexeme {
     }
 }
 
-#[test]
-fn pushes_nodes(rt: HostRuntime) -> Result<(), Fail> {
-    let name = lexeme(LexKind::Name, 0);
-    let mut tree = Tree::new(rt.alloc());
-    assert!(rt; tree.is_empty());
+fn has_count(rt: &impl Abort, found: usize, count: usize) {
+    assert!(rt; found == count, "{found} for {count}");
+}
+
+// An identifier of one segment.
+fn identifier(alloc: Global, name: Lexeme) -> Result<Tree, Memory> {
+    let mut tree = Tree::new(alloc);
     let segment = tree.push(Form::Segment(name), &[], name.span)?;
     tree.push(Form::Identifier, &[segment], name.span)?;
-    assert_eq!(rt; tree.len(), 2);
-    Ok(())
+    Ok(tree)
 }
 
 #[test]
-fn modules_cross_threads(rt: HostRuntime) -> Result<(), Fail> {
-    let alloc = rt.alloc();
-    let name = lexeme(LexKind::Name, 11);
+fn pushes_nodes(rt: HostRuntime) {
+    let name = lexeme(LexKind::Name, 0);
+    let tree = identifier(rt.alloc(), name).expect(&rt, "a tree");
+    has_count(&rt, tree.len(), 2);
+}
+
+#[test]
+fn begins_empty(rt: HostRuntime) {
+    let tree = Tree::new(rt.alloc());
+    assert!(rt; tree.is_empty());
+}
+
+// A line of dashes.
+fn line(rt: &impl Abort, alloc: Global) -> List<Unit> {
     let mut units = List::new(alloc);
-    units.push(Unit::Line(lexeme(LexKind::Dashes, 20)))?;
+    units
+        .push(Unit::Line(lexeme(LexKind::Dashes, 20)))
+        .expect(rt, "a line");
+    units
+}
+
+#[test]
+fn holds_units(rt: HostRuntime) {
+    let alloc = rt.alloc();
     let module = ModuleTree {
-        name,
+        name: lexeme(LexKind::Name, 11),
         extends: List::new(alloc),
-        units,
+        units: line(&rt, alloc),
         tree: Tree::new(alloc),
         height: 1,
-        source: Chars::from_str(alloc, "---- MODULE A ----")?,
+        source: Chars::from_str(alloc, "---- MODULE A ----").expect(&rt, "a source"),
     };
-    crosses_threads(&module);
-    crosses_threads(&Form::Lambda);
-    assert_eq!(rt; module.units.len(), 1);
-    Ok(())
+    has_count(&rt, module.units.len(), 1);
 }
