@@ -43,7 +43,7 @@ definition-is nodes n form l q =
     let is = tree_at-form nodes n l in
     (is.0, is.1 ∙ ap (λ z. Syntax.Node z (node_at nodes n).span is.0) q)
 
-units-one : (nodes : List Arena.Node) (n : ℕ) → n < length nodes → (u : unit.the_data) (x : UnitTree) → Rattle.unit_parse.specs.Modules.nodes_in u ≡ n ∷ [] → Rattle.unit_parse.specs.Modules.unit_at nodes u ≡ x → AreUnits nodes (u ∷ []) (x ∷ [])
+pub units-one : (nodes : List Arena.Node) (n : ℕ) → n < length nodes → (u : unit.the_data) (x : UnitTree) → Rattle.unit_parse.specs.Modules.nodes_in u ≡ n ∷ [] → Rattle.unit_parse.specs.Modules.unit_at nodes u ≡ x → AreUnits nodes (u ∷ []) (x ∷ [])
 units-one nodes n l u x q e = record {
   there = (rw q (l, tt), tt);
   are = ap (λ z. z ∷ []) e;

@@ -1,5 +1,5 @@
 -- What a lexeme does to frames, expressions and bounds is what the machine makes of it.
-use Rattle.std.proofs.Common.{◌≡◌, ℕ, ◌<◌, Bool, true, false, List, [], ◌∷◌, ◌++◌, length, refl, ap, sym, subst, ◌∙◌, Option, Some, None}
+use Rattle.std.proofs.Common.{◌≡◌, ℕ, Bool, true, false, List, [], ◌∷◌, ◌++◌, length, refl, ap, sym, subst, ◌∙◌, Option, Some, None}
 use Rattle.std.specs.Prelude.{cond, reverse}
 use Rattle.std.proofs.lemmas.List.{reverse-append}
 use Rattle.tla_symbols.specs.declared.lexeme.LexKind.{LexKind}
@@ -32,7 +32,7 @@ use Rattle.unit_parse.specs.declared.reading.Heard.{Heard}
 use Rattle.unit_parse.specs.declared.state.Unfinished.{Unfinished}
 use Rattle.unit_parse.specs.declared.state.State.{State}
 use Rattle.unit_parse.specs.declared.parts.Ended.{Ended}
-use Rattle.unit_parse.specs.Standing.{AreParts, IsReached, IsFrame, AreFrames, IsUnder, IsReading, IsFocus, IsState, IsMoved, Moves, Makes, Takes, Hears, EndsWhole, EndsMoving, IsEnded, Ends}
+use Rattle.unit_parse.specs.Standing.{AreParts, IsReached, IsFrame, AreFrames, IsUnder, IsReading, IsFocus, IsState, IsMoved, Moves, Makes, Takes, IsHeard, Hears, EndsWhole, EndsMoving, IsEnded, Ends, TakesBelow, EndsFrame}
 use Rattle.unit_parse.proofs.Growing.{frame-grows, frames-grow, under-grows}
 
 -- nothing was added
@@ -103,7 +103,7 @@ pub record Goes (nodes more : List Arena.Node) (below : List Frame) (held : Fram
 pub goes-first : (nodes : List Arena.Node) (below : List Frame) (held : Frame) (f : Machine.Frame) (fs : List Machine.Frame) (t : Lexeme) → IsFrame nodes held f → AreFrames nodes (reverse below) fs → Goes nodes nodes below held f fs t
 goes-first nodes below held f fs t i a = record { frame = f; frames = fs; grows = grows-same nodes; is = i; are = a; same = λ b d us. refl }
 
-pub goes-moves : {nodes more : List Arena.Node} {below : List Frame} {held : Frame} {f : Machine.Frame} {fs : List Machine.Frame} {t : Lexeme} (to : Move) → to ≡ move held.wait t → DoesNotEnd to → Goes nodes more below held f fs t → Ends nodes more below (Ended.Moves held to) f fs t
+pub goes-moves : {nodes more : List Arena.Node} {below : List Frame} {held : Frame} {f : Machine.Frame} {fs : List Machine.Frame} {t : Lexeme} (to : Move) → to ≡ move held.wait t → DoesNotEnd to → Goes nodes more below held f fs t → Ends nodes more below held Ended.Moves f fs t
 goes-moves {t = t} to q k g = record {
   grows = g.grows;
   is = record {
@@ -111,37 +111,67 @@ goes-moves {t = t} to q k g = record {
     frames = g.frames;
     is = g.is;
     below = g.are;
-    same = λ b d us. g.same b d us ∙ step-still to b g.frame g.frames d us t (sym (q ∙ ap (λ z. move z t) g.is.wait)) k;
+    same = λ b d us. g.same b d us ∙ step-still (move g.frame.wait t) b g.frame g.frames d us t refl (subst DoesNotEnd (q ∙ ap (λ z. move z t) g.is.wait) k);
   };
 }
 
-pub goes-whole : {nodes more : List Arena.Node} {below : List Frame} {held : Frame} {f : Machine.Frame} {fs : List Machine.Frame} {t : Lexeme} (most : List Arena.Node) (below' : List Frame) (part : Part) (form : Form) → below ≡ [] → Move.Ends form ≡ move held.wait t → (g : Goes nodes more below held f fs t) → Makes more most part (Machine.node form g.frame) g.frame.read → Ends nodes most below' (Ended.Whole part) f fs t
-goes-whole {nodes = nodes} {more = more} {f = f} {fs = fs} {t = t} most below' part form e q g m = record {
-  grows = grows-on nodes more most g.grows m.grows;
-  is = record {
-    tree = Machine.node form g.frame;
-    spelled = g.frame.read;
-    is = m.is;
-    same = λ b d us. g.same b d us ∙ (ap (λ z. part_step z b g.frame d us t) (none g.frames (subst (λ z. AreFrames more (reverse z) g.frames) e g.are)) ∙ step-whole form b g.frame d us t (sym (q ∙ ap (λ z. move z t) g.is.wait)));
-  };
+pub not-some : (o : Option Part) → ((part : Part) → o ≡ Some part → ⊥) → o ≡ None
+not-some None k = refl
+not-some (Some part) k = absurd (k part refl)
+
+-- no frame is left below the one that ends
+pub goes-whole : {nodes more : List Arena.Node} {below : List Frame} {held : Frame} {f : Machine.Frame} {fs : List Machine.Frame} {t : Lexeme} (most : List Arena.Node) (left : List Frame) (last : Frame) (part : Part) (form : Form) (ended : Option Part) → Move.Ends form ≡ move held.wait t → ended ≡ Some part → (g : Goes nodes more below held f fs t) → EndsFrame more most left last form g.frame g.frames ended → Ends nodes most left last (Ended.Whole part) f fs t
+goes-whole {nodes = nodes} {more = more} {t = t} most left last part form ended q s g n =
+    let e : EndsFrame more most left last form g.frame g.frames (Some part) = subst (EndsFrame more most left last form g.frame g.frames) s n in
+    record {
+      grows = grows-on nodes more most g.grows e.grows;
+      is = record {
+        tree = Machine.node form g.frame;
+        spelled = g.frame.read;
+        is = e.is.1;
+        same = λ b d us. g.same b d us ∙ (ap (λ z. part_step z b g.frame d us t) e.is.0 ∙ step-whole form b g.frame d us t (sym (q ∙ ap (λ z. move z t) g.is.wait)));
+      };
+    }
+
+-- and the one below goes on
+pub goes-on : {nodes more : List Arena.Node} {below : List Frame} {held : Frame} {f : Machine.Frame} {fs : List Machine.Frame} {t : Lexeme} (most : List Arena.Node) (left : List Frame) (outer : Frame) (form : Form) (ended : Option Part) → Move.Ends form ≡ move held.wait t → ended ≡ None → (g : Goes nodes more below held f fs t) → EndsFrame more most left outer form g.frame g.frames ended → Goes nodes most left outer f fs t
+goes-on {nodes = nodes} {more = more} {t = t} most left outer form ended q s g n =
+    let e : EndsFrame more most left outer form g.frame g.frames None = subst (EndsFrame more most left outer form g.frame g.frames) s n in
+    record {
+      frame = Machine.taking e.is.outer (Machine.node form g.frame) g.frame.read;
+      frames = e.is.outers;
+      grows = grows-on nodes more most g.grows e.grows;
+      is = e.is.is;
+      are = e.is.below;
+      same = λ b d us. g.same b d us ∙ (ap (λ z. part_step z b g.frame d us t) e.is.was ∙ step-ends form b g.frame e.is.outer e.is.outers d us t (sym (q ∙ ap (λ z. move z t) g.is.wait)));
+    }
+
+-- ---- one frame ends
+
+pub ended-alone : (nodes more : List Arena.Node) (below left : List Frame) (held : Frame) (part : Part) (form : Form) (f : Machine.Frame) (fs : List Machine.Frame) → below ≡ [] → AreFrames nodes (reverse below) fs → Makes nodes more part (Machine.node form f) f.read → EndsFrame nodes more left held form f fs (Some part)
+ended-alone nodes more below left held part form f fs e a m = record {
+  grows = m.grows;
+  is = (none fs (subst (λ z. AreFrames nodes (reverse z) fs) e a), m.is);
 }
   where
-    none : (gs : List Machine.Frame) → AreFrames more [] gs → gs ≡ []
+    none : (gs : List Machine.Frame) → AreFrames nodes [] gs → gs ≡ []
     none [] a = refl
     none (h ∷ hs) a = absurd a
 
-pub goes-on : {nodes more : List Arena.Node} {below : List Frame} {held : Frame} {f : Machine.Frame} {fs : List Machine.Frame} {t : Lexeme} (most : List Arena.Node) (below' : List Frame) (outer taken : Frame) (part : Part) (form : Form) → reverse below ≡ outer ∷ reverse below' → Move.Ends form ≡ move held.wait t → (g : Goes nodes more below held f fs t) → Makes more most part (Machine.node form g.frame) g.frame.read → ((h : Machine.Frame) → (x : Tree) → (b : List Lexeme) → IsFrame most outer h → IsPart most part x b → IsFrame most taken (Machine.frame (after_part outer.wait) (then h.parts x) (h.read ++ b))) → Goes nodes most below' taken f fs t
-goes-on {nodes = nodes} {more = more} {f = f} {fs = fs} {t = t} most below' outer taken part form e q g m k = by g.frames (subst (λ z. AreFrames more z g.frames) e g.are) (λ b d us. g.same b d us)
+pub ended-below : (nodes more : List Arena.Node) (below left : List Frame) (outer taken : Frame) (part : Part) (form : Form) (f : Machine.Frame) (fs : List Machine.Frame) → reverse below ≡ outer ∷ reverse left → AreFrames nodes (reverse below) fs → Makes nodes more part (Machine.node form f) f.read → ((h : Machine.Frame) → (x : Tree) → (b : List Lexeme) → IsFrame more outer h → IsPart more part x b → IsFrame more taken (Machine.frame (after_part outer.wait) (then h.parts x) (h.read ++ b))) → EndsFrame nodes more left taken form f fs None
+ended-below nodes more below left outer taken part form f fs e a m k = record {
+  grows = m.grows;
+  is = by fs (subst (λ z. AreFrames nodes z fs) e a);
+}
   where
-    by : (gs : List Machine.Frame) → AreFrames more (outer ∷ reverse below') gs → ((b : Machine.Begun) → (d : ℕ) → (us : List UnitTree) → part_step fs b f d us t ≡ part_step gs b g.frame d us t) → Goes nodes most below' taken f fs t
-    by [] a same = absurd a
-    by (h ∷ hs) a same = record {
-      frame = Machine.taking h (Machine.node form g.frame) g.frame.read;
-      frames = hs;
-      grows = grows-on nodes more most g.grows m.grows;
-      is = subst (λ z. IsFrame most taken (Machine.frame (after_part z) (then h.parts (Machine.node form g.frame)) (h.read ++ g.frame.read))) a.0.wait (k h (Machine.node form g.frame) g.frame.read (frame-grows more most outer h m.grows a.0) m.is);
-      are = frames-grow more most _ hs m.grows a.1;
-      same = λ b d us. same b d us ∙ step-ends form b g.frame h hs d us t (sym (q ∙ ap (λ z. move z t) g.is.wait));
+    by : (gs : List Machine.Frame) → AreFrames nodes (outer ∷ reverse left) gs → TakesBelow more left taken form f gs
+    by [] a = absurd a
+    by (h ∷ hs) a = record {
+      outer = h;
+      outers = hs;
+      was = refl;
+      is = subst (λ z. IsFrame more taken (Machine.frame (after_part z) (then h.parts (Machine.node form f)) (h.read ++ f.read))) a.0.wait (k h (Machine.node form f) f.read (frame-grows nodes more outer h m.grows a.0) m.is);
+      below = frames-grow nodes more _ hs m.grows a.1;
     }
 
 pub popped : (old new : List Frame) (last : Frame) → old ≡ new ++ last ∷ [] → reverse old ≡ last ∷ reverse new
@@ -153,33 +183,24 @@ nothing-left (h ∷ hs) e = cc
 
 -- ---- the step, once the frames have ended
 
-pub whole-there : {nodes : List Arena.Node} {part : Part} {f : Machine.Frame} {fs : List Machine.Frame} {t : Lexeme} → EndsWhole nodes part f fs t → part.node < length nodes
-whole-there w = w.is.there
+pub ended-whole : (nodes : List Arena.Node) (below : List Frame) (held : Frame) (ended : Ended) (part : Part) (f : Machine.Frame) (fs : List Machine.Frame) (t : Lexeme) → ended ≡ Ended.Whole part → IsEnded nodes below held ended f fs t → EndsWhole nodes part f fs t
+ended-whole nodes below held ended part f fs t q e = subst (λ z. IsEnded nodes below held z f fs t) q e
 
-pub ended-whole : (nodes more : List Arena.Node) (below : List Frame) (ended : Ended) (part : Part) (f : Machine.Frame) (fs : List Machine.Frame) (t : Lexeme) → ended ≡ Ended.Whole part → Ends nodes more below ended f fs t → Grows nodes more × EndsWhole more part f fs t
-ended-whole nodes more below ended part f fs t q e = (e.grows, subst (λ z. IsEnded more below z f fs t) q e.is)
+pub ended-moves : (nodes : List Arena.Node) (below : List Frame) (held : Frame) (ended : Ended) (f : Machine.Frame) (fs : List Machine.Frame) (t : Lexeme) → ended ≡ Ended.Moves → IsEnded nodes below held ended f fs t → EndsMoving nodes below held f fs t
+ended-moves nodes below held ended f fs t q e = subst (λ z. IsEnded nodes below held z f fs t) q e
 
-pub ended-moves : (nodes more : List Arena.Node) (below : List Frame) (ended : Ended) (held : Frame) (to : Move) (f : Machine.Frame) (fs : List Machine.Frame) (t : Lexeme) → ended ≡ Ended.Moves held to → Ends nodes more below ended f fs t → Grows nodes more × EndsMoving more below held to f fs t
-ended-moves nodes more below ended held to f fs t q e = (e.grows, subst (λ z. IsEnded more below z f fs t) q e.is)
+pub step-whole-is : (nodes : List Arena.Node) (part : Part) (b : Machine.Begun) (f : Machine.Frame) (fs : List Machine.Frame) (d : ℕ) (us : List UnitTree) (t : Lexeme) (state : Option State) → (w : EndsWhole nodes part f fs t) → IsMoved nodes state (finished b w.tree d us t) → Moves nodes nodes state (part_step fs b f d us t)
+step-whole-is nodes part b f fs d us t state w i = still (subst (IsMoved nodes state) (sym (w.same b d us)) i)
 
-pub step-whole-is : (nodes more : List Arena.Node) (part : Part) (b : Machine.Begun) (f : Machine.Frame) (fs : List Machine.Frame) (d : ℕ) (us : List UnitTree) (t : Lexeme) (state : Option State) → Grows nodes more → (w : EndsWhole more part f fs t) → IsMoved more state (finished b w.tree d us t) → Moves nodes more state (part_step fs b f d us t)
-step-whole-is nodes more part b f fs d us t state g w i = record { grows = g; is = subst (IsMoved more state) (sym (w.same b d us)) i }
+pub step-moves-is : (nodes more : List Arena.Node) (below : List Frame) (held : Frame) (b : Machine.Begun) (f : Machine.Frame) (fs : List Machine.Frame) (d : ℕ) (us : List UnitTree) (t : Lexeme) (state : Option State) → (w : EndsMoving nodes below held f fs t) → Moves nodes more state (moved (move w.frame.wait t) b w.frame w.frames d us t (λ form. None)) → Moves nodes more state (part_step fs b f d us t)
+step-moves-is nodes more below held b f fs d us t state w m = subst (Moves nodes more state) (sym (w.same b d us)) m
 
-pub step-moves-is : (nodes more most : List Arena.Node) (below : List Frame) (held : Frame) (to : Move) (b : Machine.Begun) (f : Machine.Frame) (fs : List Machine.Frame) (d : ℕ) (us : List UnitTree) (t : Lexeme) (state : Option State) → Grows nodes more → (w : EndsMoving more below held to f fs t) → Moves more most state (moved to b w.frame w.frames d us t (λ form. None)) → Moves nodes most state (part_step fs b f d us t)
-step-moves-is nodes more most below held to b f fs d us t state g w m = record {
-  grows = grows-on nodes more most g m.grows;
-  is = subst (IsMoved most state) (sym (w.same b d us)) m.is;
-}
+pub moves-as : (nodes more : List Arena.Node) (held : Frame) (to : Move) (b : Machine.Begun) (f : Machine.Frame) (fs : List Machine.Frame) (d : ℕ) (us : List UnitTree) (t : Lexeme) (state : Option State) → to ≡ move held.wait t → IsFrame nodes held f → Moves nodes more state (moved to b f fs d us t (λ form. None)) → Moves nodes more state (moved (move f.wait t) b f fs d us t (λ form. None))
+moves-as nodes more held to b f fs d us t state q i m = subst (λ z. Moves nodes more state (moved z b f fs d us t (λ form. None))) (q ∙ ap (λ z. move z t) i.wait) m
 
--- the unit that is read, once its frames have ended
-pub under-ended : (nodes more : List Arena.Node) (unfinished after : Unfinished) (b : Machine.Begun) (fs gs : List Machine.Frame) (d : ℕ) (us : List UnitTree) → after.reached ≡ unfinished.reached → after.begun ≡ unfinished.begun → Grows nodes more → IsUnder nodes unfinished b fs d us → AreFrames more (reverse after.below.items) gs → IsUnder more after b gs d us
-under-ended nodes more unfinished after b fs gs d us r s g u a =
-    let v = under-grows nodes more unfinished b fs d us g u in
-    record {
-      reached = rw r v.reached;
-      begun = rw s v.begun;
-      below = a;
-    }
+-- nodes were added before
+pub moves-later : (nodes more most : List Arena.Node) (state : Option State) (st : Option Machine.State) → Grows nodes more → Moves more most state st → Moves nodes most state st
+moves-later nodes more most state st g m = record { grows = grows-on nodes more most g m.grows; is = m.is }
 
 -- ---- an expression or bounds that are whole
 
@@ -220,6 +241,9 @@ same-bounds st kind = ap (λ z. cond z (finish_bounds (Some st)) None) (closes k
     closes (LexKind.Mark Mark.RightBracket) = refl
     closes (LexKind.Mark _) = refl
     closes _ = refl
+
+pub heard-still : {nodes : List Arena.Node} {reading : Reading} {goal : Goal} {st : Expressions.State} {read : List Lexeme} {t : Lexeme} {heard : Heard} → IsHeard nodes reading goal st read t heard → Hears nodes nodes reading goal st read t heard
+heard-still {nodes = nodes} i = record { grows = grows-same nodes; is = i }
 
 pub expression-going : (nodes more : List Arena.Node) (unfinished : Unfinished) (reading : Reading) (b : Machine.Begun) (fs : List Machine.Frame) (d : ℕ) (us : List UnitTree) (st : Expressions.State) (read : List Lexeme) (t : Lexeme) (heard : Heard) → heard ≡ Heard.Going → IsUnder nodes unfinished b fs d us → Hears nodes more reading Goal.Expression st read t heard → Moves nodes more (Some (State.Expression unfinished reading)) (expression_step (done_before (Some st) t.kind) b fs st read d us t)
 expression-going nodes more unfinished reading b fs d us st read t heard q u h =

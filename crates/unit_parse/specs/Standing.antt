@@ -2,6 +2,7 @@
 use Rattle.std.specs.Prelude.{◌≡◌, ℕ, List, [], ◌∷◌, ◌++◌, map, reverse, Option, Some, None}
 use Rattle.tla_symbols.specs.declared.lexeme.LexKind.{LexKind}
 use Rattle.tla_symbols.specs.declared.lexeme.Lexeme.{Lexeme}
+use Rattle.tla_tree.specs.declared.form.Form.{Form}
 use Rattle.tla_tree.specs.Arena as Arena
 use Rattle.tla_tree.specs.Arena.{AreThere, tree_at}
 use Rattle.tla_tree.specs.Syntax.{Tree, Trees, trees}
@@ -13,9 +14,9 @@ use Rattle.expr_parse.specs.Goals.{parts_of}
 use Rattle.expr_parse.specs.Reading.{HasRead, start_of}
 use Rattle.expr_parse.specs.Standing.{IsPart, Grows, place_of}
 use Rattle.unit_grammar.specs.Units.{UnitTree}
-use Rattle.unit_grammar.specs.declared.wait.Move.{Move}
+use Rattle.unit_grammar.specs.Tables.{move}
 use Rattle.unit_grammar.specs.Machine as Machine
-use Rattle.unit_grammar.specs.Machine.{part_step, moved, finished}
+use Rattle.unit_grammar.specs.Machine.{node, taking, part_step, moved, finished}
 use Rattle.unit_parse.specs.declared.frame.Frame.{Frame}
 use Rattle.unit_parse.specs.declared.reached.Reached.{Reached}
 use Rattle.unit_parse.specs.declared.reading.Reading.{Reading}
@@ -130,30 +131,61 @@ pub record EndsWhole (nodes : List Arena.Node) (part : Part) (f : Machine.Frame)
   pub is : IsPart nodes part tree spelled
   pub same : (begun : Machine.Begun) → (depth : ℕ) → (units : List UnitTree) → part_step fs begun f depth units next ≡ finished begun tree depth units next
 
-pub record EndsMoving (nodes : List Arena.Node) (outer : List Frame) (held : Frame) (to : Move) (f : Machine.Frame) (fs : List Machine.Frame) (next : Lexeme) : Type 0 where
+pub record EndsMoving (nodes : List Arena.Node) (outer : List Frame) (held : Frame) (f : Machine.Frame) (fs : List Machine.Frame) (next : Lexeme) : Type 0 where
   pub frame : Machine.Frame
   pub frames : List Machine.Frame
   pub is : IsFrame nodes held frame
   pub below : AreFrames nodes (reverse outer) frames
-  pub same : (begun : Machine.Begun) → (depth : ℕ) → (units : List UnitTree) → part_step fs begun f depth units next ≡ moved to begun frame frames depth units next (λ form. None)
+  pub same : (begun : Machine.Begun) → (depth : ℕ) → (units : List UnitTree) → part_step fs begun f depth units next ≡ moved (move frame.wait next) begun frame frames depth units next (λ form. None)
 
-abbrev pub IsEnded : List Arena.Node → List Frame → Ended → Machine.Frame → List Machine.Frame → Lexeme → Type 0
-IsEnded nodes below (Ended.Whole part) f fs next = EndsWhole nodes part f fs next
-IsEnded nodes below (Ended.Moves held to) f fs next = EndsMoving nodes below held to f fs next
+abbrev pub IsEnded : List Arena.Node → List Frame → Frame → Ended → Machine.Frame → List Machine.Frame → Lexeme → Type 0
+IsEnded nodes below held (Ended.Whole part) f fs next = EndsWhole nodes part f fs next
+IsEnded nodes below held Ended.Moves f fs next = EndsMoving nodes below held f fs next
 
-pub record Ends (nodes more : List Arena.Node) (below : List Frame) (ended : Ended) (f : Machine.Frame) (fs : List Machine.Frame) (next : Lexeme) : Type 0 where
+pub record Ends (nodes more : List Arena.Node) (below : List Frame) (held : Frame) (ended : Ended) (f : Machine.Frame) (fs : List Machine.Frame) (next : Lexeme) : Type 0 where
   pub grows : Grows nodes more
-  pub is : IsEnded more below ended f fs next
+  pub is : IsEnded more below held ended f fs next
+
+-- the frame below has taken the part of the one that ended
+pub record TakesBelow (nodes : List Arena.Node) (left : List Frame) (held : Frame) (form : Form) (f : Machine.Frame) (fs : List Machine.Frame) : Type 0 where
+  pub outer : Machine.Frame
+  pub outers : List Machine.Frame
+  pub was : fs ≡ outer ∷ outers
+  pub is : IsFrame nodes held (taking outer (node form f) f.read)
+  pub below : AreFrames nodes (reverse left) outers
+
+-- or there is none below, and the part is whole
+abbrev pub IsFrameEnded : List Arena.Node → List Frame → Frame → Form → Machine.Frame → List Machine.Frame → Option Part → Type 0
+IsFrameEnded nodes below held form f fs (Some part) = (fs ≡ []) × IsPart nodes part (node form f) f.read
+IsFrameEnded nodes below held form f fs None = TakesBelow nodes below held form f fs
+
+-- one frame has ended
+pub record EndsFrame (nodes more : List Arena.Node) (below : List Frame) (held : Frame) (form : Form) (f : Machine.Frame) (fs : List Machine.Frame) (ended : Option Part) : Type 0 where
+  pub grows : Grows nodes more
+  pub is : IsFrameEnded more below held form f fs ended
 
 -- the state in code stands for some state of the machine
 abbrev pub IsReadyPart : List Arena.Node → Unfinished → Frame → Type 0
 IsReadyPart nodes unfinished frame = (b : Machine.Begun) × (fs : List Machine.Frame) × (depth : ℕ) × (units : List UnitTree) × (f : Machine.Frame) × IsUnder nodes unfinished b fs depth units × IsFrame nodes frame f
+
+abbrev pub IsReadyEnded : List Arena.Node → Unfinished → Frame → Ended → Lexeme → Type 0
+IsReadyEnded nodes unfinished frame ended next = (fs : List Machine.Frame) × (f : Machine.Frame) × IsEnded nodes unfinished.below.items frame ended f fs next
+
+abbrev pub IsReadyTaking : List Arena.Node → Unfinished → Frame → Part → Type 0
+IsReadyTaking nodes unfinished frame part = (b : Machine.Begun) × (fs : List Machine.Frame) × (depth : ℕ) × (units : List UnitTree) × (f : Machine.Frame) × (x : Tree) × (spelled : List Lexeme) × IsUnder nodes unfinished b fs depth units × IsFrame nodes frame f × IsPart nodes part x spelled
 
 abbrev pub IsReadyWhole : List Arena.Node → Unfinished → Part → Type 0
 IsReadyWhole nodes unfinished part = (b : Machine.Begun) × (fs : List Machine.Frame) × (depth : ℕ) × (units : List UnitTree) × (x : Tree) × (spelled : List Lexeme) × IsUnder nodes unfinished b fs depth units × IsPart nodes part x spelled
 
 abbrev pub IsReadyExpression : List Arena.Node → Unfinished → Reading → Type 0
 IsReadyExpression nodes unfinished reading = (b : Machine.Begun) × (fs : List Machine.Frame) × (depth : ℕ) × (units : List UnitTree) × (st : Expressions.State) × (read : List Lexeme) × IsUnder nodes unfinished b fs depth units × IsReading nodes reading Goal.Expression st read
+
+-- and it has heard a lexeme
+abbrev pub HasHeardExpression : List Arena.Node → Unfinished → Reading → Lexeme → Heard → Type 0
+HasHeardExpression nodes unfinished reading next heard = (b : Machine.Begun) × (fs : List Machine.Frame) × (depth : ℕ) × (units : List UnitTree) × (st : Expressions.State) × (read : List Lexeme) × IsUnder nodes unfinished b fs depth units × IsHeard nodes reading Goal.Expression st read next heard
+
+abbrev pub HasHeardBounds : List Arena.Node → Unfinished → Frame → Reading → Lexeme → Heard → Type 0
+HasHeardBounds nodes unfinished frame reading next heard = (b : Machine.Begun) × (depth : ℕ) × (units : List UnitTree) × (f : Machine.Frame) × (st : Expressions.State) × (read : List Lexeme) × IsUnder nodes unfinished b [] depth units × IsFrame nodes frame f × IsHeard nodes reading Goal.Bounds st read next heard
 
 abbrev pub IsReadyBounds : List Arena.Node → Unfinished → Frame → Reading → Type 0
 IsReadyBounds nodes unfinished frame reading = (b : Machine.Begun) × (depth : ℕ) × (units : List UnitTree) × (f : Machine.Frame) × (st : Expressions.State) × (read : List Lexeme) × IsUnder nodes unfinished b [] depth units × IsFrame nodes frame f × IsReading nodes reading Goal.Bounds st read

@@ -1,5 +1,5 @@
 // Frames: parts of units that wait for what is due next.
-ghost use Rattle.std.specs.Prelude.{◌≡◌, ◌<◌, List, [], ◌∷◌, ◌++◌, IfOk, length};
+ghost use Rattle.std.specs.Prelude.{◌≡◌, ◌<◌, List, [], ◌∷◌, ◌++◌, IfOk, OnOk, length};
 ghost use Rattle.tla_symbols.specs.declared.lexeme.Lexeme.{Lexeme};
 ghost use Rattle.tla_tree.specs.Arena.{Node, AreThere};
 ghost use Rattle.tla_tree.specs.Syntax as syntax;
@@ -68,66 +68,85 @@ impl Frame {
     }
 
     /// The frame takes a part, and waits for this.
-    pub(crate) fn takes(self, wait: Wait, part: Part) -> Result<Frame, Memory>
-        ensures { IfOk result (λ more. (nodes : List Node) → (frame : machine.Frame) → (tree : syntax.Tree) → (spelled : List Lexeme) → IsFrame nodes self frame → IsPart nodes part tree spelled → IsFrame nodes more (machine.frame wait (lexemes.then frame.parts tree) (frame.read ++ spelled))) }
+    pub(crate) fn takes(&mut self, wait: Wait, part: Part) -> Result<(), Memory>
+        ensures { OnOk result ((nodes : List Node) → (frame : machine.Frame) → (tree : syntax.Tree)
+            → (spelled : List Lexeme) → IsFrame nodes self.old frame
+            → IsPart nodes part tree spelled
+            → IsFrame nodes self.new
+            (machine.frame wait (lexemes.then frame.parts tree) (frame.read ++ spelled))) }
     {
-        let parts = then(self.parts, part.node)?;
-        Ok(Frame {
-            wait,
-            parts,
-            place: joined(self.place, part.place),
-        })
+        self.parts.push(part.node)?;
+        self.wait = wait;
+        self.place = joined(self.place, part.place);
+        Ok(())
     }
 
     /// The frame takes the bounds that a node has as its children, and waits for this.
     pub(crate) fn takes_bounds(
-        self,
+        &mut self,
         alloc: Global,
         tree: &Tree,
         wait: Wait,
         part: Part,
-    ) -> Result<Frame, Memory>
+    ) -> Result<(), Memory>
         requires { part.node < length tree.now }
-        ensures { IfOk result (λ more. (frame : machine.Frame) → (bounds : syntax.Tree) → (spelled : List Lexeme) → IsFrame tree.now self frame → IsPart tree.now part bounds spelled → IsFrame tree.now more (machine.frame wait (parts_of bounds) (frame.read ++ spelled))) }
+        ensures { OnOk result ((frame : machine.Frame) → (bounds : syntax.Tree)
+            → (spelled : List Lexeme) → IsFrame tree.now self.old frame
+            → IsPart tree.now part bounds spelled
+            → IsFrame tree.now self.new
+            (machine.frame wait (parts_of bounds) (frame.read ++ spelled))) }
     {
-        let parts = copied(alloc, tree.children(part.node))?;
-        Ok(Frame {
-            wait,
-            parts,
-            place: joined(self.place, part.place),
-        })
+        self.parts = copied(alloc, tree.children(part.node))?;
+        self.wait = wait;
+        self.place = joined(self.place, part.place);
+        Ok(())
     }
 
     /// The frame takes a leaf that is made of a lexeme, reads a lexeme, which may be another, and
     /// waits for this.
     pub(crate) fn takes_leaf(
-        self,
+        &mut self,
         tree: &mut Tree,
         form: Form,
         name: Lexeme,
         wait: Wait,
         lexeme: Lexeme,
-    ) -> Result<Frame, Memory>
-        ensures { IfOk result (λ more. (frame : machine.Frame) → IsFrame tree.old self frame → Takes tree.old tree.new more (machine.frame wait (lexemes.then frame.parts (built form Nil (name ∷ []))) (frame.read ++ lexeme ∷ []))) }
+    ) -> Result<(), Memory>
+        ensures { OnOk result ((frame : machine.Frame) → IsFrame tree.old self.old frame
+            → Takes tree.old tree.new self.new (machine.frame wait
+            (lexemes.then frame.parts (built form Nil (name ∷ [])))
+            (frame.read ++ lexeme ∷ []))) }
     {
         let part = leaf(tree, form, name)?;
         let part = Part {
             node: part.node,
             place: Some(lexeme.span),
         };
-        let more = self.takes(wait, part)?;
-        Ok(more)
+        self.takes(wait, part)
     }
 
     /// The node of a frame that ends.
-    pub(crate) fn node(self, tree: &mut Tree, form: Form) -> Result<Part, Memory>
-        requires { AreThere tree.old self.parts }
-        ensures { IfOk result (λ part. (frame : machine.Frame) → IsFrame tree.old self frame → Makes tree.old tree.new part (machine.node form frame) frame.read) }
+    pub(crate) fn node(&self, tree: &mut Tree, form: Form) -> Result<Part, Memory>
+        requires { AreThere tree.old self.now.parts }
+        ensures { IfOk result (λ part. (frame : machine.Frame) → IsFrame tree.old self.now frame
+            → Makes tree.old tree.new part (machine.node form frame) frame.read) }
     {
         let node = add(tree, form, self.parts.as_slice(), covered(self.place))?;
         Ok(Part {
             node,
             place: self.place,
         })
+    }
+
+    /// The node of a frame that ends with a lexeme.
+    pub(crate) fn closed(self, tree: &mut Tree, form: Form, lexeme: Lexeme) -> Result<Part, Memory>
+        requires { (frame : machine.Frame) × IsFrame tree.old self frame }
+        ensures { IfOk result (λ part. (frame : machine.Frame) → IsFrame tree.old self frame
+            → Makes tree.old tree.new part (built form frame.parts (frame.read ++ lexeme ∷ []))
+            (frame.read ++ lexeme ∷ [])) }
+    {
+        let wait = self.wait;
+        let frame = self.reads(wait, lexeme);
+        frame.node(tree, form)
     }
 }

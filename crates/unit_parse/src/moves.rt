@@ -1,34 +1,35 @@
 // What a lexeme does to a frame that does not end before it.
-ghost use Rattle.std.specs.Prelude.{ℕ, List, [], ◌∷◌, None, IfOk};
+ghost use Rattle.std.specs.Prelude.{◌≡◌, ℕ, List, [], ◌∷◌, Some, None, OnOk, IfOk};
+ghost use Rattle.tla_symbols.specs.declared.lexeme.Lexeme.{Lexeme};
 ghost use Rattle.tla_tree.specs.Arena as arena;
+ghost use Rattle.tla_tree.specs.Syntax.{Nil};
 ghost use Rattle.expr_grammar.specs.Machine as expressions;
+ghost use Rattle.expr_parse.specs.Standing.{place_of};
 ghost use Rattle.unit_grammar.specs.Units as units;
 ghost use Rattle.unit_grammar.specs.Machine as machine;
 ghost use Rattle.unit_grammar.specs.declared.wait.Move.TheVariants as Move;
-ghost use Rattle.unit_parse.specs.Standing.{IsFrame, IsUnder, Moves};
+ghost use Rattle.unit_parse.specs.Standing.{IsFrame, IsUnder, IsMoved, Moves};
 
 use crate::frame::Frame;
 use crate::reading::{Heard, Reading};
 use crate::state::{State, Unfinished};
 use crate::whole::shut;
 use expr_parse::Goal;
-use tla_symbols::Lexeme;
+use tla_symbols::{Lexeme, Span};
 use tla_tree::{Form, Tree};
 use tool_list::Memory;
 use unit_grammar::{Move, Wait};
 
 impl Unfinished {
     /// A frame waits for a part above those that do.
-    fn under(self, frame: Frame) -> Result<Unfinished, Memory>
-        ensures { IfOk result (λ more. (nodes : List arena.Node) → (depth : ℕ) → (us : List units.UnitTree) → (b : machine.Begun) → (fs : List machine.Frame) → (f : machine.Frame) → IsUnder nodes self b fs depth us → IsFrame nodes frame f → IsUnder nodes more b (f ∷ fs) depth us) }
+    fn under(&mut self, frame: Frame) -> Result<(), Memory>
+        ensures { OnOk result ((nodes : List arena.Node) → (depth : ℕ) → (us : List units.UnitTree)
+            → (b : machine.Begun) → (fs : List machine.Frame) → (f : machine.Frame)
+            → IsUnder nodes self.old b fs depth us → IsFrame nodes frame f
+            → IsUnder nodes self.new b (f ∷ fs) depth us) }
     {
-        let mut below = self.below;
-        below.push(frame)?;
-        Ok(Unfinished {
-            reached: self.reached,
-            begun: self.begun,
-            below,
-        })
+        self.below.push(frame)?;
+        Ok(())
     }
 
     /// No frame waits below.
@@ -53,13 +54,34 @@ fn begin_expression(
 ) -> Result<Option<State>, Memory>
     ensures { IfOk result (λ moved. (depth : ℕ) → (us : List units.UnitTree) → (b : machine.Begun) → (fs : List machine.Frame) → (f : machine.Frame) → IsUnder tree.old unfinished b fs depth us → IsFrame tree.old frame f → Moves tree.old tree.new moved (machine.reading (expressions.step expressions.start lexeme) b (f ∷ fs) (lexeme ∷ []) depth us)) }
 {
-    let alloc = unfinished.reached.alloc;
-    let unfinished = unfinished.under(frame)?;
-    let mut reading = Reading::new(alloc, Goal::Expression);
+    let mut unfinished = unfinished;
+    unfinished.under(frame)?;
+    let mut reading = Reading::new(unfinished.reached.alloc, Goal::Expression);
     match reading.hears(tree, lexeme)? {
         Heard::Going => Ok(Some(State::Expression(unfinished, reading))),
         _ => Ok(None),
     }
+}
+
+/// A part begins, in a frame of its own that has read the lexemes of the place, and this one waits
+/// for it.
+fn begin_part(
+    unfinished: Unfinished,
+    frame: Frame,
+    wait: Wait,
+    place: Option<Span>,
+) -> Result<Option<State>, Memory>
+    ensures { IfOk result (λ moved. (nodes : List arena.Node) → (depth : ℕ)
+        → (us : List units.UnitTree) → (b : machine.Begun) → (fs : List machine.Frame)
+        → (f : machine.Frame) → (read : List Lexeme) → IsUnder nodes unfinished b fs depth us
+        → IsFrame nodes frame f → place ≡ place_of read
+        → IsMoved nodes moved
+        (Some (machine.state depth us (machine.Part b (machine.frame wait Nil read) (f ∷ fs))))) }
+{
+    let mut unfinished = unfinished;
+    unfinished.under(frame)?;
+    let frame = Frame::new(unfinished.reached.alloc, wait, place);
+    Ok(Some(State::Part(unfinished, frame)))
 }
 
 /// The frame takes a leaf that is made of a lexeme, and reads one, which may be another.
@@ -74,7 +96,8 @@ fn take_leaf(
 ) -> Result<Option<State>, Memory>
     ensures { IfOk result (λ moved. (depth : ℕ) → (us : List units.UnitTree) → (b : machine.Begun) → (fs : List machine.Frame) → (f : machine.Frame) → IsUnder tree.old unfinished b fs depth us → IsFrame tree.old frame f → Moves tree.old tree.new moved (machine.moved (Move.LeafOf form name wait) b f fs depth us lexeme (λ x. None))) }
 {
-    let frame = frame.takes_leaf(tree, form, name, wait, lexeme)?;
+    let mut frame = frame;
+    frame.takes_leaf(tree, form, name, wait, lexeme)?;
     Ok(Some(State::Part(unfinished, frame)))
 }
 
@@ -89,8 +112,7 @@ fn close(
     requires { (f : machine.Frame) × IsFrame tree.old frame f }
     ensures { IfOk result (λ moved. (depth : ℕ) → (us : List units.UnitTree) → (b : machine.Begun) → (fs : List machine.Frame) → (f : machine.Frame) → IsUnder tree.old unfinished b fs depth us → IsFrame tree.old frame f → Moves tree.old tree.new moved (machine.moved (Move.Close form) b f fs depth us lexeme (λ x. None))) }
 {
-    let wait = frame.wait;
-    let part = frame.reads(wait, lexeme).node(tree, form)?;
+    let part = frame.closed(tree, form, lexeme)?;
     shut(unfinished, part)
 }
 
@@ -112,16 +134,8 @@ pub(crate) fn move_frame(
         Move::LeafOf(form, name, wait) => take_leaf(
             unfinished, frame, tree, form, name, wait, lexeme,
         ),
-        Move::Push(wait) => {
-            let unfinished = unfinished.under(frame)?;
-            let frame = Frame::new(alloc, wait, Some(lexeme.span));
-            Ok(Some(State::Part(unfinished, frame)))
-        }
-        Move::Opens(wait, first) => {
-            let unfinished = unfinished.under(frame.reads(wait, lexeme))?;
-            let frame = Frame::new(alloc, first, None);
-            Ok(Some(State::Part(unfinished, frame)))
-        }
+        Move::Push(wait) => begin_part(unfinished, frame, wait, Some(lexeme.span)),
+        Move::Opens(wait, first) => begin_part(unfinished, frame.reads(wait, lexeme), first, None),
         Move::Close(form) => close(unfinished, frame, tree, form, lexeme),
         Move::Ends(_) => Ok(None),
         Move::Expression => begin_expression(unfinished, frame, tree, lexeme),

@@ -1,15 +1,18 @@
 // Which parts of a unit end before a lexeme, and what it does to the one that is left.
-ghost use Rattle.std.specs.Prelude.{◌≡◌, ℕ, List, [], reverse, Some, IfOk};
+ghost use Rattle.std.specs.Prelude.{◌≡◌, ◌<◌, ℕ, List, [], ◌++◌, reverse, Some, None, IfOk, length};
 ghost use Rattle.tla_symbols.specs.declared.lexeme.Lexeme.{Lexeme};
+ghost use Rattle.tla_tree.specs.Arena.{AreThere};
 ghost use Rattle.tla_tree.specs.Syntax as syntax;
+ghost use Rattle.tla_tree.specs.Lexemes as lexemes;
 ghost use Rattle.expr_grammar.specs.Machine as expressions;
 ghost use Rattle.expr_grammar.specs.Following.{done_before};
 ghost use Rattle.expr_parse.specs.declared.goal.Goal.TheVariants as goals;
+ghost use Rattle.expr_parse.specs.Goals.{parts_of};
 ghost use Rattle.expr_parse.specs.Standing.{IsPart};
 ghost use Rattle.unit_grammar.specs.Units as units;
 ghost use Rattle.unit_grammar.specs.Tables as tables;
 ghost use Rattle.unit_grammar.specs.Machine as machine;
-ghost use Rattle.unit_parse.specs.Standing.{AreFrames, IsFrame, IsUnder, IsReading, Moves, Ends, IsReadyPart, IsReadyWhole, IsReadyExpression, IsReadyBounds};
+ghost use Rattle.unit_parse.specs.Standing.{AreFrames, IsFrame, IsBegun, IsReached, IsUnder, IsReading, IsHeard, HasHeardExpression, HasHeardBounds, Moves, EndsFrame, IsEnded, Ends, IsReadyEnded, IsReadyPart, IsReadyTaking, IsReadyWhole, IsReadyExpression, IsReadyBounds};
 
 use crate::frame::Frame;
 use crate::moves::move_frame;
@@ -18,18 +21,18 @@ use crate::state::{State, Unfinished};
 use crate::whole::finish;
 use expr_parse::Part;
 use tla_symbols::Lexeme;
-use tla_tree::Tree;
+use tla_tree::{Form, Tree};
 use tool_list::Memory;
 use unit_grammar::{Move, Wait};
 use unit_tables::{after_bounds, after_expression, after_part, frame_move};
 
 /// The frames that end before a lexeme have ended.
-#[derive(Drop)]
+#[derive(Clone, Copy)]
 pub(crate) enum Ended {
     /// The outermost one too, and this is its part.
     Whole(Part),
-    /// But for this frame, which the lexeme moves.
-    Moves(Frame, Move),
+    /// But for one, which the lexeme moves.
+    Moves,
 }
 
 /// The places of an operator's declaration that were read.
@@ -52,28 +55,90 @@ fn next_move(wait: Wait, lexeme: Lexeme) -> Result<Move, Memory>
     Ok(frame_move(wait, lexeme))
 }
 
+/// Ends a frame: the one below takes its part and its place. The part, where there is none below.
+fn end_frame(
+    below: &mut Vec<Frame>,
+    frame: &mut Frame,
+    tree: &mut Tree,
+    form: Form,
+) -> Result<Option<Part>, Memory>
+    requires { AreThere tree.old frame.old.parts }
+    ensures ends { IfOk result (λ ended. (f : machine.Frame) → (fs : List machine.Frame)
+        → IsFrame tree.old frame.old f → AreFrames tree.old (reverse below.old.items) fs
+        → EndsFrame tree.old tree.new below.new.items frame.new form f fs ended) }
+    ensures fewer { IfOk result (λ ended. ended ≡ None
+        → length below.new.items < length below.old.items) }
+{
+    let part = frame.node(tree, form)?;
+    let Some(outer) = below.pop() else {
+        return Ok(Some(part));
+    };
+    let wait = after_part(outer.wait);
+    *frame = outer;
+    frame.takes(wait, part)?;
+    Ok(None)
+}
+
 /// Ends the frames that end before the lexeme.
 fn end_frames(
     below: &mut Vec<Frame>,
-    innermost: Frame,
+    frame: &mut Frame,
     tree: &mut Tree,
     lexeme: Lexeme,
 ) -> Result<Ended, Memory>
-    requires { (f : machine.Frame) × (fs : List machine.Frame) × IsFrame tree.old innermost f × AreFrames tree.old (reverse below.old.items) fs }
-    ensures { IfOk result (λ ended. (f : machine.Frame) → (fs : List machine.Frame) → IsFrame tree.old innermost f → AreFrames tree.old (reverse below.old.items) fs → Ends tree.old tree.new below.new.items ended f fs lexeme) }
+    requires { (f : machine.Frame) × (fs : List machine.Frame)
+        × IsFrame tree.old frame.old f × AreFrames tree.old (reverse below.old.items) fs }
+    ensures { IfOk result (λ ended. (f : machine.Frame) → (fs : List machine.Frame)
+        → IsFrame tree.old frame.old f → AreFrames tree.old (reverse below.old.items) fs
+        → Ends tree.old tree.new below.new.items frame.new ended f fs lexeme) }
 {
-    let mut frame = innermost;
-    loop {
+    'ending: loop {
         let next = next_move(frame.wait, lexeme)?;
         let Move::Ends(form) = next else {
-            return Ok(Ended::Moves(frame, next));
+            return Ok(Ended::Moves);
         };
-        let part = frame.node(tree, form)?;
-        let Some(outer) = below.pop() else {
+        if let Some(part) = end_frame(below, frame, tree, form)? {
             return Ok(Ended::Whole(part));
-        };
-        let wait = after_part(outer.wait);
-        frame = outer.takes(wait, part)?;
+        }
+    }
+}
+
+/// What a lexeme does to a frame that does not end before it.
+fn move_on(
+    unfinished: Unfinished,
+    frame: Frame,
+    tree: &mut Tree,
+    lexeme: Lexeme,
+) -> Result<Option<State>, Memory>
+    requires { (f : machine.Frame) × IsFrame tree.old frame f }
+    ensures { IfOk result (λ moved. (depth : ℕ) → (us : List units.UnitTree) → (b : machine.Begun)
+        → (fs : List machine.Frame) → (f : machine.Frame)
+        → IsUnder tree.old unfinished b fs depth us → IsFrame tree.old frame f
+        → Moves tree.old tree.new moved
+        (machine.moved (tables.move f.wait lexeme) b f fs depth us lexeme (λ form. None))) }
+{
+    let to = next_move(frame.wait, lexeme)?;
+    move_frame(unfinished, frame, tree, to, lexeme)
+}
+
+/// What a lexeme does once the frames that end before it have ended.
+fn go_on(
+    unfinished: Unfinished,
+    frame: Frame,
+    ended: Ended,
+    tree: &mut Tree,
+    lexeme: Lexeme,
+) -> Result<Option<State>, Memory>
+    requires { IsReadyEnded tree.old unfinished frame ended lexeme }
+    ensures { IfOk result (λ moved. (depth : ℕ) → (us : List units.UnitTree) → (b : machine.Begun)
+        → (fs : List machine.Frame) → (f : machine.Frame)
+        → IsReached tree.old unfinished.reached depth us → IsBegun tree.old unfinished.begun b
+        → IsEnded tree.old unfinished.below.items frame ended f fs lexeme
+        → Moves tree.old tree.new moved (machine.part_step fs b f depth us lexeme)) }
+{
+    match ended {
+        Ended::Whole(part) => finish(unfinished, tree, part, lexeme),
+        Ended::Moves => move_on(unfinished, frame, tree, lexeme),
     }
 }
 
@@ -88,10 +153,32 @@ pub(crate) fn part_step(
     ensures { IfOk result (λ moved. (depth : ℕ) → (us : List units.UnitTree) → (b : machine.Begun) → (fs : List machine.Frame) → (f : machine.Frame) → IsUnder tree.old unfinished b fs depth us → IsFrame tree.old frame f → Moves tree.old tree.new moved (machine.part_step fs b f depth us lexeme)) }
 {
     let mut unfinished = unfinished;
-    match end_frames(&mut unfinished.below, frame, tree, lexeme)? {
-        Ended::Whole(part) => finish(unfinished.reached, unfinished.begun, tree, part, lexeme),
-        Ended::Moves(frame, to) => move_frame(unfinished, frame, tree, to, lexeme),
-    }
+    let mut frame = frame;
+    let ended = end_frames(&mut unfinished.below, &mut frame, tree, lexeme)?;
+    go_on(unfinished, frame, ended, tree, lexeme)
+}
+
+/// A frame takes an expression that is whole before the lexeme.
+fn give_to(
+    unfinished: Unfinished,
+    frame: Frame,
+    part: Part,
+    tree: &mut Tree,
+    lexeme: Lexeme,
+) -> Result<Option<State>, Memory>
+    requires { IsReadyTaking tree.old unfinished frame part }
+    ensures { IfOk result (λ moved. (depth : ℕ) → (us : List units.UnitTree) → (b : machine.Begun)
+        → (fs : List machine.Frame) → (f : machine.Frame) → (x : syntax.Tree)
+        → (spelled : List Lexeme) → IsUnder tree.old unfinished b fs depth us
+        → IsFrame tree.old frame f → IsPart tree.old part x spelled
+        → Moves tree.old tree.new moved (machine.part_step fs b
+        (machine.frame (tables.after_expression f.wait) (lexemes.then f.parts x)
+        (f.read ++ spelled)) depth us lexeme)) }
+{
+    let mut frame = frame;
+    let wait = after_expression(frame.wait);
+    frame.takes(wait, part)?;
+    part_step(unfinished, frame, tree, lexeme)
 }
 
 /// An expression is whole before the lexeme.
@@ -105,12 +192,34 @@ fn give(
     ensures { IfOk result (λ moved. (depth : ℕ) → (us : List units.UnitTree) → (b : machine.Begun) → (fs : List machine.Frame) → (x : syntax.Tree) → (spelled : List Lexeme) → IsUnder tree.old unfinished b fs depth us → IsPart tree.old part x spelled → Moves tree.old tree.new moved (machine.given fs b x spelled depth us lexeme)) }
 {
     let mut unfinished = unfinished;
-    let Some(frame) = unfinished.below.pop() else {
-        return finish(unfinished.reached, unfinished.begun, tree, part, lexeme);
-    };
-    let wait = after_expression(frame.wait);
-    let frame = frame.takes(wait, part)?;
-    part_step(unfinished, frame, tree, lexeme)
+    match unfinished.below.pop() {
+        Some(frame) => give_to(unfinished, frame, part, tree, lexeme),
+        None => finish(unfinished, tree, part, lexeme),
+    }
+}
+
+/// What a lexeme does that an expression has heard.
+fn expression_heard(
+    unfinished: Unfinished,
+    reading: Reading,
+    heard: Heard,
+    tree: &mut Tree,
+    lexeme: Lexeme,
+) -> Result<Option<State>, Memory>
+    requires { HasHeardExpression tree.old unfinished reading lexeme heard }
+    ensures { IfOk result (λ moved. (depth : ℕ) → (us : List units.UnitTree) → (b : machine.Begun)
+        → (fs : List machine.Frame) → (st : expressions.State) → (read : List Lexeme)
+        → IsUnder tree.old unfinished b fs depth us
+        → IsHeard tree.old reading goals.Expression st read lexeme heard
+        → Moves tree.old tree.new moved
+        (machine.expression_step (done_before (Some st) lexeme.kind) b fs st read depth us
+        lexeme)) }
+{
+    match heard {
+        Heard::Going => Ok(Some(State::Expression(unfinished, reading))),
+        Heard::Done(part) => give(unfinished, part, tree, lexeme),
+        Heard::Refused => Ok(None),
+    }
 }
 
 /// A lexeme where an expression is read.
@@ -124,9 +233,54 @@ pub(crate) fn expression_step(
     ensures { IfOk result (λ moved. (depth : ℕ) → (us : List units.UnitTree) → (b : machine.Begun) → (fs : List machine.Frame) → (st : expressions.State) → (read : List Lexeme) → IsUnder tree.old unfinished b fs depth us → IsReading tree.old reading goals.Expression st read → Moves tree.old tree.new moved (machine.expression_step (done_before (Some st) lexeme.kind) b fs st read depth us lexeme)) }
 {
     let mut reading = reading;
-    match reading.hears(tree, lexeme)? {
-        Heard::Going => Ok(Some(State::Expression(unfinished, reading))),
-        Heard::Done(part) => give(unfinished, part, tree, lexeme),
+    let heard = reading.hears(tree, lexeme)?;
+    expression_heard(unfinished, reading, heard, tree, lexeme)
+}
+
+/// A frame takes the bounds that are whole before the lexeme.
+fn take_bounds(
+    unfinished: Unfinished,
+    frame: Frame,
+    part: Part,
+    tree: &mut Tree,
+    lexeme: Lexeme,
+) -> Result<Option<State>, Memory>
+    requires { IsReadyTaking tree.old unfinished frame part }
+    ensures { IfOk result (λ moved. (depth : ℕ) → (us : List units.UnitTree) → (b : machine.Begun)
+        → (fs : List machine.Frame) → (f : machine.Frame) → (x : syntax.Tree)
+        → (spelled : List Lexeme) → IsUnder tree.old unfinished b fs depth us
+        → IsFrame tree.old frame f → IsPart tree.old part x spelled
+        → Moves tree.old tree.new moved (machine.part_step fs b
+        (machine.frame (tables.after_bounds f.wait) (parts_of x) (f.read ++ spelled))
+        depth us lexeme)) }
+{
+    let mut frame = frame;
+    let wait = after_bounds(frame.wait);
+    frame.takes_bounds(unfinished.reached.alloc, tree, wait, part)?;
+    part_step(unfinished, frame, tree, lexeme)
+}
+
+/// What a lexeme does that the bounds in a function's head have heard.
+fn bounds_heard(
+    unfinished: Unfinished,
+    frame: Frame,
+    reading: Reading,
+    heard: Heard,
+    tree: &mut Tree,
+    lexeme: Lexeme,
+) -> Result<Option<State>, Memory>
+    requires { HasHeardBounds tree.old unfinished frame reading lexeme heard }
+    ensures { IfOk result (λ moved. (depth : ℕ) → (us : List units.UnitTree) → (b : machine.Begun)
+        → (f : machine.Frame) → (st : expressions.State) → (read : List Lexeme)
+        → IsUnder tree.old unfinished b [] depth us → IsFrame tree.old frame f
+        → IsHeard tree.old reading goals.Bounds st read lexeme heard
+        → Moves tree.old tree.new moved
+        (machine.bounds_step (machine.bounds_before (Some st) lexeme.kind) b f st read depth us
+        lexeme)) }
+{
+    match heard {
+        Heard::Going => Ok(Some(State::Bounds(unfinished, frame, reading))),
+        Heard::Done(part) => take_bounds(unfinished, frame, part, tree, lexeme),
         Heard::Refused => Ok(None),
     }
 }
@@ -142,15 +296,7 @@ pub(crate) fn bounds_step(
     requires { IsReadyBounds tree.old unfinished frame reading }
     ensures { IfOk result (λ moved. (depth : ℕ) → (us : List units.UnitTree) → (b : machine.Begun) → (f : machine.Frame) → (st : expressions.State) → (read : List Lexeme) → IsUnder tree.old unfinished b [] depth us → IsFrame tree.old frame f → IsReading tree.old reading goals.Bounds st read → Moves tree.old tree.new moved (machine.bounds_step (machine.bounds_before (Some st) lexeme.kind) b f st read depth us lexeme)) }
 {
-    let alloc = unfinished.reached.alloc;
     let mut reading = reading;
-    match reading.hears(tree, lexeme)? {
-        Heard::Going => Ok(Some(State::Bounds(unfinished, frame, reading))),
-        Heard::Done(part) => {
-            let wait = after_bounds(frame.wait);
-            let frame = frame.takes_bounds(alloc, tree, wait, part)?;
-            part_step(unfinished, frame, tree, lexeme)
-        }
-        Heard::Refused => Ok(None),
-    }
+    let heard = reading.hears(tree, lexeme)?;
+    bounds_heard(unfinished, frame, reading, heard, tree, lexeme)
 }

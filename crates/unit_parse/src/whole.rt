@@ -4,11 +4,12 @@ ghost use Rattle.tla_symbols.specs.declared.lexeme.Lexeme.{Lexeme};
 ghost use Rattle.tla_tree.specs.Arena as arena;
 ghost use Rattle.tla_tree.specs.Arena.{tree_at};
 ghost use Rattle.tla_tree.specs.Syntax as syntax;
+ghost use Rattle.tla_tree.specs.Lexemes as lexemes;
 ghost use Rattle.expr_parse.specs.Standing.{IsPart};
 ghost use Rattle.unit_grammar.specs.Units as units;
 ghost use Rattle.unit_grammar.specs.Machine as machine;
 ghost use Rattle.unit_parse.specs.Modules.{AreUnits};
-ghost use Rattle.unit_parse.specs.Standing.{IsBegun, IsReached, IsUnder, IsMoved};
+ghost use Rattle.unit_parse.specs.Standing.{AreParts, IsBegun, IsReached, IsUnder, IsMoved};
 
 use crate::due::{after_declared, after_unit};
 use crate::frame::then;
@@ -17,7 +18,7 @@ use crate::state::{Begun, State, Unfinished};
 use expr_parse::Part;
 use tla_symbols::Lexeme;
 use tla_tree::{Form, Tree, Unit};
-use tool_list::Memory;
+use tool_list::{List, Memory};
 use unit_tables::after_part;
 
 /// The unit of a definition, by its form.
@@ -32,60 +33,88 @@ fn defined(tree: &Tree, local: Option<Lexeme>, node: u32) -> Unit
     }
 }
 
-/// A whole part of a unit, before a lexeme.
-pub(crate) fn finish(
+/// Declarations of constants, and one more, before a lexeme.
+fn declare(
+    reached: Reached,
+    declarations: List<u32>,
+    node: u32,
+    lexeme: Lexeme,
+) -> Result<Option<State>, Memory>
+    ensures { IfOk result (λ moved. (nodes : List arena.Node) → (depth : ℕ)
+        → (us : List units.UnitTree) → (xs : syntax.Trees) → (x : syntax.Tree)
+        → (spelled : List Lexeme) → (part : Part) → IsReached nodes reached depth us
+        → AreParts nodes declarations xs → part.node ≡ node → IsPart nodes part x spelled
+        → IsMoved nodes moved (machine.after_declared (lexemes.then xs x) depth us lexeme)) }
+{
+    let declarations = then(declarations, node)?;
+    after_declared(reached, declarations, lexeme)
+}
+
+/// A whole part of a unit that was read after others, before a lexeme.
+fn finished(
     reached: Reached,
     begun: Begun,
+    tree: &Tree,
+    node: u32,
+    lexeme: Lexeme,
+) -> Result<Option<State>, Memory>
+    requires { node < length tree.now }
+    ensures { IfOk result (λ moved. (depth : ℕ) → (us : List units.UnitTree) → (b : machine.Begun)
+        → (x : syntax.Tree) → (spelled : List Lexeme) → (part : Part)
+        → IsReached tree.now reached depth us → IsBegun tree.now begun b → part.node ≡ node
+        → IsPart tree.now part x spelled
+        → IsMoved tree.now moved (machine.finished b x depth us lexeme)) }
+{
+    match begun {
+        Begun::Constants(declarations) => declare(reached, declarations, node, lexeme),
+        Begun::Definition(local) => after_unit(reached, defined(tree, local, node), lexeme),
+        Begun::Instance(local) => after_unit(reached, Unit::Instance { local, node }, lexeme),
+        Begun::Assumption(word) => after_unit(
+            reached,
+            Unit::Assumption {
+                word,
+                name: None,
+                node,
+            },
+            lexeme,
+        ),
+        Begun::Theorem(word) => after_unit(
+            reached,
+            Unit::Theorem {
+                word,
+                name: None,
+                node,
+            },
+            lexeme,
+        ),
+    }
+}
+
+/// A whole part of a unit, before a lexeme.
+pub(crate) fn finish(
+    unfinished: Unfinished,
     tree: &Tree,
     part: Part,
     lexeme: Lexeme,
 ) -> Result<Option<State>, Memory>
     requires { part.node < length tree.now }
-    ensures { IfOk result (λ moved. (depth : ℕ) → (us : List units.UnitTree) → (b : machine.Begun) → (x : syntax.Tree) → (spelled : List Lexeme) → IsReached tree.now reached depth us → IsBegun tree.now begun b → IsPart tree.now part x spelled → IsMoved tree.now moved (machine.finished b x depth us lexeme)) }
+    ensures { IfOk result (λ moved. (depth : ℕ) → (us : List units.UnitTree) → (b : machine.Begun)
+        → (x : syntax.Tree) → (spelled : List Lexeme)
+        → IsReached tree.now unfinished.reached depth us → IsBegun tree.now unfinished.begun b
+        → IsPart tree.now part x spelled
+        → IsMoved tree.now moved (machine.finished b x depth us lexeme)) }
 {
-    let node = part.node;
-    match begun {
-        Begun::Constants(declarations) => {
-            let declarations = then(declarations, node)?;
-            let state = after_declared(reached, declarations, lexeme)?;
-            Ok(state)
-        }
-        Begun::Definition(local) => {
-            let state = after_unit(reached, defined(tree, local, node), lexeme)?;
-            Ok(state)
-        }
-        Begun::Instance(local) => {
-            let state = after_unit(reached, Unit::Instance { local, node }, lexeme)?;
-            Ok(state)
-        }
-        Begun::Assumption(word) => {
-            let state = after_unit(
-                reached,
-                Unit::Assumption {
-                    word,
-                    name: None,
-                    node,
-                },
-                lexeme,
-            )?;
-            Ok(state)
-        }
-        Begun::Theorem(word) => {
-            let state = after_unit(
-                reached,
-                Unit::Theorem {
-                    word,
-                    name: None,
-                    node,
-                },
-                lexeme,
-            )?;
-            Ok(state)
-        }
-    }
+    finished(
+        unfinished.reached,
+        unfinished.begun,
+        tree,
+        part.node,
+        lexeme,
+    )
 }
 
-/// A whole part of a unit, with its last lexeme: declarations of constants may end so.
+/// A whole part of a unit that was read after others, with its last lexeme: declarations of
+/// constants may end so.
 fn conclude(reached: Reached, begun: Begun, node: u32) -> Result<Option<State>, Memory>
     ensures { IfOk result (λ moved. (nodes : List arena.Node) → (depth : ℕ) → (us : List units.UnitTree) → (b : machine.Begun) → (x : syntax.Tree) → (spelled : List Lexeme) → (part : Part) → IsReached nodes reached depth us → IsBegun nodes begun b → part.node ≡ node → IsPart nodes part x spelled → IsMoved nodes moved (machine.concluded b x depth us)) }
 {
@@ -103,10 +132,10 @@ pub(crate) fn shut(unfinished: Unfinished, part: Part) -> Result<Option<State>, 
     ensures { IfOk result (λ moved. (nodes : List arena.Node) → (depth : ℕ) → (us : List units.UnitTree) → (b : machine.Begun) → (fs : List machine.Frame) → (x : syntax.Tree) → (spelled : List Lexeme) → IsUnder nodes unfinished b fs depth us → IsPart nodes part x spelled → IsMoved nodes moved (machine.shut b fs x spelled depth us)) }
 {
     let mut unfinished = unfinished;
-    let Some(frame) = unfinished.below.pop() else {
+    let Some(mut frame) = unfinished.below.pop() else {
         return conclude(unfinished.reached, unfinished.begun, part.node);
     };
     let wait = after_part(frame.wait);
-    let frame = frame.takes(wait, part)?;
+    frame.takes(wait, part)?;
     Ok(Some(State::Part(unfinished, frame)))
 }

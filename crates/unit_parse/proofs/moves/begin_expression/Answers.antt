@@ -7,7 +7,7 @@ hears-requires c = reading-ready (c.new-reading.ensures _)
 
 pub returns-in-Going : goal.returns-in-Going
 returns-in-Going c d us b fs f u i =
-    begin-going _ _ _ c.hears.new.self b _ d us c.args.lexeme _ c.in-Going.is (c.in_ok-unfinished.ensures _ d us b fs f u i) (c.in_ok-hears.ensures _ _ _ (c.new-reading.ensures _))
+    begin-going _ _ _ c.hears.new.self b _ d us c.args.lexeme _ c.in-Going.is (c.in_ok-under.ensures _ d us b fs f u i) (c.in_ok-hears.ensures _ _ _ (c.new-reading.ensures _))
 
 pub returns-in_default : goal.returns-in_default
 returns-in_default c d us b fs f u i =

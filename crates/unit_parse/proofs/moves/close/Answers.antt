@@ -2,11 +2,11 @@ use Rattle.std.proofs.lemmas.Result.{IfOk-weaker}
 use Rattle.unit_parse.proofs.Stepping.{made-moves}
 use Rattle.unit_parse.proofs.moves.close.Goals as goal
 
-pub node-requires : goal.node-requires
-node-requires c = (c.reads.ensures _ c.requires.0 c.requires.1).parts.there
+pub closed-requires : goal.closed-requires
+closed-requires c = c.requires
 
 pub returns : goal.returns
 returns c =
     IfOk-weaker c.shut.result _ _
-    (λ moved h d us b fs f u i. made-moves _ _ c.args.unfinished c.in_ok-part.part b fs d us _ _ _ _ u (c.in_ok-part.ensures _ (c.reads.ensures _ f i)) (λ v p. h _ d us b fs _ _ v p))
+    (λ moved h d us b fs f u i. made-moves _ _ c.args.unfinished c.in_ok-part.part b fs d us _ _ _ _ u (c.in_ok-part.ensures f i) (λ v p. h _ d us b fs _ _ v p))
     c.shut.ensures

@@ -1,4 +1,5 @@
 use Rattle.std.proofs.Common.{[], ◌∷◌, refl}
+use Rattle.std.proofs.lemmas.Result.{IfOk-weaker}
 use Rattle.unit_parse.proofs.Stepping.{still}
 use Rattle.unit_parse.proofs.moves.move_frame.Goals as goal
 
@@ -8,13 +9,13 @@ returns-in-Leaf c = rw c.in-Leaf.is c.take_leaf.ensures
 pub returns-in-LeafOf : goal.returns-in-LeafOf
 returns-in-LeafOf c = rw c.in-LeafOf.is c.take_leaf-in-LeafOf.ensures
 
-pub returns-in_ok-unfinished-in-Push : goal.returns-in_ok-unfinished-in-Push
-returns-in_ok-unfinished-in-Push c d us b fs f u i =
-    rw c.in-Push.is (still (c.in_ok-unfinished-in-Push.ensures _ d us b fs f u i, c.new-frame.ensures _ (c.args.lexeme ∷ []) refl))
+pub returns-in-Push : goal.returns-in-Push
+returns-in-Push c =
+    rw c.in-Push.is (IfOk-weaker c.begin_part.result _ _ (λ moved h d us b fs f u i. still (h _ d us b fs f (c.args.lexeme ∷ []) u i refl)) c.begin_part.ensures)
 
-pub returns-in_ok-unfinished-in-Opens : goal.returns-in_ok-unfinished-in-Opens
-returns-in_ok-unfinished-in-Opens c d us b fs f u i =
-    rw c.in-Opens.is (still (c.in_ok-unfinished-in-Opens.ensures _ d us b fs _ u (c.reads-in-Opens.ensures _ f i), c.new-frame-in-Opens.ensures _ [] refl))
+pub returns-in-Opens : goal.returns-in-Opens
+returns-in-Opens c =
+    rw c.in-Opens.is (IfOk-weaker c.begin_part-in-Opens.result _ _ (λ moved h d us b fs f u i. still (h _ d us b fs _ [] u (c.reads-in-Opens.ensures _ f i) refl)) c.begin_part-in-Opens.ensures)
 
 pub returns-in-Close : goal.returns-in-Close
 returns-in-Close c = rw c.in-Close.is c.close.ensures

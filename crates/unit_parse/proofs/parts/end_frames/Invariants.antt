@@ -5,10 +5,10 @@ use Rattle.unit_parse.specs.Standing.{IsFrame, AreFrames}
 use Rattle.unit_parse.proofs.Stepping.{Goes}
 use Rattle.unit_parse.proofs.parts.end_frames.Given as goal
 
-abbrev pub invariant-loop-frame : goal.invariant-loop-frame
-invariant-loop-frame l = record {
-  goes : (f : Frame) → (fs : List Frame) → IsFrame l.initial.tree l.fn.innermost f → AreFrames l.initial.tree (reverse l.initial.below.items) fs → Goes l.initial.tree l.tree l.below.items l.frame f fs l.lexeme;
+abbrev pub invariant-ending : goal.invariant-ending
+invariant-ending l = record {
+  goes : (f : Frame) → (fs : List Frame) → IsFrame l.initial.tree l.initial.frame f → AreFrames l.initial.tree (reverse l.initial.below.items) fs → Goes l.initial.tree l.tree l.below.items l.frame f fs l.lexeme;
 }
 
-abbrev pub decreases-loop-frame : goal.decreases-loop-frame
-decreases-loop-frame l = length l.below.items
+abbrev pub decreases-ending : goal.decreases-ending
+decreases-ending l = length l.below.items

@@ -1,34 +1,19 @@
-use Rattle.std.proofs.Common.{refl}
 use Rattle.std.proofs.lemmas.Result.{IfOk-weaker}
-use Rattle.unit_parse.proofs.Growing.{under-grows}
-use Rattle.unit_parse.proofs.Stepping.{whole-there, ended-whole, ended-moves, step-whole-is, step-moves-is, under-ended}
+use Rattle.unit_parse.proofs.Growing.{reached-grows, begun-grows}
+use Rattle.unit_parse.proofs.Stepping.{moves-later}
 use Rattle.unit_parse.proofs.parts.part_step.Goals as goal
 
-pub finish-requires : goal.finish-requires
-finish-requires c =
-    let r = c.requires in
-    whole-there (ended-whole _ _ _ _ c.in-Whole.part r.4 r.1 c.args.lexeme c.in-Whole.is (c.in_ok-part.ensures r.4 r.1 r.6 r.5.below)).1
+pub end_frames-requires : goal.end_frames-requires
+end_frames-requires c = let r = c.requires in (r.4, r.1, r.6, r.5.below)
 
-pub move_frame-requires : goal.move_frame-requires
-move_frame-requires c =
-    let r = c.requires in
-    let w = ended-moves _ _ _ _ c.in-Moves.frame c.in-Moves.to r.4 r.1 c.args.lexeme c.in-Moves.is (c.in_ok-part.ensures r.4 r.1 r.6 r.5.below) in
-    (w.1.frame, w.1.is)
+pub go_on-requires : goal.go_on-requires
+go_on-requires c = let r = c.requires in (r.1, r.4, (c.in_ok-ended.ensures r.4 r.1 r.6 r.5.below).is)
 
-pub returns-in-Whole : goal.returns-in-Whole
-returns-in-Whole c =
-    IfOk-weaker c.finish.result _ _
+pub returns : goal.returns
+returns c =
+    IfOk-weaker c.go_on.result _ _
     (λ moved h d us b fs f u i.
-    let w = ended-whole _ _ _ _ c.in-Whole.part f fs c.args.lexeme c.in-Whole.is (c.in_ok-part.ensures f fs i u.below) in
-    let v = under-grows _ _ c.args.unfinished b fs d us w.0 u in
-    step-whole-is _ _ c.in-Whole.part b f fs d us c.args.lexeme _ w.0 w.1 (h d us b w.1.tree w.1.spelled v.reached v.begun w.1.is))
-    c.finish.ensures
-
-pub returns-in-Moves : goal.returns-in-Moves
-returns-in-Moves c =
-    IfOk-weaker c.move_frame.result _ _
-    (λ moved h d us b fs f u i.
-    let w = ended-moves _ _ _ _ c.in-Moves.frame c.in-Moves.to f fs c.args.lexeme c.in-Moves.is (c.in_ok-part.ensures f fs i u.below) in
-    step-moves-is _ _ _ _ c.in-Moves.frame c.in-Moves.to b f fs d us c.args.lexeme _ w.0 w.1
-    (h d us b w.1.frames w.1.frame (under-ended _ _ c.args.unfinished _ b fs w.1.frames d us refl refl w.0 u w.1.below) w.1.is))
-    c.move_frame.ensures
+    let e = c.in_ok-ended.ensures f fs i u.below in
+    moves-later _ _ _ moved _ e.grows
+    (h d us b fs f (reached-grows _ _ c.args.unfinished.reached d us e.grows u.reached) (begun-grows _ _ c.args.unfinished.begun b e.grows u.begun) e.is))
+    c.go_on.ensures

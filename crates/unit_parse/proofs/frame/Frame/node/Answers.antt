@@ -3,4 +3,4 @@ use Rattle.unit_parse.proofs.frame.Frame.node.Goals as goal
 
 pub returns : goal.returns
 returns c frame is =
-    node-made _ _ c.args.self c.args.form _ _ _ frame c.as_slice.ensures c.covered.ensures c.in_ok-node.ensures.ok c.in_ok-node.ensures.number is
+    node-made _ _ c.args.self.now c.args.form _ _ _ frame c.as_slice.ensures c.covered.ensures c.in_ok-node.ensures.ok c.in_ok-node.ensures.number is

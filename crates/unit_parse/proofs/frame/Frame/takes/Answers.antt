@@ -1,7 +1,8 @@
-use Rattle.unit_parse.proofs.Taking.{frame-takes}
-use Rattle.unit_parse.proofs.frame.Frame.takes.Goals as goal
 use Rattle.std.proofs.Common.{refl}
+use Rattle.unit_parse.proofs.Taking.{frame-takes, parts-more}
+use Rattle.unit_parse.proofs.frame.Frame.takes.Goals as goal
 
 pub returns : goal.returns
 returns c nodes frame tree spelled is part =
-    rw c.joined.ensures (frame-takes nodes c.args.self c.args.wait c.args.part _ frame tree spelled (c.in_ok-parts.ensures nodes frame.parts tree spelled c.args.part is.parts refl part) is part)
+    let held = c.args.self.now in
+    rw c.joined-self.ensures (frame-takes nodes held c.args.wait c.args.part _ frame tree spelled (parts-more nodes held.parts _ c.args.part.node frame.parts tree spelled c.args.part c.in_ok-push.ensures.ok is.parts refl part) is part)

@@ -3,4 +3,4 @@ use Rattle.unit_parse.proofs.frame.Frame.takes_bounds.Goals as goal
 
 pub returns : goal.returns
 returns c frame bounds spelled is part =
-    rw c.joined.ensures (frame-bounds _ c.args.self c.args.wait c.args.part _ _ frame bounds spelled c.in_ok-parts.ensures c.requires c.children.ensures.before c.children.ensures.children is part)
+    rw c.joined-self.ensures (frame-bounds _ c.args.self.now c.args.wait c.args.part _ _ frame bounds spelled c.in_ok-self.ensures c.requires c.children.ensures.before c.children.ensures.children is part)
