@@ -23,6 +23,9 @@ pub enum Named<'a> {
     Symbol(Op),
 }
 
+// So many words are looked at whatever that saves: the built-in ones, beside a table of one word.
+const FEW_WORDS: usize = 16;
+
 /// How many names a context has.
 #[derive(Clone, Copy)]
 pub struct Mark {
@@ -78,6 +81,11 @@ pub fn symbol_in<V>(symbols: &[(Op, V)], op: Op) -> Option<&V>
         }
     }
     None
+}
+
+// Whether to look at so many words is little work beside others.
+fn is_little(words: usize, others: usize) -> bool {
+    words <= others.saturating_add(FEW_WORDS)
 }
 
 // Whether a table has none of these words.
@@ -248,13 +256,13 @@ impl<'a> Context<'a> {
     }
 
     /// Whether the words of a table can be taken over: none were taken over before, none of them is
-    /// there, and to look at those that are there is no more work than to put them one by one.
+    /// there, and to look at those that are there is little work beside putting them one by one.
     pub fn can_take(&self, table: &NameTable) -> bool
         ensures { IsTrue result → as_tables.CanTake self.now table.now.words }
     {
         self.taken.is_none()
             && self.before.is_empty()
-            && self.words.len() <= table.len()
+            && is_little(self.words.len(), table.len())
             && are_apart(&self.words, table)
     }
 
@@ -278,11 +286,11 @@ impl<'a> Context<'a> {
         shared_len <= count && self.words.len() <= count - shared_len
     }
 
-    /// Whether there are at most so many first words, and a table has none of them.
+    /// Whether a table has none of the first words, and to look at these is little work beside so many.
     pub fn is_apart(&self, table: &NameTable, count: usize) -> bool
         ensures { IsTrue result → as_tables.AreApart table.now.words (words_of self.now.before.entries) }
     {
-        self.before.len() <= count && are_apart(&self.before, table)
+        is_little(self.before.len(), count) && are_apart(&self.before, table)
     }
 
     /// Takes over the words of a table, in place of those behind the first ones.
