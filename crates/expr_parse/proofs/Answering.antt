@@ -15,13 +15,13 @@ use Rattle.expr_grammar.specs.Machine as Machine
 use Rattle.expr_grammar.specs.Machine.{State, At, Have, node, node_with, run, start, start_bounds, step, finish, finish_bounds, close_all, close_bounds, on_tree, on_bounds, whole, whole_bounds}
 use Rattle.expr_grammar.specs.Following.{closes_bounds, done_before, bounds_done_before}
 use Rattle.expr_grammar.specs.Counting.{made_run, made_step, made_finish}
-use Rattle.expr_grammar.proofs.Complete.{run-append, refused-ends}
-use Rattle.expr_grammar.proofs.Sounding.{accepted-derives, accepted-bounds}
-use Rattle.expr_grammar.proofs.Completing.{completes-expression, completes-bounds}
-use Rattle.expr_grammar.proofs.CompletingKinds as Kinds
-use Rattle.expr_grammar.proofs.CompletingFirst.{refused-begun}
-use Rattle.expr_grammar.proofs.CountingMade.{made-few, made-bounds-few, run-few, run-bounds-few}
-use Rattle.expr_grammar.proofs.Stopping.{done-derives, derives-done, done-bounds, bounds-done}
+use Rattle.expr_laws.proofs.Complete.{run-append, refused-ends}
+use Rattle.expr_laws.proofs.Sounding.{accepted-derives, accepted-bounds}
+use Rattle.expr_laws.proofs.Completing.{completes-expression, completes-bounds}
+use Rattle.expr_laws.proofs.CompletingKinds as Kinds
+use Rattle.expr_laws.proofs.CompletingFirst.{refused-begun}
+use Rattle.expr_laws.proofs.CountingMade.{made-few, made-bounds-few, run-few, run-bounds-few}
+use Rattle.expr_laws.proofs.Stopping.{done-derives, derives-done, done-bounds, bounds-done}
 use Rattle.expr_parse.specs.declared.goal.Goal.{Goal}
 use Rattle.expr_parse.specs.declared.goal.Step.{Step}
 use Rattle.expr_parse.specs.declared.machine.ExprMachine.{ExprMachine}

@@ -12,9 +12,9 @@ use Rattle.tla_tree.specs.Headings.{DerivesPlaces, last_place, plain, of_places,
 use Rattle.tla_tree.specs.Derivation.{Derives, node, number, DerivesBounds, DerivesDefinition, operator, prefix_operator, infix_operator, postfix_operator, function_of, DerivesInstance, without, with_replacements, replaced}
 use Rattle.expr_grammar.specs.Machine as Expressions
 use Rattle.expr_grammar.specs.Following.{IsQuiet}
-use Rattle.expr_grammar.proofs.Following.{before-quiet}
-use Rattle.expr_grammar.proofs.Sounding.{accepted-derives, accepted-bounds}
-use Rattle.expr_grammar.proofs.Completing.{completes-expression, completes-bounds}
+use Rattle.expr_laws.proofs.Following.{before-quiet}
+use Rattle.expr_laws.proofs.Sounding.{accepted-derives, accepted-bounds}
+use Rattle.expr_laws.proofs.Completing.{completes-expression, completes-bounds}
 use Rattle.unit_grammar.specs.Units.{UnitTree, ModuleEnd}
 use Rattle.unit_grammar.specs.Derivation.{BeginsModule, alone, extending, kept, DerivesModule}
 use Rattle.unit_grammar.specs.FirstBad.{IsDerivable, Begins}

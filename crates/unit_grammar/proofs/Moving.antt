@@ -14,8 +14,8 @@ use Rattle.expr_grammar.specs.Tables.{begins}
 use Rattle.expr_grammar.specs.Machine as Expressions
 use Rattle.expr_grammar.specs.Machine.{start, start_bounds, finish, finish_bounds, parse_bounds, begun as begun_with}
 use Rattle.expr_grammar.specs.Following.{stops, done_before}
-use Rattle.expr_grammar.proofs.Complete.{run-none}
-use Rattle.expr_grammar.proofs.Stopping.{derives-done}
+use Rattle.expr_laws.proofs.Complete.{run-none}
+use Rattle.expr_laws.proofs.Stopping.{derives-done}
 use Rattle.unit_grammar.specs.Units.{UnitTree}
 use Rattle.unit_grammar.specs.declared.wait.Wait.{Wait}
 use Rattle.unit_grammar.specs.declared.wait.Move.{Move}

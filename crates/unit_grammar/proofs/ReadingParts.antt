@@ -17,11 +17,11 @@ use Rattle.expr_grammar.specs.Kinds.{is_comma, is_left_paren, is_with, is_define
 use Rattle.expr_grammar.specs.Tables.{start_kind, defines, is_given_kind, is_replaceable}
 use Rattle.expr_grammar.specs.Machine.{start_bounds, parse_bounds}
 use Rattle.expr_grammar.specs.Following.{IsQuietNext, stops}
-use Rattle.expr_grammar.proofs.KindTests.{instance-is}
-use Rattle.expr_grammar.proofs.Following.{before-quiet}
-use Rattle.expr_grammar.proofs.Heading.{derives-bounds}
-use Rattle.expr_grammar.proofs.Viewing.{given-is}
-use Rattle.expr_grammar.proofs.Defining.{replaceable, given-quiet}
+use Rattle.expr_laws.proofs.KindTests.{instance-is}
+use Rattle.expr_laws.proofs.Following.{before-quiet}
+use Rattle.expr_laws.proofs.Heading.{derives-bounds}
+use Rattle.expr_laws.proofs.Viewing.{given-is}
+use Rattle.expr_laws.proofs.Defining.{replaceable, given-quiet}
 use Rattle.unit_grammar.specs.Units.{UnitTree}
 use Rattle.unit_grammar.specs.declared.wait.Wait.{Wait}
 use Rattle.unit_grammar.specs.declared.wait.Move.{Move}

@@ -10,7 +10,7 @@ use Rattle.tla_tree.specs.Derivation.{DerivesDefinition, DerivesInstance, withou
 use Rattle.expr_grammar.specs.Kinds.{is_comma, is_left_paren, is_with}
 use Rattle.expr_grammar.specs.Machine.{start}
 use Rattle.expr_grammar.specs.Following.{stops}
-use Rattle.expr_grammar.proofs.Defining.{IsFirst, Beginning, definition-beginning}
+use Rattle.expr_laws.proofs.Defining.{IsFirst, Beginning, definition-beginning}
 use Rattle.unit_grammar.specs.Units.{UnitTree, Variables, Constants, ModuleBegin, ModuleEnd, ModuleUnits}
 use Rattle.unit_grammar.specs.Derivation.{SpellsNames, last_name, more_names, BeginsModule, alone, extending, SpellsLocal, exported, kept, DerivesModule}
 use Rattle.unit_grammar.specs.FirstBad.{Begins}

@@ -16,10 +16,10 @@ use Rattle.expr_grammar.specs.Kinds.{is_name, is_comma, is_right_bracket}
 use Rattle.expr_grammar.specs.Machine as Expressions
 use Rattle.expr_grammar.specs.Machine.{start, start_bounds, finish_bounds}
 use Rattle.expr_grammar.specs.Following.{IsQuiet, done_before}
-use Rattle.expr_grammar.proofs.KindTests.{name-is, comma-is, right_bracket-is}
-use Rattle.expr_grammar.proofs.Following.{before-quiet}
-use Rattle.expr_grammar.proofs.Stopping.{done-derives}
-use Rattle.expr_grammar.proofs.Sounding.{accepted-bounds}
+use Rattle.expr_laws.proofs.KindTests.{name-is, comma-is, right_bracket-is}
+use Rattle.expr_laws.proofs.Following.{before-quiet}
+use Rattle.expr_laws.proofs.Stopping.{done-derives}
+use Rattle.expr_laws.proofs.Sounding.{accepted-bounds}
 use Rattle.unit_grammar.specs.Units.{UnitTree, Constants, ModuleBegin, ModuleEnd, ModuleUnits}
 use Rattle.unit_grammar.specs.Derivation.{DeclaresConstants, SpellsNames, last_name, more_names, BeginsModule, alone, extending, SpellsLocal, exported, kept, DerivesModule}
 use Rattle.unit_grammar.specs.declared.wait.Due.{Due}

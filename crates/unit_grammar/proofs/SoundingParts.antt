@@ -13,8 +13,8 @@ use Rattle.tla_tree.specs.Headings.{DerivesPlaces, last_place, more_places, Deri
 use Rattle.tla_tree.specs.Derivation.{DerivesDefinition, operator, prefix_operator, infix_operator, postfix_operator, function_of, without, with_replacements, DerivesReplacements, last_replacement, more_replacements, DerivesReplacement, replaced, replaced_by_symbol}
 use Rattle.expr_grammar.specs.Kinds.{is_name, is_define, is_left_arrow, is_comma, is_left_paren, is_right_paren, is_left_bracket, is_right_bracket, is_underscore, is_instance, is_with, is_negative}
 use Rattle.expr_grammar.specs.Tables.{defines, is_given_kind, is_replaceable}
-use Rattle.expr_grammar.proofs.KindTests.{name-is, define-is, left_arrow-is, comma-is, left_paren-is, right_paren-is, left_bracket-is, right_bracket-is, underscore-is, instance-is, with-is, negative-is}
-use Rattle.expr_grammar.proofs.Viewing.{defines-is, given-is, replaceable-is}
+use Rattle.expr_laws.proofs.KindTests.{name-is, define-is, left_arrow-is, comma-is, left_paren-is, right_paren-is, left_bracket-is, right_bracket-is, underscore-is, instance-is, with-is, negative-is}
+use Rattle.expr_laws.proofs.Viewing.{defines-is, given-is, replaceable-is}
 use Rattle.unit_grammar.specs.declared.wait.Wait.{Wait}
 use Rattle.unit_grammar.specs.declared.wait.Move.{Move}
 use Rattle.unit_grammar.specs.Tables.{if_move, move}

@@ -18,9 +18,9 @@ use Rattle.expr_grammar.specs.Kinds.{is_bang, is_always, is_comma, is_left_paren
 use Rattle.expr_grammar.specs.Tables.{list_of, is_junction, role, shape, is_expression, ends_with, ends_with_part, finishes, after_expression, after_part, or_finish, finish_by, at_part, mode, begins, at_mark, endable}
 use Rattle.expr_grammar.specs.Machine.{Frame, State, At, Have, inner, node, node_with, on_form, on_tree, operator_step, part_step, moved, is_operator, within, on_bullet, leave, have, ended, step, run, start, whole, close_all, finish, begun, marked, whole_bounds, on_bounds, close_bounds, finish_bounds}
 use Rattle.expr_grammar.specs.Following.{stops}
-use Rattle.expr_grammar.proofs.KindTests.{right_bracket-is}
-use Rattle.expr_grammar.proofs.CompletingKinds.{Kind, Goal, makes, wanted, meets}
-use Rattle.expr_grammar.proofs.CompletingStates.{Under, Stacked, Fits, FitsNext, run-fits, start-fits}
+use Rattle.expr_laws.proofs.KindTests.{right_bracket-is}
+use Rattle.expr_laws.proofs.CompletingKinds.{Kind, Goal, makes, wanted, meets}
+use Rattle.expr_laws.proofs.CompletingStates.{Under, Stacked, Fits, FitsNext, run-fits, start-fits}
 
 -- what such a lexeme is not
 record Quiet (k : LexKind) : Type 0 where

@@ -9,8 +9,8 @@ use Rattle.tla_tree.specs.Syntax.{Tree, Trees}
 use Rattle.expr_grammar.specs.Machine as Expressions
 use Rattle.expr_grammar.specs.Machine.{run, start, start_bounds}
 use Rattle.expr_grammar.specs.Following.{done_before, bounds_done_before}
-use Rattle.expr_grammar.proofs.Complete.{run-append}
-use Rattle.expr_grammar.proofs.Stopping.{done-derives, derives-done, done-bounds, bounds-done}
+use Rattle.expr_laws.proofs.Complete.{run-append}
+use Rattle.expr_laws.proofs.Stopping.{done-derives, derives-done, done-bounds, bounds-done}
 use Rattle.expr_parse.specs.declared.goal.Goal.{Goal}
 use Rattle.expr_parse.specs.declared.goal.Step.{Step}
 use Rattle.expr_parse.specs.Goals.{parts_of, DerivesGoal, BeginsGoal, IsWhole}

@@ -11,7 +11,7 @@ use Rattle.tla_tree.specs.Lexemes.{built, then, place}
 use Rattle.tla_tree.specs.Syntax as Syntax
 use Rattle.tla_tree.specs.Syntax.{Tree, Trees, Nil, trees}
 use Rattle.tla_tree.proofs.Nodes.{tree_at-node}
-use Rattle.expr_grammar.proofs.Viewing.{trees-then}
+use Rattle.expr_laws.proofs.Viewing.{trees-then}
 use Rattle.expr_parse.specs.declared.stack.Part.{Part}
 use Rattle.expr_parse.specs.Goals.{parts_of}
 use Rattle.expr_parse.specs.Standing.{IsPart, Adds, place_of, joined, covered}

@@ -1,5 +1,0 @@
-use Rattle.expr_grammar.proofs.Sounding.{accepted-derives}
-use Rattle.expr_grammar.proofs.accepted_derives.Goals as goal
-
-pub returns : goal.returns
-returns c = λ tree lexemes e. accepted-derives lexemes tree e

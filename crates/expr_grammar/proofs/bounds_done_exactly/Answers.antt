@@ -1,5 +1,0 @@
-use Rattle.expr_grammar.proofs.Stopping.{done-bounds, bounds-done}
-use Rattle.expr_grammar.proofs.bounds_done_exactly.Goals as goal
-
-pub returns : goal.returns
-returns c = record { done = done-bounds; all = bounds-done }

@@ -1,5 +1,0 @@
-use Rattle.expr_grammar.proofs.Following.{before-quiet}
-use Rattle.expr_grammar.proofs.ends_before_quiet.Goals as goal
-
-pub returns : goal.returns
-returns c tree lexemes inner follows next d q = before-quiet d next q

@@ -1,5 +1,0 @@
-use Rattle.expr_grammar.proofs.Counting.{derives-few}
-use Rattle.expr_grammar.proofs.few_nodes.Goals as goal
-
-pub returns : goal.returns
-returns c = λ tree lexemes d. derives-few d

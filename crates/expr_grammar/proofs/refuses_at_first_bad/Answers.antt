@@ -1,5 +1,0 @@
-use Rattle.expr_grammar.proofs.CompletingFirst.{refused-first, first-refused}
-use Rattle.expr_grammar.proofs.refuses_at_first_bad.Goals as goal
-
-pub returns : goal.returns
-returns c = record { refused = refused-first; bad = first-refused }

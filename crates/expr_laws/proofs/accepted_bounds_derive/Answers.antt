@@ -1,0 +1,5 @@
+use Rattle.expr_laws.proofs.Sounding.{accepted-bounds}
+use Rattle.expr_laws.proofs.accepted_bounds_derive.Goals as goal
+
+pub returns : goal.returns
+returns c = λ bounds lexemes e. accepted-bounds lexemes bounds e

@@ -1,0 +1,5 @@
+use Rattle.expr_laws.proofs.Sounding.{accepted-derives}
+use Rattle.expr_laws.proofs.accepted_derives.Goals as goal
+
+pub returns : goal.returns
+returns c = λ tree lexemes e. accepted-derives lexemes tree e

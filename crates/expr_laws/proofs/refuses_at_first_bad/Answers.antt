@@ -1,0 +1,5 @@
+use Rattle.expr_laws.proofs.CompletingFirst.{refused-first, first-refused}
+use Rattle.expr_laws.proofs.refuses_at_first_bad.Goals as goal
+
+pub returns : goal.returns
+returns c = record { refused = refused-first; bad = first-refused }
