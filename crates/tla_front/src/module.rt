@@ -176,6 +176,6 @@ pub fn one_front()
     ensures same { (name bytes : List ℕ) → (front other : Front) → IsFront name bytes front → IsFront name bytes other → front ≡ other }
 {
     tla_lexeme::reads_longest();
-    unit_grammar::one_module();
-    unit_grammar::derivable_or_bad();
+    unit_laws::one_module();
+    unit_laws::derivable_or_bad();
 }

@@ -3,5 +3,3 @@ pub mod UnitNodes
 pub mod Derivation
 pub mod FirstBad
 pub mod Heights
-pub mod Tables
-pub mod Machine

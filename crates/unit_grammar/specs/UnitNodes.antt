@@ -5,6 +5,7 @@ use Rattle.tla_tree.specs.Arena.{Node, AreThere, tree_at}
 use Rattle.tla_tree.specs.Syntax.{trees}
 use Rattle.tla_tree.specs.declared.unit.Unit.TheVariants as unit
 use Rattle.tla_tree.specs.declared.unit.ModuleTree.{ModuleTree}
+use Rattle.unit_grammar.specs.Heights.{module_height}
 use Rattle.unit_grammar.specs.Units.{UnitTree, Variables, Constants, OperatorDefinition, FunctionDefinition, ModuleDefinition, Instance, Assumption, Theorem, Line, ModuleBegin, ModuleEnd, ModuleUnits}
 
 -- the unit of the grammar, by the nodes of a tree
@@ -36,6 +37,14 @@ nodes_in _ = []
 pub record AreUnits (nodes : List Node) (units : List unit.the_data) (found : List UnitTree) : Type 0 where
   pub there : AllByRecursion (λ unit. AreThere nodes (nodes_in unit)) units
   pub are : map (unit_at nodes) units ≡ found
+
+-- the tree in code is the module, without its source
+pub record IsModule (parsed : ModuleTree) (found : ModuleUnits) : Type 0 where
+  pub name : parsed.name ≡ found.name
+  pub extends : parsed.extends ≡ found.extends
+  pub units : AreUnits parsed.tree parsed.units found.units
+  pub height : parsed.height ≡ module_height found
+  pub source : parsed.source ≡ []
 
 -- the module that a tree in code is
 abbrev pub module_of : ModuleTree → ModuleUnits

@@ -6,12 +6,12 @@ use Rattle.tla_tree.specs.Arena as Arena
 use Rattle.tla_tree.specs.Arena.{tree_at}
 use Rattle.tla_tree.specs.Lexemes.{then}
 use Rattle.tla_tree.specs.Syntax.{Tree, Trees}
-use Rattle.unit_grammar.specs.Tables.{after_part}
+use Rattle.unit_machine.specs.Tables.{after_part}
 use Rattle.tla_tree.specs.declared.unit.Unit.TheVariants as unit
 use Rattle.expr_parse.specs.declared.stack.Part.{Part}
 use Rattle.expr_parse.specs.Standing.{IsPart}
 use Rattle.unit_grammar.specs.Units.{UnitTree, Instance, Assumption, Theorem, defined}
-use Rattle.unit_grammar.specs.Machine as Machine
+use Rattle.unit_machine.specs.Machine as Machine
 use Rattle.unit_parse.specs.declared.frame.Frame.{Frame}
 use Rattle.unit_parse.specs.declared.reached.Reached.{Reached}
 use Rattle.unit_parse.specs.declared.state.Begun.{Begun}

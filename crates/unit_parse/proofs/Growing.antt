@@ -9,7 +9,7 @@ use Rattle.tla_tree.specs.declared.unit.Unit.TheVariants as unit
 use Rattle.expr_parse.specs.Standing.{Grows}
 use Rattle.expr_parse.proofs.Growing.{grows-length, there-longer, map-grows, tree_at-grows}
 use Rattle.unit_grammar.specs.Units.{UnitTree, Constants, OperatorDefinition, FunctionDefinition, ModuleDefinition, Instance, Assumption, Theorem}
-use Rattle.unit_grammar.specs.Machine as Machine
+use Rattle.unit_machine.specs.Machine as Machine
 use Rattle.unit_parse.specs.declared.frame.Frame.{Frame}
 use Rattle.unit_parse.specs.declared.reached.Reached.{Reached}
 use Rattle.unit_parse.specs.declared.state.Begun.{Begun}

@@ -5,16 +5,16 @@ use Rattle.std.proofs.lemmas.List.{take_more, take_all}
 use Rattle.tla_symbols.specs.declared.lexeme.Lexeme.{Lexeme}
 use Rattle.tla_tree.specs.Arena as Arena
 use Rattle.tla_tree.specs.Arena.{AreThere}
-use Rattle.unit_grammar.specs.declared.wait.Due.{Due}
+use Rattle.unit_machine.specs.declared.wait.Due.{Due}
 use Rattle.unit_grammar.specs.Units.{UnitTree, ModuleUnits}
 use Rattle.unit_grammar.specs.Derivation.{DerivesModule}
 use Rattle.unit_grammar.specs.FirstBad.{EndsOnce, IsFirstBad}
-use Rattle.unit_grammar.specs.Machine as Machine
-use Rattle.unit_grammar.specs.Machine.{run, opening, parse, whole, answer, RefusesAt}
-use Rattle.unit_grammar.proofs.ReadingUnits.{run-append}
-use Rattle.unit_grammar.proofs.Sounding.{accepted-derives}
-use Rattle.unit_grammar.proofs.FirstBad.{refused-first}
-use Rattle.unit_grammar.proofs.Ending.{accepts-read}
+use Rattle.unit_machine.specs.Machine as Machine
+use Rattle.unit_machine.specs.Machine.{run, opening, parse, whole, answer, RefusesAt}
+use Rattle.unit_laws.proofs.ReadingUnits.{run-append}
+use Rattle.unit_laws.proofs.Sounding.{accepted-derives}
+use Rattle.unit_laws.proofs.FirstBad.{refused-first}
+use Rattle.unit_laws.proofs.Ending.{accepts-read}
 use Rattle.unit_parse.specs.declared.reached.Reached.{Reached}
 use Rattle.unit_parse.specs.declared.state.State.{State}
 use Rattle.unit_parse.specs.Modules.{AreUnits}

@@ -8,9 +8,9 @@ use Rattle.tla_tree.specs.Syntax as Syntax
 use Rattle.tla_tree.specs.Syntax.{Tree, Trees, Nil}
 use Rattle.tla_tree.specs.declared.unit.Unit.TheVariants as unit
 use Rattle.tla_tree.proofs.Nodes.{tree_at-form}
-use Rattle.unit_grammar.specs.declared.wait.Due.{Due}
+use Rattle.unit_machine.specs.declared.wait.Due.{Due}
 use Rattle.unit_grammar.specs.Units.{UnitTree, OperatorDefinition, ModuleEnd, defined}
-use Rattle.unit_grammar.specs.Machine as Machine
+use Rattle.unit_machine.specs.Machine as Machine
 use Rattle.unit_parse.specs.declared.reached.Reached.{Reached}
 use Rattle.unit_parse.specs.declared.state.State.{State}
 use Rattle.unit_parse.specs.Modules.{AreUnits}

@@ -19,12 +19,12 @@ use Rattle.expr_parse.specs.declared.stack.Part.{Part}
 use Rattle.expr_parse.specs.Goals.{parts_of}
 use Rattle.expr_parse.specs.Standing.{Grows, IsPart}
 use Rattle.expr_parse.proofs.Growing.{grows-same, grows-on}
-use Rattle.unit_grammar.specs.declared.wait.Due.{Due}
-use Rattle.unit_grammar.specs.declared.wait.Move.{Move}
-use Rattle.unit_grammar.specs.Tables.{move, after_part, after_expression, after_bounds}
+use Rattle.unit_machine.specs.declared.wait.Due.{Due}
+use Rattle.unit_machine.specs.declared.wait.Move.{Move}
+use Rattle.unit_machine.specs.Tables.{move, after_part, after_expression, after_bounds}
 use Rattle.unit_grammar.specs.Units.{UnitTree}
-use Rattle.unit_grammar.specs.Machine as Machine
-use Rattle.unit_grammar.specs.Machine.{part_step, moved, finished, given, expression_step, bounds_step, bounds_before}
+use Rattle.unit_machine.specs.Machine as Machine
+use Rattle.unit_machine.specs.Machine.{part_step, moved, finished, given, expression_step, bounds_step, bounds_before}
 use Rattle.unit_parse.specs.declared.frame.Frame.{Frame}
 use Rattle.unit_parse.specs.declared.reached.Reached.{Reached}
 use Rattle.unit_parse.specs.declared.reading.Reading.{Reading}

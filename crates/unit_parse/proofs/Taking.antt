@@ -18,8 +18,8 @@ use Rattle.expr_parse.specs.Standing.{IsPart, Adds, place_of, joined, covered}
 use Rattle.expr_parse.proofs.Growing.{grows-one, before-there, new-node}
 use Rattle.expr_parse.proofs.Places.{place-append, covered-place}
 use Rattle.expr_parse.proofs.Stacking.{map-append, there-append}
-use Rattle.unit_grammar.specs.declared.wait.Wait.{Wait}
-use Rattle.unit_grammar.specs.Machine as Machine
+use Rattle.unit_machine.specs.declared.wait.Wait.{Wait}
+use Rattle.unit_machine.specs.Machine as Machine
 use Rattle.unit_parse.specs.declared.frame.Frame.{Frame}
 use Rattle.unit_parse.specs.Standing.{AreParts, IsFrame, Makes, Takes}
 use Rattle.unit_parse.proofs.Growing.{frame-grows}

@@ -14,9 +14,9 @@ use Rattle.expr_parse.specs.Goals.{parts_of}
 use Rattle.expr_parse.specs.Reading.{HasRead, start_of}
 use Rattle.expr_parse.specs.Standing.{IsPart, Grows, place_of}
 use Rattle.unit_grammar.specs.Units.{UnitTree}
-use Rattle.unit_grammar.specs.Tables.{move}
-use Rattle.unit_grammar.specs.Machine as Machine
-use Rattle.unit_grammar.specs.Machine.{node, taking, part_step, moved, finished}
+use Rattle.unit_machine.specs.Tables.{move}
+use Rattle.unit_machine.specs.Machine as Machine
+use Rattle.unit_machine.specs.Machine.{node, taking, part_step, moved, finished}
 use Rattle.unit_parse.specs.declared.frame.Frame.{Frame}
 use Rattle.unit_parse.specs.declared.reached.Reached.{Reached}
 use Rattle.unit_parse.specs.declared.reading.Reading.{Reading}

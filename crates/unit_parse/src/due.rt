@@ -4,7 +4,7 @@ ghost use Rattle.tla_tree.specs.Arena as arena;
 ghost use Rattle.tla_tree.specs.Syntax as syntax;
 ghost use Rattle.expr_grammar.specs.Machine as expressions;
 ghost use Rattle.unit_grammar.specs.Units as units;
-ghost use Rattle.unit_grammar.specs.Machine as machine;
+ghost use Rattle.unit_machine.specs.Machine as machine;
 ghost use Rattle.unit_parse.specs.Modules.{AreUnits};
 ghost use Rattle.unit_parse.specs.Standing.{AreParts, IsFrame, IsBegun, IsReached, IsState, IsMoved};
 
@@ -17,7 +17,7 @@ use expr_tables::is_comma;
 use tla_symbols::Lexeme;
 use tla_tree::Unit;
 use tool_list::{List, Memory};
-use unit_grammar::{Due, DueMove, UnitStart, Wait};
+use unit_machine::{Due, DueMove, UnitStart, Wait};
 use unit_tables::unit_start;
 
 /// The run of `=` that ends a nested module.

@@ -8,7 +8,7 @@ ghost use Rattle.tla_tree.specs.Lexemes as lexemes;
 ghost use Rattle.tla_tree.specs.Lexemes.{built};
 ghost use Rattle.expr_parse.specs.Goals.{parts_of};
 ghost use Rattle.expr_parse.specs.Standing.{IsPart, place_of};
-ghost use Rattle.unit_grammar.specs.Machine as machine;
+ghost use Rattle.unit_machine.specs.Machine as machine;
 ghost use Rattle.unit_parse.specs.Standing.{AreParts, IsFrame, Makes, Takes};
 
 use expr_parse::{Part, add, covered, joined, leaf};
@@ -16,7 +16,7 @@ use std::alloc::Global;
 use tla_symbols::{Lexeme, Span};
 use tla_tree::{Form, Tree};
 use tool_list::{List, Memory};
-use unit_grammar::Wait;
+use unit_machine::Wait;
 
 /// A part of a unit that is read: what it waits for, the nodes of its own parts, and the place of
 /// the lexemes that it has read, if there are any.

@@ -6,8 +6,8 @@ ghost use Rattle.tla_tree.specs.Syntax.{Nil};
 ghost use Rattle.expr_grammar.specs.Machine as expressions;
 ghost use Rattle.expr_parse.specs.Standing.{place_of};
 ghost use Rattle.unit_grammar.specs.Units as units;
-ghost use Rattle.unit_grammar.specs.Machine as machine;
-ghost use Rattle.unit_grammar.specs.declared.wait.Move.TheVariants as Move;
+ghost use Rattle.unit_machine.specs.Machine as machine;
+ghost use Rattle.unit_machine.specs.declared.wait.Move.TheVariants as Move;
 ghost use Rattle.unit_parse.specs.Standing.{IsFrame, IsUnder, IsMoved, Moves};
 
 use crate::frame::Frame;
@@ -18,7 +18,7 @@ use expr_parse::Goal;
 use tla_symbols::{Lexeme, Span};
 use tla_tree::{Form, Tree};
 use tool_list::Memory;
-use unit_grammar::{Move, Wait};
+use unit_machine::{Move, Wait};
 
 impl Unfinished {
     /// A frame waits for a part above those that do.

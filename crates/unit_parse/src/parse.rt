@@ -3,7 +3,7 @@ ghost use Rattle.std.specs.Prelude.{◌≡◌, ◌<◌, ◌^◌, ℕ, List, Some
 ghost use Rattle.unit_grammar.specs.Units.{ModuleUnits, UnitTree};
 ghost use Rattle.unit_grammar.specs.Derivation.{DerivesModule};
 ghost use Rattle.unit_grammar.specs.FirstBad.{EndsOnce};
-ghost use Rattle.unit_grammar.specs.Machine as machine;
+ghost use Rattle.unit_machine.specs.Machine as machine;
 ghost use Rattle.unit_parse.specs.Modules.{AreUnits, IsFault, IsModule};
 ghost use Rattle.unit_parse.specs.Standing.{IsState};
 

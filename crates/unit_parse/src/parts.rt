@@ -10,8 +10,8 @@ ghost use Rattle.expr_parse.specs.declared.goal.Goal.TheVariants as goals;
 ghost use Rattle.expr_parse.specs.Goals.{parts_of};
 ghost use Rattle.expr_parse.specs.Standing.{IsPart};
 ghost use Rattle.unit_grammar.specs.Units as units;
-ghost use Rattle.unit_grammar.specs.Tables as tables;
-ghost use Rattle.unit_grammar.specs.Machine as machine;
+ghost use Rattle.unit_machine.specs.Tables as tables;
+ghost use Rattle.unit_machine.specs.Machine as machine;
 ghost use Rattle.unit_parse.specs.Standing.{AreFrames, IsFrame, IsBegun, IsReached, IsUnder, IsReading, IsHeard, HasHeardExpression, HasHeardBounds, Moves, EndsFrame, IsEnded, Ends, IsReadyEnded, IsReadyPart, IsReadyTaking, IsReadyWhole, IsReadyExpression, IsReadyBounds};
 
 use crate::frame::Frame;
@@ -23,7 +23,7 @@ use expr_parse::Part;
 use tla_symbols::Lexeme;
 use tla_tree::{Form, Tree};
 use tool_list::Memory;
-use unit_grammar::{Move, Wait};
+use unit_machine::{Move, Wait};
 use unit_tables::{after_bounds, after_expression, after_part, frame_move};
 
 /// The frames that end before a lexeme have ended.

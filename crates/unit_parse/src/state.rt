@@ -1,7 +1,7 @@
 // Where in a module the reading stands.
 ghost use Rattle.std.specs.Prelude.{◌≡◌, List};
 ghost use Rattle.tla_tree.specs.Arena.{Node};
-ghost use Rattle.unit_grammar.specs.Machine as machine;
+ghost use Rattle.unit_machine.specs.Machine as machine;
 ghost use Rattle.unit_parse.specs.Standing.{IsState};
 
 use crate::frame::Frame;
@@ -10,7 +10,7 @@ use crate::reading::Reading;
 use std::alloc::Global;
 use tla_symbols::Lexeme;
 use tool_list::List;
-use unit_grammar::Due;
+use unit_machine::Due;
 
 /// The unit that is read, with what it has beside its last part.
 #[derive(Drop)]

@@ -1,6 +1,6 @@
 // One step of the machine: what a lexeme does where a module is read.
 ghost use Rattle.std.specs.Prelude.{IfOk};
-ghost use Rattle.unit_grammar.specs.Machine as machine;
+ghost use Rattle.unit_machine.specs.Machine as machine;
 ghost use Rattle.unit_parse.specs.Standing.{IsState, Moves, IsReadyState};
 
 use crate::due::{after_declared, move_due};

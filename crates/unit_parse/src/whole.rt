@@ -7,7 +7,7 @@ ghost use Rattle.tla_tree.specs.Syntax as syntax;
 ghost use Rattle.tla_tree.specs.Lexemes as lexemes;
 ghost use Rattle.expr_parse.specs.Standing.{IsPart};
 ghost use Rattle.unit_grammar.specs.Units as units;
-ghost use Rattle.unit_grammar.specs.Machine as machine;
+ghost use Rattle.unit_machine.specs.Machine as machine;
 ghost use Rattle.unit_parse.specs.Modules.{AreUnits};
 ghost use Rattle.unit_parse.specs.Standing.{AreParts, IsBegun, IsReached, IsUnder, IsMoved};
 

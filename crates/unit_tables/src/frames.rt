@@ -1,9 +1,9 @@
 // What a frame waits for once it has a part.
 ghost use Rattle.std.specs.Prelude.{◌≡◌};
-ghost use Rattle.unit_grammar.specs.Tables as tables;
+ghost use Rattle.unit_machine.specs.Tables as tables;
 
 use tla_tree::Form;
-use unit_grammar::Wait;
+use unit_machine::Wait;
 
 /// What a frame waits for once it has the part that stood in a frame of its own.
 pub fn after_part(wait: Wait) -> Wait

@@ -1,7 +1,7 @@
 // What lexemes do to the frames of a unit.
 ghost use Rattle.std.specs.Prelude.{◌≡◌, ◌-◌, ◌<◌, ◌^◌};
 ghost use Rattle.expr_grammar.specs.Kinds as kinds;
-ghost use Rattle.unit_grammar.specs.Tables as tables;
+ghost use Rattle.unit_machine.specs.Tables as tables;
 
 use expr_tables::{
     defines, is_comma, is_define, is_given, is_instance, is_left_arrow, is_left_bracket,
@@ -10,7 +10,7 @@ use expr_tables::{
 };
 use tla_symbols::{Fix, LexKind, Lexeme};
 use tla_tree::Form;
-use unit_grammar::{Move, Wait};
+use unit_machine::{Move, Wait};
 
 fn if_move(test: bool, frame_move: Move) -> Move
     ensures { result ≡ tables.if_move test frame_move }

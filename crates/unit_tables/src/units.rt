@@ -1,10 +1,10 @@
 // What lexemes do in modules, outside definitions, declarations, instances and expressions.
 ghost use Rattle.std.specs.Prelude.{◌≡◌};
-ghost use Rattle.unit_grammar.specs.Tables as tables;
+ghost use Rattle.unit_machine.specs.Tables as tables;
 
 use expr_tables::{is_comma, is_name};
 use tla_symbols::{LexKind, Lexeme, Op, Word};
-use unit_grammar::{Due, DueMove, UnitStart, Wait};
+use unit_machine::{Due, DueMove, UnitStart, Wait};
 
 fn is_dashes(kind: LexKind) -> bool
     ensures { result ≡ tables.is_dashes kind }

@@ -1,8 +1,8 @@
 use Rattle.std.proofs.Common.{[], ◌∷◌, refl, sym, ap, ◌∙◌}
 use Rattle.std.proofs.lemmas.Result.{IfOk-weaker}
 use Rattle.tla_tree.specs.Syntax.{Nil}
-use Rattle.unit_grammar.specs.declared.wait.Wait.TheVariants as Wait
-use Rattle.unit_grammar.specs.Machine as Machine
+use Rattle.unit_machine.specs.declared.wait.Wait.TheVariants as Wait
+use Rattle.unit_machine.specs.Machine as Machine
 use Rattle.unit_grammar.specs.Units.{Constants}
 use Rattle.unit_parse.proofs.due.after_declared.Goals as goal
 

@@ -1,7 +1,7 @@
 use Rattle.std.proofs.Common.{[], ◌∷◌, refl}
 use Rattle.tla_tree.specs.Syntax.{Nil}
-use Rattle.unit_grammar.specs.declared.wait.Wait.TheVariants as Wait
-use Rattle.unit_grammar.specs.Machine as Machine
+use Rattle.unit_machine.specs.declared.wait.Wait.TheVariants as Wait
+use Rattle.unit_machine.specs.Machine as Machine
 use Rattle.unit_parse.proofs.Reaching.{no-parts}
 use Rattle.unit_parse.proofs.due.start.Goals as goal
 

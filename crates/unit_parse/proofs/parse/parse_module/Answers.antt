@@ -1,6 +1,6 @@
 use Rattle.std.proofs.Common.{arith, refl}
 use Rattle.std.proofs.lemmas.Bool.Decides.{nat_tests}
-use Rattle.unit_grammar.specs.Machine.{opening}
+use Rattle.unit_machine.specs.Machine.{opening}
 use Rattle.unit_parse.proofs.Parsing.{reads-next, refuses-next, read-all, read-whole}
 use Rattle.unit_parse.proofs.parse.parse_module.Goals as goal
 

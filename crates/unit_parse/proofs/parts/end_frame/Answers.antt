@@ -1,6 +1,6 @@
 use Rattle.std.proofs.Common.{subst, ◌++◌, arith}
 use Rattle.tla_tree.specs.Lexemes.{then}
-use Rattle.unit_grammar.specs.Machine.{frame}
+use Rattle.unit_machine.specs.Machine.{frame}
 use Rattle.unit_parse.specs.Standing.{IsFrame}
 use Rattle.unit_parse.proofs.Stepping.{ended-alone, ended-below, popped, nothing-left}
 use Rattle.unit_parse.proofs.parts.end_frame.Goals as goal

@@ -1,6 +1,6 @@
 use Rattle.std.proofs.Common.{List, length}
 use Rattle.std.specs.Prelude.{reverse}
-use Rattle.unit_grammar.specs.Machine.{Frame}
+use Rattle.unit_machine.specs.Machine.{Frame}
 use Rattle.unit_parse.specs.Standing.{IsFrame, AreFrames}
 use Rattle.unit_parse.proofs.Stepping.{Goes}
 use Rattle.unit_parse.proofs.parts.end_frames.Given as goal

@@ -1,6 +1,6 @@
 use Rattle.std.proofs.Common.{subst}
 use Rattle.std.proofs.lemmas.Result.{IfOk-weaker}
-use Rattle.unit_grammar.specs.Machine as Machine
+use Rattle.unit_machine.specs.Machine as Machine
 use Rattle.unit_parse.specs.Standing.{IsMoved}
 use Rattle.unit_parse.proofs.Stepping.{still, as-stands, as-declared, as-part, as-expression, as-bounds, focus-moves}
 use Rattle.unit_parse.proofs.state.State.step.Goals as goal

@@ -1,5 +1,0 @@
-use Rattle.unit_grammar.proofs.FirstBad.{refused-first, first-refused}
-use Rattle.unit_grammar.proofs.refuses_at_first_bad.Goals as goal
-
-pub returns : goal.returns
-returns c = record { refused = refused-first; bad = first-refused }

@@ -1,0 +1,5 @@
+use Rattle.unit_laws.proofs.Sounding.{accepted-derives}
+use Rattle.unit_laws.proofs.accepted_derives.Goals as goal
+
+pub returns : goal.returns
+returns c = accepted-derives

@@ -1,0 +1,5 @@
+use Rattle.unit_laws.proofs.ReadingUnits.{derives-parses}
+use Rattle.unit_laws.proofs.accepts_derivable.Goals as goal
+
+pub returns : goal.returns
+returns c = derives-parses

@@ -1,0 +1,5 @@
+use Rattle.unit_laws.proofs.ReadingUnits.{one-module}
+use Rattle.unit_laws.proofs.one_module.Goals as goal
+
+pub returns : goal.returns
+returns c = one-module

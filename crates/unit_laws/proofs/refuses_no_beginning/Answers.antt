@@ -1,0 +1,5 @@
+use Rattle.unit_laws.proofs.ReadingUnits.{refused-ends}
+use Rattle.unit_laws.proofs.refuses_no_beginning.Goals as goal
+
+pub returns : goal.returns
+returns c = refused-ends
