@@ -18,9 +18,10 @@ use Rattle.tla_tree.specs.declared.unit.ModuleTree.{ModuleTree}
 use Rattle.unit_grammar.specs.Units.{ModuleUnits}
 use Rattle.unit_grammar.specs.Derivation.{BeginsModule, alone, extending, DerivesModule, outermost}
 use Rattle.unit_grammar.specs.FirstBad.{IsFirstBad}
-use Rattle.tla_front.specs.Fronts.{Front, Fault, Tree, fault_at, fault_of, greatest, readable_len, syntax_code, MOST_TEXT, MOST_HEIGHT, IsFirstHigh, IsFrontOfLexemes, bad, high, misnamed, whole, IsFront, not_utf8, too_large, no_header, read, IsTree}
+use Rattle.tla_front.specs.Fronts.{Front, Fault, Tree, fault_at, fault_of, greatest, readable_len, syntax_code, MOST_TEXT, IsFrontOfLexemes, bad, high, misnamed, whole, IsFront, not_utf8, too_large, no_header, read, IsTree}
 use Rattle.tla_front.specs.declared.module.FrontError.{FrontError}
-use Rattle.tla_front.specs.Faults.{IsFaultBehind, IsFrontFault, IsFaultOfLexemes, IsRead, IsHigh, IsReadFront}
+use Rattle.unit_heights.specs.TooHigh.{MOST_HEIGHT, IsFirstHigh, IsRead, IsHigh}
+use Rattle.tla_front.specs.Faults.{IsFaultBehind, IsFrontFault, IsFaultOfLexemes, IsReadFront}
 
 -- ---- bytes
 

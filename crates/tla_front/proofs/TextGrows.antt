@@ -9,7 +9,7 @@ use Rattle.tla_lexeme.specs.Lexing.{lexemes_after}
 use Rattle.tla_lexeme.specs.Longest.{Lexes, Passes, ReadsLongest}
 use Rattle.tla_lexeme.specs.ModulePart.{header_of, is_equals, is_module_word, module_part, part_from, up_to_close}
 use Rattle.tla_lexeme.specs.Spans.{IsPlaced}
-use Rattle.tla_front.specs.FirstHigh.{BeginsFurther, place_of}
+use Rattle.unit_heights.specs.FirstHigh.{BeginsFurther}
 
 nearer : (a b : ℕ) (ls : List Lexeme) → a ≤ b → BeginsFurther b ls → BeginsFurther a ls
 nearer a b [] le h = tt
@@ -48,17 +48,7 @@ part-further text (Some at) lexemes law e =
 pub text-further : ((text : List ℕ) (at : ℕ) → ReadsLongest text at) → (text : List ℕ) (lexemes : List Lexeme) → module_part text ≡ Some lexemes → BeginsFurther 0 lexemes
 text-further law text lexemes e = part-further text (header_of text) lexemes (λ at. law text at) e
 
--- ---- what that says of places
-
-behind : (at : ℕ) (before : List Lexeme) (l : Lexeme) (after : List Lexeme) → BeginsFurther at (before ++ l ∷ after) → at ≤ l.span.start
-behind at [] l after h = h.0
-behind at (b ∷ before) l after h = omega (arith, h.0, behind (suc b.span.start) before l after h.1)
-
-pub place_of-there : (at : ℕ) (before : List Lexeme) (l : Lexeme) (after : List Lexeme) → BeginsFurther at (before ++ l ∷ after) → place_of (before ++ l ∷ after) l.span.start ≡ length before
-place_of-there at [] l after h = rw (eq-eqb l.span.start l.span.start refl) refl
-place_of-there at (b ∷ before) l after h =
-    let further : suc b.span.start ≤ l.span.start = behind (suc b.span.start) before l after h.1 in
-    rw (ne_eqb b.span.start l.span.start (λ e. absurd (omega (arith, e, further)))) (omega (arith, place_of-there (suc b.span.start) before l after h.1))
+-- ---- what that says of how many there are
 
 -- a text has no more lexemes than bytes, and one
 few-from : (text : List ℕ) (at : ℕ) (ls : List Lexeme) → BeginsFurther at ls → All (λ l. IsPlaced text l.span) ls → at ≤ length text + 1 → length ls + at ≤ length text + 1

@@ -5,10 +5,8 @@ use Rattle.tla_lexeme.specs.Spans.{IsPlaced}
 use Rattle.tla_model.specs.declared.Diagnostic.{Diagnostic}
 use Rattle.tla_tree.specs.declared.unit.ModuleTree.{ModuleTree}
 use Rattle.unit_grammar.specs.Units.{ModuleUnits}
-use Rattle.unit_grammar.specs.Derivation.{DerivesModule}
-use Rattle.unit_parse.specs.Modules.{IsModule}
 use Rattle.tla_front.specs.declared.module.FrontError.{FrontError}
-use Rattle.tla_front.specs.Fronts.{Tree, Fault, fault_of, syntax_code, IsFirstHigh, IsFront, IsFrontOfLexemes, IsTree}
+use Rattle.tla_front.specs.Fronts.{Tree, Fault, fault_of, syntax_code, IsFront, IsFrontOfLexemes, IsTree}
 
 abbrev pub IsFrontFault : List ℕ → List ℕ → FrontError → Type 0
 IsFrontFault name bytes (FrontError.Fault fault) = IsFront name bytes (Fault fault)
@@ -30,14 +28,6 @@ IsFaultOfLexemes name text lexemes FrontError.Memory = Unit {0}
 abbrev pub IsFaultBehind : List Lexeme → ℕ → Diagnostic → Type 0
 IsFaultBehind lexemes index fault = (l : Lexeme) × (rest : List Lexeme) × (drop index lexemes ≡ l ∷ rest) × (fault ≡ fault_of (syntax_code l.kind) l)
 
--- the tree is a module that derives the lexemes, as it was read
-abbrev pub IsRead : ModuleTree → List Lexeme → Type 0
-IsRead tree lexemes = (found : ModuleUnits) × DerivesModule found lexemes × IsModule tree found
-
 -- the tree is the front of the lexemes
 abbrev pub IsReadFront : List ℕ → List ℕ → List Lexeme → ModuleTree → Type 0
 IsReadFront name text lexemes tree = (found : ModuleUnits) × IsFrontOfLexemes name text lexemes (Tree found) × IsTree tree found text
-
--- the lexeme is the first of a unit that is too high
-abbrev pub IsHigh : ModuleTree → List Lexeme → Lexeme → Type 0
-IsHigh tree lexemes t = (found : ModuleUnits) × DerivesModule found lexemes × IsModule tree found × IsFirstHigh found lexemes t

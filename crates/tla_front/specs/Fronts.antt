@@ -1,5 +1,5 @@
 -- The front of a module: its tree, or the one fault that is found before its names are looked at.
-use Rattle.std.specs.Prelude.{◌≡◌, ◌≢◌, ◌<◌, ◌≤◌, ◌^◌, ℕ, zero, suc, List, [], ◌∷◌, ◌++◌, length, take, drop, Bool, if◌then◌else◌, Some, None}
+use Rattle.std.specs.Prelude.{◌≡◌, ◌≢◌, ◌<◌, ◌≤◌, ◌^◌, ℕ, zero, suc, List, ◌∷◌, length, take, drop, Bool, if◌then◌else◌, Some, None}
 use Rattle.std.specs.Str.{is_utf8}
 use Rattle.tla_symbols.specs.declared.lexeme.LexKind.{LexKind}
 use Rattle.tla_symbols.specs.declared.lexeme.Lexeme.{Lexeme}
@@ -7,11 +7,12 @@ use Rattle.tla_lexeme.specs.ModulePart.{module_part}
 use Rattle.tla_tree.specs.declared.unit.ModuleTree.{ModuleTree}
 use Rattle.tla_model.specs.declared.Diagnostic.{Diagnostic}
 use Rattle.tla_model.specs.Lexemes.{spelled}
-use Rattle.unit_grammar.specs.Units.{UnitTree, ModuleUnits}
-use Rattle.unit_grammar.specs.Derivation.{BeginsModule, DerivesUnit, DerivesUnits, DerivesModule, first}
+use Rattle.unit_grammar.specs.Units.{ModuleUnits}
+use Rattle.unit_grammar.specs.Derivation.{DerivesModule}
 use Rattle.unit_grammar.specs.FirstBad.{IsFirstBad}
-use Rattle.unit_grammar.specs.Heights.{highest_unit, module_height}
-use Rattle.unit_parse.specs.Modules.{AreUnits}
+use Rattle.unit_grammar.specs.Heights.{module_height}
+use Rattle.unit_grammar.specs.UnitNodes.{AreUnits}
+use Rattle.unit_heights.specs.TooHigh.{MOST_HEIGHT, IsFirstHigh}
 
 -- a module's units, or its one fault
 pub data Front : Type 0 where
@@ -35,36 +36,14 @@ greatest p (suc n) = if p (suc n) then suc n else greatest p n
 abbrev pub readable_len : List ℕ → ℕ
 readable_len bytes = greatest (λ n. is_utf8 (take n bytes)) (length bytes)
 
--- the most bytes of one text, and the most height of one module
+-- the most bytes of one text
 abbrev pub MOST_TEXT : ℕ
 MOST_TEXT = 2 ^ 20
-
-abbrev pub MOST_HEIGHT : ℕ
-MOST_HEIGHT = 1000
 
 -- no lexeme begins, or the lexeme begins nothing that may stand there
 abbrev pub syntax_code : LexKind → ℕ
 syntax_code LexKind.Bad = 201
 syntax_code _ = 202
-
--- the first lexeme of the first unit of the outermost module that is too high
-pub record IsFirstHigh (found : ModuleUnits) (lexemes : List Lexeme) (t : Lexeme) : Type 0 where
-  pub header : List Lexeme
-  pub before : List Lexeme
-  pub more : List Lexeme
-  pub after : List Lexeme
-  pub closing : Lexeme
-  pub lower : List UnitTree
-  pub unit : List UnitTree
-  pub rest : List UnitTree
-  pub spells : lexemes ≡ header ++ (before ++ ((t ∷ more) ++ (after ++ closing ∷ [])))
-  pub are : found.units ≡ lower ++ (unit ++ rest)
-  pub begins : BeginsModule found.name found.extends header
-  pub derives_lower : DerivesUnits lower before t
-  pub derives_unit : DerivesUnit unit (t ∷ more) (first after closing)
-  pub derives_rest : DerivesUnits rest after closing
-  pub low : highest_unit 0 lower ≤ MOST_HEIGHT
-  pub high : MOST_HEIGHT < highest_unit 0 unit
 
 -- the front of the lexemes of a text, for a file of this name
 pub data IsFrontOfLexemes (name text : List ℕ) (lexemes : List Lexeme) : Front → Type 0 where

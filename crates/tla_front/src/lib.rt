@@ -5,7 +5,6 @@
 #![tactic(auto)]
 
 mod fault;
-mod high;
 mod module;
 mod name;
 

@@ -4,19 +4,19 @@ ghost use Rattle.std.specs.List.{All, AllByRecursion};
 ghost use Rattle.unit_grammar.specs.Units.{ModuleUnits};
 ghost use Rattle.unit_grammar.specs.FirstBad.{EndsOnce};
 ghost use Rattle.unit_grammar.specs.UnitNodes.{module_of};
+ghost use Rattle.unit_heights.specs.FirstHigh.{BeginsFurther};
+ghost use Rattle.unit_heights.specs.TooHigh.{IsRead};
 ghost use Rattle.tla_model.specs.Entities.{declaring};
 ghost use Rattle.tla_model.specs.Lexemes.{LexemesLie, LiesIn};
 ghost use Rattle.tla_lexeme.specs.Spans.{IsPlaced};
 ghost use Rattle.tla_lexeme.specs.ModulePart.{module_part};
 ghost use Rattle.tla_front.specs.Fronts as fronts;
 ghost use Rattle.tla_front.specs.Fronts.{Front, IsFront, IsFrontOfLexemes, IsTree, readable_len};
-ghost use Rattle.tla_front.specs.FirstHigh.{BeginsFurther};
-ghost use Rattle.tla_front.specs.Faults.{IsFrontFault, IsFaultPlaced, IsFaultBehind, IsFaultOfLexemes, IsRead, IsReadFront};
+ghost use Rattle.tla_front.specs.Faults.{IsFrontFault, IsFaultPlaced, IsFaultBehind, IsFaultOfLexemes, IsReadFront};
 
 use crate::fault::{
     MISNAMED, NO_HEADER, NOT_UTF8, TOO_HIGH, TOO_LARGE, fault_at, fault_of, syntax_fault,
 };
-use crate::high::{MOST_HEIGHT, first_high};
 use crate::name::is_spelled;
 use std::alloc::Global;
 use tla_lexeme::{LexError, lex};
@@ -25,6 +25,7 @@ use tla_symbols::Lexeme;
 use tla_text::{Text, TextError};
 use tla_tree::ModuleTree;
 use tool_list::{Chars, List, Memory};
+use unit_heights::{MOST_HEIGHT, first_high};
 use unit_parse::{ParseError, parse_module};
 
 /// The most bytes of one text.

@@ -1,7 +1,7 @@
 use Rattle.std.proofs.Common.{◌<◌, ◌^◌, length, arith, subst, sym}
 use Rattle.std.specs.List.{AllByRecursion}
 use Rattle.tla_model.specs.Lexemes.{LiesIn}
-use Rattle.tla_front.specs.FirstHigh.{BeginsFurther}
+use Rattle.unit_heights.specs.FirstHigh.{BeginsFurther}
 use Rattle.tla_front.proofs.Reading.{bad-front, bad-placed}
 use Rattle.tla_front.proofs.TextEnds.{text-ends}
 use Rattle.tla_front.proofs.TextGrows.{text-further, few-lexemes}

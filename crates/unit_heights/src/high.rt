@@ -3,11 +3,11 @@ ghost use Rattle.std.specs.Prelude.{◌≡◌, ◌+◌, ◌<◌, ◌≤◌, ◌^
 ghost use Rattle.std.specs.List.{AllByRecursion};
 ghost use Rattle.tla_tree.specs.Arena.{Node, AreThere, tree_at, height_at};
 ghost use Rattle.unit_grammar.specs.Heights.{highest_unit};
-ghost use Rattle.unit_parse.specs.Modules.{unit_at, nodes_in};
-ghost use Rattle.tla_front.specs.Fronts as fronts;
-ghost use Rattle.tla_front.specs.Faults.{IsHigh, IsRead};
-ghost use Rattle.tla_front.specs.FirstHigh as high;
-ghost use Rattle.tla_front.specs.FirstHigh.{BeginsFurther};
+ghost use Rattle.unit_grammar.specs.UnitNodes.{unit_at, nodes_in};
+ghost use Rattle.unit_heights.specs.TooHigh as limits;
+ghost use Rattle.unit_heights.specs.TooHigh.{IsHigh, IsRead};
+ghost use Rattle.unit_heights.specs.FirstHigh as high;
+ghost use Rattle.unit_heights.specs.FirstHigh.{BeginsFurther};
 
 use tla_symbols::Lexeme;
 use tla_tree::{ModuleTree, Tree, Unit};
@@ -151,7 +151,7 @@ pub fn first_high(tree: &ModuleTree, lexemes: &[Lexeme]) -> Lexeme
     requires read { IsRead tree.now lexemes.now }
     requires further { BeginsFurther 0 lexemes.now }
     requires few { length lexemes.now < 2 ^ 32 }
-    requires high { fronts.MOST_HEIGHT < tree.now.height }
+    requires high { limits.MOST_HEIGHT < tree.now.height }
     ensures { IsHigh tree.now lexemes.now result }
 {
     lexemes[before_high(lexemes, tree.units.as_slice(), &tree.tree)]

@@ -1,6 +1,6 @@
 use Rattle.std.proofs.Common.{arith}
-use Rattle.tla_front.proofs.HighNodes.{index-within, index-high}
-use Rattle.tla_front.proofs.high.first_high.Goals as goal
+use Rattle.unit_heights.proofs.HighNodes.{index-within, index-high}
+use Rattle.unit_heights.proofs.high.first_high.Goals as goal
 
 pub offset_bounds-lexemes-before_high : goal.offset_bounds-lexemes-before_high
 offset_bounds-lexemes-before_high c =

@@ -1,9 +1,9 @@
 use Rattle.std.proofs.Common.{◌≡◌, ◌≤◌, drop}
 use Rattle.std.specs.Prelude.{map}
 use Rattle.tla_tree.specs.Arena.{AreThere}
-use Rattle.unit_parse.specs.Modules.{unit_at, nodes_in}
-use Rattle.tla_front.specs.FirstHigh.{high_unit}
-use Rattle.tla_front.proofs.high.high_unit.Given as goal
+use Rattle.unit_grammar.specs.UnitNodes.{unit_at, nodes_in}
+use Rattle.unit_heights.specs.FirstHigh.{high_unit}
+use Rattle.unit_heights.proofs.high.high_unit.Given as goal
 
 abbrev pub invariant-loop-unit : goal.invariant-loop-unit
 invariant-loop-unit l = record {

@@ -8,11 +8,10 @@ use Rattle.tla_tree.specs.declared.unit.Unit.TheVariants as unit
 use Rattle.tla_tree.specs.declared.unit.ModuleTree.{ModuleTree}
 use Rattle.tla_tree.proofs.Nodes.{tree_at-form}
 use Rattle.unit_grammar.specs.Heights.{module_height}
-use Rattle.unit_parse.specs.Modules.{unit_at}
-use Rattle.tla_front.specs.Fronts.{MOST_HEIGHT, IsFirstHigh}
-use Rattle.tla_front.specs.Faults.{IsRead, IsHigh}
-use Rattle.tla_front.specs.FirstHigh.{BeginsFurther, before_high}
-use Rattle.tla_front.proofs.HighUnits.{before-within, before-high}
+use Rattle.unit_grammar.specs.UnitNodes.{unit_at}
+use Rattle.unit_heights.specs.TooHigh.{MOST_HEIGHT, IsFirstHigh, IsRead, IsHigh}
+use Rattle.unit_heights.specs.FirstHigh.{BeginsFurther, before_high}
+use Rattle.unit_heights.proofs.HighUnits.{before-within, before-high}
 
 -- a tree stands where its node does
 pub node-start : (nodes : List Node) (number : ℕ) → number < length nodes → (node_at nodes number).span.start ≡ (span (tree_at nodes number)).start

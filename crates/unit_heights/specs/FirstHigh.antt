@@ -4,7 +4,7 @@ use Rattle.tla_symbols.specs.declared.lexeme.Lexeme.{Lexeme}
 use Rattle.tla_tree.specs.Syntax.{Tree, span}
 use Rattle.unit_grammar.specs.Units.{UnitTree, OperatorDefinition, FunctionDefinition, ModuleDefinition, Instance, Assumption, Theorem, ModuleBegin, ModuleEnd}
 use Rattle.unit_grammar.specs.Heights.{highest_unit}
-use Rattle.tla_front.specs.Fronts.{MOST_HEIGHT}
+use Rattle.unit_heights.specs.TooHigh.{MOST_HEIGHT}
 
 -- each lexeme begins at this place or further on, and behind where the one before it does
 abbrev pub BeginsFurther : ℕ → List Lexeme → Type 0

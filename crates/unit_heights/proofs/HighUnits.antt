@@ -11,9 +11,9 @@ use Rattle.tla_tree.specs.Derivation.{DerivesDefinition, operator, prefix_operat
 use Rattle.unit_grammar.specs.Units.{UnitTree, Variables, Constants, Instance, Assumption, Theorem, Line, ModuleBegin, ModuleEnd, ModuleUnits, defined}
 use Rattle.unit_grammar.specs.Derivation.{BeginsModule, alone, extending, SpellsLocal, exported, kept, first, DerivesUnit, variables, constants, definition, instance, assumption, theorem, line, nested, DerivesUnits, no_units, more_units, DerivesModule, outermost}
 use Rattle.unit_grammar.specs.Heights.{unit_height, highest_unit, module_height}
-use Rattle.tla_front.specs.Fronts.{MOST_HEIGHT, IsFirstHigh}
-use Rattle.tla_front.specs.FirstHigh.{BeginsFurther, depth_after, outer, high_unit, begins_with, begins_at, begun_before, place_of, lexemes_before, before_high}
-use Rattle.tla_front.proofs.TextGrows.{place_of-there}
+use Rattle.unit_heights.specs.TooHigh.{MOST_HEIGHT, IsFirstHigh}
+use Rattle.unit_heights.specs.FirstHigh.{BeginsFurther, depth_after, outer, high_unit, begins_with, begins_at, begun_before, place_of, lexemes_before, before_high}
+use Rattle.unit_heights.proofs.Places.{place_of-there}
 
 -- ---- one step
 

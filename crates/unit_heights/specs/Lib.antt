@@ -1,0 +1,2 @@
+pub mod TooHigh
+pub mod FirstHigh
