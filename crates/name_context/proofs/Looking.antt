@@ -1,16 +1,15 @@
 -- Words as they are looked up in a context: before those that were taken over, among these, and behind them.
-use Rattle.std.proofs.Common.{◌≡◌, ℕ, zero, suc, ◌-◌, ◌<◌, ◌≤◌, get_or, min, take, drop, length, List, [], ◌∷◌, ◌++◌, Option, Some, None, Bool, true, false, cond, refl, ap, sym, ◌∙◌, arith, ⊎_elim}
+use Rattle.std.proofs.Common.{◌≡◌, ℕ, zero, suc, ◌-◌, ◌≤◌, min, take, drop, length, List, [], ◌∷◌, ◌++◌, Option, Some, None, Bool, true, false, cond, refl, ap, sym, subst, ◌∙◌, arith}
 use Rattle.std.specs.Prelude.{is_some, option_map}
 use Rattle.std.specs.Borrow.{Bor}
 use Rattle.std.specs.Option.{option_copied}
 use Rattle.std.specs.Str.{bytes_eq}
-use Rattle.std.proofs.lemmas.Bool.{cases_Bool}
 use Rattle.std.proofs.lemmas.List.{map-append, take-map}
-use Rattle.std.proofs.lemmas.Slice.Eq.{bytes_eq-Decides}
 use Rattle.tla_model.specs.Entities.{Meaning}
 use Rattle.tla_model.specs.Tables.{lookup}
-use Rattle.tla_model.proofs.Stretching.{found-first, found-next, none-next, take-both}
-use Rattle.name_context.specs.AsTables.{AreApart, usable_words, words_of}
+use Rattle.tla_model.proofs.Stretching.{found-first, found-next, take-both}
+use Rattle.name_context.specs.declared.context.Context.{Context}
+use Rattle.name_context.specs.AsTables.{AreApart, CanTake, context_of, taken_words, usable_words, words_of}
 
 -- words that were taken over can be used
 pub lookup-usable : (words : List (List ℕ × Meaning)) (word : List ℕ) → lookup bytes_eq (usable_words words) word ≡ option_map (λ meaning. Some meaning) (lookup bytes_eq words word)
@@ -49,25 +48,24 @@ found-third a b c word first second = found-next bytes_eq a (b ++ c) word first 
 pub found-second : {V : Type 0} (a b c : List (List ℕ × V)) (word : List ℕ) (value : V) → lookup bytes_eq a word ≡ None → lookup bytes_eq b word ≡ Some value → lookup bytes_eq (a ++ (b ++ c)) word ≡ Some value
 found-second a b c word value first second = found-next bytes_eq a (b ++ c) word first ∙ found-first bytes_eq b c word value second
 
--- ---- words apart
+-- ---- words that can be taken over
 
-bytes-apart : (a b : List ℕ) → bytes_eq a b ≡ false → bytes_eq b a ≡ false
-bytes-apart a b f = ⊎_elim
-    (λ (t : bytes_eq b a ≡ true). let e : true ≡ false = sym ((bytes_eq-Decides a b).1 (sym ((bytes_eq-Decides b a).0 t))) ∙ f in cc)
-    (λ (f : bytes_eq b a ≡ false). f)
-    (cases_Bool (bytes_eq b a))
+abbrev nothing : List (List ℕ × Meaning)
+nothing = []
 
-pub apart-first : (word : List ℕ × Meaning) (words : List (List ℕ × Meaning)) (others : List (List ℕ × Option Meaning)) → AreApart (word ∷ words) others → lookup bytes_eq others word.0 ≡ None
-apart-first word words [] apart = refl
-apart-first word words (other ∷ others) apart = ⊎_elim
-    (λ (t : bytes_eq other.0 word.0 ≡ true). let e = sym (ap (λ (b : Bool). cond b (Some word.1) (lookup bytes_eq words other.0)) t) ∙ apart.0 in cc)
-    (λ (f : bytes_eq other.0 word.0 ≡ false).
-    ap (λ (b : Bool). cond b (Some other.1) (lookup bytes_eq others word.0)) (bytes-apart other.0 word.0 f) ∙ apart-first word words others apart.1)
-    (cases_Bool (bytes_eq other.0 word.0))
+take-none : (n : ℕ) → take n nothing ≡ nothing
+take-none zero = refl
+take-none (suc n) = refl
 
-pub apart-rest : (word : List ℕ × Meaning) (words : List (List ℕ × Meaning)) (others : List (List ℕ × Option Meaning)) → AreApart (word ∷ words) others → AreApart words others
-apart-rest word words [] apart = tt
-apart-rest word words (other ∷ others) apart = (none-next bytes_eq (word ∷ []) words other.0 apart.0, apart-rest word words others apart.1)
+-- the words of a context that nothing was taken over into
+own-words : (context : Context) (words : List (List ℕ × Meaning)) → CanTake context words → (context_of context).words ≡ words_of context.words.entries
+own-words context words can =
+    (λ i. words_of (can.before i) ++ (usable_words (take context.shared_len (taken_words (can.taken i))) ++ words_of context.words.entries))
+    ∙ ap (λ z. usable_words z ++ words_of context.words.entries) (take-none context.shared_len)
+
+-- none of those that are there is one of them
+pub all-apart : (context : Context) (words : List (List ℕ × Meaning)) → CanTake context words → AreApart words (context_of context).words
+all-apart context words can = subst (AreApart words) (sym (own-words context words can)) can.apart
 
 -- ---- what code has of them
 
@@ -88,8 +86,3 @@ drop-beyond zero [] beyond = refl
 drop-beyond (suc n) [] beyond = refl
 drop-beyond zero (x ∷ xs) beyond = absurd (omega (arith, beyond))
 drop-beyond (suc n) (x ∷ xs) beyond = drop-beyond n xs (omega (arith, beyond))
-
-drop-behind : {A : Type 0} (xs : List A) (i : ℕ) (x : A) → i < length xs → x ≡ get_or xs i x → drop i xs ≡ x ∷ drop (suc i) xs
-drop-behind [] i x lt is = absurd (omega (arith, lt))
-drop-behind (y ∷ xs) zero x lt is = ap (λ z. z ∷ xs) (sym is)
-drop-behind (y ∷ xs) (suc i) x lt is = drop-behind xs i x (omega (arith, lt)) is

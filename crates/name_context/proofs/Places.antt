@@ -1,12 +1,11 @@
--- What stands at a place of words, and how many of the first ones are the same.
-use Rattle.std.proofs.Common.{◌≡◌, ℕ, zero, suc, ◌-◌, ◌+◌, ◌<◌, ◌≤◌, List, [], ◌∷◌, ◌++◌, Option, Some, length, take, ap, sym, ◌∙◌, arith}
+-- What stands at a place of words.
+use Rattle.std.proofs.Common.{◌≡◌, ℕ, zero, suc, ◌-◌, ◌<◌, ◌≤◌, List, [], ◌∷◌, ◌++◌, Option, Some, length, take, ◌∙◌, arith}
 use Rattle.std.specs.Prelude.{slice_get}
 use Rattle.std.proofs.lemmas.Option.{slice_get_past}
 use Rattle.list_laws.proofs.Lists.{at-map}
 use Rattle.tla_model.specs.Entities.{Meaning}
-use Rattle.tla_model.proofs.Stretching.{at-first, at-next, take-at}
+use Rattle.tla_model.proofs.Stretching.{at-first, at-next}
 use Rattle.name_context.specs.AsTables.{usable, usable_words}
-use Rattle.name_context.proofs.Looking.{something-take}
 
 -- among the first so many
 pub at-first-many : {A : Type 0} (n : ℕ) (xs : List A) (i : ℕ) (x : A) → i < length (take n xs) → slice_get xs i ≡ Some x → slice_get (take n xs) i ≡ Some x
@@ -20,12 +19,3 @@ at-others a b i x past at = at-next a b i (slice_get_past a i past) ∙ at
 
 pub at-usable : (words : List (List ℕ × Meaning)) (others : List (List ℕ × Option Meaning)) (i : ℕ) (word : List ℕ × Meaning) → slice_get words i ≡ Some word → slice_get (usable_words words ++ others) i ≡ Some (usable word)
 at-usable words others i word at = at-first (usable_words words) others i (usable word) (at-map usable words i word at)
-
--- one more word that is the same
-pub one-more : {A : Type 0} (xs ys : List A) (i : ℕ) (x : A) → slice_get xs i ≡ Some x → slice_get ys i ≡ Some x → take i xs ≡ take i ys → take (i + 1) xs ≡ take (i + 1) ys
-one-more xs ys i x left right so = take-at xs i x left ∙ ap (λ z. z ++ x ∷ []) so ∙ sym (take-at ys i x right)
-
-pub one-more-usable : (seen : List (List ℕ × Option Meaning)) (words : List (List ℕ × Meaning)) (i : ℕ) (word : List ℕ × Meaning) →
-    slice_get seen i ≡ Some (usable word) → slice_get words i ≡ Some word → take i seen ≡ usable_words (take i words) → take (i + 1) seen ≡ usable_words (take (i + 1) words)
-one-more-usable seen words i word left right so =
-    one-more seen (usable_words words) i (usable word) left (at-map usable words i word right) (so ∙ sym (something-take i words)) ∙ something-take (i + 1) words

@@ -26,12 +26,16 @@ usable entry = (entry.0, Some entry.1)
 abbrev pub usable_words : List (List ℕ × Meaning) → List (List ℕ × Option Meaning)
 usable_words words = map usable words
 
+-- the first words, which were put before any were taken over
+abbrev pub first_words : Context → List (List ℕ × Option Meaning)
+first_words context = words_of context.before.entries
+
 -- the words that stand behind the first ones: those that were taken over, then others
 abbrev pub behind : Context → List (List ℕ × Option Meaning)
 behind context = usable_words (take context.shared_len (taken_words context.taken)) ++ words_of context.words.entries
 
 abbrev pub context_of : Context → contexts.Context
-context_of context = record { words = words_of context.before.entries ++ behind context; symbols = context.symbols.items }
+context_of context = record { words = first_words context ++ behind context; symbols = context.symbols.items }
 
 -- none of the others is a word
 abbrev pub AreApart : List (List ℕ × Meaning) → List (List ℕ × Option Meaning) → Type 0

@@ -1,2 +1,1 @@
 pub mod AsTables
-pub mod Brought

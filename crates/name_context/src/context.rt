@@ -1,14 +1,13 @@
 // Contexts: names with what they mean at a place.
-ghost use Rattle.std.specs.Prelude.{◌≡◌, ◌++◌, ◌≤◌, [], None, Some, IfOk, IsTrue, OnOk, length, option_map, slice_get, take};
+ghost use Rattle.std.specs.Prelude.{◌≡◌, ◌++◌, ◌≤◌, [], None, Some, IfOk, IfSome, IsTrue, OnOk, length, option_map, slice_get, take};
 ghost use Rattle.std.specs.List.{AllByRecursion};
 ghost use Rattle.std.specs.Str.{bytes_eq};
 ghost use Rattle.std.specs.Option.{option_copied};
 ghost use Rattle.tla_model.specs.Tables as tables;
 ghost use Rattle.name_context.specs.AsTables as as_tables;
 ghost use Rattle.tla_model.specs.Stretches.{shown};
-ghost use Rattle.name_context.specs.AsTables.{behind, cut, context_of, meant_by, mark_of, usable, usable_words, taken_words, words_of};
+ghost use Rattle.name_context.specs.AsTables.{behind, cut, context_of, first_words, meant_by, mark_of, usable, usable_words, taken_words, words_of};
 
-use crate::same::equal_entries;
 use indexmap::IndexMap;
 use std::alloc::Global;
 use std::mem;
@@ -103,40 +102,26 @@ fn are_apart(words: &IndexMap<&str, Option<Meaning>>, table: &NameTable) -> bool
     true
 }
 
-/// How many words were taken over.
-pub fn taken_len(taken: Option<&NameTable>) -> usize
-    ensures { result ≡ length (taken_words taken.entry) }
+// Which word stands at a place of those that were taken over, and what it means.
+fn taken_at(taken: Option<&NameTable>, index: usize) -> Option<(&str, &Meaning)>
+    ensures { IfSome result (λ found. slice_get (taken_words taken.entry) index ≡ Some (shown found)) }
 {
     match taken {
-        Some(table) => table.len(),
-        None => 0,
+        Some(table) => table.word_at(index),
+        None => None,
     }
 }
 
-/// Whether a word stands at a place of those that were taken over, and means this there.
-pub fn is_taken_at(taken: Option<&NameTable>, index: usize, given: (&str, &Meaning)) -> bool
-    ensures { IsTrue result → slice_get (taken_words taken.entry) index ≡ Some (shown given.entry) }
-{
-    let Some(table) = taken else {
-        return false;
-    };
-    match table.word_at(index) {
-        Some(found) => equal_entries(found, given),
-        None => false,
-    }
-}
-
-// Whether a word stands at a place of these, and means this there.
-fn is_usable_at(
-    words: &IndexMap<&str, Option<Meaning>>,
+// Which word stands at a place of these, and what it means, if it can be used.
+fn usable_at<'b>(
+    words: &'b IndexMap<&str, Option<Meaning>>,
     index: usize,
-    given: (&str, &Meaning),
-) -> bool
-    ensures { IsTrue result → slice_get (words_of words.now.entries) index ≡ Some (usable (shown given.entry)) }
+) -> Option<(&'b str, &'b Meaning)>
+    ensures { IfSome result (λ found. slice_get (words_of words.now.entries) index ≡ Some (usable (shown found))) }
 {
     match words.get_index(index) {
-        Some((word, Some(meaning))) => equal_entries((*word, meaning), given),
-        _ => false,
+        Some((word, Some(meaning))) => Some((*word, meaning)),
+        _ => None,
     }
 }
 
@@ -266,15 +251,15 @@ impl<'a> Context<'a> {
             && are_apart(&self.words, table)
     }
 
-    /// Whether a word stands at a place of those behind the first ones, and means this there.
-    pub fn has_behind(&self, index: usize, given: (&str, &Meaning)) -> bool
-        ensures { IsTrue result → slice_get (behind self.now) index ≡ Some (usable (shown given.entry)) }
+    /// Which word stands at a place of those behind the first ones, and what it means, if it can be used.
+    pub fn word_behind(&self, index: usize) -> Option<(&str, &Meaning)>
+        ensures { IfSome result (λ found. slice_get (behind self.now) index ≡ Some (usable (shown found))) }
     {
         let shared_len = self.shared_len();
         if index < shared_len {
-            is_taken_at(self.taken, index, given)
+            taken_at(self.taken, index)
         } else {
-            is_usable_at(&self.words, index - shared_len, given)
+            usable_at(&self.words, index - shared_len)
         }
     }
 
@@ -288,14 +273,14 @@ impl<'a> Context<'a> {
 
     /// Whether a table has none of the first words, and to look at these is little work beside so many.
     pub fn is_apart(&self, table: &NameTable, count: usize) -> bool
-        ensures { IsTrue result → as_tables.AreApart table.now.words (words_of self.now.before.entries) }
+        ensures { IsTrue result → as_tables.AreApart table.now.words (first_words self.now) }
     {
         is_little(self.before.len(), count) && are_apart(&self.before, table)
     }
 
     /// Takes over the words of a table, in place of those behind the first ones.
     pub fn take_instead(&mut self, table: &'a NameTable)
-        ensures { context_of self.new ≡ record { words = words_of self.old.before.entries ++ usable_words table.now.words; symbols = (context_of self.old).symbols } }
+        ensures { context_of self.new ≡ record { words = first_words self.old ++ usable_words table.now.words; symbols = (context_of self.old).symbols } }
     {
         self.words.truncate(0);
         self.taken = Some(table);

@@ -15,7 +15,7 @@ use Rattle.name_context.specs.declared.context.Mark.{Mark}
 use Rattle.symbol_scope.specs.declared.nesting.Outer.{Outer}
 use Rattle.name_context.specs.AsTables.{cut, mark_of}
 use Rattle.symbol_scope.specs.Readings.{Files, modules_of, taken_by}
-use Rattle.name_context.specs.Brought.{ModuleNames, brought}
+use Rattle.name_exports.specs.Brought.{ModuleNames, brought}
 use Rattle.symbol_scope.specs.Rounds.{AreRound, IsAt, IsOuter, begun_in, behind, left_by, outside_of}
 use Rattle.symbol_scope.specs.declared.nesting.Nesting.{Nesting}
 

@@ -23,7 +23,7 @@ use Rattle.tla_model.specs.Scopes.{all_refused, behind, binders, found, has_set,
 use Rattle.tla_model.specs.declared.ids.DeclId.{DeclId}
 use Rattle.tla_model.specs.Tables.{lookup}
 use Rattle.symbol_scope.specs.Given.{IsWithoutInstances}
-use Rattle.name_context.specs.Brought as in_brought
+use Rattle.name_exports.specs.Brought as in_brought
 use Rattle.symbol_scope.specs.WithoutInstances as plain
 use Rattle.tree_scope.specs.TreeFindings as in_trees
 

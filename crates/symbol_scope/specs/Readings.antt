@@ -8,7 +8,7 @@ use Rattle.tla_model.specs.Exports.{Exports, exports_of}
 use Rattle.tla_model.specs.Scopes.{Finding}
 use Rattle.tla_model.specs.Modules.{Reading, brings, brings_clash}
 use Rattle.tla_model.specs.declared.names.Finding.TheVariants.{Clashes}
-use Rattle.name_context.specs.Brought.{ModuleNames}
+use Rattle.name_exports.specs.Brought.{ModuleNames}
 
 -- what those export that can be named
 abbrev pub taken_by : Option (Table Meaning) → Option Exports

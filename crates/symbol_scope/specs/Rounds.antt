@@ -16,7 +16,7 @@ use Rattle.symbol_scope.specs.declared.nesting.Nesting.{Nesting}
 use Rattle.name_context.specs.AsTables.{cut}
 use Rattle.symbol_scope.specs.Modules.{reading_of}
 use Rattle.symbol_scope.specs.Readings.{Files, without_names}
-use Rattle.name_context.specs.Brought.{ModuleNames}
+use Rattle.name_exports.specs.Brought.{ModuleNames}
 
 -- a nested module of this title that begins
 abbrev pub begun_in : Reading → List ℕ → Reading

@@ -8,7 +8,7 @@ use Rattle.tla_model.specs.Imports.{Imports, import_of}
 use Rattle.tla_model.specs.Modules.{Place, Reading, all_clashing, begun, constants, declare_all, definition, entered, is_named, left, nested, text_of, unread}
 use Rattle.tla_model.specs.declared.names.Finding.TheVariants.{Taken}
 use Rattle.tla_model.specs.Scopes.{Finding, all_refused}
-use Rattle.name_context.specs.Brought.{import_exports}
+use Rattle.name_exports.specs.Brought.{import_exports}
 use Rattle.tree_scope.specs.TreeFindings.{walk}
 
 -- what the imported module of a name exports

@@ -5,7 +5,8 @@ ghost use Rattle.symbol_scope.specs.Modules.{reading_of};
 ghost use Rattle.symbol_scope.specs.Rounds.{IsAt, IsOuter, IsUnread, begun_in, behind, outside_of};
 
 use crate::reading::{Reading, take_name};
-use name_context::{Exported, Mark};
+use name_context::Mark;
+use name_exports::Exported;
 use std::alloc::Global;
 use std::mem;
 use tool_list::Memory;

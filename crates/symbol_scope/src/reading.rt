@@ -14,12 +14,13 @@ ghost use Rattle.name_context.specs.AsTables.{context_of};
 ghost use Rattle.tree_scope.specs.Listed.{listed};
 ghost use Rattle.tree_scope.specs.Lying.{BindersLie};
 ghost use Rattle.symbol_scope.specs.Readings as readings;
-ghost use Rattle.name_context.specs.Brought.{IsBrought};
+ghost use Rattle.name_exports.specs.Brought.{IsBrought};
 ghost use Rattle.symbol_scope.specs.Readings.{modules_of, no_files};
 ghost use Rattle.symbol_scope.specs.Modules.{reading_of};
 
 use indexmap::IndexMap;
-use name_context::{Context, Exported, Named, Names, bring_import, bring_nested};
+use name_context::{Context, Named};
+use name_exports::{Exported, Names, bring_import, bring_nested};
 use std::alloc::Global;
 use tla_model::{Binder, Finding, Imported, Meaning, NameTable};
 use tla_symbols::Lexeme;

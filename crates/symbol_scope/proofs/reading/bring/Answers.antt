@@ -1,7 +1,7 @@
 use Rattle.std.proofs.Common.{◌∙◌, ap, false, sym, subst, Some, None}
 use Rattle.symbol_scope.specs.WithoutInstances.{files_of}
-use Rattle.name_context.specs.Brought.{import_exports}
-use Rattle.name_context.specs.Brought.{IsBrought}
+use Rattle.name_exports.specs.Brought.{import_exports}
+use Rattle.name_exports.specs.Brought.{IsBrought}
 use Rattle.symbol_scope.proofs.Taking.{nothing-brought, under-found}
 use Rattle.symbol_scope.proofs.reading.bring.Goals as goal
 

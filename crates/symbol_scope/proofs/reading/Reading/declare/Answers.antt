@@ -2,7 +2,7 @@ use Rattle.std.proofs.Common.{◌∙◌, ap, sym}
 use Rattle.std.specs.Prelude.{is_some}
 use Rattle.name_context.specs.AsTables.{meant_by}
 use Rattle.symbol_scope.specs.Modules.{reading_of}
-use Rattle.name_context.specs.Brought.{as_read}
+use Rattle.name_exports.specs.Brought.{as_read}
 use Rattle.symbol_scope.specs.Readings.{modules_of, no_files}
 use Rattle.symbol_scope.proofs.Taking.{declared-new, declared-still, mapped-some, new-bound, there-bound}
 use Rattle.symbol_scope.proofs.reading.Reading.declare.Goals as goal

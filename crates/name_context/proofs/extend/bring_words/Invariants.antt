@@ -1,7 +1,0 @@
-use Rattle.std.proofs.Common.{drop}
-use Rattle.tla_model.specs.Exports.{of_words}
-use Rattle.name_context.specs.Brought.{IsBringing}
-use Rattle.name_context.proofs.extend.bring_words.Given as goal
-
-abbrev pub invariant-loop-index : goal.invariant-loop-index
-invariant-loop-index l = IsBringing l.initial.names l.names l.clash (of_words (drop l.index l.table.words)) (of_words (drop l.first l.table.words))

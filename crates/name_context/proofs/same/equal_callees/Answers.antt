@@ -1,9 +1,0 @@
-use Rattle.std.proofs.Common.{◌∙◌, sym}
-use Rattle.tla_model.specs.Entities.{same_units}
-use Rattle.name_context.proofs.Equal.{callee-equal}
-use Rattle.name_context.proofs.same.equal_callees.Goals as goal
-
-pub returns-then-same_decl : goal.returns-then-same_decl
-returns-then-same_decl c = λ yes.
-    callee-equal c.args.left.now c.args.right.now c.if-left-right.false (sym c.if-same_decl.ensures)
-    (sym (c.same_units.ensures ∙ (λ i. same_units (c.as_slice.ensures i) (c.as_slice-then-same_decl.ensures i))) ∙ yes)

@@ -1,0 +1,7 @@
+mod Bringing
+mod Equal
+mod Exporting
+mod Firsts
+mod Over
+mod Owning
+mod There

@@ -1,0 +1,56 @@
+-- The names that a module brings, put among those of a module that is read.
+use Rattle.std.specs.Prelude.{◌≡◌, ◌||◌, ℕ, Bool, false, ◌&&◌, List, [], Option, Some, None, nat_eq, take, if◌then◌else◌}
+use Rattle.std.specs.Str.{bytes_eq}
+use Rattle.std.specs.Arc.{arc_value}
+use Rattle.std.specs.Borrow.{Bor}
+use Rattle.tla_model.specs.declared.ids.UnitId.{UnitId}
+use Rattle.tla_model.specs.declared.imported.Import.{Import}
+use Rattle.tla_model.specs.Tables.{AreNew, Table, Named as Name}
+use Rattle.tla_model.specs.Entities.{Meaning}
+use Rattle.tla_model.specs.Exports.{Exports, exports_of, face_exports}
+use Rattle.tla_model.specs.Modules.{Reading, brings_clash, clashes, extended, with_entry}
+use Rattle.name_exports.specs.declared.exported.Names.{Names}
+use Rattle.name_context.specs.AsTables.{AreApart, behind, context_of, first_words, usable_words}
+
+abbrev pub same_unit : UnitId → UnitId → Bool
+same_unit a b = bytes_eq a.«module» b.«module» && nat_eq a.place b.place
+
+-- what a table exports, if there is one
+abbrev pub shown_by : Option (Bor (Table Meaning)) → Exports
+shown_by None = []
+shown_by (Some table) = exports_of table.now
+
+-- what an imported module exports
+abbrev pub import_exports : Option Import → Exports
+import_exports (Some (Import.Module face)) = face_exports (arc_value face).parts
+import_exports _ = []
+
+-- module names that are taken, and what those export that can be named
+abbrev pub ModuleNames : Type 0
+ModuleNames = List (List ℕ × Option Exports)
+
+-- a module of this title that is read, with the module names taken there
+abbrev pub as_read : List ℕ → ModuleNames → Names → Reading
+as_read title taken names = record { name = title; context = context_of names.context; exports = names.exports; modules = taken }
+
+-- the module with an entry that another one brings
+abbrev pub brought : Reading → Name × Meaning → Reading
+brought reading entry = if clashes reading.context entry then reading else with_entry false reading entry.0 entry.1
+
+-- the entries that another module brings were put, and whether one of them clashes
+pub record IsBrought (old new : Names) (clash : Bool) (entries : Exports) : Type 0 where
+  pub reads : (title : List ℕ) → (taken : ModuleNames) → as_read title taken new ≡ extended (as_read title taken old) entries
+  pub tells : (title : List ℕ) → (taken : ModuleNames) → clash ≡ brings_clash (as_read title taken old) entries
+
+-- some of the entries were put, and these are to come
+pub record IsBringing (old now : Names) (clash : Bool) (rest all : Exports) : Type 0 where
+  pub reads : (title : List ℕ) → (taken : ModuleNames) → extended (as_read title taken now) rest ≡ extended (as_read title taken old) all
+  pub tells : (title : List ℕ) → (taken : ModuleNames) → (clash || brings_clash (as_read title taken now) rest) ≡ brings_clash (as_read title taken old) all
+
+-- so many words of a table are the first that a module exports, and the first behind the first ones of its context; the
+-- table has none of these, and no word twice
+pub record AreFirst (names : Names) (words : List (List ℕ × Meaning)) (count : ℕ) : Type 0 where
+  pub once : AreNew bytes_eq [] words
+  pub apart : AreApart words (first_words names.context)
+  pub shown : take count names.exports.words ≡ take count words
+  pub seen : take count (behind names.context) ≡ usable_words (take count words)

@@ -1,0 +1,348 @@
+// The names of a module that is read: those that stand in its context, and those that it exports.
+ghost use Rattle.std.specs.Prelude.{◌≡◌, ◌++◌, ◌∷◌, ◌≤◌, ℕ, List as ListOf, [], None, Some, false, IfOk, IfSome, IsTrue, OnOk, if◌then◌else◌, is_some, length, slice_get, take};
+ghost use Rattle.std.specs.Str.{bytes_eq};
+ghost use Rattle.tla_model.specs.Exports.{of_words};
+ghost use Rattle.tla_model.specs.Modules as in_modules;
+ghost use Rattle.tla_model.specs.Stretches.{shown, words_of as stretch_words};
+ghost use Rattle.tla_model.specs.Tables as tables;
+ghost use Rattle.tla_model.specs.Tables.{AreNew};
+ghost use Rattle.name_context.specs.AsTables.{behind, meant_by, taken_words, usable, usable_words, words_of};
+ghost use Rattle.name_exports.specs.Brought.{AreFirst, IsBrought, ModuleNames, as_read};
+
+use crate::same::equal_entries;
+use indexmap::IndexMap;
+use name_context::{Context, Named, symbol_in};
+use std::alloc::Global;
+use std::marker::Model;
+use tla_model::{Meaning, NameTable, Words};
+use tla_symbols::Op;
+use tool_list::{List, Memory};
+
+/// The names that a module exports so far, each once, with what they mean outside it. The words of a
+/// module that it extends may stand before its own as they were taken over.
+#[derive(Drop)]
+pub struct Exported<'a> {
+    taken: Option<&'a NameTable>,
+    words: IndexMap<&'a str, Meaning>,
+    // There are few symbols, so they are looked through.
+    symbols: Vec<(Op, Meaning)>,
+}
+
+impl<'a> Model for Exported<'a> {
+    ghost use Rattle.std.specs.Prelude.{◌++◌, []};
+    ghost use Rattle.std.specs.Str.{bytes_eq};
+    ghost use Rattle.tla_model.specs.Entities.{Meaning};
+    ghost use Rattle.tla_model.specs.Tables.{AreNew, Table};
+    ghost use Rattle.name_context.specs.AsTables.{taken_words, words_of};
+
+    ghost Value = { Table Meaning };
+
+    ghost view = { λ t. record { words = taken_words t.taken ++ words_of t.words.entries; symbols = t.symbols.items } };
+
+    ghost invariant = { λ t. AreNew bytes_eq [] (taken_words t.taken ++ words_of t.words.entries) };
+}
+
+// Whether a word was taken over.
+fn is_taken(taken: Option<&NameTable>, word: &str) -> bool
+    ensures { result ≡ is_some (tables.lookup bytes_eq (taken_words taken.entry) word.now) }
+{
+    match taken {
+        Some(table) => table.word_among(table.len(), word).is_some(),
+        None => false,
+    }
+}
+
+// How many words were taken over.
+fn taken_len(taken: Option<&NameTable>) -> usize
+    ensures { result ≡ length (taken_words taken.entry) }
+{
+    match taken {
+        Some(table) => table.len(),
+        None => 0,
+    }
+}
+
+// Whether a word stands at a place of those that were taken over, and means this there.
+fn is_taken_at(taken: Option<&NameTable>, index: usize, given: (&str, &Meaning)) -> bool
+    ensures { IsTrue result → slice_get (taken_words taken.entry) index ≡ Some (shown given.entry) }
+{
+    let Some(table) = taken else {
+        return false;
+    };
+    match table.word_at(index) {
+        Some(found) => equal_entries(found, given),
+        None => false,
+    }
+}
+
+// Whether a word is there: one that was taken over, or one behind these.
+fn has_word(taken: Option<&NameTable>, words: &IndexMap<&str, Meaning>, word: &str) -> bool
+    ensures { result ≡ is_some (tables.lookup bytes_eq (taken_words taken.entry ++ words_of words.now.entries) word.now) }
+{
+    is_taken(taken, word) || words.contains_key(word)
+}
+
+// Whether a word stands at a place of these, and means this there.
+fn is_own_at(words: &IndexMap<&str, Meaning>, index: usize, given: (&str, &Meaning)) -> bool
+    ensures { IsTrue result → slice_get (words_of words.now.entries) index ≡ Some (shown given.entry) }
+{
+    match words.get_index(index) {
+        Some((word, meaning)) => equal_entries((*word, meaning), given),
+        None => false,
+    }
+}
+
+// Puts a word that is not there behind the others, with a spelling of its own.
+fn put_copy(alloc: Global, copies: &mut Words, word: &str, meaning: &Meaning) -> Result<(), Memory>
+    requires { tables.lookup bytes_eq (stretch_words copies.old.entries) word.now ≡ None }
+    ensures { OnOk result (stretch_words copies.new.entries ≡ stretch_words copies.old.entries ++ (word.now, meaning.now) ∷ []) }
+{
+    let word = String::from_str(alloc, word)?;
+    let meaning = meaning.copied()?;
+    copies.insert(word, meaning)?;
+    Ok(())
+}
+
+// The same words, with spellings of their own.
+fn owned(alloc: Global, words: &IndexMap<&str, Meaning>) -> Result<Words, Memory>
+    requires { tables.AreNew bytes_eq [] (words_of words.now.entries) }
+    ensures { IfOk result (λ copies. stretch_words copies.entries ≡ words_of words.now.entries) }
+{
+    let mut copies = IndexMap::new(alloc);
+    for index in 0..words.len() {
+        let Some((word, meaning)) = words.get_index(index) else {
+            unreachable!();
+        };
+        put_copy(alloc, &mut copies, *word, meaning)?;
+    }
+    Ok(copies)
+}
+
+// The same symbols.
+fn copied(alloc: Global, symbols: &[(Op, Meaning)]) -> Result<List<(Op, Meaning)>, Memory>
+    ensures { IfOk result (λ copies. copies ≡ symbols.now) }
+{
+    let mut copies = List::new(alloc);
+    for (op, meaning) in symbols {
+        copies.push((*op, meaning.copied()?))?;
+    }
+    Ok(copies)
+}
+
+impl<'a> Exported<'a> {
+    /// No names.
+    pub fn new(alloc: Global) -> Exported<'a>
+        ensures { result ≡ tables.empty }
+    {
+        Exported {
+            taken: None,
+            words: IndexMap::new(alloc),
+            symbols: Vec::new(alloc),
+        }
+    }
+
+    /// Puts a name behind the others, unless it is there.
+    pub fn put(&mut self, name: Named<'a>, meaning: Meaning) -> Result<(), Memory>
+        ensures { OnOk result (self.new ≡ tables.put self.old (meant_by name.entry) meaning) }
+    {
+        match name {
+            Named::Word(word) => self.put_word(word, meaning),
+            Named::Symbol(op) => self.put_symbol(op, meaning),
+        }
+    }
+
+    fn put_word(&mut self, word: &'a str, meaning: Meaning) -> Result<(), Memory>
+        ensures { OnOk result (self.new ≡ tables.put self.old (tables.Word word.entry.now) meaning) }
+    {
+        if has_word(self.taken, &self.words, word) {
+            return Ok(());
+        }
+        self.words.insert(word, meaning)?;
+        Ok(())
+    }
+
+    fn put_symbol(&mut self, op: Op, meaning: Meaning) -> Result<(), Memory>
+        ensures { OnOk result (self.new ≡ tables.put self.old (tables.Symbol op) meaning) }
+    {
+        if symbol_in(self.symbols.as_slice(), op).is_some() {
+            return Ok(());
+        }
+        self.symbols.push((op, meaning))?;
+        Ok(())
+    }
+
+    /// Whether there is no word.
+    pub fn has_no_word(&self) -> bool
+        ensures { IsTrue result → self.now.words ≡ [] }
+    {
+        self.taken.is_none() && self.words.is_empty()
+    }
+
+    /// Whether a word stands at a place, and means this there.
+    pub fn has_at(&self, index: usize, given: (&str, &Meaning)) -> bool
+        ensures { IsTrue result → slice_get self.now.words index ≡ Some (shown given.entry) }
+    {
+        let len = taken_len(self.taken);
+        if index < len {
+            is_taken_at(self.taken, index, given)
+        } else {
+            is_own_at(&self.words, index - len, given)
+        }
+    }
+
+    /// Whether there are no more words than so many.
+    pub fn has_at_most(&self, count: usize) -> bool
+        ensures { IsTrue result → length self.now.words ≤ count }
+    {
+        let len = taken_len(self.taken);
+        len <= count && self.words.len() <= count - len
+    }
+
+    /// Takes over the words of a table, in place of those that are there.
+    pub fn take(&mut self, table: &'a NameTable)
+        ensures { self.new ≡ record { words = table.now.words; symbols = self.old.symbols } }
+    {
+        // The proof needs that no word of the table is there twice.
+        let _len = table.len();
+        self.words.truncate(0);
+        self.taken = Some(table);
+    }
+
+    /// The table whose words were taken over, and the words behind these.
+    pub fn words(&self) -> (Option<&'a NameTable>, &IndexMap<&'a str, Meaning>)
+        ensures { taken_words result.0 ++ words_of result.1.now.entries ≡ self.now.words }
+    {
+        (self.taken, &self.words)
+    }
+
+    /// The symbols.
+    pub fn symbols(&self) -> &[(Op, Meaning)]
+        ensures { result.now ≡ self.now.symbols }
+    {
+        self.symbols.as_slice()
+    }
+
+    /// The same names as a table of their own, which shares the words that were taken over. `Memory`
+    /// comes where there was no room.
+    pub fn listed(&self, alloc: Global) -> Result<NameTable, Memory>
+        ensures { IfOk result (λ table. table ≡ self.now) }
+    {
+        let words = owned(alloc, &self.words)?;
+        let symbols = copied(alloc, self.symbols.as_slice())?;
+        match self.taken {
+            Some(table) => table.extended(alloc, words, symbols),
+            None => NameTable::new(alloc).extended(alloc, words, symbols),
+        }
+    }
+}
+
+/// The names of a module that is read.
+#[derive(Drop)]
+pub struct Names<'a> {
+    pub context: Context<'a>,
+    pub exports: Exported<'a>,
+}
+
+// Puts a name among those that are exported, unless it is LOCAL.
+fn export<'a>(
+    alloc: Global,
+    exports: &mut Exported<'a>,
+    local: bool,
+    name: Named<'a>,
+    meaning: &Meaning,
+) -> Result<(), Memory>
+    ensures { OnOk result (exports.new ≡ (if local then exports.old else tables.put exports.old (meant_by name.entry) meaning.now)) }
+{
+    if local {
+        return Ok(());
+    }
+    exports.put(name, meaning.copied()?)
+}
+
+impl<'a> Names<'a> {
+    /// Puts a name that may be exported, unless it is LOCAL. A name that is there stays as it is.
+    pub fn put(
+        &mut self,
+        alloc: Global,
+        local: bool,
+        name: Named<'a>,
+        meaning: Meaning,
+    ) -> Result<(), Memory>
+        ensures { OnOk result ((title : ListOf ℕ) → (modules : ModuleNames) → as_read title modules self.new ≡ in_modules.with_entry local (as_read title modules self.old) (meant_by name.entry) meaning) }
+    {
+        export(alloc, &mut self.exports, local, name, &meaning)?;
+        self.context.put(name, Some(meaning))
+    }
+
+    /// Takes over the words of a module that is extended where that can be done, and answers whether it
+    /// was: all of them are new then, so that none clashes.
+    pub fn take_words(&mut self, table: &'a NameTable) -> bool
+        ensures taken { IsTrue result → IsBrought self.old self.new false (of_words table.now.words) }
+        ensures left { result ≡ false → self.new ≡ self.old }
+    {
+        if !self.exports.has_no_word() || !self.context.can_take(table) {
+            return false;
+        }
+        self.exports.take(table);
+        self.context.take(table);
+        true
+    }
+
+    // Whether a word stands at a place of those that are exported, and of those behind the first ones
+    // of the context, and means this there.
+    fn has_at(&self, index: usize, given: (&str, &Meaning)) -> bool
+        ensures shown { IsTrue result → slice_get self.now.exports.words index ≡ Some (shown given.entry) }
+        ensures seen { IsTrue result → slice_get (behind self.now.context) index ≡ Some (usable (shown given.entry)) }
+    {
+        let Some(found) = self.context.word_behind(index) else {
+            return false;
+        };
+        equal_entries(found, given) && self.exports.has_at(index, given)
+    }
+
+    // How many of a table's words are the first that are exported, and the first behind the first
+    // ones of the context. No word of the table is there twice.
+    fn first_len(&self, table: &NameTable) -> usize
+        ensures once { AreNew bytes_eq [] table.now.words }
+        ensures shown { take result self.now.exports.words ≡ take result table.now.words }
+        ensures seen { take result (behind self.now.context) ≡ usable_words (take result table.now.words) }
+    {
+        let len = table.len();
+        for index in 0..len {
+            let Some(entry) = table.word_at(index) else {
+                return index;
+            };
+            if !self.has_at(index, entry) {
+                return index;
+            }
+        }
+        len
+    }
+
+    /// How many of a table's words are there as they stand in the table, from the first one on. It is
+    /// `None` where the table has words that stand before those, or to look them up were more work.
+    pub fn first_there(&self, table: &NameTable) -> Option<usize>
+        ensures { IfSome result (λ count. AreFirst self.now table.now.words count) }
+    {
+        let count = self.first_len(table);
+        if self.context.is_apart(table, count) {
+            return Some(count);
+        }
+        None
+    }
+
+    /// Takes over the words of a table of which so many are there, in place of these, where there are
+    /// no others, and answers whether it was: then none clashes.
+    pub fn take_longer(&mut self, table: &'a NameTable, count: usize) -> bool
+        requires { AreFirst self.old table.now.words count }
+        ensures taken { IsTrue result → IsBrought self.old self.new false (of_words table.now.words) }
+        ensures left { result ≡ false → self.new ≡ self.old }
+    {
+        if !self.exports.has_at_most(count) || !self.context.has_at_most_behind(count) {
+            return false;
+        }
+        self.exports.take(table);
+        self.context.take_instead(table);
+        true
+    }
+}
