@@ -1,9 +1,7 @@
 pub mod Given
-pub mod Collecting
 pub mod Readings
 pub mod Modules
 pub mod Rounds
 pub mod Plain
 pub mod WithoutInstances
-pub mod Sorting
 pub mod Exporting

@@ -4,8 +4,6 @@
 //! them are refused.
 #![tactic(auto)]
 
-mod bound;
-mod declared;
 mod nesting;
 mod reading;
 mod resolution;

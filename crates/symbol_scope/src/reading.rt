@@ -11,13 +11,14 @@ ghost use Rattle.tla_model.specs.Scopes as scopes;
 ghost use Rattle.tla_model.specs.Modules as in_modules;
 ghost use Rattle.tla_model.specs.Tables as tables;
 ghost use Rattle.name_context.specs.AsTables.{context_of};
-ghost use Rattle.tree_scope.specs.Listed.{listed};
+ghost use Rattle.declared_names.specs.Listed.{listed};
 ghost use Rattle.tree_scope.specs.Lying.{BindersLie};
 ghost use Rattle.symbol_scope.specs.Readings as readings;
 ghost use Rattle.name_exports.specs.Brought.{IsBrought};
 ghost use Rattle.symbol_scope.specs.Readings.{modules_of, no_files};
 ghost use Rattle.symbol_scope.specs.Modules.{reading_of};
 
+use declared_names::defined;
 use indexmap::IndexMap;
 use name_context::{Context, Named};
 use name_exports::{Exported, Names, bring_import, bring_nested};
@@ -26,7 +27,7 @@ use tla_model::{Binder, Finding, Imported, Meaning, NameTable};
 use tla_symbols::Lexeme;
 use tla_tree::Tree;
 use tool_list::{List, Memory};
-use tree_scope::{ModuleText, defined, refuse};
+use tree_scope::{ModuleText, refuse};
 
 /// Module names that are taken, and what those export that can be named.
 pub type Taken<'a> = IndexMap<&'a str, Option<Exported<'a>>>;

@@ -1,5 +1,6 @@
 // What the names of a module mean, and what it exports.
-ghost use Rattle.std.specs.Prelude.{◌≡◌, IfOk, OnOk};
+ghost use Rattle.std.specs.Prelude.{◌≡◌, ◌++◌, ◌∷◌, [], IfOk, OnOk};
+ghost use Rattle.tla_model.specs.Bindings as bindings;
 ghost use Rattle.tla_model.specs.Bindings.{IsBound, IsBoundBy};
 ghost use Rattle.tla_model.specs.Entities as entities;
 ghost use Rattle.tla_model.specs.Exports.{exports_of};
@@ -14,14 +15,14 @@ ghost use Rattle.symbol_scope.specs.Exporting.{AreExported};
 ghost use Rattle.symbol_scope.specs.Given.{IsReadable, IsWithoutInstances};
 ghost use Rattle.symbol_scope.specs.Modules.{reading_of};
 ghost use Rattle.symbol_scope.specs.Rounds.{IsUnread};
-ghost use Rattle.symbol_scope.specs.Sorting.{IsNothing, IsSorted};
+ghost use Rattle.sorted_findings.specs.Sorting.{IsNothing, IsSorted};
 
-use crate::bound::{nothing, order, push_declarations, sort_out};
-use crate::declared::declaring;
 use crate::nesting::Nesting;
 use crate::reading::Reading;
+use declared_names::declaring;
+use sorted_findings::{nothing, order, sort_out};
 use std::alloc::Global;
-use tla_model::{Binder, Bound, Diagnostic, Finding, Imported, NameTable, spelled};
+use tla_model::{Binder, Bound, Decl, Diagnostic, Finding, Imported, NameTable, spelled};
 use tla_tree::ModuleTree;
 use tool_list::{List, Memory};
 use tree_scope::ModuleText;
@@ -135,6 +136,39 @@ fn bind_text<'a>(
 {
     let mut nesting = Nesting::new(alloc, text);
     bind_module(alloc, text, tree, imported, &mut nesting, bound)
+}
+
+// Appends the declaration of a name.
+fn push_declaration(
+    alloc: Global,
+    text: &ModuleText<'_>,
+    binder: Binder,
+    decls: &mut List<Decl>,
+) -> Result<(), Memory>
+    ensures { OnOk result (decls.new ≡ decls.old ++ bindings.decls text.now (binder ∷ [])) }
+{
+    let Binder { name, entity } = binder;
+    let id = text.declaration(alloc, name)?;
+    decls.push(Decl {
+        id,
+        name: name.span,
+        entity,
+    })
+}
+
+// Appends the declarations of a text, by the names that it declares.
+fn push_declarations(
+    alloc: Global,
+    text: &ModuleText<'_>,
+    names: List<Binder>,
+    decls: &mut List<Decl>,
+) -> Result<(), Memory>
+    ensures { OnOk result (decls.new ≡ decls.old ++ bindings.decls text.now names) }
+{
+    for binder in names.into_vec() {
+        push_declaration(alloc, text, binder, decls)?;
+    }
+    Ok(())
 }
 
 // Puts what names stand for into nothing, and answers what the module exports, by what is said of

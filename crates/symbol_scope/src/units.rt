@@ -19,9 +19,9 @@ ghost use Rattle.symbol_scope.specs.Plain.{found_by, read_by};
 ghost use Rattle.symbol_scope.specs.Readings.{no_files};
 ghost use Rattle.symbol_scope.specs.Rounds.{IsAt, IsUnread, begin_found, found_here};
 
-use crate::declared::push_unit;
 use crate::nesting::Nesting;
 use crate::reading::Reading;
+use declared_names::push_unit;
 use std::alloc::Global;
 use tla_model::{Finding, Imported};
 use tla_symbols::Lexeme;

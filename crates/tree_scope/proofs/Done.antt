@@ -17,7 +17,7 @@ use Rattle.tree_scope.specs.declared.tasks.Task.TheVariants as task
 use Rattle.tree_scope.specs.declared.tasks.Naming.TheVariants as how
 use Rattle.name_context.specs.declared.context.Mark.{Mark}
 use Rattle.name_context.specs.AsTables.{mark_of}
-use Rattle.tree_scope.specs.Nodes.{IsWhole, binders_at, defined_at, form_at, parts_at}
+use Rattle.declared_names.specs.Nodes.{IsWhole, binders_at, defined_at, form_at, parts_at}
 use Rattle.tree_scope.specs.Walking.{Task, AreReady, AreSegments, IsDone, IsNode, IsReady, all_size, between_tasks, chain, emit, function_tasks, image_tasks, in_scope, is_chosen, naming, run, scope_tasks, size, size_of, sizes, visits, with_sets}
 use Rattle.tree_scope.proofs.Doing.{each-run, emit-append, first-run, function-run, order-run, scope-run, sets-run}
 use Rattle.tree_scope.proofs.Scoping.{grows-refl, grows-reserve_all}

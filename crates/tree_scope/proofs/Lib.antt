@@ -1,4 +1,3 @@
-pub mod Nodewise
 mod Running
 mod Scoping
 mod Shapes

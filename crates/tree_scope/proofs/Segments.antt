@@ -15,7 +15,7 @@ use Rattle.tla_model.specs.Lexemes.{LiesIn, all_lexemes, held, lexemes}
 use Rattle.tla_model.specs.Scopes.{Finding, found}
 use Rattle.list_laws.proofs.Lists.{all-left, all-right}
 use Rattle.tree_scope.specs.TreeFindings.{segments, unfound, walk_each}
-use Rattle.tree_scope.specs.Nodes.{IsWhole, form_at, parts_at}
+use Rattle.declared_names.specs.Nodes.{IsWhole, form_at, parts_at}
 use Rattle.tree_scope.specs.Walking.{Task, AreReady, AreSegments, IsFirstWhole, IsRest, all_size, emit, missing_tasks, run, second_tasks, segment_of, size, sizes, visits}
 use Rattle.tree_scope.proofs.Doing.{each-run, emit-append}
 use Rattle.tree_scope.proofs.Done.{ready-append, size-append, visits-ready, visits-size}

@@ -19,7 +19,7 @@ use Rattle.tree_scope.specs.declared.tasks.Task.TheVariants as task
 use Rattle.tree_scope.specs.declared.tasks.Naming.TheVariants as how
 use Rattle.name_context.specs.declared.context.Mark.{Mark}
 use Rattle.name_context.specs.AsTables.{cut}
-use Rattle.tree_scope.specs.Nodes.{IsWhole, binders_at, form_at}
+use Rattle.declared_names.specs.Nodes.{IsWhole, binders_at, form_at}
 
 abbrev pub Task : Type 0
 Task = task.the_data

@@ -8,16 +8,16 @@ ghost use Rattle.tla_model.specs.Scopes as scopes;
 ghost use Rattle.tla_model.specs.Modules as in_modules;
 ghost use Rattle.tree_scope.specs.TreeFindings as in_trees;
 ghost use Rattle.name_context.specs.AsTables.{context_of};
-ghost use Rattle.tree_scope.specs.Nodes.{binders_at};
+ghost use Rattle.declared_names.specs.Nodes.{binders_at};
 ghost use Rattle.tree_scope.specs.Walking as walking;
 ghost use Rattle.tree_scope.specs.Walking.{AreReady, IsDone, IsNode, IsReady, stack};
 
-use crate::parts::{binders, defined};
 use crate::scopes::{bind, bind_all};
 use crate::tasks::Task;
 use crate::text::ModuleText;
 use crate::uses::{bind_function, use_symbol};
 use crate::visits::visit;
+use declared_names::{binders, defined};
 use name_context::Context;
 use std::alloc::Global;
 use tla_model::Finding;

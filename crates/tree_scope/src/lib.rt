@@ -5,17 +5,13 @@
 #![tactic(auto)]
 
 mod due;
-mod forms;
 mod found;
-mod parts;
 mod scopes;
 mod tasks;
 mod text;
 mod uses;
 mod visits;
 
-pub use forms::{binding_in, follows_first};
 pub use found::walk;
-pub use parts::{defined, push_placed};
 pub use scopes::refuse;
 pub use text::ModuleText;

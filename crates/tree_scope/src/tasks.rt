@@ -1,9 +1,9 @@
 // What is due of a walk over a tree.
 ghost use Rattle.std.specs.Prelude.{◌≡◌, ◌++◌, ◌∷◌, IfOk, OnOk, filter, reverse};
 ghost use Rattle.tla_tree.specs.Arena.{AreThere};
+ghost use Rattle.tla_model.specs.Scopes as scopes;
 ghost use Rattle.tree_scope.specs.Walking as walking;
 
-use crate::forms::has_set;
 use name_context::Mark;
 use std::alloc::Global;
 use tla_symbols::Lexeme;
@@ -50,6 +50,13 @@ pub enum Naming {
     Function(Lexeme),
     /// Sets of bounds, then what is in the scope of the names.
     BoundsFirst,
+}
+
+// Whether a form has a set, which stands outside the scope of the names of its list.
+fn has_set(form: Form) -> bool
+    ensures { result ≡ scopes.has_set form }
+{
+    matches!(form, Form::Bound | Form::TupleBound)
 }
 
 /// How a form names things.

@@ -9,14 +9,30 @@ ghost use Rattle.tla_model.specs.Tables.{Symbol};
 ghost use Rattle.name_context.specs.AsTables.{context_of, meant_by};
 ghost use Rattle.tree_scope.specs.Walking as walking;
 
-use crate::forms::{is_free, prefixed};
 use crate::scopes::bind;
 use crate::text::ModuleText;
 use name_context::{Context, Named};
 use std::alloc::Global;
 use tla_model::{Binder, Entity, Finding, Meaning};
-use tla_symbols::{LexKind, Lexeme, Op};
+use tla_symbols::{Fix, LexKind, Lexeme, Op, definable};
 use tool_list::{List, Memory};
+
+// Whether a symbol means what a module defines it to be.
+fn is_free(op: Op) -> bool
+    ensures { result ≡ scopes.is_free op }
+{
+    definable(op, Fix::Prefix) || definable(op, Fix::Infix) || definable(op, Fix::Postfix)
+}
+
+// The symbol of a prefix operator: that of minus is `-.`.
+fn prefixed(op: Op) -> Op
+    ensures { result ≡ scopes.prefixed op }
+{
+    match op {
+        Op::Minus => Op::Negative,
+        _ => op,
+    }
+}
 
 // What a name means, for a use.
 fn meaning_of<'a>(context: &Context<'a>, name: Named<'a>) -> Result<Option<Meaning>, Memory>

@@ -3,18 +3,18 @@ ghost use Rattle.std.specs.Prelude.{◌≡◌, ◌++◌, OnOk};
 ghost use Rattle.tla_tree.specs.Arena.{AreThere, node_at};
 ghost use Rattle.tla_model.specs.Scopes as scopes;
 ghost use Rattle.name_context.specs.AsTables.{context_of};
-ghost use Rattle.tree_scope.specs.Nodes.{defined_at, form_at, parts_at};
+ghost use Rattle.declared_names.specs.Nodes.{defined_at, form_at, parts_at};
 ghost use Rattle.tree_scope.specs.Walking as walking;
 ghost use Rattle.tree_scope.specs.Walking.{AreReady, IsDone, IsNode, IsPath, stack, visited};
 
 use crate::due::{
     push_behind, push_between, push_definitions, push_function, push_image, push_rest, push_scope,
 };
-use crate::parts::defined;
 use crate::scopes::{refuse, reserve};
 use crate::tasks::{Naming, Task, naming_of, push_each};
 use crate::text::ModuleText;
 use crate::uses::{use_name, use_prefix, use_symbol};
+use declared_names::defined;
 use name_context::Context;
 use std::alloc::Global;
 use tla_model::Finding;

@@ -3,9 +3,9 @@ use Rattle.tla_model.specs.Bindings.{decls}
 use Rattle.tla_model.specs.Exports.{exports_of}
 use Rattle.unit_grammar.specs.UnitNodes.{module_of}
 use Rattle.symbol_scope.specs.Exporting.{AreExported}
-use Rattle.symbol_scope.specs.Sorting.{IsSorted}
+use Rattle.sorted_findings.specs.Sorting.{IsSorted}
 use Rattle.symbol_scope.specs.WithoutInstances.{files_of, found_within, read_within}
-use Rattle.symbol_scope.proofs.Sorting.{bound-by}
+use Rattle.sorted_findings.proofs.Sorting.{bound-by}
 use Rattle.symbol_scope.proofs.resolution.bind.Goals as goal
 
 pub returns-clause-bound : goal.returns-clause-bound

@@ -1,6 +1,6 @@
 use Rattle.std.proofs.Common.{subst}
-use Rattle.symbol_scope.specs.Sorting.{IsSorted}
-use Rattle.symbol_scope.proofs.Sorting.{sorted-once}
+use Rattle.sorted_findings.specs.Sorting.{IsSorted}
+use Rattle.sorted_findings.proofs.Sorting.{sorted-once}
 use Rattle.symbol_scope.proofs.resolution.bind_uses.Goals as goal
 
 pub returns-clause-sorted : goal.returns-clause-sorted

@@ -3,7 +3,7 @@ use Rattle.std.specs.List.{AllByRecursion}
 use Rattle.tla_tree.specs.Arena.{AreThere, node_at}
 use Rattle.tla_tree.proofs.Nodes.{before-there}
 use Rattle.tree_scope.specs.Walking.{IsSecond, missing_tasks, stack}
-use Rattle.tree_scope.proofs.Nodewise.{tree-at}
+use Rattle.declared_names.proofs.Nodewise.{tree-at}
 use Rattle.tree_scope.proofs.due.push_second.Goals as goal
 
 pub returns : goal.returns

@@ -1,9 +1,9 @@
 use Rattle.std.proofs.Common.{◌<◌, subst, sym}
 use Rattle.std.specs.List.{AllByRecursion}
 use Rattle.tree_scope.specs.Lying.{BindersLie}
-use Rattle.tree_scope.specs.Nodes.{form_at, parts_at}
+use Rattle.declared_names.specs.Nodes.{form_at, parts_at}
 use Rattle.tree_scope.proofs.Lies.{binders-lie, parts-lie}
-use Rattle.tree_scope.proofs.Nodewise.{tree-at}
+use Rattle.declared_names.proofs.Nodewise.{tree-at}
 use Rattle.tree_scope.proofs.found.bind_names.Goals as goal
 
 pub bind_all-requires : goal.bind_all-requires

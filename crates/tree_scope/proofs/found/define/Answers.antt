@@ -3,10 +3,10 @@ use Rattle.std.specs.List.{AllByRecursion}
 use Rattle.tla_model.specs.Contexts.{bind_all}
 use Rattle.tla_model.specs.Modules.{definition}
 use Rattle.name_context.specs.AsTables.{context_of}
-use Rattle.tree_scope.proofs.Nodewise.{tree-at}
-use Rattle.tree_scope.specs.Listed.{listed}
+use Rattle.declared_names.proofs.Nodewise.{tree-at}
+use Rattle.declared_names.specs.Listed.{listed}
 use Rattle.tree_scope.specs.Lying.{BindersLie}
-use Rattle.tree_scope.specs.Nodes.{form_at, parts_at}
+use Rattle.declared_names.specs.Nodes.{form_at, parts_at}
 use Rattle.tree_scope.proofs.Lies.{defined-lies, held-lies}
 use Rattle.tree_scope.proofs.found.define.Goals as goal
 

@@ -1,7 +1,7 @@
 use Rattle.std.proofs.Common.{◌∙◌, ap, subst, sym}
-use Rattle.tree_scope.specs.Listed.{listed}
+use Rattle.declared_names.specs.Listed.{listed}
 use Rattle.tree_scope.specs.Lying.{BindersLie}
-use Rattle.tree_scope.specs.Nodes.{form_at, parts_at}
+use Rattle.declared_names.specs.Nodes.{form_at, parts_at}
 use Rattle.tree_scope.proofs.Lies.{defined-lies, held-lies}
 use Rattle.tree_scope.proofs.visits.begin.Goals as goal
 

@@ -8,7 +8,7 @@ use Rattle.tla_model.specs.Lexemes.{LiesIn, all_lexemes, held as held_by, lexeme
 use Rattle.name_context.specs.AsTables.{context_of}
 use Rattle.list_laws.proofs.Lists.{all-left}
 use Rattle.tree_scope.specs.Walking.{AreSegments, segment_of, stack, visits}
-use Rattle.tree_scope.proofs.Nodewise.{tree-at}
+use Rattle.declared_names.proofs.Nodewise.{tree-at}
 use Rattle.tree_scope.proofs.Lies.{held-lies}
 use Rattle.tree_scope.proofs.Segments.{path-found, nothing-found, no-segment, segment-lies}
 use Rattle.tree_scope.proofs.visits.visit_segments.Goals as goal

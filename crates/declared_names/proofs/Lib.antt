@@ -1,0 +1,2 @@
+mod Collecting
+pub mod Nodewise
