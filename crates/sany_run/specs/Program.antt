@@ -4,7 +4,7 @@ use Rattle.std.specs.List.{list_all, list_any, filter_map, ends_with, starts_wit
 use Rattle.std.specs.Char.{is_ascii_alphanumeric, is_ascii_alphabetic}
 use Rattle.std.specs.Str.{bytes_eq}
 use Rattle.tool_io.specs.Folder.{Told, after_call, names_at, read_at}
-use Rattle.tla_symbols.specs.Spellings.{word_of, op_of}
+use Rattle.tla_spelling.specs.Spellings.{word_of, op_of}
 use Rattle.family_check.specs.declared.verdict.File.{File}
 use Rattle.family_check.specs.declared.verdict.Verdict.{Verdict}
 use Rattle.sany_run.specs.declared.check.Outcome.{Outcome}

@@ -11,7 +11,7 @@ ghost use Rattle.sany_run.specs.Reading as reading;
 use crate::bytes::{all_word_bytes, has_letter, is_fair};
 use family_check::File;
 use std::alloc::Global;
-use tla_symbols::{op_of, word_of};
+use tla_spelling::{op_of, word_of};
 use tool_io::{Folder, IoFault};
 use tool_list::{Chars, List, Memory};
 

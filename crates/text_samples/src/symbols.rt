@@ -1,7 +1,6 @@
 // Values from the tables of the language.
-use tla_symbols::{
-    Fix, Kind, Mark, Op, Rule, Word, definable, mark_of, op_of, range_of, rule_of, word_of,
-};
+use tla_spelling::{mark_of, op_of, word_of};
+use tla_symbols::{Fix, Kind, Mark, Op, Rule, Word, definable, range_of, rule_of};
 
 fn crosses_threads<T: Send + Sync>() {}
 

@@ -4,7 +4,7 @@ use Rattle.std.proofs.lemmas.Bool.{cases_Bool, and_parts, both_ways}
 use Rattle.std.proofs.lemmas.Slice.Eq.{bytes_eq-Decides}
 use Rattle.std.specs.List.{list_all}
 use Rattle.std.specs.Str.{bytes_eq}
-use Rattle.tla_symbols.specs.Spellings.{Table, in_table, WORDS, SYMBOLS, MARKS}
+use Rattle.tla_spelling.specs.Spellings.{Table, in_table, WORDS, SYMBOLS, MARKS}
 use Rattle.tla_lexeme.specs.declared.class.Class.TheVariants.{WordChar, Digit}
 use Rattle.tla_lexeme.specs.LexemeSets.{is_in, table_kind, is_fair}
 use Rattle.tla_lexeme.specs.Lengths.{has_letter, open_sign, goes_on, most_further}

@@ -4,7 +4,7 @@ use Rattle.std.specs.Prelude.{ℕ, List, [], ◌∷◌, Bool, true, false, not, 
 use Rattle.std.specs.List.{list_all, list_any, starts_with}
 use Rattle.std.specs.Char.{is_ascii_alphabetic, is_ascii_alphanumeric, is_ascii_digit, is_ascii_hexdigit}
 use Rattle.std.specs.Option.{option_map}
-use Rattle.tla_symbols.specs.Spellings.{word_of, op_of, mark_of}
+use Rattle.tla_spelling.specs.Spellings.{word_of, op_of, mark_of}
 use Rattle.tla_symbols.specs.declared.lexeme.LexKind.{LexKind}
 use Rattle.tla_symbols.specs.declared.lexeme.LexKind.TheVariants.{Name, Word, Number, Str, Sym, Mark, Dashes, Equals}
 use Rattle.tla_lexeme.specs.declared.class.Class.{Class}

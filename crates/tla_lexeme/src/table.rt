@@ -5,7 +5,8 @@ ghost use Rattle.tla_lexeme.specs.Lexing as lexing;
 
 use crate::begin::Member;
 use crate::slices::front;
-use tla_symbols::{LexKind, mark_of, op_of, word_of};
+use tla_spelling::{mark_of, op_of, word_of};
+use tla_symbols::LexKind;
 
 /// The kind of a reserved word, a symbol or a mark.
 pub fn table_kind(spelling: &[u8]) -> Option<LexKind>

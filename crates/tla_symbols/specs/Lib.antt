@@ -1,3 +1,1 @@
-pub mod Groups
-pub mod Spellings
 pub mod Symbols

@@ -1,6 +1,6 @@
 -- Tables whose entries stand in groups, each of one first byte.
 use Rattle.std.specs.Prelude.{ℕ, List, [], ◌∷◌, ◌==◌, Option, None, if◌then◌else◌}
-use Rattle.tla_symbols.specs.Spellings.{meaning_of}
+use Rattle.tla_spelling.specs.Spellings.{meaning_of}
 
 -- what a spelling that begins with a byte means in the first group of that byte
 abbrev pub meaning_from : {G E M : Type 0} → (E → List ℕ) → (E → M) → (G → ℕ) → (G → List E) → List G → ℕ → List ℕ → Option M

@@ -1,11 +1,11 @@
 -- A table in groups means what the plain table means.
-use Rattle.std.proofs.Common.{◌≡◌, ℕ, Bool, true, false, eqb, cond, List, [], ◌∷◌, Option, Some, None, refl, sym, ap, ◌∙◌, subst, ◌⊎◌, inl, inr, ⊎_elim}
+use Rattle.std.proofs.Common.{◌≡◌, ℕ, true, false, eqb, cond, List, [], ◌∷◌, Option, Some, None, refl, sym, ap, ◌∙◌, subst, ◌⊎◌, inl, inr, ⊎_elim}
 use Rattle.std.specs.Prelude.{map}
 use Rattle.std.proofs.lemmas.Bool.{cases_Bool}
 use Rattle.std.proofs.lemmas.Slice.Eq.{bytes_eq-Decides}
 use Rattle.std.specs.Str.{bytes_eq}
-use Rattle.tla_symbols.specs.Spellings.{meaning_of}
-use Rattle.tla_symbols.specs.Groups.{meaning_from, meaning_in}
+use Rattle.tla_spelling.specs.Spellings.{meaning_of}
+use Rattle.tla_spelling.specs.Groups.{meaning_from, meaning_in}
 
 opt-cases : {A : Type 0} (o : Option A) → ((a : A) × (o ≡ Some a)) ⊎ (o ≡ None)
 opt-cases None = inr refl

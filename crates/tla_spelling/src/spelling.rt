@@ -1,11 +1,10 @@
 // The spellings of reserved words, symbols and marks. Each table has its entries in groups, each of
 // one first byte: few words of a text begin as one of them.
 ghost use Rattle.std.specs.Prelude.{◌≡◌};
-ghost use Rattle.tla_symbols.specs.Groups as grouped;
-ghost use Rattle.tla_symbols.specs.Spellings as spellings;
+ghost use Rattle.tla_spelling.specs.Groups as grouped;
+ghost use Rattle.tla_spelling.specs.Spellings as spellings;
 
-use crate::lexeme::{Mark, Word};
-use crate::op::Op;
+use tla_symbols::{Mark, Op, Word};
 
 static WORDS: [(u8, &[(&str, Word)]); 11] = [
     (

@@ -1,9 +1,9 @@
-use Rattle.std.proofs.Common.{◌≡◌, ℕ, List, ◌∙◌, refl}
+use Rattle.std.proofs.Common.{ℕ, List, ◌∙◌, refl}
 use Rattle.tla_symbols.specs.declared.op.Op.{Op}
-use Rattle.tla_symbols.specs.declared.spelling.TheConstants as table
-use Rattle.tla_symbols.specs.Spellings.{SYMBOLS}
-use Rattle.tla_symbols.proofs.GroupLemmas.{same-in}
-use Rattle.tla_symbols.proofs.spelling.op_of.Goals as goal
+use Rattle.tla_spelling.specs.declared.spelling.TheConstants as table
+use Rattle.tla_spelling.specs.Spellings.{SYMBOLS}
+use Rattle.tla_spelling.proofs.GroupLemmas.{same-in}
+use Rattle.tla_spelling.proofs.spelling.op_of.Goals as goal
 
 abbrev Entry : Type 0
 Entry = record { now : List ℕ } × Op
