@@ -7,8 +7,8 @@ ghost use Rattle.tla_model.specs.Bindings.{AreInOrder};
 ghost use Rattle.tla_model.specs.Lexemes.{module_lexemes};
 ghost use Rattle.check_core.specs.Checks.{Given, all_faults};
 
+use model_laws::faults_at_lexemes;
 use module_graph::{enclosing_are_lexemes, imports_are_lexemes};
-use tla_model::faults_at_lexemes;
 
 /// Diagnostics have one order.
 pub fn one_order()

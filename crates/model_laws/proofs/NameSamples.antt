@@ -11,15 +11,18 @@ use Rattle.tla_tree.specs.Syntax.{Tree, Trees, Nil, Cons}
 use Rattle.tla_tree.specs.Lexemes.{built, one, two}
 use Rattle.unit_grammar.specs.Units.{UnitTree, Variables, Constants, OperatorDefinition, FunctionDefinition, Assumption, ModuleBegin, ModuleEnd, ModuleUnits}
 use Rattle.precedence.specs.Choices.{op_number}
+use Rattle.tla_model.specs.declared.names.Finding.TheVariants.{Means, Unknown, Taken, Clashes}
+use Rattle.tla_model.specs.declared.names.Binder.{Binder}
+use Rattle.tla_model.specs.declared.names.Meaning.TheVariants.{BuiltIn, Declared}
 use Rattle.tla_model.specs.declared.Diagnostic.{Diagnostic}
 use Rattle.tla_model.specs.declared.entity.Entity.TheVariants as entity
 use Rattle.tla_model.specs.declared.ids.Callee.{Callee}
 use Rattle.tla_model.specs.Bindings.{Resolved, faults, resolved}
-use Rattle.tla_model.specs.Entities.{Meaning, BuiltIn, Declared, Binder, declaring}
+use Rattle.tla_model.specs.Entities.{Meaning, declaring}
 use Rattle.tla_model.specs.Exports.{Exports, Outside, nothing, parameters_in}
 use Rattle.tla_model.specs.Modules.{text_of}
 use Rattle.tla_model.specs.Resolution.{exports_in, findings, first, read_all}
-use Rattle.tla_model.specs.Scopes.{Finding, Means, Unknown, Taken, Clashes}
+use Rattle.tla_model.specs.Scopes.{Finding}
 use Rattle.tla_model.specs.Tables.{Word, Symbol, lookup}
 
 -- ---- lexemes and trees

@@ -1,0 +1,4 @@
+pub mod FaultPlaces
+mod InstanceSamples
+mod NameSamples
+pub mod Replacing

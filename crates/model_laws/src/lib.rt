@@ -1,0 +1,9 @@
+//! Laws on what is said of a module in `tla_model`.
+//!
+//! Each follows from the definitions there alone. Small modules with what their names mean stand in its
+//! `proofs/`.
+#![tactic(auto)]
+
+mod laws;
+
+pub use laws::{faults_at_lexemes, replaced_by_declaration};
