@@ -6,23 +6,23 @@ use Rattle.std.specs.Arc.{arc_value}
 use Rattle.std.specs.List.{AllByRecursion}
 use Rattle.tla_symbols.specs.declared.lexeme.Lexeme.{Lexeme}
 use Rattle.tla_model.specs.declared.Diagnostic.{Diagnostic}
-use Rattle.tla_model.specs.declared.imported.Import.{Import}
-use Rattle.tla_model.specs.Bindings.{AreInOrder, decls, faults, resolved}
+use Rattle.module_model.specs.declared.imported.Import.{Import}
+use Rattle.module_model.specs.Bindings.{AreInOrder, decls, faults, resolved}
 use Rattle.tla_model.specs.Entities.{declaring}
-use Rattle.tla_model.specs.declared.face.Instance.{Instance}
+use Rattle.module_model.specs.declared.face.Instance.{Instance}
 use Rattle.tla_model.specs.declared.ids.DeclId.{DeclId}
-use Rattle.tla_model.specs.Exports.{behind_in, carried, exports_of, face_exports, face_outside, files_of, import_behind, import_outside, parameters_in, part_behind, part_exports, part_shows, parts_behind, under}
-use Rattle.tla_model.specs.Imports.{Imports, import_of}
+use Rattle.module_model.specs.Exports.{behind_in, carried, exports_of, face_exports, face_outside, files_of, import_behind, import_outside, parameters_in, part_behind, part_exports, part_shows, parts_behind, under}
+use Rattle.module_model.specs.Imports.{Imports, import_of}
 use Rattle.tla_model.specs.Lexemes.{spelled}
-use Rattle.tla_model.specs.Modules.{text_of}
-use Rattle.tla_model.specs.Parts.{Held, last}
-use Rattle.tla_model.specs.Resolution.{findings, outside_in}
+use Rattle.module_model.specs.Modules.{text_of}
+use Rattle.module_model.specs.Parts.{Held, last}
+use Rattle.module_model.specs.Resolution.{findings, outside_in}
 use Rattle.module_graph.specs.Imports.{imports_of}
 use Rattle.unit_grammar.specs.Units.{ModuleUnits}
 use Rattle.check_core.specs.Checks.{CheckedModule, IsChecked, files_given, given_by, given_in, import_faults, or_else, outside_by, unless_any}
 use Rattle.check_core.specs.Faces.{IsFace, IsFaceOf, bare, is_among, key_in, keys_in, with_face, with_import, with_imports, with_part, with_parts}
 use Rattle.check_core.specs.Outcomes.{IsRefused, IsResolved}
-use Rattle.tla_model.proofs.Ordering.{none-at-all}
+use Rattle.module_model.proofs.Ordering.{none-at-all}
 use Rattle.symbol_scope.specs.Given.{IsWithoutInstances}
 use Rattle.symbol_scope.proofs.Plainness.{all-behind-none, imports-none, left-none, right-none, some-none}
 

@@ -2,11 +2,11 @@
 use Rattle.std.proofs.Common.{ℕ, List, [], ◌∷◌, Option, None, Some, subst}
 use Rattle.tla_model.specs.declared.Diagnostic.{Diagnostic}
 use Rattle.tla_model.specs.Entities.{Meaning}
-use Rattle.tla_model.specs.Exports.{files_of}
-use Rattle.tla_model.specs.Imports.{Imports}
+use Rattle.module_model.specs.Exports.{files_of}
+use Rattle.module_model.specs.Imports.{Imports}
 use Rattle.tla_model.specs.Lexemes.{spelled}
-use Rattle.tla_model.specs.Parts.{Held}
-use Rattle.tla_model.specs.Resolution.{exports_in}
+use Rattle.module_model.specs.Parts.{Held}
+use Rattle.module_model.specs.Resolution.{exports_in}
 use Rattle.tla_model.specs.Tables.{Table}
 use Rattle.unit_grammar.specs.Units.{ModuleUnits}
 use Rattle.symbol_scope.specs.Exporting.{AreExported}

@@ -12,8 +12,8 @@ use Rattle.std.proofs.lemmas.Bool.Decides.{Decides-eqb}
 use Rattle.std.proofs.lemmas.Slice.Eq.{bytes_eq-Decides}
 use Rattle.std.proofs.lemmas.List.{append-nil, map-append}
 use Rattle.std.proofs.lemmas.List.Folds.{list_any-append}
-use Rattle.tla_model.specs.declared.face.Part.{Part}
-use Rattle.tla_model.specs.Parts.{Held, held, held_in, last, parts_in}
+use Rattle.module_model.specs.declared.face.Part.{Part}
+use Rattle.module_model.specs.Parts.{Held, held, held_in, last, parts_in}
 use Rattle.list_laws.proofs.Tests.{and-left, and-right}
 use Rattle.check_core.specs.Faces.{Key, bare, is_among, key_in, keys_in, same_key, with_face, with_part, with_parts}
 use Rattle.check_core.specs.Parts.{AreKept, AreKeysOf, first_parts, key_under, keys_under, with_key, with_keys}

@@ -6,9 +6,9 @@ use Rattle.std.proofs.lemmas.List.Elements.{All-append, All-cons, All-head, All-
 use Rattle.tla_symbols.specs.declared.lexeme.Span.{Span}
 use Rattle.tla_symbols.specs.declared.lexeme.Lexeme.{Lexeme}
 use Rattle.tla_model.specs.declared.Diagnostic.{Diagnostic}
-use Rattle.tla_model.specs.Bindings.{at, faults}
+use Rattle.module_model.specs.Bindings.{at, faults}
 use Rattle.tla_model.specs.Lexemes.{module_lexemes, spelled}
-use Rattle.tla_model.specs.Resolution.{findings}
+use Rattle.module_model.specs.Resolution.{findings}
 use Rattle.module_graph.specs.Imports.{enclosing_of, imports_of}
 use Rattle.unit_grammar.specs.Units.{ModuleUnits}
 use Rattle.list_laws.proofs.Lists.{contains-map}

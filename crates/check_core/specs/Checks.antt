@@ -4,15 +4,15 @@ use Rattle.tla_symbols.specs.declared.lexeme.Lexeme.{Lexeme}
 use Rattle.tla_model.specs.declared.Diagnostic.{Diagnostic}
 use Rattle.tla_model.specs.declared.entity.Decl.{Decl}
 use Rattle.tla_model.specs.declared.entity.Use.{Use}
-use Rattle.tla_model.specs.declared.imported.Import.{Import}
-use Rattle.tla_model.specs.Bindings.{AreInOrder, at, decls, faults, resolved}
+use Rattle.module_model.specs.declared.imported.Import.{Import}
+use Rattle.module_model.specs.Bindings.{AreInOrder, at, decls, faults, resolved}
 use Rattle.tla_model.specs.Entities.{declaring}
-use Rattle.tla_model.specs.Exports.{Outside, face_outside, nothing}
-use Rattle.tla_model.specs.Imports.{Imports, import_of}
+use Rattle.module_model.specs.Exports.{Outside, face_outside, nothing}
+use Rattle.module_model.specs.Imports.{Imports, import_of}
 use Rattle.tla_model.specs.Lexemes.{spelled}
-use Rattle.tla_model.specs.Modules.{text_of}
-use Rattle.tla_model.specs.Parts.{Held}
-use Rattle.tla_model.specs.Resolution.{findings, outside_in}
+use Rattle.module_model.specs.Modules.{text_of}
+use Rattle.module_model.specs.Parts.{Held}
+use Rattle.module_model.specs.Resolution.{findings, outside_in}
 use Rattle.module_graph.specs.Imports.{enclosing_of, imports_of}
 use Rattle.unit_grammar.specs.Units.{ModuleUnits}
 use Rattle.std.specs.Arc.{arc_value}

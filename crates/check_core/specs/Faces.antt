@@ -6,15 +6,15 @@ use Rattle.std.specs.Option.{option_eq}
 use Rattle.std.specs.Str.{bytes_eq}
 use Rattle.tla_symbols.specs.declared.lexeme.Lexeme.{Lexeme}
 use Rattle.tla_model.specs.declared.Diagnostic.{Diagnostic}
-use Rattle.tla_model.specs.declared.face.Interface.{Interface}
+use Rattle.module_model.specs.declared.face.Interface.{Interface}
 use Rattle.tla_model.specs.declared.ids.ModuleId.{ModuleId}
-use Rattle.tla_model.specs.declared.imported.Import.{Import}
+use Rattle.module_model.specs.declared.imported.Import.{Import}
 use Rattle.tla_model.specs.Entities.{Meaning}
-use Rattle.tla_model.specs.Exports.{Exports, exports_of, files_of}
-use Rattle.tla_model.specs.Imports.{Imports, import_of}
+use Rattle.module_model.specs.Exports.{Exports, exports_of, files_of}
+use Rattle.module_model.specs.Imports.{Imports, import_of}
 use Rattle.tla_model.specs.Lexemes.{spelled}
-use Rattle.tla_model.specs.Parts.{Held}
-use Rattle.tla_model.specs.Resolution.{exports_in}
+use Rattle.module_model.specs.Parts.{Held}
+use Rattle.module_model.specs.Resolution.{exports_in}
 use Rattle.tla_model.specs.Tables.{Table}
 use Rattle.module_graph.specs.Imports.{imports_of}
 use Rattle.unit_grammar.specs.Units.{ModuleUnits}

@@ -1,12 +1,12 @@
 -- How a check ends: with faults of imports, or with names resolved.
 use Rattle.std.specs.Prelude.{◌≡◌, ℕ, List, [], map}
 use Rattle.tla_model.specs.declared.Diagnostic.{Diagnostic}
-use Rattle.tla_model.specs.Bindings.{AreInOrder, decls, faults, resolved}
+use Rattle.module_model.specs.Bindings.{AreInOrder, decls, faults, resolved}
 use Rattle.tla_model.specs.Entities.{declaring}
-use Rattle.tla_model.specs.Exports.{files_of}
-use Rattle.tla_model.specs.Imports.{Imports}
-use Rattle.tla_model.specs.Modules.{text_of}
-use Rattle.tla_model.specs.Resolution.{findings}
+use Rattle.module_model.specs.Exports.{files_of}
+use Rattle.module_model.specs.Imports.{Imports}
+use Rattle.module_model.specs.Modules.{text_of}
+use Rattle.module_model.specs.Resolution.{findings}
 use Rattle.check_core.specs.Checks.{CheckedModule}
 use Rattle.check_core.specs.Faces.{IsFaceOf}
 use Rattle.unit_grammar.specs.Units.{ModuleUnits}

@@ -1,7 +1,7 @@
 -- How the parts of a face are gathered: those of the first import as they are, and beside further ones a set of modules.
 use Rattle.std.specs.Prelude.{◌≡◌, ℕ, Option, None, Some, List, [], ◌∷◌, ◌++◌, if◌then◌else◌, map}
 use Rattle.std.specs.Borrow.{Bor}
-use Rattle.tla_model.specs.Parts.{Held, held}
+use Rattle.module_model.specs.Parts.{Held, held}
 use Rattle.check_core.specs.declared.parts.Gathered.{Gathered}
 use Rattle.check_core.specs.Faces.{Key, is_among, keys_in}
 

@@ -2,7 +2,7 @@
 ghost use Rattle.std.specs.Prelude.{◌≡◌, ◌++◌, ◌∷◌, [], IfOk, OnOk, option_copied};
 ghost use Rattle.std.specs.Arc.{arc_value};
 ghost use Rattle.std.specs.List.{AllByRecursion};
-ghost use Rattle.tla_model.specs.Exports.{exports_of};
+ghost use Rattle.module_model.specs.Exports.{exports_of};
 ghost use Rattle.tla_model.specs.Lexemes.{LiesIn, spelled};
 ghost use Rattle.unit_grammar.specs.UnitNodes.{module_of};
 ghost use Rattle.module_graph.specs.Imports.{imports_of};
@@ -12,9 +12,10 @@ ghost use Rattle.check_core.specs.Parts.{AreGathered, held_by};
 
 use crate::parts::Gathered;
 use module_graph::imports_are_lexemes;
+use module_model::{Face, Import, Imported, Interface, Parts};
 use std::alloc::Global;
 use std::sync::Arc;
-use tla_model::{Face, Import, Imported, Interface, ModuleId, NameTable, Parts, spelled};
+use tla_model::{ModuleId, NameTable, spelled};
 use tla_symbols::Lexeme;
 use tla_tree::{ModuleTree, Tree};
 use tool_list::{Chars, List, Memory};

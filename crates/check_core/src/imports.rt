@@ -11,8 +11,9 @@ ghost use Rattle.check_core.specs.Checks as faults_of;
 ghost use Rattle.check_core.specs.Codes.{coded};
 
 use module_graph::{enclosing, imports_are_lexemes, lexemes_lie_names};
+use module_model::{Import, Imported};
 use std::alloc::Global;
-use tla_model::{Diagnostic, Import, Imported, spelled};
+use tla_model::{Diagnostic, spelled};
 use tla_symbols::Lexeme;
 use tla_tree::ModuleTree;
 use tool_list::{List, Memory};

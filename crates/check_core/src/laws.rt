@@ -3,7 +3,7 @@ ghost use Rattle.std.specs.Prelude.{◌≡◌, [], ℕ, List, map, Contains};
 ghost use Rattle.std.specs.List.{All};
 ghost use Rattle.unit_grammar.specs.Units.{ModuleUnits};
 ghost use Rattle.tla_model.specs.declared.Diagnostic.{Diagnostic};
-ghost use Rattle.tla_model.specs.Bindings.{AreInOrder};
+ghost use Rattle.module_model.specs.Bindings.{AreInOrder};
 ghost use Rattle.tla_model.specs.Lexemes.{module_lexemes};
 ghost use Rattle.check_core.specs.Checks.{Given, all_faults};
 

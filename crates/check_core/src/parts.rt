@@ -1,14 +1,14 @@
 // The parts of a face: those of its first import, and of others the modules that are not there.
 ghost use Rattle.std.specs.Prelude.{◌≡◌, ◌↔◌, ◌++◌, ◌∷◌, [], not, IfOk, IsTrue, OnOk};
 ghost use Rattle.std.specs.Arc.{arc_value};
-ghost use Rattle.tla_model.specs.Parts.{held, held_in};
+ghost use Rattle.module_model.specs.Parts.{held, held_in};
 ghost use Rattle.check_core.specs.Faces.{bare, is_among, key_in, keys_in, with_face, with_part, with_parts};
 ghost use Rattle.check_core.specs.Parts.{AreGathered, IsNoted, first_parts, held_by, keys_under, with_key, with_keys};
 
 use indexmap::IndexSet;
+use module_model::{Interface, Part, Parts};
 use std::alloc::Global;
 use std::sync::Arc;
-use tla_model::{Interface, Part, Parts};
 use tool_list::{List, Memory};
 
 // Modules: the name of each, and the place of a nested one.

@@ -10,7 +10,7 @@ use Rattle.tool_list.specs.declared.Memory.{Memory}
 use Rattle.tla_lexeme.specs.Spans.{IsPlaced}
 use Rattle.tla_symbols.specs.declared.lexeme.Lexeme.{Lexeme}
 use Rattle.tla_model.specs.declared.Diagnostic.{Diagnostic}
-use Rattle.tla_model.specs.Exports.{Outside}
+use Rattle.module_model.specs.Exports.{Outside}
 use Rattle.tla_model.specs.Lexemes.{LexemesLie, module_lexemes}
 use Rattle.tla_front.specs.Fronts.{Front, Tree, Fault, IsFront, read}
 use Rattle.unit_grammar.specs.Units.{ModuleUnits}

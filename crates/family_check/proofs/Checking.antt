@@ -8,10 +8,10 @@ use Rattle.std.proofs.lemmas.List.{take_more, map-append}
 use Rattle.std.proofs.lemmas.List.Sums.{sum_by_more}
 use Rattle.std.proofs.lemmas.Option.{slice_get-get_or}
 use Rattle.tla_model.specs.declared.Diagnostic.{Diagnostic}
-use Rattle.tla_model.specs.Bindings.{AreInOrder}
-use Rattle.tla_model.specs.Exports.{Outside, face_outside, nothing}
-use Rattle.tla_model.specs.Imports.{Imports}
-use Rattle.tla_model.specs.Resolution.{outside_in}
+use Rattle.module_model.specs.Bindings.{AreInOrder}
+use Rattle.module_model.specs.Exports.{Outside, face_outside, nothing}
+use Rattle.module_model.specs.Imports.{Imports}
+use Rattle.module_model.specs.Resolution.{outside_in}
 use Rattle.tla_tree.specs.declared.unit.ModuleTree.{ModuleTree}
 use Rattle.tla_front.specs.Fronts.{Tree, Fault, IsFront}
 use Rattle.unit_grammar.specs.Units.{ModuleUnits}

@@ -7,9 +7,9 @@ use Rattle.std.proofs.lemmas.Bool.{cases_Bool, both_ways}
 use Rattle.std.proofs.lemmas.List.{take_more}
 use Rattle.std.proofs.lemmas.Option.{slice_get-get_or}
 use Rattle.std.proofs.lemmas.List.Elements.{Contains-append_left, Contains-append_right}
-use Rattle.tla_model.specs.declared.imported.Import.{Import}
-use Rattle.tla_model.specs.Exports.{face_outside, import_behind}
-use Rattle.tla_model.specs.Imports.{Imports, import_of}
+use Rattle.module_model.specs.declared.imported.Import.{Import}
+use Rattle.module_model.specs.Exports.{face_outside, import_behind}
+use Rattle.module_model.specs.Imports.{Imports, import_of}
 use Rattle.check_core.specs.Checks.{Given, Unknown, Cyclic, Refused, Accepted, given_by, given_in}
 use Rattle.list_laws.proofs.Texts.{same-text, text-itself}
 use Rattle.family_check.specs.Family as families

@@ -2,10 +2,10 @@
 use Rattle.std.proofs.Common.{◌≡◌, ℕ, List, [], ◌∷◌, refl, sym, ap, ◌∙◌, map, true, false, Bool, inl, inr, subst}
 use Rattle.std.specs.Prelude.{◌⊎◌, Contains}
 use Rattle.tla_model.specs.declared.Diagnostic.{Diagnostic}
-use Rattle.tla_model.specs.Bindings.{AreInOrder}
-use Rattle.tla_model.specs.Exports.{nothing}
+use Rattle.module_model.specs.Bindings.{AreInOrder}
+use Rattle.module_model.specs.Exports.{nothing}
 use Rattle.tla_model.specs.Lexemes.{spelled}
-use Rattle.tla_model.specs.Resolution.{outside_in}
+use Rattle.module_model.specs.Resolution.{outside_in}
 use Rattle.module_graph.specs.Imports.{imports_of}
 use Rattle.tla_front.specs.Fronts.{Front, IsFront, Tree, Fault}
 use Rattle.unit_grammar.specs.Units.{ModuleUnits}

@@ -6,8 +6,8 @@ use Rattle.std.specs.Str.{bytes_eq, is_utf8}
 use Rattle.std.proofs.lemmas.Bool.{cases_Bool, cases_lt}
 use Rattle.list_laws.proofs.Lists.{contains-map}
 use Rattle.list_laws.proofs.Texts.{same-text, text-itself}
-use Rattle.tla_model.specs.Exports.{nothing}
-use Rattle.tla_model.specs.Resolution.{outside_in}
+use Rattle.module_model.specs.Exports.{nothing}
+use Rattle.module_model.specs.Resolution.{outside_in}
 use Rattle.module_graph.specs.Family.{last, more}
 use Rattle.tla_front.specs.Fronts.{Front, IsFront, Tree, Fault, MOST_TEXT, fault_at, greatest, not_utf8, readable_len, too_large}
 use Rattle.check_core.specs.Checks.{Given, Unknown, Cyclic, Refused, Accepted, all_faults, files_given}

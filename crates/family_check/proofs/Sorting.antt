@@ -9,8 +9,8 @@ use Rattle.std.proofs.lemmas.Bool.{cases_Bool}
 use Rattle.std.proofs.lemmas.List.Sorted.{IsPermutation-refl, IsPermutation-sym, IsPermutation-trans, IsPermutation-cons, IsPermutation-middle}
 use Rattle.list_laws.proofs.Tests.{less-is}
 use Rattle.tla_model.specs.declared.Diagnostic.{Diagnostic}
-use Rattle.tla_model.specs.Bindings.{AreInOrder}
-use Rattle.tla_model.proofs.Ordering.{by_place, place-total, same_fault, sorted-in-order}
+use Rattle.module_model.specs.Bindings.{AreInOrder}
+use Rattle.module_model.proofs.Ordering.{by_place, place-total, same_fault, sorted-in-order}
 
 module _ {X : Type 0} (R : X → X → Ordering) where
   -- the first of these is not less than an item

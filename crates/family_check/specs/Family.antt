@@ -3,10 +3,10 @@ use Rattle.std.specs.Prelude.{◌≡◌, ◌≢◌, ◌⊎◌, ℕ, Bool, true, 
 use Rattle.std.specs.List.{list_any}
 use Rattle.std.specs.Str.{bytes_eq}
 use Rattle.tla_model.specs.declared.Diagnostic.{Diagnostic}
-use Rattle.tla_model.specs.Bindings.{AreInOrder}
-use Rattle.tla_model.specs.Exports.{Outside, nothing}
+use Rattle.module_model.specs.Bindings.{AreInOrder}
+use Rattle.module_model.specs.Exports.{Outside, nothing}
 use Rattle.tla_model.specs.Lexemes.{spelled}
-use Rattle.tla_model.specs.Resolution.{outside_in}
+use Rattle.module_model.specs.Resolution.{outside_in}
 use Rattle.module_graph.specs.Family.{Leads}
 use Rattle.module_graph.specs.Imports.{imports_of}
 use Rattle.tla_front.specs.Fronts.{IsFront, Tree, Fault}

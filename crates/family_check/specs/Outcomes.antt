@@ -3,9 +3,9 @@ use Rattle.std.specs.Prelude.{◌≡◌, ◌≢◌, ⊤, false, ◌+◌, ◌-◌
 use Rattle.std.specs.List.{All}
 use Rattle.std.specs.Arc.{arc_value}
 use Rattle.tla_model.specs.declared.Diagnostic.{Diagnostic}
-use Rattle.tla_model.specs.declared.imported.Import.{Import}
-use Rattle.tla_model.specs.Exports.{Outside, face_outside, import_behind, parts_behind}
-use Rattle.tla_model.specs.Imports.{Imports, import_of}
+use Rattle.module_model.specs.declared.imported.Import.{Import}
+use Rattle.module_model.specs.Exports.{Outside, face_outside, import_behind, parts_behind}
+use Rattle.module_model.specs.Imports.{Imports, import_of}
 use Rattle.check_core.specs.Checks.{Unknown, given_by, given_in}
 use Rattle.family_check.specs.Family as families
 use Rattle.family_check.specs.Family.{Member, Diagnosed, IsDiagnosed, IsGiven, is_there}

@@ -7,8 +7,8 @@ ghost use Rattle.family_check.specs.Outcomes.{IsReady, IsImport, IsBareImport, A
 use crate::order::Plan;
 use crate::outcomes::Outcome;
 use crate::table::Table;
+use module_model::{Import, Imported};
 use std::alloc::Global;
-use tla_model::{Import, Imported};
 use tool_list::{Chars, Memory};
 
 // What a module is to one that needs it.

@@ -1,6 +1,6 @@
 // What is found of the modules of a family, one after another.
 ghost use Rattle.std.specs.Prelude.{◌≡◌, ◌∷◌, [], false, ℕ, List as ListOf, IfOk};
-ghost use Rattle.tla_model.specs.Exports.{Outside, face_outside, parts_behind};
+ghost use Rattle.module_model.specs.Exports.{Outside, face_outside, parts_behind};
 ghost use Rattle.tla_model.specs.ModuleNames.{holds_instance};
 ghost use Rattle.unit_grammar.specs.UnitNodes.{module_of};
 ghost use Rattle.std.specs.List.{All};
@@ -17,10 +17,11 @@ use crate::order::Plan;
 use crate::read::{Module, Reading};
 use crate::table::Table;
 use check_core::{Checked, check_module};
+use module_model::Face;
 use std::alloc::Global;
 use std::sync::Arc;
 use step_count::Steps;
-use tla_model::{Diagnostic, Face};
+use tla_model::Diagnostic;
 use tla_tree::ModuleTree;
 use tool_list::{Chars, List, Memory};
 

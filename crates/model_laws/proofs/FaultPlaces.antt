@@ -15,17 +15,17 @@ use Rattle.tla_model.specs.declared.names.Finding.TheVariants.{Means, Unknown, T
 use Rattle.tla_model.specs.declared.names.Binder.{Binder}
 use Rattle.tla_model.specs.declared.Diagnostic.{Diagnostic}
 use Rattle.tla_model.specs.declared.ids.DeclId.{DeclId}
-use Rattle.tla_model.specs.Bindings.{faults}
+use Rattle.module_model.specs.Bindings.{faults}
 use Rattle.tla_model.specs.Contexts.{Context, bind, bind_all, meaning_of}
 use Rattle.tla_model.specs.declared.names.Binding.TheVariants as as_binding
 use Rattle.tla_model.specs.Entities.{Meaning, Binding, Text, binding_in, binding_of, bound_as, all_placed, placed, defined, follows_first, is_group, name_of, declared_in, declared_round, declared_among, variables}
-use Rattle.tla_model.specs.Exports.{Exports, Outside, exports_by}
-use Rattle.tla_model.specs.Instances as i
+use Rattle.module_model.specs.Exports.{Exports, Outside, exports_by}
+use Rattle.module_model.specs.Instances as i
 use Rattle.tla_model.specs.Lexemes.{held, lexemes, all_lexemes, unit_lexemes, units_lexemes, module_lexemes}
-use Rattle.tla_model.specs.Modules as m
-use Rattle.tla_model.specs.Modules.{Reading, Place, text_of}
-use Rattle.tla_model.specs.Resolution as r
-use Rattle.tla_model.specs.Resolution.{Around, Position, findings}
+use Rattle.module_model.specs.Modules as m
+use Rattle.module_model.specs.Modules.{Reading, text_of}
+use Rattle.module_model.specs.Resolution as r
+use Rattle.module_model.specs.Resolution.{Around, Position, findings}
 use Rattle.tla_model.specs.Scopes as s
 use Rattle.tla_model.specs.Scopes.{Finding}
 use Rattle.tla_model.specs.Tables.{Named, Symbol, has, is_among}

@@ -15,10 +15,10 @@ use Rattle.tla_model.specs.declared.names.Finding.TheVariants.{Means, InstanceCl
 use Rattle.tla_model.specs.declared.names.Meaning.TheVariants.{Declared}
 use Rattle.tla_model.specs.declared.Diagnostic.{Diagnostic}
 use Rattle.tla_model.specs.declared.entity.Entity.TheVariants as entity
-use Rattle.tla_model.specs.Bindings.{faults, implied}
+use Rattle.module_model.specs.Bindings.{faults, implied}
 use Rattle.tla_model.specs.Entities.{Meaning}
-use Rattle.tla_model.specs.Exports.{behind_in, Exports, Outside, nothing}
-use Rattle.tla_model.specs.Resolution.{exports_in, findings, outside_in}
+use Rattle.module_model.specs.Exports.{behind_in, Exports, Outside, nothing}
+use Rattle.module_model.specs.Resolution.{exports_in, findings, outside_in}
 use Rattle.tla_model.specs.Scopes.{Finding}
 use Rattle.tla_model.specs.Tables.{Word, Symbol}
 use Rattle.model_laws.proofs.NameSamples.{at, bare, begin, callee, constant, define, defined, end, identifier, let_in, means, module_of, module_with, name, number, own, segment, sign, taken, three, unknown, value}

@@ -17,11 +17,11 @@ use Rattle.tla_model.specs.declared.names.Meaning.TheVariants.{BuiltIn, Declared
 use Rattle.tla_model.specs.declared.Diagnostic.{Diagnostic}
 use Rattle.tla_model.specs.declared.entity.Entity.TheVariants as entity
 use Rattle.tla_model.specs.declared.ids.Callee.{Callee}
-use Rattle.tla_model.specs.Bindings.{Resolved, faults, resolved}
+use Rattle.module_model.specs.Bindings.{Resolved, faults, resolved}
 use Rattle.tla_model.specs.Entities.{Meaning, declaring}
-use Rattle.tla_model.specs.Exports.{Exports, Outside, nothing, parameters_in}
-use Rattle.tla_model.specs.Modules.{text_of}
-use Rattle.tla_model.specs.Resolution.{exports_in, findings, first, read_all}
+use Rattle.module_model.specs.Exports.{Exports, Outside, nothing, parameters_in}
+use Rattle.module_model.specs.Modules.{text_of}
+use Rattle.module_model.specs.Resolution.{exports_in, findings, first, read_all}
 use Rattle.tla_model.specs.Scopes.{Finding}
 use Rattle.tla_model.specs.Tables.{Word, Symbol, lookup}
 

@@ -2,12 +2,12 @@
 use Rattle.std.proofs.Common.{◌≡◌, ℕ, zero, suc, List, [], ◌∷◌, Some, true, false, refl, ap, ◌∙◌, arith, ⊎_elim}
 use Rattle.std.specs.Prelude.{slice_get, if◌then◌else◌}
 use Rattle.std.proofs.lemmas.Bool.{cases_Bool}
-use Rattle.tla_model.specs.declared.face.Replacement.{Replacement}
+use Rattle.module_model.specs.declared.face.Replacement.{Replacement}
 use Rattle.tla_model.specs.declared.ids.DeclId.{DeclId}
 use Rattle.tla_model.specs.Tables.{Named}
 use Rattle.tla_model.specs.Entities.{Meaning}
-use Rattle.tla_model.specs.Exports.{Exports}
-use Rattle.tla_model.specs.Substitutions.{AreApart, is_declared, replacement_of}
+use Rattle.module_model.specs.Exports.{Exports}
+use Rattle.module_model.specs.Substitutions.{AreApart, is_declared, replacement_of}
 
 pub by-declaration : (parameters : Exports) (replacements : List Replacement) (i : ℕ) (p : Named × Meaning) (r : Replacement) (decl : DeclId) → AreApart parameters → slice_get parameters i ≡ Some p → slice_get replacements i ≡ Some r → is_declared p.1 decl ≡ true → replacement_of parameters replacements decl ≡ Some r
 by-declaration [] replacements i p r decl apart at to is = cc

@@ -2,14 +2,14 @@
 ghost use Rattle.std.specs.Prelude.{◌≡◌, ℕ, List, Some, true, map, slice_get, Contains};
 ghost use Rattle.std.specs.List.{All};
 ghost use Rattle.unit_grammar.specs.Units.{ModuleUnits};
-ghost use Rattle.tla_model.specs.Bindings.{faults};
+ghost use Rattle.module_model.specs.Bindings.{faults};
 ghost use Rattle.tla_model.specs.Entities.{Meaning};
-ghost use Rattle.tla_model.specs.Exports.{Exports, Outside};
+ghost use Rattle.module_model.specs.Exports.{Exports, Outside};
 ghost use Rattle.tla_model.specs.Lexemes.{module_lexemes};
-ghost use Rattle.tla_model.specs.Resolution.{findings};
-ghost use Rattle.tla_model.specs.Substitutions.{AreApart, is_declared, replacement_of};
+ghost use Rattle.module_model.specs.Resolution.{findings};
+ghost use Rattle.module_model.specs.Substitutions.{AreApart, is_declared, replacement_of};
 ghost use Rattle.tla_model.specs.Tables.{Named};
-ghost use Rattle.tla_model.specs.declared.face.Replacement.{Replacement};
+ghost use Rattle.module_model.specs.declared.face.Replacement.{Replacement};
 ghost use Rattle.tla_model.specs.declared.ids.DeclId.{DeclId};
 
 /// Each fault of a module's names stands at a lexeme that the module holds.

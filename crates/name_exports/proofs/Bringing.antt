@@ -2,8 +2,8 @@
 use Rattle.std.proofs.Common.{◌≡◌, ℕ, Bool, true, false, cond, ◌||◌, List, [], ◌∷◌, ◌++◌, refl, ap, sym, subst, ◌∙◌}
 use Rattle.tla_model.specs.Tables.{Named, Word}
 use Rattle.tla_model.specs.Entities.{Meaning}
-use Rattle.tla_model.specs.Exports.{Exports, of_words}
-use Rattle.tla_model.specs.Modules.{Reading, brings_clash, clashes, extended, with_entry}
+use Rattle.module_model.specs.Exports.{Exports, of_words}
+use Rattle.module_model.specs.Modules.{Reading, brings_clash, clashes, extended, with_entry}
 use Rattle.name_exports.specs.declared.exported.Names.{Names}
 use Rattle.name_context.specs.AsTables.{context_of}
 use Rattle.name_exports.specs.Brought.{IsBringing, IsBrought, ModuleNames, as_read, brought}

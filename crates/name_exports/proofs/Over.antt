@@ -6,8 +6,8 @@ use Rattle.std.proofs.lemmas.Bool.{cases_Bool}
 use Rattle.std.proofs.lemmas.List.{append-nil}
 use Rattle.std.proofs.lemmas.Slice.Eq.{bytes_eq-Decides}
 use Rattle.tla_model.specs.Entities.{Meaning}
-use Rattle.tla_model.specs.Exports.{of_words}
-use Rattle.tla_model.specs.Modules.{Reading, brings_clash, clashes, differs, extended, with_entry}
+use Rattle.module_model.specs.Exports.{of_words}
+use Rattle.module_model.specs.Modules.{Reading, brings_clash, clashes, differs, extended, with_entry}
 use Rattle.tla_model.specs.Tables.{AreNew, Named, Word, lookup}
 use Rattle.tla_model.proofs.Stretching.{found-next, none-next}
 use Rattle.name_exports.specs.declared.exported.Names.{Names}

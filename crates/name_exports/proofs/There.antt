@@ -5,8 +5,8 @@ use Rattle.std.specs.List.{AllByRecursion}
 use Rattle.std.specs.Str.{bytes_eq}
 use Rattle.std.proofs.lemmas.List.{append-nil, take-append-drop, take_all}
 use Rattle.tla_model.specs.Entities.{Meaning}
-use Rattle.tla_model.specs.Exports.{of_words}
-use Rattle.tla_model.specs.Modules.{Reading, brings_clash, clashes, differs, extended, with_entry}
+use Rattle.module_model.specs.Exports.{of_words}
+use Rattle.module_model.specs.Modules.{Reading, brings_clash, clashes, differs, extended, with_entry}
 use Rattle.tla_model.specs.Tables.{AreNew, Named, Word, lookup}
 use Rattle.tla_model.proofs.Stretching.{found-next, new-first, new-next, none-among, none-next}
 use Rattle.name_exports.specs.declared.exported.Names.{Names}

@@ -4,11 +4,11 @@ use Rattle.std.specs.Str.{bytes_eq}
 use Rattle.std.specs.Arc.{arc_value}
 use Rattle.std.specs.Borrow.{Bor}
 use Rattle.tla_model.specs.declared.ids.UnitId.{UnitId}
-use Rattle.tla_model.specs.declared.imported.Import.{Import}
+use Rattle.module_model.specs.declared.imported.Import.{Import}
 use Rattle.tla_model.specs.Tables.{AreNew, Table, Named as Name}
 use Rattle.tla_model.specs.Entities.{Meaning}
-use Rattle.tla_model.specs.Exports.{Exports, exports_of, face_exports}
-use Rattle.tla_model.specs.Modules.{Reading, brings_clash, clashes, extended, with_entry}
+use Rattle.module_model.specs.Exports.{Exports, exports_of, face_exports}
+use Rattle.module_model.specs.Modules.{Reading, brings_clash, clashes, extended, with_entry}
 use Rattle.name_exports.specs.declared.exported.Names.{Names}
 use Rattle.name_context.specs.AsTables.{AreApart, behind, context_of, first_words, usable_words}
 

@@ -1,8 +1,8 @@
 // The names of a module that is read: those that stand in its context, and those that it exports.
 ghost use Rattle.std.specs.Prelude.{◌≡◌, ◌++◌, ◌∷◌, ◌≤◌, ℕ, List as ListOf, [], None, Some, false, IfOk, IfSome, IsTrue, OnOk, if◌then◌else◌, is_some, length, slice_get, take};
 ghost use Rattle.std.specs.Str.{bytes_eq};
-ghost use Rattle.tla_model.specs.Exports.{of_words};
-ghost use Rattle.tla_model.specs.Modules as in_modules;
+ghost use Rattle.module_model.specs.Exports.{of_words};
+ghost use Rattle.module_model.specs.Modules as in_modules;
 ghost use Rattle.tla_model.specs.Stretches.{shown, words_of as stretch_words};
 ghost use Rattle.tla_model.specs.Tables as tables;
 ghost use Rattle.tla_model.specs.Tables.{AreNew};

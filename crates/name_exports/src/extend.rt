@@ -1,8 +1,8 @@
 // The names that other modules bring.
 ghost use Rattle.std.specs.Prelude.{◌≡◌, ◌||◌, ℕ, List as ListOf, IfOk, OnOk, drop};
 ghost use Rattle.std.specs.Option.{option_copied};
-ghost use Rattle.tla_model.specs.Exports.{exports_of, face_exports, of_symbols, of_words};
-ghost use Rattle.tla_model.specs.Modules.{clashes};
+ghost use Rattle.module_model.specs.Exports.{exports_of, face_exports, of_symbols, of_words};
+ghost use Rattle.module_model.specs.Modules.{clashes};
 ghost use Rattle.name_exports.specs.Brought.{import_exports};
 ghost use Rattle.name_context.specs.AsTables.{context_of, meant_by, taken_words, words_of};
 ghost use Rattle.name_exports.specs.Brought.{AreFirst, IsBrought, ModuleNames, as_read, brought, shown_by};
@@ -10,9 +10,10 @@ ghost use Rattle.name_exports.specs.Brought.{AreFirst, IsBrought, ModuleNames, a
 use crate::exported::{Exported, Names};
 use crate::same::differs;
 use indexmap::IndexMap;
+use module_model::{Import, Parts};
 use name_context::Named;
 use std::alloc::Global;
-use tla_model::{Import, Meaning, NameTable, Parts};
+use tla_model::{Meaning, NameTable};
 use tla_symbols::Op;
 use tool_list::Memory;
 

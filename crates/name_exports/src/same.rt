@@ -2,7 +2,7 @@
 ghost use Rattle.std.specs.Prelude.{◌≡◌, IsTrue, option_map};
 ghost use Rattle.std.specs.Option.{option_copied};
 ghost use Rattle.tla_model.specs.Entities as entities;
-ghost use Rattle.tla_model.specs.Modules as in_modules;
+ghost use Rattle.module_model.specs.Modules as in_modules;
 ghost use Rattle.tla_model.specs.Stretches.{shown};
 ghost use Rattle.name_exports.specs.Brought as in_brought;
 

@@ -1,12 +1,10 @@
 // Imports by name, tables and lists in stretches, faults in order.
 use indexmap::IndexMap;
+use module_model::{Bound, Face, Import, Imported, Interface, Part, Parts, in_order};
 use std::alloc::Global;
 use std::process::Abort;
 use std::sync::Arc;
-use tla_model::{
-    Bound, Callee, DeclId, Diagnostic, Entity, Face, Import, Imported, Interface, Meaning,
-    ModuleId, NameTable, Part, Parts, in_order,
-};
+use tla_model::{Callee, DeclId, Diagnostic, Entity, Meaning, ModuleId, NameTable};
 use tla_symbols::Span;
 use tla_tree::Tree;
 use tool_list::{Chars, List, Memory, SharedList};

@@ -3,12 +3,12 @@ use Rattle.std.proofs.Common.{◌≡◌, ℕ, List, [], ◌∷◌, ◌++◌, app
 use Rattle.std.specs.Prelude.{map}
 use Rattle.std.proofs.lemmas.List.{append-nil, map-append}
 use Rattle.tla_model.specs.declared.Diagnostic.{Diagnostic}
-use Rattle.tla_model.specs.declared.bound.Bound.{Bound}
+use Rattle.module_model.specs.declared.bound.Bound.{Bound}
 use Rattle.tla_model.specs.declared.entity.Decl.{Decl}
-use Rattle.tla_model.specs.declared.bound.Implied.{Implied}
-use Rattle.tla_model.specs.Bindings.{AreInOrder, IsBoundBy, Resolved, decls, fault, faults, implied, implied_at, resolved, resolved_at}
+use Rattle.module_model.specs.declared.bound.Implied.{Implied}
+use Rattle.module_model.specs.Bindings.{AreInOrder, IsBoundBy, Resolved, decls, fault, faults, implied, implied_at, resolved, resolved_at}
 use Rattle.tla_model.specs.Entities.{declaring}
-use Rattle.tla_model.specs.Modules.{text_of}
+use Rattle.module_model.specs.Modules.{text_of}
 use Rattle.tla_model.specs.Scopes.{Finding}
 use Rattle.unit_grammar.specs.Units.{ModuleUnits}
 use Rattle.sorted_findings.specs.Sorting.{HasMore, IsNothing, IsSorted, IsSorting}

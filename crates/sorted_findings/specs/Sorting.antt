@@ -5,9 +5,9 @@ use Rattle.tla_model.specs.declared.Diagnostic.{Diagnostic}
 use Rattle.tla_model.specs.declared.entity.Level.{Level}
 use Rattle.tla_model.specs.declared.entity.Use.{Use}
 use Rattle.tla_model.specs.declared.ids.DeclId.{DeclId}
-use Rattle.tla_model.specs.declared.bound.Bound.{Bound}
-use Rattle.tla_model.specs.declared.bound.Implied.{Implied}
-use Rattle.tla_model.specs.Bindings.{AreInOrder, Resolved, faults, implied, resolved}
+use Rattle.module_model.specs.declared.bound.Bound.{Bound}
+use Rattle.module_model.specs.declared.bound.Implied.{Implied}
+use Rattle.module_model.specs.Bindings.{AreInOrder, Resolved, faults, implied, resolved}
 use Rattle.tla_model.specs.Scopes.{Finding}
 
 -- a use of a declaration

@@ -1,15 +1,14 @@
 // What is found, as uses and faults.
 ghost use Rattle.std.specs.Prelude.{◌≡◌, ◌++◌, ◌∷◌, [], OnOk};
-ghost use Rattle.tla_model.specs.Bindings as bindings;
+ghost use Rattle.module_model.specs.Bindings as bindings;
 ghost use Rattle.tla_model.specs.declared.names.Meaning.TheVariants as means;
 ghost use Rattle.tla_model.specs.declared.ids.Callee.{Callee as Called};
 ghost use Rattle.sorted_findings.specs.Sorting.{HasMore, IsNothing, use_of};
 
+use module_model::{Bound, Implied, in_order};
 use std::alloc::Global;
 use std::mem;
-use tla_model::{
-    Bound, Callee, DeclId, Diagnostic, Entity, Finding, Implied, Level, Meaning, Use, in_order,
-};
+use tla_model::{Callee, DeclId, Diagnostic, Entity, Finding, Level, Meaning, Use};
 use tla_symbols::Lexeme;
 use tool_list::{List, Memory};
 

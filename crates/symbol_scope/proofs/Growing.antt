@@ -8,8 +8,8 @@ use Rattle.tla_symbols.specs.declared.lexeme.Lexeme.{Lexeme}
 use Rattle.tla_model.specs.declared.names.Binder.{Binder}
 use Rattle.tla_model.specs.Contexts.{Context}
 use Rattle.tla_model.specs.Entities.{Meaning, Text, meant, name_of}
-use Rattle.tla_model.specs.Exports.{Exports, exports_of}
-use Rattle.tla_model.specs.Modules.{Place, Reading, brings, clashes, declare, declare_all, extended, extends_all, with_entry}
+use Rattle.module_model.specs.Exports.{Exports, exports_of}
+use Rattle.module_model.specs.Modules.{Place, Reading, brings, clashes, declare, declare_all, extended, extends_all, with_entry}
 use Rattle.tla_model.specs.Tables.{Named, Table, Word, Symbol, added, has, lookup, same_symbol}
 use Rattle.name_context.specs.declared.context.Mark.{Mark}
 use Rattle.symbol_scope.specs.declared.nesting.Outer.{Outer}

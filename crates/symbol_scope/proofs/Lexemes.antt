@@ -8,7 +8,7 @@ use Rattle.tla_tree.specs.Syntax.{Tree, Trees, Node, Nil, Cons}
 use Rattle.tla_model.specs.declared.names.Binder.{Binder}
 use Rattle.tla_model.specs.Entities.{Binding, binding_in, binding_of, bound_as, declared_among, declared_in, declared_round, defined, follows_first, placed, variables}
 use Rattle.tla_model.specs.Lexemes.{all_lexemes, held, lexemes}
-use Rattle.tla_model.specs.Modules.{definition}
+use Rattle.tla_model.specs.Scopes.{definition}
 use Rattle.list_laws.proofs.Lists.{all-both, all-left, all-right}
 
 module _ (P : Lexeme → Type 0) where

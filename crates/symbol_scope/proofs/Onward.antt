@@ -14,8 +14,8 @@ use Rattle.tla_model.specs.declared.names.Binder.{Binder}
 use Rattle.tla_model.specs.declared.names.Binding.TheVariants as as_binding
 use Rattle.tla_model.specs.Entities.{Text, declared_by, variables}
 use Rattle.tla_model.specs.Lexemes.{module_lexemes, unit_lexemes, units_lexemes}
-use Rattle.tla_model.specs.Scopes.{Finding}
-use Rattle.tla_model.specs.Modules.{Place, Reading, constants, definition}
+use Rattle.tla_model.specs.Scopes.{Finding, definition}
+use Rattle.module_model.specs.Modules.{Place, Reading, constants}
 use Rattle.list_laws.proofs.Lists.{all-left, all-right}
 use Rattle.symbol_scope.specs.WithoutInstances.{after, found_from, found_in, read_all}
 use Rattle.symbol_scope.specs.declared.nesting.Nesting.{Nesting}

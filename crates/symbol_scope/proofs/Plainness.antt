@@ -6,19 +6,19 @@ use Rattle.tla_symbols.specs.declared.lexeme.Lexeme.{Lexeme}
 use Rattle.tla_tree.specs.declared.form.Form.TheVariants as Form
 use Rattle.tla_tree.specs.Syntax.{Tree, Trees, Node, Nil, Cons}
 use Rattle.unit_grammar.specs.Units.{UnitTree, Variables, Constants, OperatorDefinition, FunctionDefinition, ModuleDefinition, Instance, Assumption, Theorem, Line, ModuleBegin, ModuleEnd, ModuleUnits}
-use Rattle.tla_model.specs.declared.imported.Import.{Import}
+use Rattle.module_model.specs.declared.imported.Import.{Import}
 use Rattle.tla_model.specs.Contexts.{Context, bind_all, meaning_of}
 use Rattle.tla_model.specs.declared.names.Meaning.TheVariants.{BuiltIn, Declared}
 use Rattle.tla_model.specs.Entities.{Meaning, Text, defined, name_of, same_decl}
-use Rattle.tla_model.specs.Exports.{Exports, Outside, behind_in, exports_by, exports_of, import_behind, import_outside}
-use Rattle.tla_model.specs.Exports as given
-use Rattle.tla_model.specs.Imports.{Imports, import_of}
-use Rattle.tla_model.specs.Instances.{all_named_instances, called_by, either, first_of, named_instance, named_instances, paths_in, unit_trees}
+use Rattle.module_model.specs.Exports.{Exports, Outside, behind_in, exports_by, exports_of, import_behind, import_outside}
+use Rattle.module_model.specs.Exports as given
+use Rattle.module_model.specs.Imports.{Imports, import_of}
+use Rattle.module_model.specs.Instances.{all_named_instances, called_by, either, first_of, named_instance, named_instances, paths_in, unit_trees}
 use Rattle.tla_model.specs.Lexemes.{spelled}
 use Rattle.tla_model.specs.ModuleNames.{holds_instance, instance_names, instances, instances_in, instantiated, is_some_name, names_of}
-use Rattle.tla_model.specs.Modules.{Place, all_clashing, text_of, unread}
-use Rattle.tla_model.specs.Resolution as whole
-use Rattle.tla_model.specs.Resolution.{Around, Position}
+use Rattle.module_model.specs.Modules.{Place, all_clashing, text_of, unread}
+use Rattle.module_model.specs.Resolution as whole
+use Rattle.module_model.specs.Resolution.{Around, Position}
 use Rattle.tla_model.specs.Scopes.{all_refused, behind, binders, found, has_set, inside, itself, prefixed, reserved, scope, symbol}
 use Rattle.tla_model.specs.declared.ids.DeclId.{DeclId}
 use Rattle.tla_model.specs.Tables.{lookup}

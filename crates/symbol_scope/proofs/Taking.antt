@@ -7,7 +7,7 @@ use Rattle.std.specs.Str.{bytes_eq}
 use Rattle.tla_model.specs.declared.names.Binder.{Binder}
 use Rattle.tla_model.specs.Contexts.{bind}
 use Rattle.tla_model.specs.Entities.{Meaning, Text, meant, name_of}
-use Rattle.tla_model.specs.Modules.{Reading, declare, declare_all, exports_under, with_entry}
+use Rattle.module_model.specs.Modules.{Reading, declare, declare_all, exports_under, with_entry}
 use Rattle.tla_model.specs.Tables.{Named, Table, Word, Symbol, find, lookup, put}
 use Rattle.name_exports.specs.declared.exported.Names.{Names}
 use Rattle.symbol_scope.specs.Readings.{Files, modules_of, taken_by}

@@ -2,7 +2,7 @@
 use Rattle.std.specs.Prelude.{◌≡◌, List, [], ◌∷◌, ⊤, Option, None, Some}
 use Rattle.tla_model.specs.declared.Diagnostic.{Diagnostic}
 use Rattle.tla_model.specs.Entities.{Meaning}
-use Rattle.tla_model.specs.Exports.{Exports, exports_of}
+use Rattle.module_model.specs.Exports.{Exports, exports_of}
 use Rattle.tla_model.specs.Tables.{Table}
 
 -- a table of what is exported is there exactly where there is no fault

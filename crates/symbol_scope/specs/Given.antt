@@ -3,8 +3,8 @@ use Rattle.std.specs.Prelude.{◌≡◌, ◌<◌, ◌^◌, ℕ, List, [], false,
 use Rattle.tla_tree.specs.declared.unit.ModuleTree.{ModuleTree}
 use Rattle.unit_grammar.specs.UnitNodes.{HasNodes, module_of}
 use Rattle.tla_model.specs.Entities.{declaring}
-use Rattle.tla_model.specs.Exports.{import_behind}
-use Rattle.tla_model.specs.Imports.{Imports, import_of}
+use Rattle.module_model.specs.Exports.{import_behind}
+use Rattle.module_model.specs.Imports.{Imports, import_of}
 use Rattle.tla_model.specs.Lexemes.{LexemesLie}
 use Rattle.tla_model.specs.ModuleNames.{holds_instance}
 use Rattle.unit_grammar.specs.Units.{ModuleUnits}

@@ -1,5 +1,5 @@
 -- The module that is read in code, as that of the definitions.
-use Rattle.tla_model.specs.Modules.{Reading}
+use Rattle.module_model.specs.Modules.{Reading}
 use Rattle.symbol_scope.specs.declared.reading.Reading.{Reading as Read}
 use Rattle.name_exports.specs.Brought.{as_read}
 use Rattle.symbol_scope.specs.Readings.{modules_of}

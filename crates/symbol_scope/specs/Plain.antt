@@ -1,8 +1,8 @@
 -- What a unit that begins or ends no module declares, and what is found in it.
 use Rattle.std.specs.Prelude.{List, [], false, is_some}
 use Rattle.tla_model.specs.Entities.{Text, variables}
-use Rattle.tla_model.specs.Scopes.{Finding, all_refused}
-use Rattle.tla_model.specs.Modules.{Reading, constants, declare_all, definition}
+use Rattle.tla_model.specs.Scopes.{Finding, all_refused, definition}
+use Rattle.module_model.specs.Modules.{Reading, constants, declare_all}
 use Rattle.tree_scope.specs.TreeFindings.{walk}
 use Rattle.unit_grammar.specs.Units.{UnitTree, Variables, Constants, OperatorDefinition, FunctionDefinition, ModuleDefinition, Instance, Assumption, Theorem}
 use Rattle.symbol_scope.specs.Readings.{no_files}

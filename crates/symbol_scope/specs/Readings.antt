@@ -4,9 +4,9 @@ use Rattle.std.specs.Borrow.{Bor}
 use Rattle.tla_symbols.specs.declared.lexeme.Lexeme.{Lexeme}
 use Rattle.tla_model.specs.Tables.{Table, empty}
 use Rattle.tla_model.specs.Entities.{Meaning, Text}
-use Rattle.tla_model.specs.Exports.{Exports, exports_of}
+use Rattle.module_model.specs.Exports.{Exports, exports_of}
 use Rattle.tla_model.specs.Scopes.{Finding}
-use Rattle.tla_model.specs.Modules.{Reading, brings, brings_clash}
+use Rattle.module_model.specs.Modules.{Reading, brings, brings_clash}
 use Rattle.tla_model.specs.declared.names.Finding.TheVariants.{Clashes}
 use Rattle.name_exports.specs.Brought.{ModuleNames}
 

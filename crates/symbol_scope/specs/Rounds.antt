@@ -2,11 +2,11 @@
 use Rattle.std.specs.Prelude.{◌≡◌, ◌≤◌, ◌++◌, if◌then◌else◌, ⊤, ℕ, List, [], ◌∷◌, None, Some, length, reverse, take}
 use Rattle.std.specs.Str.{bytes_eq}
 use Rattle.tla_model.specs.Contexts.{Context}
-use Rattle.tla_model.specs.Exports.{exports_of}
+use Rattle.module_model.specs.Exports.{exports_of}
 use Rattle.tla_model.specs.declared.names.Finding.TheVariants.{Taken}
 use Rattle.tla_model.specs.Entities.{Text}
 use Rattle.tla_model.specs.Scopes.{Finding}
-use Rattle.tla_model.specs.Modules.{Place, Reading, all_clashing, is_named, nested}
+use Rattle.module_model.specs.Modules.{Place, Reading, all_clashing, is_named, nested}
 use Rattle.symbol_scope.specs.WithoutInstances.{found_in}
 use Rattle.unit_grammar.specs.Units.{UnitTree}
 use Rattle.tla_symbols.specs.declared.lexeme.Lexeme.{Lexeme}

@@ -3,11 +3,11 @@
 use Rattle.std.specs.Prelude.{ℕ, false, List, [], ◌∷◌, ◌++◌, is_some, if◌then◌else◌}
 use Rattle.unit_grammar.specs.Units.{UnitTree, Variables, Constants, OperatorDefinition, FunctionDefinition, ModuleDefinition, Instance, Assumption, Theorem, ModuleBegin, ModuleEnd, ModuleUnits}
 use Rattle.tla_model.specs.Entities.{Text, variables}
-use Rattle.tla_model.specs.Exports.{Exports, exports_of}
-use Rattle.tla_model.specs.Imports.{Imports, import_of}
-use Rattle.tla_model.specs.Modules.{Place, Reading, all_clashing, begun, constants, declare_all, definition, entered, is_named, left, nested, text_of, unread}
+use Rattle.module_model.specs.Exports.{Exports, exports_of}
+use Rattle.module_model.specs.Imports.{Imports, import_of}
+use Rattle.module_model.specs.Modules.{Place, Reading, all_clashing, begun, constants, declare_all, entered, is_named, left, nested, text_of, unread}
 use Rattle.tla_model.specs.declared.names.Finding.TheVariants.{Taken}
-use Rattle.tla_model.specs.Scopes.{Finding, all_refused}
+use Rattle.tla_model.specs.Scopes.{Finding, all_refused, definition}
 use Rattle.name_exports.specs.Brought.{import_exports}
 use Rattle.tree_scope.specs.TreeFindings.{walk}
 

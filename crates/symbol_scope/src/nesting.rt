@@ -1,6 +1,6 @@
 // Nested modules. The one that is read has all names of those round it, which stand before its own.
 ghost use Rattle.std.specs.Prelude.{◌≡◌, ◌∷◌, [], IfOk, OnOk};
-ghost use Rattle.tla_model.specs.Modules.{Place, Reading as Read};
+ghost use Rattle.module_model.specs.Modules.{Place, Reading as Read};
 ghost use Rattle.symbol_scope.specs.Modules.{reading_of};
 ghost use Rattle.symbol_scope.specs.Rounds.{IsAt, IsOuter, IsUnread, begun_in, behind, outside_of};
 

@@ -8,7 +8,7 @@ ghost use Rattle.tla_model.specs.Contexts as contexts;
 ghost use Rattle.symbol_scope.specs.WithoutInstances.{files_of};
 ghost use Rattle.tla_model.specs.Lexemes.{LiesIn, lexemes};
 ghost use Rattle.tla_model.specs.Scopes as scopes;
-ghost use Rattle.tla_model.specs.Modules as in_modules;
+ghost use Rattle.module_model.specs.Modules as in_modules;
 ghost use Rattle.tla_model.specs.Tables as tables;
 ghost use Rattle.name_context.specs.AsTables.{context_of};
 ghost use Rattle.declared_names.specs.Listed.{listed};
@@ -20,10 +20,11 @@ ghost use Rattle.symbol_scope.specs.Modules.{reading_of};
 
 use declared_names::defined;
 use indexmap::IndexMap;
+use module_model::Imported;
 use name_context::{Context, Named};
 use name_exports::{Exported, Names, bring_import, bring_nested};
 use std::alloc::Global;
-use tla_model::{Binder, Finding, Imported, Meaning, NameTable};
+use tla_model::{Binder, Finding, Meaning, NameTable};
 use tla_symbols::Lexeme;
 use tla_tree::Tree;
 use tool_list::{List, Memory};
@@ -93,7 +94,7 @@ fn bring<'a>(
 // The name that the tree below a node defines.
 fn definition(alloc: Global, tree: &Tree, node: u32) -> Result<Option<Binder>, Memory>
     requires { node < length tree.now }
-    ensures { IfOk result (λ found. listed found ≡ in_modules.definition (tree_at tree.now node)) }
+    ensures { IfOk result (λ found. listed found ≡ scopes.definition (tree_at tree.now node)) }
 {
     let found = defined(alloc, tree, node, tree.children(node))?;
     Ok(found)
@@ -222,7 +223,7 @@ impl<'a> Reading<'a> {
     ) -> Result<(), Memory>
         requires node { node < length tree.now }
         requires lie { AllByRecursion (LiesIn text.now.source) (lexemes (tree_at tree.now node)) }
-        ensures { OnOk result (reading_of self.new ≡ in_modules.declare_all text.now no_files local (reading_of self.old) (in_modules.definition (tree_at tree.now node))) }
+        ensures { OnOk result (reading_of self.new ≡ in_modules.declare_all text.now no_files local (reading_of self.old) (scopes.definition (tree_at tree.now node))) }
     {
         if let Some(binder) = definition(alloc, tree, node)? {
             self.declare(alloc, text, local, binder)?;

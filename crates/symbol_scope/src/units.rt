@@ -5,10 +5,10 @@ ghost use Rattle.tla_tree.specs.Arena.{AreThere, tree_at};
 ghost use Rattle.symbol_scope.specs.WithoutInstances.{files_of};
 ghost use Rattle.tla_model.specs.Lexemes.{LexemesLie, LiesIn, lexemes, unit_lexemes};
 ghost use Rattle.tla_model.specs.Scopes as scopes;
-ghost use Rattle.tla_model.specs.Modules as in_modules;
+ghost use Rattle.module_model.specs.Modules as in_modules;
 ghost use Rattle.symbol_scope.specs.WithoutInstances as plain;
 ghost use Rattle.tree_scope.specs.TreeFindings as in_trees;
-ghost use Rattle.tla_model.specs.Modules.{Place};
+ghost use Rattle.module_model.specs.Modules.{Place};
 ghost use Rattle.unit_grammar.specs.UnitNodes.{HasNodes, module_of, nodes_in, unit_at};
 ghost use Rattle.tla_model.specs.Entities.{declared_by};
 ghost use Rattle.tla_model.specs.declared.names.Finding.TheVariants.{Taken};
@@ -22,8 +22,9 @@ ghost use Rattle.symbol_scope.specs.Rounds.{IsAt, IsUnread, begin_found, found_h
 use crate::nesting::Nesting;
 use crate::reading::Reading;
 use declared_names::push_unit;
+use module_model::Imported;
 use std::alloc::Global;
-use tla_model::{Finding, Imported};
+use tla_model::Finding;
 use tla_symbols::Lexeme;
 use tla_tree::{ModuleTree, Tree, Unit};
 use tool_list::{List, Memory};
@@ -42,7 +43,7 @@ impl<'a> Reading<'a> {
     ) -> Result<(), Memory>
         requires there { node < length tree.now }
         requires lie { AllByRecursion (LiesIn text.now.source) (lexemes (tree_at tree.now node)) }
-        ensures reading { OnOk result (reading_of self.new ≡ in_modules.declare_all text.now no_files local (reading_of self.old) (in_modules.definition (tree_at tree.now node))) }
+        ensures reading { OnOk result (reading_of self.new ≡ in_modules.declare_all text.now no_files local (reading_of self.old) (scopes.definition (tree_at tree.now node))) }
         ensures findings { OnOk result (findings.new ≡ findings.old ++ in_trees.walk text.now (context_of self.old.names.context) (tree_at tree.now node)) }
     {
         walk(alloc, text, tree, node, &mut self.names.context, findings)?;

@@ -1,4 +1,1 @@
-mod Importing
-pub mod Ordering
-mod Parting
 pub mod Stretching

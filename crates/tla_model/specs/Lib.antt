@@ -1,15 +1,7 @@
-pub mod Imports
 pub mod Tables
 pub mod Stretches
-pub mod Parts
 pub mod Lexemes
 pub mod ModuleNames
 pub mod Entities
 pub mod Contexts
-pub mod Exports
 pub mod Scopes
-pub mod Modules
-pub mod Instances
-pub mod Resolution
-pub mod Substitutions
-pub mod Bindings

@@ -90,3 +90,7 @@ module _ (text : Text) where
   -- behind a definition
   abbrev pub behind : Context → Tree → Context
   behind context (Node form s parts) = bind_all text context (defined form parts)
+
+-- the name that a tree defines
+abbrev pub definition : Tree → List Binder
+definition (Node form s parts) = defined form parts

@@ -10,7 +10,7 @@ use Rattle.tla_model.specs.declared.names.Binding.TheVariants as binding
 use Rattle.tla_model.specs.Contexts.{Context, bind, bind_all}
 use Rattle.tla_model.specs.Entities.{Text, entity_of}
 use Rattle.tla_model.specs.Scopes.{Finding, all_refused, behind, has_set}
-use Rattle.tla_model.specs.Modules.{definition}
+use Rattle.tla_model.specs.Scopes.{definition}
 use Rattle.tree_scope.specs.TreeFindings.{walk, walk_chain, walk_each, walk_rest, walk_sets}
 use Rattle.tree_scope.specs.declared.tasks.Task.TheVariants as task
 use Rattle.name_context.specs.AsTables.{mark_of}

@@ -13,7 +13,7 @@ use Rattle.tla_model.specs.Contexts.{Context, bind, bind_all}
 use Rattle.tla_model.specs.Entities.{Text, entity_of}
 use Rattle.tla_model.specs.Lexemes.{LiesIn, all_lexemes, lexemes}
 use Rattle.tla_model.specs.Scopes.{Finding, all_refused, has_set, itself, symbol}
-use Rattle.tla_model.specs.Modules.{definition}
+use Rattle.tla_model.specs.Scopes.{definition}
 use Rattle.tree_scope.specs.TreeFindings.{segments, walk}
 use Rattle.tree_scope.specs.declared.tasks.Task.TheVariants as task
 use Rattle.tree_scope.specs.declared.tasks.Naming.TheVariants as how

@@ -5,7 +5,6 @@ ghost use Rattle.tla_tree.specs.Arena.{tree_at};
 ghost use Rattle.tla_model.specs.Contexts as contexts;
 ghost use Rattle.tla_model.specs.Lexemes.{LiesIn, lexemes};
 ghost use Rattle.tla_model.specs.Scopes as scopes;
-ghost use Rattle.tla_model.specs.Modules as in_modules;
 ghost use Rattle.tree_scope.specs.TreeFindings as in_trees;
 ghost use Rattle.name_context.specs.AsTables.{context_of};
 ghost use Rattle.declared_names.specs.Nodes.{binders_at};
@@ -50,7 +49,7 @@ fn define<'a>(
     context: &mut Context<'a>,
 ) -> Result<(), Memory>
     requires { IsNode text.now tree.now node }
-    ensures { OnOk result (context_of context.new ≡ contexts.bind_all text.now (context_of context.old) (in_modules.definition (tree_at tree.now node))) }
+    ensures { OnOk result (context_of context.new ≡ contexts.bind_all text.now (context_of context.old) (scopes.definition (tree_at tree.now node))) }
 {
     if let Some(binder) = defined(alloc, tree, node, tree.children(node))? {
         bind(alloc, text, context, binder)?;

@@ -1,5 +1,5 @@
 use Rattle.std.proofs.Common.{◌∙◌, subst, sym}
-use Rattle.tla_model.specs.Bindings.{AreInOrder}
+use Rattle.module_model.specs.Bindings.{AreInOrder}
 use Rattle.unit_grammar.specs.UnitNodes.{module_of}
 use Rattle.check_core.specs.Faces.{IsFaceOf}
 use Rattle.check_core.proofs.Facing.{face-of}

@@ -1,4 +1,4 @@
-use Rattle.tla_model.proofs.Ordering.{none-found, none-at-all}
+use Rattle.module_model.proofs.Ordering.{none-found, none-at-all}
 use Rattle.check_core.proofs.laws.none_in_order.Goals as goal
 
 pub returns-clause-none : goal.returns-clause-none

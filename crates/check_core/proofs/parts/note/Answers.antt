@@ -1,5 +1,5 @@
 use Rattle.std.proofs.Common.{◌∙◌, ap}
-use Rattle.tla_model.specs.Parts.{held_in}
+use Rattle.module_model.specs.Parts.{held_in}
 use Rattle.check_core.specs.Faces.{key_in, key_of}
 use Rattle.check_core.proofs.Holding.{fresh-key, noted-key}
 use Rattle.check_core.proofs.parts.note.Goals as goal

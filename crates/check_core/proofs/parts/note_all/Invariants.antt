@@ -1,5 +1,5 @@
 use Rattle.std.proofs.Common.{◌≡◌, drop}
-use Rattle.tla_model.specs.Parts.{parts_in}
+use Rattle.module_model.specs.Parts.{parts_in}
 use Rattle.check_core.specs.Faces.{keys_in}
 use Rattle.check_core.specs.Parts.{keys_under, with_keys}
 use Rattle.check_core.proofs.parts.note_all.Given as goal

@@ -1,8 +1,8 @@
 use Rattle.std.proofs.Common.{◌∙◌, ap, refl, sym, Some}
 use Rattle.check_core.specs.Checks.{Accepted, Refused}
-use Rattle.tla_model.specs.Exports.{face_outside, parts_behind}
+use Rattle.module_model.specs.Exports.{face_outside, parts_behind}
 use Rattle.std.specs.Arc.{arc_value}
-use Rattle.tla_model.specs.declared.face.Face.{Face}
+use Rattle.module_model.specs.declared.face.Face.{Face}
 use Rattle.family_check.proofs.Importing.{import-cyclic, import-found, import-unknown}
 use Rattle.family_check.specs.declared.outcomes.Outcome.TheVariants as outcome
 use Rattle.family_check.proofs.imports.import_of.Goals as goal

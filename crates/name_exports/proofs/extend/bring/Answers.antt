@@ -1,5 +1,5 @@
 use Rattle.std.proofs.Common.{◌∙◌, ap, false, sym}
-use Rattle.tla_model.specs.Modules.{differs, with_entry}
+use Rattle.module_model.specs.Modules.{differs, with_entry}
 use Rattle.name_context.specs.AsTables.{meant_by}
 use Rattle.name_exports.specs.Brought.{as_read}
 use Rattle.name_exports.proofs.Bringing.{bring-new}

@@ -1,5 +1,5 @@
 use Rattle.std.proofs.Common.{drop, refl, subst}
-use Rattle.tla_model.specs.Exports.{of_words}
+use Rattle.module_model.specs.Exports.{of_words}
 use Rattle.name_exports.specs.Brought.{IsBrought}
 use Rattle.name_exports.proofs.There.{others-brought}
 use Rattle.name_exports.proofs.extend.bring_longer.Goals as goal

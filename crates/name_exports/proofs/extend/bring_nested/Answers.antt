@@ -1,5 +1,5 @@
 use Rattle.std.proofs.Common.{◌∙◌, ◌++◌, ◌||◌, ap, subst, sym}
-use Rattle.tla_model.specs.Exports.{exports_of, of_symbols, of_words}
+use Rattle.module_model.specs.Exports.{exports_of, of_symbols, of_words}
 use Rattle.name_context.specs.AsTables.{taken_words, words_of}
 use Rattle.name_exports.specs.Brought.{IsBrought}
 use Rattle.name_exports.proofs.Bringing.{bring-both, of_words-append}

@@ -1,5 +1,5 @@
 use Rattle.std.proofs.Common.{drop}
-use Rattle.tla_model.specs.Exports.{of_symbols}
+use Rattle.module_model.specs.Exports.{of_symbols}
 use Rattle.name_exports.specs.Brought.{IsBringing}
 use Rattle.name_exports.proofs.extend.bring_symbols.Given as goal
 

@@ -1,5 +1,5 @@
 use Rattle.std.proofs.Common.{◌+◌, ap, drop, subst, sym}
-use Rattle.tla_model.specs.Exports.{of_words}
+use Rattle.module_model.specs.Exports.{of_words}
 use Rattle.tla_model.specs.Tables.{Word}
 use Rattle.name_exports.specs.Brought.{IsBringing}
 use Rattle.name_exports.proofs.Bringing.{bring-at}

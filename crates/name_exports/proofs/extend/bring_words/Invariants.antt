@@ -1,5 +1,5 @@
 use Rattle.std.proofs.Common.{drop}
-use Rattle.tla_model.specs.Exports.{of_words}
+use Rattle.module_model.specs.Exports.{of_words}
 use Rattle.name_exports.specs.Brought.{IsBringing}
 use Rattle.name_exports.proofs.extend.bring_words.Given as goal
 

@@ -1,6 +1,6 @@
 use Rattle.std.proofs.Common.{◌∙◌, ◌++◌, subst}
-use Rattle.tla_model.specs.Bindings.{decls}
-use Rattle.tla_model.specs.Exports.{exports_of}
+use Rattle.module_model.specs.Bindings.{decls}
+use Rattle.module_model.specs.Exports.{exports_of}
 use Rattle.unit_grammar.specs.UnitNodes.{module_of}
 use Rattle.symbol_scope.specs.Exporting.{AreExported}
 use Rattle.sorted_findings.specs.Sorting.{IsSorted}

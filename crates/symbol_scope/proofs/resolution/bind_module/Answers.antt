@@ -1,7 +1,7 @@
 use Rattle.std.proofs.Common.{ap, subst}
 use Rattle.std.specs.Prelude.{IfOk}
-use Rattle.tla_model.specs.Exports.{exports_of}
-use Rattle.tla_model.specs.Modules.{Reading}
+use Rattle.module_model.specs.Exports.{exports_of}
+use Rattle.module_model.specs.Modules.{Reading}
 use Rattle.symbol_scope.specs.Exporting.{AreExported}
 use Rattle.symbol_scope.proofs.resolution.bind_module.Goals as goal
 

@@ -1,5 +1,5 @@
 use Rattle.std.proofs.Common.{◌≡◌, ◌++◌}
-use Rattle.tla_model.specs.Bindings as bindings
+use Rattle.module_model.specs.Bindings as bindings
 use Rattle.symbol_scope.proofs.resolution.push_declarations.Given as goal
 
 abbrev pub invariant-loop-binder : goal.invariant-loop-binder

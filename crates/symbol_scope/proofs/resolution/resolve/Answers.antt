@@ -1,5 +1,5 @@
 use Rattle.std.proofs.Common.{subst}
-use Rattle.tla_model.specs.Bindings.{IsBoundBy}
+use Rattle.module_model.specs.Bindings.{IsBoundBy}
 use Rattle.unit_grammar.specs.UnitNodes.{module_of}
 use Rattle.symbol_scope.specs.Exporting.{AreExported}
 use Rattle.symbol_scope.proofs.Plainness.{all-exports, all-found}

@@ -1,7 +1,7 @@
 use Rattle.std.proofs.Common.{◌<◌, ◌∙◌, ap, subst, sym}
 use Rattle.std.specs.List.{AllByRecursion}
 use Rattle.tla_model.specs.Contexts.{bind_all}
-use Rattle.tla_model.specs.Modules.{definition}
+use Rattle.tla_model.specs.Scopes.{definition}
 use Rattle.name_context.specs.AsTables.{context_of}
 use Rattle.declared_names.proofs.Nodewise.{tree-at}
 use Rattle.declared_names.specs.Listed.{listed}

@@ -1,5 +1,5 @@
 use Rattle.std.proofs.Common.{◌≡◌, drop}
-use Rattle.tla_model.specs.Parts.{parts_in}
+use Rattle.module_model.specs.Parts.{parts_in}
 use Rattle.check_core.specs.Faces.{with_parts}
 use Rattle.check_core.specs.Parts.{IsNoted, held_by}
 use Rattle.check_core.proofs.parts.Gathered.add_all.Given as goal

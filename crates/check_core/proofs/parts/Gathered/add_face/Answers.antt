@@ -1,4 +1,4 @@
-use Rattle.tla_model.specs.Parts.{held}
+use Rattle.module_model.specs.Parts.{held}
 use Rattle.check_core.specs.Parts.{first_parts, held_by, keys_under}
 use Rattle.check_core.proofs.Holding.{first-face, none-kept, noted-gathered, right-nothing}
 use Rattle.check_core.proofs.parts.Gathered.add_face.Goals as goal

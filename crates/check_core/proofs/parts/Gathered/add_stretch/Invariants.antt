@@ -1,5 +1,5 @@
 use Rattle.std.proofs.Common.{◌≡◌, drop}
-use Rattle.tla_model.specs.Parts.{held}
+use Rattle.module_model.specs.Parts.{held}
 use Rattle.check_core.specs.Faces.{with_parts}
 use Rattle.check_core.specs.Parts.{IsNoted, held_by}
 use Rattle.check_core.proofs.parts.Gathered.add_stretch.Given as goal

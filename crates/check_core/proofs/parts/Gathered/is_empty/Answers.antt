@@ -1,4 +1,4 @@
-use Rattle.tla_model.specs.Parts.{held}
+use Rattle.module_model.specs.Parts.{held}
 use Rattle.check_core.specs.Parts.{first_parts}
 use Rattle.check_core.proofs.Holding.{none-both, some-first}
 use Rattle.check_core.proofs.parts.Gathered.is_empty.Goals as goal

@@ -1,4 +1,4 @@
-use Rattle.tla_model.specs.Parts.{held}
+use Rattle.module_model.specs.Parts.{held}
 use Rattle.check_core.specs.Parts.{keys_under}
 use Rattle.check_core.proofs.Holding.{none-under, noted-one}
 use Rattle.check_core.proofs.parts.Gathered.note_first.Goals as goal

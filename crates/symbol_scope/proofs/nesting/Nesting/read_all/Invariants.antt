@@ -1,7 +1,7 @@
 use Rattle.std.proofs.Common.{◌≡◌, ◌++◌, take}
 use Rattle.std.specs.Prelude.{map}
 use Rattle.symbol_scope.specs.WithoutInstances.{files_of}
-use Rattle.tla_model.specs.Modules.{Place}
+use Rattle.module_model.specs.Modules.{Place}
 use Rattle.symbol_scope.specs.WithoutInstances.{found_from, read_all}
 use Rattle.unit_grammar.specs.UnitNodes.{unit_at}
 use Rattle.symbol_scope.specs.Rounds.{IsAt}

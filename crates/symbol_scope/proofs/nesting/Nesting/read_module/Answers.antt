@@ -1,5 +1,5 @@
 use Rattle.std.proofs.Common.{[], reverse, subst, sym}
-use Rattle.tla_model.specs.Modules.{unread}
+use Rattle.module_model.specs.Modules.{unread}
 use Rattle.symbol_scope.specs.Readings.{no_files}
 use Rattle.symbol_scope.specs.Rounds.{AreRound}
 use Rattle.symbol_scope.proofs.nesting.Nesting.read_module.Goals as goal

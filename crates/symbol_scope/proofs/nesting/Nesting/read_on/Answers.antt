@@ -2,7 +2,7 @@ use Rattle.std.proofs.Common.{◌∙◌, ◌++◌, [], append_assoc, ap, subst, 
 use Rattle.std.specs.Prelude.{map}
 use Rattle.std.specs.List.{AllByRecursion}
 use Rattle.tla_model.specs.Lexemes.{LiesIn, units_lexemes}
-use Rattle.tla_model.specs.Modules.{all_clashing, begun, extends_all, unread}
+use Rattle.module_model.specs.Modules.{all_clashing, begun, extends_all, unread}
 use Rattle.unit_grammar.specs.UnitNodes.{module_of, unit_at}
 use Rattle.list_laws.proofs.Lists.{all-left}
 use Rattle.symbol_scope.specs.declared.nesting.Nesting.{Nesting}

@@ -1,6 +1,6 @@
 use Rattle.std.proofs.Common.{◌≡◌, ◌++◌, false}
 use Rattle.tla_model.specs.Scopes as scopes
-use Rattle.tla_model.specs.Modules as in_modules
+use Rattle.module_model.specs.Modules as in_modules
 use Rattle.name_context.specs.AsTables.{context_of}
 use Rattle.tree_scope.specs.Lying.{BindersLie}
 use Rattle.symbol_scope.specs.Modules.{reading_of}

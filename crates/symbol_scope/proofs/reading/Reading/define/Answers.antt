@@ -1,7 +1,7 @@
 use Rattle.std.proofs.Common.{◌∙◌, ap, sym, subst}
 use Rattle.tla_tree.specs.Arena.{tree_at}
 use Rattle.tla_model.specs.Lexemes.{LiesIn}
-use Rattle.tla_model.specs.Modules.{declare_all}
+use Rattle.module_model.specs.Modules.{declare_all}
 use Rattle.declared_names.specs.Listed.{listed}
 use Rattle.tree_scope.specs.Lying.{BindersLie}
 use Rattle.symbol_scope.specs.Modules.{reading_of}

@@ -1,6 +1,6 @@
 use Rattle.std.proofs.Common.{◌≡◌, ◌++◌, drop}
 use Rattle.symbol_scope.specs.WithoutInstances.{files_of}
-use Rattle.tla_model.specs.Modules as in_modules
+use Rattle.module_model.specs.Modules as in_modules
 use Rattle.symbol_scope.specs.Modules.{reading_of}
 use Rattle.symbol_scope.proofs.reading.Reading.extend_all.Given as goal
 

@@ -1,6 +1,6 @@
 use Rattle.std.proofs.Common.{◌∙◌, None, ap}
 use Rattle.std.specs.Str.{bytes_eq}
-use Rattle.tla_model.specs.Modules.{Reading}
+use Rattle.module_model.specs.Modules.{Reading}
 use Rattle.tla_model.specs.Tables.{added}
 use Rattle.symbol_scope.proofs.reading.Reading.put_first.Goals as goal
 

@@ -1,0 +1,3 @@
+mod Importing
+pub mod Ordering
+mod Parting

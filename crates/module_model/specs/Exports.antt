@@ -1,0 +1,131 @@
+-- What modules are to those that name them, and where it comes from for the imported ones: from their faces.
+use Rattle.std.specs.Prelude.{ℕ, Bool, true, false, List, [], ◌∷◌, ◌++◌, Option, Some, None, filter, slice_get}
+use Rattle.tla_symbols.specs.declared.op.Op.{Op}
+use Rattle.tla_model.specs.declared.names.Meaning.TheVariants.{BuiltIn, Declared}
+use Rattle.tla_model.specs.declared.entity.Entity.TheVariants as entity
+use Rattle.module_model.specs.declared.face.Instance.{Instance}
+use Rattle.tla_model.specs.declared.ids.DeclId.{DeclId}
+use Rattle.module_model.specs.declared.imported.Import.{Import}
+use Rattle.module_model.specs.Imports.{Imports, import_of}
+use Rattle.module_model.specs.Parts.{Held, last}
+use Rattle.tla_model.specs.Tables.{Table, Named, Word, Symbol, lookup}
+use Rattle.tla_model.specs.Entities.{Entity, Meaning, same_decl}
+use Rattle.std.specs.Arc.{arc_value}
+
+-- names with what they mean outside the module
+abbrev pub Exports : Type 0
+Exports = List (Named × Meaning)
+
+-- ---- kinds of entries
+
+-- what INSTANCE replaces
+abbrev pub stands_for_parameter : Entity → Bool
+stands_for_parameter (entity.Constant arity) = true
+stands_for_parameter entity.Variable = true
+stands_for_parameter _ = false
+
+-- what can be named behind an instance
+abbrev pub stands_behind : Entity → Bool
+stands_behind (entity.Definition orders) = true
+stands_behind (entity.Instance orders) = true
+stands_behind _ = false
+
+abbrev pub is_meant : (Entity → Bool) → Meaning → Bool
+is_meant which BuiltIn = false
+is_meant which (Declared entity callee) = which entity
+
+-- the declared constants and variables among entries: INSTANCE replaces them
+abbrev pub parameters_in : Exports → Exports
+parameters_in entries = filter (λ entry. is_meant stands_for_parameter entry.1) entries
+
+-- the definitions and instances among entries: they stand behind an instance, and INSTANCE without a name brings them
+abbrev pub carried : Exports → Exports
+carried entries = filter (λ entry. is_meant stands_behind entry.1) entries
+
+-- ---- what a module is to one that names it
+
+abbrev pub or_none : Option Exports → Exports
+or_none None = []
+or_none (Some exports) = exports
+
+-- instances by their declarations, with what stands behind them
+abbrev pub Behind : Type 0
+Behind = List (DeclId × Exports)
+
+-- what stands behind the instance of a declaration; what has nothing behind it is no instance
+abbrev pub behind_in : Behind → DeclId → Exports
+behind_in behind decl = or_none (lookup same_decl behind decl)
+
+-- what it exports, the constants and variables that it declares or extends, and what stands behind the instances that it
+-- reaches, by their declarations
+pub record Outside : Type 0 where
+  pub exports : Exports
+  pub parameters : Exports
+  pub behind : DeclId → Exports
+
+abbrev pub nothing : Outside
+nothing = record { exports = []; parameters = []; behind = λ decl. [] }
+
+-- what the modules export
+abbrev pub exports_by : (List ℕ → Outside) → List ℕ → Exports
+exports_by files name = (files name).exports
+
+-- ---- tables as lists
+
+-- a table as a list: identifiers, then symbols
+abbrev pub of_words : List (List ℕ × Meaning) → Exports
+of_words [] = []
+of_words (entry ∷ rest) = (Word entry.0, entry.1) ∷ of_words rest
+
+abbrev pub of_symbols : List (Op × Meaning) → Exports
+of_symbols [] = []
+of_symbols (entry ∷ rest) = (Symbol entry.0, entry.1) ∷ of_symbols rest
+
+abbrev pub exports_of : Table Meaning → Exports
+exports_of table = of_words table.words ++ of_symbols table.symbols
+
+-- ---- faces
+
+-- what a part exports, if there is one
+abbrev pub part_shows : Option Held → Exports
+part_shows None = []
+part_shows (Some part) = exports_of part.interface.exports
+
+-- the last part of a face is the module's own
+abbrev pub face_exports : List Held → Exports
+face_exports parts = part_shows (last parts)
+
+-- what the part at a place exports
+abbrev pub part_exports : List Held → Option ℕ → Exports
+part_exports parts None = []
+part_exports parts (Some place) = part_shows (slice_get parts place)
+
+-- under the name of an instance, what stands behind it; one without a name has nothing behind it
+abbrev pub under : Option DeclId → Exports → Behind
+under None exports = []
+under (Some decl) exports = (decl, exports) ∷ []
+
+-- behind the instances of a part, whose modules have these places among the parts
+abbrev pub part_behind : List Held → List ℕ → List Instance → Behind
+part_behind parts places [] = []
+part_behind parts places (instance ∷ rest) = under instance.name (carried (part_exports parts (slice_get places instance.«module»))) ++ part_behind parts places rest
+
+abbrev pub parts_behind : List Held → List Held → Behind
+parts_behind all [] = []
+parts_behind all (part ∷ rest) = part_behind all part.places part.interface.instances ++ parts_behind all rest
+
+abbrev pub face_outside : List Held → Outside
+face_outside parts = record { exports = face_exports parts; parameters = parameters_in (face_exports parts); behind = behind_in (parts_behind parts parts) }
+
+abbrev pub import_outside : Option Import → Outside
+import_outside (Some (Import.Module face)) = face_outside (arc_value face).parts
+import_outside _ = nothing
+
+-- the instances that an import brings
+abbrev pub import_behind : Option Import → Behind
+import_behind (Some (Import.Module face)) = parts_behind (arc_value face).parts (arc_value face).parts
+import_behind _ = []
+
+-- the imported module of a name
+abbrev pub files_of : Imports → List ℕ → Outside
+files_of imports name = import_outside (import_of imports name)

@@ -1,0 +1,128 @@
+-- What INSTANCE replaces, and what it brings.
+use Rattle.std.specs.Prelude.{ℕ, Bool, List, [], ◌∷◌, ◌++◌, Option, Some, None, filter, if◌then◌else◌, map, not}
+use Rattle.tla_symbols.specs.declared.lexeme.Lexeme.{Lexeme}
+use Rattle.tla_tree.specs.declared.form.Form.TheVariants as Form
+use Rattle.tla_tree.specs.Syntax.{Tree, Trees, Node, Nil, Cons}
+use Rattle.unit_grammar.specs.Units.{UnitTree, OperatorDefinition, FunctionDefinition, ModuleDefinition, Instance, Assumption, Theorem}
+use Rattle.tla_model.specs.declared.names.Finding.TheVariants.{Means, NotReplaceable, ReplacedTwice, Unreplaced, Implied}
+use Rattle.tla_model.specs.declared.names.Meaning.TheVariants.{BuiltIn, Declared}
+use Rattle.tla_model.specs.declared.ids.UnitId.{UnitId}
+use Rattle.tla_model.specs.Tables.{Named, has, is_among, lookup, same_named}
+use Rattle.tla_model.specs.Entities.{Meaning, name_of}
+use Rattle.tla_model.specs.Contexts.{Context, meaning_of}
+use Rattle.tla_model.specs.declared.ids.DeclId.{DeclId}
+use Rattle.module_model.specs.Exports.{Exports, Outside, carried, parameters_in}
+use Rattle.tla_model.specs.Scopes.{Finding}
+
+-- ---- replacements
+
+-- the left sides of replacements
+abbrev pub left_sides : List ℕ → Trees → List Named
+left_sides source Nil = []
+left_sides source (Cons (Node (Form.Replacement l) s right) rest) = name_of source l ∷ left_sides source rest
+left_sides source (Cons _ rest) = left_sides source rest
+
+-- what an entry of this name means
+abbrev pub entry_of : Exports → Named → Option Meaning
+entry_of entries name = lookup same_named entries name
+
+-- a left side, which may be there already, by the parameter that it names
+abbrev pub replaced_as : Lexeme → Bool → Option Meaning → List Finding
+replaced_as l again None = NotReplaceable l ∷ []
+replaced_as l again (Some parameter) = Means l parameter ∷ (if again then ReplacedTwice l ∷ [] else [])
+
+-- a parameter that is not written is replaced by what its name means
+abbrev pub implied_as : Lexeme → Meaning → Option Meaning → List Finding
+implied_as l parameter None = Unreplaced l ∷ []
+implied_as l parameter (Some meaning) = Implied l parameter meaning ∷ []
+
+-- of the parameters of a module, at its name, those that are not among the left sides
+abbrev pub implied : Context → Lexeme → List Named → Exports → List Finding
+implied context l written [] = []
+implied context l written (parameter ∷ rest) =
+    (if is_among written parameter.0 then [] else implied_as l parameter.1 (meaning_of context parameter.0)) ++ implied context l written rest
+
+-- ---- what stands behind instances
+
+-- behind what a name means
+abbrev pub found_behind : (DeclId → Exports) → Option Meaning → Exports
+found_behind behind None = []
+found_behind behind (Some BuiltIn) = []
+found_behind behind (Some (Declared entity callee)) = behind callee.decl
+
+-- what stands behind an instance of the text, or else behind one that other modules reach
+abbrev pub either : Option Exports → Exports → Exports
+either None others = others
+either (Some exports) others = exports
+
+-- of two modules that may reach an instance, the first behind whose one something stands
+abbrev pub first_of : Exports → Exports → Exports
+first_of [] others = others
+first_of (entry ∷ rest) others = entry ∷ rest
+
+-- the last name of a path calls through the path before it, which has this number
+abbrev pub called_by : ℕ → Trees → Option Meaning → Option Meaning
+called_by number Nil (Some (Declared entity callee)) = Some (Declared entity (record callee { instance = number }))
+called_by number rest meaning = meaning
+
+-- ---- INSTANCE without a name
+
+-- what a name means that came through an INSTANCE
+abbrev pub through : UnitId → Meaning → Meaning
+through unit BuiltIn = BuiltIn
+through unit (Declared entity callee) = Declared entity (record callee { via = callee.via ++ unit ∷ [] })
+
+-- the entries that are brought: others than those of the module, where it has parameters to replace
+abbrev pub passed : UnitId → Exports → Exports → Exports
+passed unit [] entries = entries
+passed unit (parameter ∷ parameters) entries = map (λ entry. (entry.0, through unit entry.1)) entries
+
+abbrev pub brought_by : UnitId → Outside → Exports
+brought_by unit outside = passed unit outside.parameters (carried outside.exports)
+
+-- of the entries of a nested module, its parameters: the constants and variables that the context round it does not hold
+abbrev pub own_parameters : Context → Exports → Exports
+own_parameters context entries = filter (λ entry. not (has context entry.0)) (parameters_in entries)
+
+-- ---- where instances and paths stand in a text
+
+-- the trees of a unit in which names are used
+abbrev pub unit_trees : UnitTree → Trees
+unit_trees (OperatorDefinition local x) = Cons x Nil
+unit_trees (FunctionDefinition local x) = Cons x Nil
+unit_trees (ModuleDefinition local x) = Cons x Nil
+unit_trees (Instance local x) = Cons x Nil
+unit_trees (Assumption word name x) = Cons x Nil
+unit_trees (Theorem word name x) = Cons x Nil
+unit_trees _ = Nil
+
+-- the name of an instance, with the name of its module
+abbrev pub named_instance : Form.the_data → Trees → List (Lexeme × Lexeme)
+named_instance (Form.ModuleDefinition name) (Cons (Node (Form.Instance l) s parts) rest) = (name, l) ∷ []
+named_instance (Form.ModuleDefinition name) (Cons x rest) = named_instance (Form.ModuleDefinition name) rest
+named_instance form parts = []
+
+-- where a path begins that leads through an instance
+abbrev pub path_start : Form.the_data → Trees → List ℕ
+path_start Form.Identifier (Cons (Node (Form.Segment l) s arguments) (Cons x rest)) = l.span.start ∷ []
+path_start form parts = []
+
+abbrev mutual
+  pub named_instances : Tree → List (Lexeme × Lexeme)
+  named_instances (Node form s parts) = named_instance form parts ++ all_named_instances parts
+
+  pub all_named_instances : Trees → List (Lexeme × Lexeme)
+  all_named_instances Nil = []
+  all_named_instances (Cons x rest) = named_instances x ++ all_named_instances rest
+
+abbrev mutual
+  pub path_starts : Tree → List ℕ
+  path_starts (Node form s parts) = path_start form parts ++ all_path_starts parts
+
+  pub all_path_starts : Trees → List ℕ
+  all_path_starts Nil = []
+  all_path_starts (Cons x rest) = path_starts x ++ all_path_starts rest
+
+abbrev pub paths_in : List UnitTree → List ℕ
+paths_in [] = []
+paths_in (unit ∷ units) = all_path_starts (unit_trees unit) ++ paths_in units

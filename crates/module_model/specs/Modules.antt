@@ -1,0 +1,116 @@
+-- Modules that are read, unit by unit: their contexts, and what they export.
+use Rattle.std.specs.Prelude.{ℕ, Bool, true, false, not, ◌||◌, List, [], ◌∷◌, ◌++◌, Option, Some, None, is_some, if◌then◌else◌, map}
+use Rattle.std.specs.Str.{bytes_eq}
+use Rattle.tla_symbols.specs.declared.lexeme.Lexeme.{Lexeme}
+use Rattle.tla_tree.specs.Syntax.{Trees}
+use Rattle.unit_grammar.specs.Units.{ModuleUnits}
+use Rattle.tla_model.specs.declared.names.Finding.TheVariants.{Clashes}
+use Rattle.tla_model.specs.declared.names.Binder.{Binder}
+use Rattle.tla_model.specs.declared.names.Binding.TheVariants as as_binding
+use Rattle.tla_model.specs.Tables.{Table, Named, added, empty, find, has, lookup, put}
+use Rattle.tla_model.specs.Entities.{Meaning, Text, meant, name_of, same_meaning, declared_among, declaring}
+use Rattle.tla_model.specs.Lexemes.{spelled}
+use Rattle.tla_model.specs.Contexts.{Context, built_in}
+use Rattle.module_model.specs.Exports.{Exports, exports_of}
+use Rattle.tla_model.specs.Scopes.{Finding}
+
+-- a module that is read: its name, its context, what it exports so far, and the names of modules that are taken there:
+-- those of nested modules that can be named, with what they export, and those of this module and of the ones round it
+pub record Reading : Type 0 where
+  pub name : List ℕ
+  pub context : Context
+  pub exports : Table Meaning
+  pub modules : List (List ℕ × Option Exports)
+
+-- the name is there with another meaning
+abbrev pub differs : Option (Option Meaning) → Meaning → Bool
+differs None meaning = false
+differs (Some None) meaning = true
+differs (Some (Some other)) meaning = not (same_meaning other meaning)
+
+abbrev pub clashes : Context → Named × Meaning → Bool
+clashes context entry = differs (find context entry.0) entry.1
+
+-- the module with one more entry that it may export
+abbrev pub with_entry : Bool → Reading → Named → Meaning → Reading
+with_entry local reading name meaning =
+    record reading { context = put reading.context name (Some meaning); exports = if local then reading.exports else put reading.exports name meaning }
+
+-- the module with the entries that another one brings, which it exports where no LOCAL brings them
+abbrev pub joined : Bool → Reading → Exports → Reading
+joined local reading [] = reading
+joined local reading (entry ∷ rest) = joined local (if clashes reading.context entry then reading else with_entry local reading entry.0 entry.1) rest
+
+abbrev pub extended : Reading → Exports → Reading
+extended reading entries = joined false reading entries
+
+-- some entry that is brought clashes with those before
+abbrev pub brings_clash : Reading → Exports → Bool
+brings_clash reading [] = false
+brings_clash reading (entry ∷ rest) = clashes reading.context entry || brings_clash (if clashes reading.context entry then reading else with_entry false reading entry.0 entry.1) rest
+
+-- what the nested module of a name exports, or else the file
+abbrev pub exports_under : (List ℕ → Exports) → Option (Option Exports) → List ℕ → Exports
+exports_under files None name = files name
+exports_under files (Some None) name = []
+exports_under files (Some (Some exports)) name = exports
+
+abbrev pub constants : Trees → List Binder
+constants declarations = declared_among as_binding.Constant declarations
+
+-- the innermost module that is read, and those round it
+pub record Place : Type 0 where
+  pub here : Reading
+  pub round : List Reading
+
+module _ (text : Text) (files : List ℕ → Exports) where
+  abbrev pub brings : Reading → Lexeme → Exports
+  brings reading l = exports_under files (lookup bytes_eq reading.modules (spelled text.source l)) (spelled text.source l)
+
+  abbrev pub extends_all : Reading → List Lexeme → Reading
+  extends_all reading [] = reading
+  extends_all reading (l ∷ rest) = extends_all (extended reading (brings reading l)) rest
+
+  abbrev pub all_clashing : Reading → List Lexeme → List Finding
+  all_clashing reading [] = []
+  all_clashing reading (l ∷ rest) =
+      (if brings_clash reading (brings reading l) then Clashes l ∷ [] else []) ++ all_clashing (extended reading (brings reading l)) rest
+
+  -- a declaration or a definition of the module; LOCAL ones are not exported
+  abbrev pub declare : Bool → Reading → Binder → Reading
+  declare local reading binder =
+      if has reading.context (name_of text.source binder.name) then reading
+      else with_entry local reading (name_of text.source binder.name) (meant text binder)
+
+  abbrev pub declare_all : Bool → Reading → List Binder → Reading
+  declare_all local reading [] = reading
+  declare_all local reading (binder ∷ rest) = declare_all local (declare local reading binder) rest
+
+  -- a nested module may not have the name of one round it or of one that can be named
+  abbrev pub is_named : Reading → Lexeme → Bool
+  is_named reading name = is_some (lookup bytes_eq reading.modules (spelled text.source name))
+
+  -- a nested module before what it extends: it begins with the context round it
+  abbrev pub nested : Reading → Lexeme → Reading
+  nested reading name =
+      record { name = spelled text.source name; context = reading.context; exports = empty; modules = added bytes_eq reading.modules (spelled text.source name) None }
+
+  abbrev pub entered : Place → Lexeme → List Lexeme → Place
+  entered place name extends = record { here = extends_all (nested place.here name) extends; round = place.here ∷ place.round }
+
+  -- behind a nested module, which can be named unless its name is taken
+  abbrev pub left : Reading → List Reading → Place
+  left inner [] = record { here = inner; round = [] }
+  left inner (outer ∷ round) =
+      record { here = record outer { modules = added bytes_eq outer.modules inner.name (Some (exports_of inner.exports)) }; round = round }
+
+  -- a module before what it extends
+  abbrev pub unread : Reading
+  unread = record { name = text.file; context = built_in; exports = empty; modules = (text.file, None) ∷ [] }
+
+  abbrev pub begun : List Lexeme → Place
+  begun extends = record { here = extends_all unread extends; round = [] }
+
+abbrev pub text_of : List ℕ → ModuleUnits → Text
+text_of source units =
+    record { file = spelled source units.name; source = source; starts = map (λ binder. binder.name.span.start) (declaring units.units) }

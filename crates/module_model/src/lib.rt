@@ -1,0 +1,17 @@
+//! What the calls on modules say of them: what their names stand for, their faults in order, and what they
+//! export; and the imports of a module under their names.
+//!
+//! Knows nothing of how it is found.
+#![tactic(auto)]
+
+mod bound;
+mod face;
+mod imported;
+mod order;
+mod parts;
+
+pub use bound::{Bound, Implied};
+pub use face::{Definition, Face, Instance, Interface, NodeMeaning, Part, Replacement};
+pub use imported::{Import, Imported};
+pub use order::in_order;
+pub use parts::Parts;

@@ -1,9 +1,0 @@
-use Rattle.std.proofs.Common.{ap, ◌∙◌}
-use Rattle.tla_model.specs.Imports.{Imports, import_of}
-use Rattle.tla_model.proofs.Importing.{lookup-named}
-use Rattle.tla_model.proofs.imported.Imported.get.Goals as goal
-
-pub returns : goal.returns
-returns c =
-    c.get.ensures.value ∙ lookup-named c.self.inside.imports.entries c.args.name.now
-    ∙ ap (λ (imports : Imports). import_of imports c.args.name.now) c.self.view_is
