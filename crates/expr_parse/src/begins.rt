@@ -12,7 +12,9 @@ ghost use Rattle.expr_parse.specs.Standing.{IsPart, IsThere, IsOpen, IsDue, Stan
 use crate::parts::have;
 use crate::stack::{Frame, Opening, Part, Stack, Turn, leaf};
 use expr_grammar::{MarkMove, Start, Wait};
-use expr_tables::{absorbs, at_mark, begins, child, endable, mode};
+use expr_kinds::{absorbs, child, mode};
+use expr_moves::at_mark;
+use expr_starts::{begins, endable};
 use tla_symbols::{Lexeme, Span};
 use tla_tree::{Form, Tree};
 use tool_list::Memory;

@@ -15,7 +15,7 @@ ghost use Rattle.expr_parse.specs.Standing.{IsPart, IsThere, IsOpen, Opens, Beco
 
 use crate::stack::{Opening, Part, Stack, add, covered, joined};
 use expr_grammar::{Conversion, Shape};
-use expr_tables::shape;
+use expr_parts::shape;
 use std::alloc::Global;
 use tla_symbols::{Lexeme, Span};
 use tla_tree::{Form, Tree};

@@ -12,7 +12,9 @@ ghost use Rattle.expr_parse.specs.Standing.{IsPart, IsDue, IsReady, IsTurn, IsTu
 use crate::goal::Goal;
 use crate::stack::{Frame, Part, Stack, Turn};
 use expr_grammar::{Shape, Wait};
-use expr_tables::{endable, finishes, is_expression, shape};
+use expr_kinds::{finishes, is_expression};
+use expr_parts::shape;
+use expr_starts::endable;
 use tla_tree::{Form, Tree, helps};
 use tool_list::Memory;
 

@@ -14,9 +14,9 @@ use crate::begins::{complete, goes_on as frame_goes_on};
 use crate::convert::{convert, name_of};
 use crate::stack::{Frame, Part, Stack, Turn};
 use expr_grammar::{Binding, Conversion, Handed, Lead, PartMove, Role, Shape, Wait};
-use expr_tables::{
-    at_part, choice, finishes, goes_on, is_expression, lead, list_of, role, shape, takes,
-};
+use expr_kinds::{finishes, is_expression, list_of};
+use expr_parts::{at_part, shape};
+use expr_starts::{choice, goes_on, lead, role, takes};
 use precedence::Choice;
 use tla_symbols::Lexeme;
 use tla_tree::{Form, Tree};

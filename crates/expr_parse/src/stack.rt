@@ -10,7 +10,7 @@ ghost use Rattle.expr_parse.specs.Standing as standing;
 ghost use Rattle.expr_parse.specs.Standing.{IsPart, IsThere, IsOpen, AreFrames, Stands, Opens, IsTop, IsWait, Made, Adds};
 
 use expr_grammar::Wait;
-use expr_tables::list_of;
+use expr_kinds::list_of;
 use std::alloc::Global;
 use tla_symbols::{Lexeme, Span};
 use tla_tree::{Form, Tree};

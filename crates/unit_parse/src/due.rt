@@ -13,7 +13,7 @@ use crate::reached::Reached;
 use crate::reading::Reading;
 use crate::state::{Begun, State, Unfinished};
 use expr_parse::Goal;
-use expr_tables::is_comma;
+use expr_kinds::is_comma;
 use tla_symbols::Lexeme;
 use tla_tree::Unit;
 use tool_list::{List, Memory};

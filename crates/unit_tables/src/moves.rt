@@ -3,11 +3,11 @@ ghost use Rattle.std.specs.Prelude.{◌≡◌, ◌-◌, ◌<◌, ◌^◌};
 ghost use Rattle.expr_grammar.specs.Kinds as kinds;
 ghost use Rattle.unit_machine.specs.Tables as tables;
 
-use expr_tables::{
-    defines, is_comma, is_define, is_given, is_instance, is_left_arrow, is_left_bracket,
-    is_left_paren, is_name, is_negative, is_replaceable, is_right_bracket, is_right_paren,
-    is_underscore, is_with,
+use expr_kinds::{
+    is_comma, is_define, is_instance, is_left_arrow, is_left_bracket, is_left_paren, is_name,
+    is_negative, is_right_bracket, is_right_paren, is_underscore, is_with,
 };
+use expr_moves::{defines, is_given, is_replaceable};
 use tla_symbols::{Fix, LexKind, Lexeme};
 use tla_tree::Form;
 use unit_machine::{Move, Wait};

@@ -2,7 +2,7 @@
 ghost use Rattle.std.specs.Prelude.{◌≡◌};
 ghost use Rattle.unit_machine.specs.Tables as tables;
 
-use expr_tables::{is_comma, is_name};
+use expr_kinds::{is_comma, is_name};
 use tla_symbols::{LexKind, Lexeme, Op, Word};
 use unit_machine::{Due, DueMove, UnitStart, Wait};
 
