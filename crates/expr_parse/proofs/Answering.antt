@@ -26,14 +26,15 @@ use Rattle.expr_parse.specs.declared.goal.Goal.{Goal}
 use Rattle.expr_parse.specs.declared.goal.Step.{Step}
 use Rattle.expr_parse.specs.declared.machine.ExprMachine.{ExprMachine}
 use Rattle.expr_parse.specs.declared.machine.Stage.TheVariants as Stage
-use Rattle.expr_parse.specs.declared.stack.Part.{Part}
+use Rattle.tree_parts.specs.declared.part.Part.{Part}
 use Rattle.expr_parse.specs.declared.stack.Stack.{Stack}
 use Rattle.expr_parse.specs.declared.stack.Turn.TheVariants as Turn
-use Rattle.expr_parse.specs.Goals.{stops, may_end, parts_of, DerivesGoal, BeginsGoal, IsWhole, IsSame}
-use Rattle.expr_parse.specs.Standing.{IsPart, Stands, IsTurn, Turns, Grows, IsReady, Made}
+use Rattle.tree_parts.specs.Parts.{parts_of, IsPart, Grows}
+use Rattle.expr_parse.specs.Goals.{stops, may_end, DerivesGoal, BeginsGoal, IsWhole, IsSame}
+use Rattle.expr_parse.specs.Standing.{Stands, IsTurn, Turns, IsReady, Made}
 use Rattle.expr_parse.specs.Ending.{Outermost, on_outermost, closing, ending_of, takes_whole, is_whole, IsLeft, Closes, IsOf, IsGoal}
 use Rattle.expr_parse.specs.Reading.{start_of, StandsAt, HasRead, IsAnswer, IsDone, IsStepTo, HasStepped}
-use Rattle.expr_parse.proofs.Growing.{grows-same, grows-on}
+use Rattle.tree_parts.proofs.Growing.{grows-same, grows-on}
 
 abbrev on_last : {X : Type 0} → Option Outermost → (Outermost → Option X) → Option X
 on_last None go = None

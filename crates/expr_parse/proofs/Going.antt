@@ -11,11 +11,12 @@ use Rattle.expr_grammar.specs.Machine as Machine
 use Rattle.expr_grammar.specs.Machine.{State, node_with}
 use Rattle.expr_parse.specs.declared.stack.Frame.{Frame}
 use Rattle.expr_parse.specs.declared.stack.Opening.{Opening}
-use Rattle.expr_parse.specs.declared.stack.Part.{Part}
+use Rattle.tree_parts.specs.declared.part.Part.{Part}
 use Rattle.expr_parse.specs.declared.stack.Stack.{Stack}
 use Rattle.expr_parse.specs.declared.stack.Turn.TheVariants as Turn
-use Rattle.expr_parse.specs.Standing.{joined, IsPart, Stands, Opens, IsTop, IsTurn, Turns, Grows, Made, IsBeside, CanTake, IsOpen, IsThere}
-use Rattle.expr_parse.proofs.Growing.{grows-same, grows-on}
+use Rattle.tree_parts.specs.Parts.{joined, IsPart, Grows, IsThere}
+use Rattle.expr_parse.specs.Standing.{Stands, Opens, IsTop, IsTurn, Turns, Made, IsBeside, CanTake, IsOpen}
+use Rattle.tree_parts.proofs.Growing.{grows-same, grows-on}
 use Rattle.expr_parse.proofs.Stacking.{opens-read}
 
 -- the lexeme after a part

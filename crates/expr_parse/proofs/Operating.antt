@@ -17,7 +17,7 @@ use Rattle.expr_grammar.specs.Machine as Machine
 use Rattle.expr_grammar.specs.Machine.{State, At, frame, led, node_with, operator_step, part_step, is_operator, inner, within, leave, have}
 use Rattle.expr_grammar.specs.Counting.{made_operator, made_led, made_part, made_within, made_leave, made_have}
 use Rattle.expr_parse.specs.declared.stack.Frame.{Frame}
-use Rattle.expr_parse.specs.declared.stack.Part.{Part}
+use Rattle.tree_parts.specs.declared.part.Part.{Part}
 use Rattle.expr_parse.specs.declared.stack.Stack.{Stack}
 use Rattle.expr_parse.specs.declared.stack.Turn.TheVariants as Turn
 use Rattle.expr_parse.specs.Standing.{Turns, Made}

@@ -16,12 +16,11 @@ use Rattle.expr_grammar.specs.declared.wait.Conversion.TheVariants as Conversion
 use Rattle.expr_grammar.specs.Tables.{converted, shape, infix_shape, member_shape, name_leaf, name_of, names_of, as_bound, bound_of}
 use Rattle.expr_grammar.specs.Counting.{made_name, made_names, made_bound, made_converted}
 use Rattle.expr_parse.specs.declared.convert.Operands.{Operands}
-use Rattle.expr_parse.specs.declared.stack.Part.{Part}
-use Rattle.expr_parse.specs.Goals.{parts_of}
-use Rattle.expr_parse.specs.Standing.{place_of, joined, covered, IsPart, Becomes, Renamed, AreNames, AreOperands, AreTwo, Converts}
-use Rattle.expr_parse.proofs.Places.{place-append, covered-place}
-use Rattle.expr_parse.proofs.Growing.{grows-same, grows-one, grows-on, grows-length, map-grows, there-longer, tree_at-grows, node_at-grows, new-node}
-use Rattle.expr_parse.proofs.Stacking.{map-append, there-append}
+use Rattle.tree_parts.specs.declared.part.Part.{Part}
+use Rattle.tree_parts.specs.Parts.{parts_of, place_of, joined, covered, IsPart}
+use Rattle.expr_parse.specs.Standing.{Becomes, Renamed, AreNames, AreOperands, AreTwo, Converts}
+use Rattle.tree_parts.proofs.Places.{place-append, covered-place}
+use Rattle.tree_parts.proofs.Growing.{grows-same, grows-one, grows-on, grows-length, map-grows, there-longer, tree_at-grows, node_at-grows, new-node, map-append, there-append}
 
 member-plain : (b : Bool) (n : Lexeme) → member_shape b ≡ Shape.Plain n → ⊥
 member-plain true n h = cc

@@ -13,19 +13,13 @@ use Rattle.expr_grammar.specs.Machine as Machine
 use Rattle.expr_grammar.specs.Machine.{inside, inner}
 use Rattle.expr_parse.specs.declared.stack.Frame.{Frame}
 use Rattle.expr_parse.specs.declared.stack.Opening.{Opening}
-use Rattle.expr_parse.specs.declared.stack.Part.{Part}
+use Rattle.tree_parts.specs.declared.part.Part.{Part}
 use Rattle.expr_parse.specs.declared.stack.Stack.{Stack}
-use Rattle.expr_parse.specs.Standing.{place_of, joined, covered, IsPart, IsOf, Stands, Opens, Made, Adds}
-use Rattle.expr_parse.proofs.Places.{place-append, covered-place}
-use Rattle.expr_parse.proofs.Growing.{grows-one, frames-grow, new-node}
-
-pub map-append : (nodes : List Node) (ks ls : List ℕ) → map (tree_at nodes) (ks ++ ls) ≡ map (tree_at nodes) ks ++ map (tree_at nodes) ls
-map-append nodes [] ls = refl
-map-append nodes (k ∷ ks) ls = rw (map-append nodes ks ls) refl
-
-pub there-append : (nodes : List Node) (ks ls : List ℕ) → AreThere nodes ks → AreThere nodes ls → AreThere nodes (ks ++ ls)
-there-append nodes [] ls a b = b
-there-append nodes (k ∷ ks) ls a b = (a.0, there-append nodes ks ls a.1 b)
+use Rattle.tree_parts.specs.Parts.{place_of, joined, covered, IsPart, Adds}
+use Rattle.expr_parse.specs.Standing.{IsOf, Stands, Opens, Made}
+use Rattle.tree_parts.proofs.Places.{place-append, covered-place}
+use Rattle.tree_parts.proofs.Growing.{grows-one, new-node, there-append, map-append}
+use Rattle.expr_parse.proofs.Growing.{frames-grow}
 
 -- one part more
 pub of-more : (nodes : List Node) (ks : List ℕ) (span : Option Span) (ps : List Tree) (a : List Lexeme) (part : Part) (e : Tree) (b : List Lexeme) → IsOf nodes ks span ps a → IsPart nodes part e b → IsOf nodes (ks ++ part.node ∷ []) (joined span part.place) (ps ++ e ∷ []) (a ++ b)
@@ -81,14 +75,4 @@ made-is nodes more stack stack' opening form span children number ps a below v w
         is = t.1 ∙ ap (λ z. Rattle.tla_tree.specs.Syntax.Node form z (trees ps)) s;
         place = o.own.place;
       };
-    }
-
-pub leaf-is : (nodes more : List Node) (form : Form) (number : ℕ) (lexeme : Lexeme) → more ≡ nodes ++ record { form = form; span = lexeme.span; children = [] } ∷ [] → number ≡ length nodes → Adds nodes more (record { node = number; place = Rattle.std.proofs.Common.Some lexeme.span }) (built form Nil (lexeme ∷ [])) (lexeme ∷ [])
-leaf-is nodes more form number lexeme e n =
-    let added : Node = record { form = form; span = lexeme.span; children = [] } in
-    let t = new-node nodes more number form lexeme.span [] [] e n refl in
-    record {
-      grows = grows-one nodes more added e;
-      one = rw e (length-append nodes (added ∷ []));
-      is = record { there = t.0; is = t.1; place = refl };
     }

@@ -16,11 +16,12 @@ use Rattle.expr_grammar.specs.Machine as Machine
 use Rattle.expr_grammar.specs.Machine.{State, frame, with_child, complete, inner, node, have, ended, marked, begun, due}
 use Rattle.expr_parse.specs.declared.stack.Frame.{Frame}
 use Rattle.expr_parse.specs.declared.stack.Opening.{Opening}
-use Rattle.expr_parse.specs.declared.stack.Part.{Part}
+use Rattle.tree_parts.specs.declared.part.Part.{Part}
 use Rattle.expr_parse.specs.declared.stack.Stack.{Stack}
 use Rattle.expr_parse.specs.declared.stack.Turn.TheVariants as Turn
-use Rattle.expr_parse.specs.Standing.{IsPart, Stands, Opens, IsTop, IsWait, IsOpen, IsTurn, Turns, Grows, Made}
-use Rattle.expr_parse.proofs.Growing.{grows-same, grows-on}
+use Rattle.tree_parts.specs.Parts.{IsPart, Grows}
+use Rattle.expr_parse.specs.Standing.{Stands, Opens, IsTop, IsWait, IsOpen, IsTurn, Turns, Made}
+use Rattle.tree_parts.proofs.Growing.{grows-same, grows-on}
 
 pub goes-child : (nodes : List Node) (stack : Stack) (part : Wait) (fs : List Machine.Frame) (child : Option Child) → Some part ≡ option_map (λ c. c.wait) child → ((c : Child) → child ≡ Some c → Stands nodes stack (frame part [] c.read ∷ fs)) → IsTurn nodes stack Turn.Due (Some (with_child child fs))
 goes-child nodes stack part fs None e put = cc

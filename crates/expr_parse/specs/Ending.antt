@@ -6,7 +6,7 @@ use Rattle.tla_tree.specs.Forms.{helps}
 use Rattle.tla_tree.specs.Arena as Arena
 use Rattle.tla_tree.specs.Arena.{tree_at}
 use Rattle.tla_tree.specs.Syntax.{Tree, trees, form}
-use Rattle.expr_parse.specs.Goals.{parts_of}
+use Rattle.tree_parts.specs.Parts.{parts_of, IsPart, Grows}
 use Rattle.expr_grammar.specs.declared.wait.Shape.{Shape}
 use Rattle.expr_grammar.specs.declared.wait.Wait.{Wait}
 use Rattle.expr_grammar.specs.Tables.{shape, shape_by, is_expression, finishes, endable}
@@ -14,9 +14,9 @@ use Rattle.expr_grammar.specs.Machine as Machine
 use Rattle.expr_grammar.specs.Machine.{State, At, Have, node, node_with}
 use Rattle.expr_parse.specs.declared.goal.Goal.{Goal}
 use Rattle.expr_parse.specs.declared.stack.Frame.{Frame}
-use Rattle.expr_parse.specs.declared.stack.Part.{Part}
+use Rattle.tree_parts.specs.declared.part.Part.{Part}
 use Rattle.expr_parse.specs.declared.stack.Stack.{Stack}
-use Rattle.expr_parse.specs.Standing.{IsPart, Stands, Grows}
+use Rattle.expr_parse.specs.Standing.{Stands}
 
 -- the outermost frame, with a part beside it
 pub record Outermost : Type 0 where

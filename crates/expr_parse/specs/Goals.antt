@@ -3,12 +3,13 @@ use Rattle.std.specs.Prelude.{◌≡◌, Bool, true, List, Some}
 use Rattle.tla_symbols.specs.declared.lexeme.LexKind.{LexKind}
 use Rattle.tla_symbols.specs.declared.lexeme.Lexeme.{Lexeme}
 use Rattle.tla_tree.specs.declared.form.Form.TheVariants as Form
-use Rattle.tla_tree.specs.Syntax.{Tree, Trees, Node, form}
+use Rattle.tla_tree.specs.Syntax.{Tree, form}
 use Rattle.tla_tree.specs.FirstBad.{Begins}
 use Rattle.tla_tree.specs.Derivation.{Derives, DerivesBounds}
 use Rattle.expr_grammar.specs.BoundsAlone.{BeginsBounds}
 use Rattle.expr_grammar.specs.Following as Following
 use Rattle.expr_grammar.specs.Following.{closes_bounds}
+use Rattle.tree_parts.specs.Parts.{parts_of}
 use Rattle.expr_parse.specs.declared.goal.Goal.{Goal}
 
 abbrev pub stops : LexKind → Bool
@@ -18,9 +19,6 @@ stops kind = Following.stops kind
 abbrev pub may_end : Goal → LexKind → Bool
 may_end Goal.Expression kind = stops kind
 may_end Goal.Bounds kind = closes_bounds kind
-
-abbrev pub parts_of : Tree → Trees
-parts_of (Node f s parts) = parts
 
 -- the tree derives the lexemes before the next one, outside all aligned lists; bounds are the parts of a tree
 abbrev pub DerivesGoal : Goal → Tree → List Lexeme → Lexeme → Type 0

@@ -13,7 +13,8 @@ use Rattle.expr_parse.specs.declared.machine.ExprMachine.{ExprMachine}
 use Rattle.expr_parse.specs.declared.stack.Turn.TheVariants as Turn
 use Rattle.expr_parse.specs.Goals.{DerivesGoal, BeginsGoal, IsWhole, IsSame}
 use Rattle.expr_parse.specs.Ending.{Outermost, IsOf}
-use Rattle.expr_parse.specs.Standing.{Stands, IsTurn, Grows}
+use Rattle.tree_parts.specs.Parts.{Grows}
+use Rattle.expr_parse.specs.Standing.{Stands, IsTurn}
 
 abbrev pub start_of : Goal → State
 start_of Goal.Expression = start

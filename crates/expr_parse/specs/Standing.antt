@@ -4,7 +4,6 @@ use Rattle.tla_symbols.specs.declared.lexeme.Span.{Span}
 use Rattle.tla_symbols.specs.declared.lexeme.Lexeme.{Lexeme}
 use Rattle.tla_tree.specs.Arena as Arena
 use Rattle.tla_tree.specs.Arena.{AreThere, tree_at}
-use Rattle.tla_tree.specs.Lexemes.{place}
 use Rattle.tla_tree.specs.Syntax.{Tree, Trees, trees}
 use Rattle.expr_grammar.specs.declared.wait.Wait.{Wait}
 use Rattle.expr_grammar.specs.Machine as Machine
@@ -16,34 +15,10 @@ use Rattle.expr_grammar.specs.Counting.{made_names, made_bound, made_converted}
 use Rattle.expr_parse.specs.declared.convert.Operands.{Operands}
 use Rattle.expr_parse.specs.declared.stack.Opening.{Opening}
 use Rattle.expr_parse.specs.declared.stack.Frame.{Frame}
-use Rattle.expr_parse.specs.declared.stack.Part.{Part}
+use Rattle.tree_parts.specs.declared.part.Part.{Part}
+use Rattle.tree_parts.specs.Parts.{IsPart, Grows, place_of}
 use Rattle.expr_parse.specs.declared.stack.Stack.{Stack}
 use Rattle.expr_parse.specs.declared.stack.Turn.{Turn}
-
--- the place of lexemes that were read in a row, if there are any
-abbrev pub place_of : List Lexeme → Option Span
-place_of [] = None
-place_of (t ∷ rest) = Some (place (t ∷ rest))
-
--- of two stretches, the one behind the other
-abbrev pub joined : Option Span → Option Span → Option Span
-joined None last = last
-joined (Some first) None = Some first
-joined (Some first) (Some last) = Some (record { start = first.start; end = last.end })
-
--- no lexeme covers the part of no byte at the text's start
-abbrev pub covered : Option Span → Span
-covered None = record { start = 0; end = 0 }
-covered (Some span) = span
-
--- a part of the arena is a tree, and its place that of the lexemes that it spells
-pub record IsPart (nodes : List Arena.Node) (part : Part) (tree : Tree) (spelled : List Lexeme) : Type 0 where
-  pub there : part.node < length nodes
-  pub is : tree_at nodes part.node ≡ tree
-  pub place : part.place ≡ place_of spelled
-
-abbrev pub IsThere : List Arena.Node → Part → Type 0
-IsThere nodes part = (tree : Tree) × (spelled : List Lexeme) × IsPart nodes part tree spelled
 
 -- the numbers of a frame's parts are those of its trees, and its place that of the lexemes that it has read
 pub record IsOf (nodes : List Arena.Node) (numbers : List ℕ) (span : Option Span) (parts : List Tree) (read : List Lexeme) : Type 0 where
@@ -84,21 +59,11 @@ IsWait None (frame ∷ below) = ⊥
 IsWait (Some wait) [] = ⊥
 IsWait (Some wait) (frame ∷ below) = wait ≡ frame.wait
 
--- the nodes that were there stay
-abbrev pub Grows : List Arena.Node → List Arena.Node → Type 0
-Grows nodes more = (rest : List Arena.Node) × (more ≡ nodes ++ rest)
-
 -- a node was made of what had opened, and its frame is gone
 pub record Made (nodes more : List Arena.Node) (stack : Stack) (part : Part) (tree : Tree) (spelled : List Lexeme) (below : List Machine.Frame) : Type 0 where
   pub grows : Grows nodes more
   pub one : length more ≡ length nodes + 1
   pub stands : Stands more stack below
-  pub is : IsPart more part tree spelled
-
--- a leaf was made
-pub record Adds (nodes more : List Arena.Node) (part : Part) (tree : Tree) (spelled : List Lexeme) : Type 0 where
-  pub grows : Grows nodes more
-  pub one : length more ≡ length nodes + 1
   pub is : IsPart more part tree spelled
 
 -- what a lexeme led to is the machine's state, or its refusal

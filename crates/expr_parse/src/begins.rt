@@ -7,10 +7,11 @@ ghost use Rattle.expr_grammar.specs.Tables as tables;
 ghost use Rattle.expr_grammar.specs.Machine as machine;
 ghost use Rattle.expr_grammar.specs.Counting as counting;
 ghost use Rattle.expr_grammar.specs.declared.wait.MarkMove.TheVariants as MarkMove;
-ghost use Rattle.expr_parse.specs.Standing.{IsPart, IsThere, IsOpen, IsDue, Stands, Opens, IsTurn, Turns, place_of};
+ghost use Rattle.tree_parts.specs.Parts.{IsPart, IsThere, place_of};
+ghost use Rattle.expr_parse.specs.Standing.{IsOpen, IsDue, Stands, Opens, IsTurn, Turns};
 
 use crate::parts::have;
-use crate::stack::{Frame, Opening, Part, Stack, Turn, leaf};
+use crate::stack::{Frame, Opening, Stack, Turn};
 use expr_grammar::{MarkMove, Start, Wait};
 use expr_kinds::{absorbs, child, mode};
 use expr_moves::at_mark;
@@ -18,6 +19,7 @@ use expr_starts::{begins, endable};
 use tla_symbols::{Lexeme, Span};
 use tla_tree::{Form, Tree};
 use tool_list::Memory;
+use tree_parts::{Part, leaf};
 
 /// The bounds of a function may begin as an operand.
 fn entry(wait: Wait) -> Wait

@@ -10,16 +10,17 @@ ghost use Rattle.expr_grammar.specs.Tables as tables;
 ghost use Rattle.expr_grammar.specs.Machine as machine;
 ghost use Rattle.expr_grammar.specs.Counting as counting;
 ghost use Rattle.expr_grammar.specs.declared.wait.Conversion.TheVariants as Conversion;
-ghost use Rattle.expr_parse.specs.Goals.{parts_of};
-ghost use Rattle.expr_parse.specs.Standing.{IsPart, IsThere, IsOpen, Opens, Becomes, Converts, Renamed, AreNames, AreOperands, AreTwo, place_of};
+ghost use Rattle.tree_parts.specs.Parts.{parts_of, IsPart, IsThere, place_of};
+ghost use Rattle.expr_parse.specs.Standing.{IsOpen, Opens, Becomes, Converts, Renamed, AreNames, AreOperands, AreTwo};
 
-use crate::stack::{Opening, Part, Stack, add, covered, joined};
+use crate::stack::{Opening, Stack};
 use expr_grammar::{Conversion, Shape};
 use expr_parts::shape;
 use std::alloc::Global;
 use tla_symbols::{Lexeme, Span};
 use tla_tree::{Form, Tree};
 use tool_list::Memory;
+use tree_parts::{Part, add, covered, joined};
 
 /// A name that was read as an expression and binds.
 fn name_node(tree: &mut Tree, node: u32) -> Result<u32, Memory>

@@ -7,16 +7,18 @@ ghost use Rattle.expr_grammar.specs.Machine as machine;
 ghost use Rattle.expr_grammar.specs.Counting as counting;
 ghost use Rattle.expr_parse.specs.Ending as ends;
 ghost use Rattle.expr_parse.specs.Ending.{Closes, IsGoal};
-ghost use Rattle.expr_parse.specs.Standing.{IsPart, IsDue, IsReady, IsTurn, IsTurnReady, Stands};
+ghost use Rattle.tree_parts.specs.Parts.{IsPart};
+ghost use Rattle.expr_parse.specs.Standing.{IsDue, IsReady, IsTurn, IsTurnReady, Stands};
 
 use crate::goal::Goal;
-use crate::stack::{Frame, Part, Stack, Turn};
+use crate::stack::{Frame, Stack, Turn};
 use expr_grammar::{Shape, Wait};
 use expr_kinds::{finishes, is_expression};
 use expr_parts::shape;
 use expr_starts::endable;
 use tla_tree::{Form, Tree, helps};
 use tool_list::Memory;
+use tree_parts::Part;
 
 /// What the form of a part says of its shape.
 fn rough(form: Form) -> Shape

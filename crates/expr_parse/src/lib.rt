@@ -15,4 +15,3 @@ mod stack;
 
 pub use goal::{Goal, Step};
 pub use machine::ExprMachine;
-pub use stack::{Part, add, covered, joined, leaf};

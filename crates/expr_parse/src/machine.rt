@@ -9,7 +9,8 @@ ghost use Rattle.expr_parse.specs.declared.goal.Step.TheVariants as Step;
 ghost use Rattle.expr_parse.specs.declared.stack.Turn.TheVariants as Turn;
 ghost use Rattle.expr_parse.specs.Goals as goals;
 ghost use Rattle.expr_parse.specs.Ending as ends;
-ghost use Rattle.expr_parse.specs.Standing.{Grows, IsTurn, IsTurnReady, Stands, Turns};
+ghost use Rattle.tree_parts.specs.Parts.{Grows};
+ghost use Rattle.expr_parse.specs.Standing.{IsTurn, IsTurnReady, Stands, Turns};
 ghost use Rattle.expr_parse.specs.Reading.{StandsAt, HasRead, IsReady, IsRefusing, IsAnswer, IsDone, HasStepped, start_of};
 
 use crate::begins::{due, goes_on};

@@ -8,11 +8,12 @@ ghost use Rattle.expr_grammar.specs.declared.wait.PartMove.TheVariants as PartMo
 ghost use Rattle.expr_grammar.specs.Tables as tables;
 ghost use Rattle.expr_grammar.specs.Machine as machine;
 ghost use Rattle.expr_grammar.specs.Counting as counting;
-ghost use Rattle.expr_parse.specs.Standing.{IsPart, IsReady, CanTake, Follows, FollowsFrame, continues};
+ghost use Rattle.tree_parts.specs.Parts.{IsPart};
+ghost use Rattle.expr_parse.specs.Standing.{IsReady, CanTake, Follows, FollowsFrame, continues};
 
 use crate::begins::{complete, goes_on as frame_goes_on};
 use crate::convert::{convert, name_of};
-use crate::stack::{Frame, Part, Stack, Turn};
+use crate::stack::{Frame, Stack, Turn};
 use expr_grammar::{Binding, Conversion, Handed, Lead, PartMove, Role, Shape, Wait};
 use expr_kinds::{finishes, is_expression, list_of};
 use expr_parts::{at_part, shape};
@@ -21,6 +22,7 @@ use precedence::Choice;
 use tla_symbols::Lexeme;
 use tla_tree::{Form, Tree};
 use tool_list::Memory;
+use tree_parts::Part;
 
 /// The frame takes the part and the lexeme, and waits for this; no part with a frame of its own is
 /// due.

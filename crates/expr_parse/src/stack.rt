@@ -1,13 +1,14 @@
 // The stack of frames that wait for their parts.
 ghost use Rattle.std.specs.Prelude.{◌≡◌, ◌+◌, ◌<◌, ◌≤◌, ℕ, List, [], ◌∷◌, ◌++◌, length, drop, reverse, OnOk, OnSome, IfOk};
 ghost use Rattle.tla_symbols.specs.declared.lexeme.Lexeme.{Lexeme};
-ghost use Rattle.tla_tree.specs.Arena.{Node, AreThere};
+ghost use Rattle.tla_tree.specs.Arena.{Node};
 ghost use Rattle.tla_tree.specs.Syntax as syntax;
-ghost use Rattle.tla_tree.specs.Syntax.{Nil, trees};
+ghost use Rattle.tla_tree.specs.Syntax.{trees};
 ghost use Rattle.tla_tree.specs.Lexemes.{built};
 ghost use Rattle.expr_grammar.specs.Machine as machine;
-ghost use Rattle.expr_parse.specs.Standing as standing;
-ghost use Rattle.expr_parse.specs.Standing.{IsPart, IsThere, IsOpen, AreFrames, Stands, Opens, IsTop, IsWait, Made, Adds};
+ghost use Rattle.tree_parts.specs.Parts as places;
+ghost use Rattle.tree_parts.specs.Parts.{IsPart, IsThere};
+ghost use Rattle.expr_parse.specs.Standing.{IsOpen, AreFrames, Stands, Opens, IsTop, IsWait, Made};
 
 use expr_grammar::Wait;
 use expr_kinds::list_of;
@@ -15,6 +16,7 @@ use std::alloc::Global;
 use tla_symbols::{Lexeme, Span};
 use tla_tree::{Form, Tree};
 use tool_list::Memory;
+use tree_parts::{Part, add, covered, joined};
 
 /// What a frame has read: where its parts begin on the stack of parts, and the place of its
 /// lexemes, if there are any.
@@ -31,14 +33,6 @@ pub(crate) struct Frame {
     pub(crate) opening: Opening,
     /// The column from which lexemes stand inside all aligned lists up to this frame.
     inner: u64,
-}
-
-/// A part that was read: its node, and the place of its lexemes.
-#[derive(Clone, Copy)]
-pub struct Part {
-    pub node: u32,
-    /// From the first lexeme's first byte to the end of the last one, if the part has lexemes.
-    pub place: Option<Span>,
 }
 
 /// What a lexeme led to.
@@ -60,32 +54,6 @@ pub(crate) struct Stack {
     parts: Vec<u32>,
 }
 
-/// The place of two stretches of lexemes, the one behind the other.
-pub fn joined(first: Option<Span>, last: Option<Span>) -> Option<Span>
-    ensures { result ≡ standing.joined first last }
-{
-    match first {
-        None => last,
-        Some(first) => match last {
-            None => Some(first),
-            Some(last) => Some(Span {
-                start: first.start,
-                end: last.end,
-            }),
-        },
-    }
-}
-
-/// The part of the text at a place; without one, the part of no byte at the text's start.
-pub fn covered(place: Option<Span>) -> Span
-    ensures { result ≡ standing.covered place }
-{
-    match place {
-        None => Span { start: 0, end: 0 },
-        Some(span) => span,
-    }
-}
-
 /// The column from which lexemes stand inside the lists of a frame with this wait.
 fn inside(wait: Wait, inner: u64) -> u64
     ensures { result ≡ machine.inside wait inner }
@@ -99,7 +67,7 @@ fn inside(wait: Wait, inner: u64) -> u64
 impl Opening {
     /// The frame reads the lexemes of one more place.
     pub(crate) fn reads(self, place: Option<Span>) -> Opening
-        ensures { result ≡ record { first = self.first; place = standing.joined self.place place } }
+        ensures { result ≡ record { first = self.first; place = places.joined self.place place } }
     {
         Opening {
             first: self.first,
@@ -161,7 +129,7 @@ impl Stack {
 
     /// A frame that has read the lexemes of the place, and no part.
     pub(crate) fn opening(&self, place: Option<Span>) -> Opening
-        ensures { (nodes : List Node) → (frames : List machine.Frame) → (read : List Lexeme) → Stands nodes self.now frames → place ≡ standing.place_of read → Opens nodes self.now result [] read frames }
+        ensures { (nodes : List Node) → (frames : List machine.Frame) → (read : List Lexeme) → Stands nodes self.now frames → place ≡ places.place_of read → Opens nodes self.now result [] read frames }
     {
         Opening {
             first: self.parts.len(),
@@ -235,27 +203,4 @@ fn from(numbers: &[u32], first: usize) -> &[u32]
     ensures { result.now ≡ drop first numbers.now }
 {
     &numbers[first..]
-}
-
-/// Adds a node and answers its number. `Memory` also where the tree can number no further node.
-pub fn add(tree: &mut Tree, form: Form, children: &[u32], span: Span) -> Result<u32, Memory>
-    requires there { AreThere tree.old children.now }
-    ensures number { IfOk result (λ number. number ≡ length tree.old) }
-    ensures ok { OnOk result (tree.new ≡ tree.old ++ record { form = form; span = span; children = children.now } ∷ []) }
-{
-    if tree.len() >= u32::MAX as usize {
-        return Err(Memory);
-    }
-    tree.push(form, children, span)
-}
-
-/// Adds a node of one lexeme. `Memory` as in [`add`].
-pub fn leaf(tree: &mut Tree, form: Form, lexeme: Lexeme) -> Result<Part, Memory>
-    ensures { IfOk result (λ part. Adds tree.old tree.new part (built form Nil (lexeme ∷ [])) (lexeme ∷ [])) }
-{
-    let node = add(tree, form, &[], lexeme.span)?;
-    Ok(Part {
-        node,
-        place: Some(lexeme.span),
-    })
 }

@@ -8,8 +8,8 @@ use Rattle.tla_tree.specs.Lexemes.{then}
 use Rattle.tla_tree.specs.Syntax.{Tree, Trees}
 use Rattle.unit_machine.specs.Tables.{after_part}
 use Rattle.tla_tree.specs.declared.unit.Unit.TheVariants as unit
-use Rattle.expr_parse.specs.declared.stack.Part.{Part}
-use Rattle.expr_parse.specs.Standing.{IsPart}
+use Rattle.tree_parts.specs.declared.part.Part.{Part}
+use Rattle.tree_parts.specs.Parts.{IsPart}
 use Rattle.unit_grammar.specs.Units.{UnitTree, Instance, Assumption, Theorem, defined}
 use Rattle.unit_machine.specs.Machine as Machine
 use Rattle.unit_parse.specs.declared.frame.Frame.{Frame}

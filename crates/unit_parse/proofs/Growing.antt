@@ -6,8 +6,8 @@ use Rattle.tla_tree.specs.Arena as Arena
 use Rattle.tla_tree.specs.Arena.{AreThere, tree_at}
 use Rattle.tla_tree.specs.Syntax.{Trees, trees}
 use Rattle.tla_tree.specs.declared.unit.Unit.TheVariants as unit
-use Rattle.expr_parse.specs.Standing.{Grows}
-use Rattle.expr_parse.proofs.Growing.{grows-length, there-longer, map-grows, tree_at-grows}
+use Rattle.tree_parts.specs.Parts.{Grows}
+use Rattle.tree_parts.proofs.Growing.{grows-length, there-longer, map-grows, tree_at-grows}
 use Rattle.unit_grammar.specs.Units.{UnitTree, Constants, OperatorDefinition, FunctionDefinition, ModuleDefinition, Instance, Assumption, Theorem}
 use Rattle.unit_machine.specs.Machine as Machine
 use Rattle.unit_parse.specs.declared.frame.Frame.{Frame}

@@ -15,16 +15,15 @@ use Rattle.expr_grammar.specs.Kinds.{is_right_bracket}
 use Rattle.expr_grammar.specs.Machine.{start, start_bounds, finish, finish_bounds}
 use Rattle.expr_grammar.specs.Following.{stops, closes_bounds, done_before, bounds_done_before}
 use Rattle.expr_parse.specs.declared.goal.Goal.{Goal}
-use Rattle.expr_parse.specs.declared.stack.Part.{Part}
-use Rattle.expr_parse.specs.Goals.{parts_of}
-use Rattle.expr_parse.specs.Standing.{Grows, IsPart}
-use Rattle.expr_parse.proofs.Growing.{grows-same, grows-on}
+use Rattle.tree_parts.specs.declared.part.Part.{Part}
+use Rattle.tree_parts.specs.Parts.{parts_of, Grows, IsPart}
+use Rattle.tree_parts.proofs.Growing.{grows-same, grows-on}
 use Rattle.unit_machine.specs.declared.wait.Due.{Due}
 use Rattle.unit_machine.specs.declared.wait.Move.{Move}
-use Rattle.unit_machine.specs.Tables.{move, after_part, after_expression, after_bounds}
+use Rattle.unit_grammar.specs.Tables.{move, after_part, after_expression, after_bounds}
 use Rattle.unit_grammar.specs.Units.{UnitTree}
-use Rattle.unit_machine.specs.Machine as Machine
-use Rattle.unit_machine.specs.Machine.{part_step, moved, finished, given, expression_step, bounds_step, bounds_before}
+use Rattle.unit_grammar.specs.Machine as Machine
+use Rattle.unit_grammar.specs.Machine.{part_step, moved, finished, given, expression_step, bounds_step, bounds_before}
 use Rattle.unit_parse.specs.declared.frame.Frame.{Frame}
 use Rattle.unit_parse.specs.declared.reached.Reached.{Reached}
 use Rattle.unit_parse.specs.declared.reading.Reading.{Reading}

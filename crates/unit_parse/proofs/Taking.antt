@@ -12,14 +12,12 @@ use Rattle.tla_tree.specs.Syntax as Syntax
 use Rattle.tla_tree.specs.Syntax.{Tree, Trees, Nil, trees}
 use Rattle.tla_tree.proofs.Nodes.{tree_at-node}
 use Rattle.expr_laws.proofs.Viewing.{trees-then}
-use Rattle.expr_parse.specs.declared.stack.Part.{Part}
-use Rattle.expr_parse.specs.Goals.{parts_of}
-use Rattle.expr_parse.specs.Standing.{IsPart, Adds, place_of, joined, covered}
-use Rattle.expr_parse.proofs.Growing.{grows-one, before-there, new-node}
-use Rattle.expr_parse.proofs.Places.{place-append, covered-place}
-use Rattle.expr_parse.proofs.Stacking.{map-append, there-append}
-use Rattle.unit_machine.specs.declared.wait.Wait.{Wait}
-use Rattle.unit_machine.specs.Machine as Machine
+use Rattle.tree_parts.specs.declared.part.Part.{Part}
+use Rattle.tree_parts.specs.Parts.{parts_of, IsPart, Adds, place_of, joined, covered}
+use Rattle.tree_parts.proofs.Growing.{grows-one, before-there, new-node, map-append, there-append}
+use Rattle.tree_parts.proofs.Places.{place-append, covered-place}
+use Rattle.unit_grammar.specs.declared.wait.Wait.{Wait}
+use Rattle.unit_grammar.specs.Machine as Machine
 use Rattle.unit_parse.specs.declared.frame.Frame.{Frame}
 use Rattle.unit_parse.specs.Standing.{AreParts, IsFrame, Makes, Takes}
 use Rattle.unit_parse.proofs.Growing.{frame-grows}

@@ -9,10 +9,9 @@ use Rattle.tla_tree.specs.Syntax.{Tree, Trees, trees}
 use Rattle.expr_grammar.specs.Machine as Expressions
 use Rattle.expr_grammar.specs.Following.{done_before, bounds_done_before}
 use Rattle.expr_parse.specs.declared.goal.Goal.{Goal}
-use Rattle.expr_parse.specs.declared.stack.Part.{Part}
-use Rattle.expr_parse.specs.Goals.{parts_of}
+use Rattle.tree_parts.specs.declared.part.Part.{Part}
+use Rattle.tree_parts.specs.Parts.{parts_of, IsPart, Grows, place_of}
 use Rattle.expr_parse.specs.Reading.{HasRead, start_of}
-use Rattle.expr_parse.specs.Standing.{IsPart, Grows, place_of}
 use Rattle.unit_grammar.specs.Units.{UnitTree}
 use Rattle.unit_machine.specs.Tables.{move}
 use Rattle.unit_machine.specs.Machine as Machine

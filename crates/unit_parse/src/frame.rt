@@ -6,17 +6,16 @@ ghost use Rattle.tla_tree.specs.Syntax as syntax;
 ghost use Rattle.tla_tree.specs.Syntax.{Nil, Trees};
 ghost use Rattle.tla_tree.specs.Lexemes as lexemes;
 ghost use Rattle.tla_tree.specs.Lexemes.{built};
-ghost use Rattle.expr_parse.specs.Goals.{parts_of};
-ghost use Rattle.expr_parse.specs.Standing.{IsPart, place_of};
-ghost use Rattle.unit_machine.specs.Machine as machine;
+ghost use Rattle.tree_parts.specs.Parts.{parts_of, IsPart, place_of};
+ghost use Rattle.unit_grammar.specs.Machine as machine;
 ghost use Rattle.unit_parse.specs.Standing.{AreParts, IsFrame, Makes, Takes};
 
-use expr_parse::{Part, add, covered, joined, leaf};
 use std::alloc::Global;
 use tla_symbols::{Lexeme, Span};
 use tla_tree::{Form, Tree};
 use tool_list::{List, Memory};
-use unit_machine::Wait;
+use tree_parts::{Part, add, covered, joined, leaf};
+use unit_grammar::Wait;
 
 /// A part of a unit that is read: what it waits for, the nodes of its own parts, and the place of
 /// the lexemes that it has read, if there are any.

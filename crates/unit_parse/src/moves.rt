@@ -4,7 +4,7 @@ ghost use Rattle.tla_symbols.specs.declared.lexeme.Lexeme.{Lexeme};
 ghost use Rattle.tla_tree.specs.Arena as arena;
 ghost use Rattle.tla_tree.specs.Syntax.{Nil};
 ghost use Rattle.expr_grammar.specs.Machine as expressions;
-ghost use Rattle.expr_parse.specs.Standing.{place_of};
+ghost use Rattle.tree_parts.specs.Parts.{place_of};
 ghost use Rattle.unit_grammar.specs.Units as units;
 ghost use Rattle.unit_machine.specs.Machine as machine;
 ghost use Rattle.unit_machine.specs.declared.wait.Move.TheVariants as Move;

@@ -7,11 +7,10 @@ ghost use Rattle.tla_tree.specs.Lexemes as lexemes;
 ghost use Rattle.expr_grammar.specs.Machine as expressions;
 ghost use Rattle.expr_grammar.specs.Following.{done_before};
 ghost use Rattle.expr_parse.specs.declared.goal.Goal.TheVariants as goals;
-ghost use Rattle.expr_parse.specs.Goals.{parts_of};
-ghost use Rattle.expr_parse.specs.Standing.{IsPart};
+ghost use Rattle.tree_parts.specs.Parts.{parts_of, IsPart};
 ghost use Rattle.unit_grammar.specs.Units as units;
-ghost use Rattle.unit_machine.specs.Tables as tables;
-ghost use Rattle.unit_machine.specs.Machine as machine;
+ghost use Rattle.unit_grammar.specs.Tables as tables;
+ghost use Rattle.unit_grammar.specs.Machine as machine;
 ghost use Rattle.unit_parse.specs.Standing.{AreFrames, IsFrame, IsBegun, IsReached, IsUnder, IsReading, IsHeard, HasHeardExpression, HasHeardBounds, Moves, EndsFrame, IsEnded, Ends, IsReadyEnded, IsReadyPart, IsReadyTaking, IsReadyWhole, IsReadyExpression, IsReadyBounds};
 
 use crate::frame::Frame;
@@ -19,11 +18,12 @@ use crate::moves::move_frame;
 use crate::reading::{Heard, Reading};
 use crate::state::{State, Unfinished};
 use crate::whole::finish;
-use expr_parse::Part;
 use tla_symbols::Lexeme;
 use tla_tree::{Form, Tree};
 use tool_list::Memory;
-use unit_machine::{Move, Wait};
+use tree_parts::Part;
+use unit_grammar::Wait;
+use unit_machine::Move;
 use unit_tables::{after_bounds, after_expression, after_part, frame_move};
 
 /// The frames that end before a lexeme have ended.

@@ -6,11 +6,12 @@ ghost use Rattle.expr_grammar.specs.Machine as expressions;
 ghost use Rattle.expr_parse.specs.Reading.{IsReady, start_of};
 ghost use Rattle.unit_parse.specs.Standing.{IsReading, Hears};
 
-use expr_parse::{ExprMachine, Goal, Part, Step, joined};
+use expr_parse::{ExprMachine, Goal, Step};
 use std::alloc::Global;
 use tla_symbols::{Lexeme, Span};
 use tla_tree::Tree;
 use tool_list::Memory;
+use tree_parts::{Part, joined};
 
 /// An expression, or bounds, of which some lexemes were read, and their place, if there are any.
 #[derive(Drop)]

@@ -5,7 +5,7 @@ ghost use Rattle.tla_tree.specs.Arena as arena;
 ghost use Rattle.tla_tree.specs.Arena.{tree_at};
 ghost use Rattle.tla_tree.specs.Syntax as syntax;
 ghost use Rattle.tla_tree.specs.Lexemes as lexemes;
-ghost use Rattle.expr_parse.specs.Standing.{IsPart};
+ghost use Rattle.tree_parts.specs.Parts.{IsPart};
 ghost use Rattle.unit_grammar.specs.Units as units;
 ghost use Rattle.unit_machine.specs.Machine as machine;
 ghost use Rattle.unit_parse.specs.Modules.{AreUnits};
@@ -15,10 +15,10 @@ use crate::due::{after_declared, after_unit};
 use crate::frame::then;
 use crate::reached::Reached;
 use crate::state::{Begun, State, Unfinished};
-use expr_parse::Part;
 use tla_symbols::Lexeme;
 use tla_tree::{Form, Tree, Unit};
 use tool_list::{List, Memory};
+use tree_parts::Part;
 use unit_tables::after_part;
 
 /// The unit of a definition, by its form.

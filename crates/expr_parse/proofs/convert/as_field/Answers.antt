@@ -1,5 +1,5 @@
 use Rattle.std.proofs.Common.{ap, Some, ◌∙◌}
-use Rattle.expr_parse.specs.Standing.{joined}
+use Rattle.tree_parts.specs.Parts.{joined}
 use Rattle.expr_parse.proofs.Renaming.{as-field-is}
 use Rattle.expr_parse.proofs.convert.as_field.Goals as goal
 

@@ -4,7 +4,8 @@ use Rattle.tla_tree.specs.Syntax.{Tree}
 use Rattle.expr_grammar.specs.Machine.{Frame}
 use Rattle.expr_grammar.specs.Counting.{made_close}
 use Rattle.expr_parse.specs.Ending.{closing}
-use Rattle.expr_parse.specs.Standing.{IsPart, Stands}
+use Rattle.tree_parts.specs.Parts.{IsPart}
+use Rattle.expr_parse.specs.Standing.{Stands}
 use Rattle.expr_parse.proofs.Going.{Goes}
 use Rattle.expr_parse.proofs.ending.close_all.Given as goal
 

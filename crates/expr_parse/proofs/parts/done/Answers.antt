@@ -1,6 +1,6 @@
 use Rattle.std.proofs.Common.{[], ◌∷◌, ◌++◌, arith}
 use Rattle.expr_grammar.specs.Tables as tables
-use Rattle.expr_parse.proofs.Growing.{grows-on}
+use Rattle.tree_parts.proofs.Growing.{grows-on}
 use Rattle.expr_parse.proofs.Going.{opens-then}
 use Rattle.expr_parse.proofs.parts.done.Goals as goal
 

@@ -2,7 +2,7 @@
 use Rattle.std.proofs.Common.{◌≡◌, List, [], ◌∷◌, ◌++◌, Some, refl, ap, append-nil}
 use Rattle.tla_symbols.specs.declared.lexeme.Lexeme.{Lexeme}
 use Rattle.tla_tree.specs.Lexemes.{place, end_of}
-use Rattle.expr_parse.specs.Standing.{place_of, joined, covered}
+use Rattle.tree_parts.specs.Parts.{place_of, joined, covered}
 
 end-of-append : (t u : Lexeme) (a b : List Lexeme) → end_of t (a ++ u ∷ b) ≡ end_of u b
 end-of-append t u [] b = refl
