@@ -13,9 +13,9 @@ use Rattle.expr_laws.proofs.Complete.{run-append}
 use Rattle.expr_laws.proofs.Stopping.{done-derives, derives-done, done-bounds, bounds-done}
 use Rattle.expr_parse.specs.declared.goal.Goal.{Goal}
 use Rattle.expr_parse.specs.declared.goal.Step.{Step}
-use Rattle.tree_parts.specs.Parts.{parts_of, Grows, joined}
 use Rattle.expr_parse.specs.Goals.{DerivesGoal, BeginsGoal, IsWhole}
 use Rattle.expr_parse.specs.Reading.{HasRead, IsAnswer, IsReady, start_of}
+use Rattle.tree_parts.specs.Parts.{Grows, joined, parts_of}
 use Rattle.expr_parse.proofs.Answering.{begins-of, begins-not}
 use Rattle.tree_parts.proofs.Places.{place-append}
 use Rattle.unit_parse.specs.declared.reading.Reading.{Reading}

@@ -1,8 +1,3 @@
-pub mod Growing
-pub mod Taking
-pub mod Reaching
-pub mod Hearing
-pub mod Stepping
-pub mod Concluding
-pub mod LastLexemes
-pub mod Parsing
+mod Hearing
+mod Stepping
+mod Parsing

@@ -15,9 +15,11 @@ use Rattle.unit_laws.proofs.ReadingUnits.{run-append}
 use Rattle.unit_laws.proofs.Sounding.{accepted-derives}
 use Rattle.unit_laws.proofs.FirstBad.{refused-first}
 use Rattle.unit_laws.proofs.Ending.{accepts-read}
-use Rattle.unit_parse.specs.declared.reached.Reached.{Reached}
+use Rattle.unit_frames.specs.declared.reached.Reached.{Reached}
+use Rattle.unit_steps.specs.declared.point.Point.{Point}
+use Rattle.unit_steps.specs.Standing as Steps
 use Rattle.unit_parse.specs.declared.state.State.{State}
-use Rattle.unit_parse.specs.Modules.{AreUnits}
+use Rattle.unit_grammar.specs.UnitNodes.{AreUnits}
 use Rattle.unit_parse.specs.Standing.{IsFocus, IsState, IsMoved, Moves}
 
 -- the lexemes so far led to the state
@@ -51,10 +53,10 @@ read-whole nodes state lexemes o h =
     (k.0, ap answer (sym h.runs) ∙ k.1, accepted-derives k.0 lexemes k.1)
 
 -- the outermost module is closed, after units the first of which begins it
-pub closed-units : (nodes : List Arena.Node) (state : State) (reached : Reached) (due : Due) (names : List Lexeme) (st : Machine.State) → state ≡ State.Stands reached due names → IsState nodes state st → AreUnits nodes reached.units st.units
-closed-units nodes state reached due names st q i = by st.focus (subst (λ z. IsFocus nodes z st.focus st.depth st.units) q i)
+pub closed-units : (nodes : List Arena.Node) (state : State) (point : Point) (reached : Reached) (due : Due) (names : List Lexeme) (st : Machine.State) → state ≡ State.At point → point ≡ Point.Stands reached due names → IsState nodes state st → AreUnits nodes reached.units st.units
+closed-units nodes state point reached due names st q p i = by st.focus (subst (λ z. Steps.IsFocus nodes z st.focus st.depth st.units) p (subst (λ z. IsFocus nodes z st.focus st.depth st.units) q i))
   where
-    by : (focus : Machine.Focus) → IsFocus nodes (State.Stands reached due names) focus st.depth st.units → AreUnits nodes reached.units st.units
+    by : (focus : Machine.Focus) → Steps.IsFocus nodes (Point.Stands reached due names) focus st.depth st.units → AreUnits nodes reached.units st.units
     by (Machine.Stands d ns) k = k.2.units
     by (Machine.Declared xs) k = absurd k
     by (Machine.Part b f fs) k = absurd k

@@ -1,54 +1,39 @@
--- What a lexeme does to frames, expressions and bounds is what the machine makes of it.
-use Rattle.std.proofs.Common.{◌≡◌, ℕ, Bool, true, false, List, [], ◌∷◌, ◌++◌, length, refl, ap, sym, subst, ◌∙◌, Option, Some, None}
-use Rattle.std.specs.Prelude.{cond, reverse}
-use Rattle.std.proofs.lemmas.List.{reverse-append}
+-- What the reader does at a lexeme is what the machine makes of it.
+use Rattle.std.proofs.Common.{◌≡◌, ℕ, Bool, true, false, List, [], ◌∷◌, ◌++◌, refl, ap, sym, subst, ◌∙◌, Option, Some, None}
+use Rattle.std.specs.Prelude.{cond}
 use Rattle.tla_symbols.specs.declared.lexeme.LexKind.{LexKind}
 use Rattle.tla_symbols.specs.declared.lexeme.Mark.TheVariants as Mark
 use Rattle.tla_symbols.specs.declared.lexeme.Lexeme.{Lexeme}
-use Rattle.tla_tree.specs.declared.form.Form.{Form}
 use Rattle.tla_tree.specs.Arena as Arena
 use Rattle.tla_tree.specs.Arena.{tree_at}
-use Rattle.tla_tree.specs.Lexemes.{then}
-use Rattle.tla_tree.specs.Syntax.{Tree, Trees}
+use Rattle.tla_tree.specs.Syntax.{Tree}
+use Rattle.tree_parts.specs.declared.part.Part.{Part}
+use Rattle.tree_parts.specs.Parts.{Grows, parts_of}
+use Rattle.tree_parts.proofs.Growing.{grows-same, grows-on}
 use Rattle.expr_grammar.specs.Machine as Expressions
 use Rattle.expr_grammar.specs.Kinds.{is_right_bracket}
 use Rattle.expr_grammar.specs.Machine.{start, start_bounds, finish, finish_bounds}
 use Rattle.expr_grammar.specs.Following.{stops, closes_bounds, done_before, bounds_done_before}
 use Rattle.expr_parse.specs.declared.goal.Goal.{Goal}
-use Rattle.tree_parts.specs.declared.part.Part.{Part}
-use Rattle.tree_parts.specs.Parts.{parts_of, Grows, IsPart}
-use Rattle.tree_parts.proofs.Growing.{grows-same, grows-on}
-use Rattle.unit_machine.specs.declared.wait.Due.{Due}
-use Rattle.unit_machine.specs.declared.wait.Move.{Move}
-use Rattle.unit_grammar.specs.Tables.{move, after_part, after_expression, after_bounds}
+use Rattle.unit_machine.specs.Tables.{after_bounds}
 use Rattle.unit_grammar.specs.Units.{UnitTree}
-use Rattle.unit_grammar.specs.Machine as Machine
-use Rattle.unit_grammar.specs.Machine.{part_step, moved, finished, given, expression_step, bounds_step, bounds_before}
-use Rattle.unit_parse.specs.declared.frame.Frame.{Frame}
-use Rattle.unit_parse.specs.declared.reached.Reached.{Reached}
+use Rattle.unit_machine.specs.Machine as Machine
+use Rattle.unit_machine.specs.Machine.{part_step, given, expression_step, bounds_step, bounds_before}
+use Rattle.unit_frames.specs.declared.frame.Frame.{Frame}
+use Rattle.unit_frames.specs.declared.unfinished.Unfinished.{Unfinished}
+use Rattle.unit_frames.specs.Standing.{IsFrame, IsUnder}
+use Rattle.unit_frames.proofs.Growing.{frame-grows, under-grows}
+use Rattle.unit_steps.specs.declared.point.Point.{Point}
+use Rattle.unit_steps.specs.declared.point.Next.{Next}
+use Rattle.unit_steps.specs.Standing as Steps
 use Rattle.unit_parse.specs.declared.reading.Reading.{Reading}
 use Rattle.unit_parse.specs.declared.reading.Heard.{Heard}
-use Rattle.unit_parse.specs.declared.state.Unfinished.{Unfinished}
 use Rattle.unit_parse.specs.declared.state.State.{State}
-use Rattle.unit_parse.specs.declared.parts.Ended.{Ended}
-use Rattle.unit_parse.specs.Standing.{AreParts, IsReached, IsFrame, AreFrames, IsUnder, IsReading, IsFocus, IsState, IsMoved, Moves, Makes, Takes, IsHeard, Hears, EndsWhole, EndsMoving, IsEnded, Ends, TakesBelow, EndsFrame}
-use Rattle.unit_parse.proofs.Growing.{frame-grows, frames-grow, under-grows}
+use Rattle.unit_parse.specs.Standing.{IsReading, IsFocus, IsState, IsMoved, Moves, IsHeard, Hears}
 
--- nothing was added
-pub still : {nodes : List Arena.Node} {state : Option State} {st : Option Machine.State} → IsMoved nodes state st → Moves nodes nodes state st
-still {nodes = nodes} i = record { grows = grows-same nodes; is = i }
-
-pub part-moves : (nodes more : List Arena.Node) (unfinished : Unfinished) (held : Frame) (b : Machine.Begun) (f : Machine.Frame) (fs : List Machine.Frame) (d : ℕ) (us : List UnitTree) → IsUnder nodes unfinished b fs d us → Takes nodes more held f → Moves nodes more (Some (State.Part unfinished held)) (Some (Machine.state d us (Machine.Part b f fs)))
-part-moves nodes more unfinished held b f fs d us u t = record {
-  grows = t.grows;
-  is = (under-grows nodes more unfinished b fs d us t.grows u, t.is);
-}
-
-pub made-moves : (nodes more : List Arena.Node) (unfinished : Unfinished) (part : Part) (b : Machine.Begun) (fs : List Machine.Frame) (d : ℕ) (us : List UnitTree) (x : Tree) (spelled : List Lexeme) (state : Option State) (st : Option Machine.State) → IsUnder nodes unfinished b fs d us → Makes nodes more part x spelled → (IsUnder more unfinished b fs d us → IsPart more part x spelled → IsMoved more state st) → Moves nodes more state st
-made-moves nodes more unfinished part b fs d us x spelled state st u m k = record {
-  grows = m.grows;
-  is = k (under-grows nodes more unfinished b fs d us m.grows u) m.is;
-}
+-- nodes were added before
+pub moves-later : (nodes more most : List Arena.Node) (state : Option State) (st : Option Machine.State) → Grows nodes more → Moves more most state st → Moves nodes most state st
+moves-later nodes more most state st g m = record { grows = grows-on nodes more most g m.grows; is = m.is }
 
 -- an expression is not whole before its first lexeme
 start-not-done : (kind : LexKind) (x : Tree) → done_before (Some start) kind ≡ Some x → ⊥
@@ -58,177 +43,69 @@ start-not-done kind x q = by (stops kind) q
     by true e = cc
     by false e = cc
 
-pub begin-going : (nodes more : List Arena.Node) (unfinished : Unfinished) (reading : Reading) (b : Machine.Begun) (fs : List Machine.Frame) (d : ℕ) (us : List UnitTree) (t : Lexeme) (heard : Heard) → heard ≡ Heard.Going → IsUnder nodes unfinished b fs d us → Hears nodes more reading Goal.Expression start [] t heard → Moves nodes more (Some (State.Expression unfinished reading)) (Machine.reading (Expressions.step start t) b fs (t ∷ []) d us)
-begin-going nodes more unfinished reading b fs d us t heard q u h =
+pub begin-going : (nodes more : List Arena.Node) (unfinished : Unfinished) (reading : Reading) (t : Lexeme) (heard : Heard) (st : Option Machine.State) → heard ≡ Heard.Going → Steps.Begins nodes unfinished t st → Hears nodes more reading Goal.Expression start [] t heard → Moves nodes more (Some (State.Expression unfinished reading)) st
+begin-going nodes more unfinished reading t heard st q b h =
     let k : Hears nodes more reading Goal.Expression start [] t Heard.Going = subst (Hears nodes more reading Goal.Expression start [] t) q h in
-    rw k.is.1.steps (record {
+    let e : st ≡ Some (Machine.state b.depth b.units (Machine.Expression b.begun b.frames k.is.1.state (t ∷ []))) =
+    b.same ∙ ap (λ o. Machine.reading o b.begun b.frames (t ∷ []) b.depth b.units) k.is.1.steps
+    in
+    record {
       grows = k.grows;
-      is = (under-grows nodes more unfinished b fs d us k.grows u, k.is.1.is);
-    })
-
-pub begin-refused : (nodes more : List Arena.Node) (reading : Reading) (b : Machine.Begun) (fs : List Machine.Frame) (d : ℕ) (us : List UnitTree) (t : Lexeme) (heard : Heard) → (heard ≡ Heard.Going → ⊥) → Hears nodes more reading Goal.Expression start [] t heard → Moves nodes more None (Machine.reading (Expressions.step start t) b fs (t ∷ []) d us)
-begin-refused nodes more reading b fs d us t Heard.Going q h = absurd (q refl)
-begin-refused nodes more reading b fs d us t (Heard.Done part) q h = absurd (start-not-done t.kind (tree_at more part.node) h.is.0)
-begin-refused nodes more reading b fs d us t Heard.Refused q h = rw h.is.1 (record { grows = h.grows; is = tt })
-
--- ---- the frames that end
-
-abbrev DoesNotEnd : Move → Type 0
-DoesNotEnd to = (form : Form) → to ≡ Move.Ends form → ⊥
-
-moved-still : (to : Move) (b : Machine.Begun) (f : Machine.Frame) (fs : List Machine.Frame) (d : ℕ) (us : List UnitTree) (t : Lexeme) (go : Form → Option Machine.State) → DoesNotEnd to → moved to b f fs d us t go ≡ moved to b f fs d us t (λ form. None)
-moved-still (Move.Ends form) b f fs d us t go k = absurd (k form refl)
-moved-still _ b f fs d us t go k = refl
-
-step-still : (to : Move) (b : Machine.Begun) (f : Machine.Frame) (fs : List Machine.Frame) (d : ℕ) (us : List UnitTree) (t : Lexeme) → move f.wait t ≡ to → DoesNotEnd to → part_step fs b f d us t ≡ moved to b f fs d us t (λ form. None)
-step-still to b f [] d us t q k = ap (λ z. moved z b f [] d us t (λ form. finished b (Machine.node form f) d us t)) q ∙ moved-still to b f [] d us t _ k
-step-still to b f (g ∷ gs) d us t q k = ap (λ z. moved z b f (g ∷ gs) d us t (λ form. part_step gs b (Machine.taking g (Machine.node form f) f.read) d us t)) q ∙ moved-still to b f (g ∷ gs) d us t _ k
-
-step-whole : (form : Form) (b : Machine.Begun) (f : Machine.Frame) (d : ℕ) (us : List UnitTree) (t : Lexeme) → move f.wait t ≡ Move.Ends form → part_step [] b f d us t ≡ finished b (Machine.node form f) d us t
-step-whole form b f d us t q = ap (λ z. moved z b f [] d us t (λ x. finished b (Machine.node x f) d us t)) q
-
-step-ends : (form : Form) (b : Machine.Begun) (f g : Machine.Frame) (gs : List Machine.Frame) (d : ℕ) (us : List UnitTree) (t : Lexeme) → move f.wait t ≡ Move.Ends form → part_step (g ∷ gs) b f d us t ≡ part_step gs b (Machine.taking g (Machine.node form f) f.read) d us t
-step-ends form b f g gs d us t q = ap (λ z. moved z b f (g ∷ gs) d us t (λ x. part_step gs b (Machine.taking g (Machine.node x f) f.read) d us t)) q
-
--- what is left of the step is the step
-pub record Goes (nodes more : List Arena.Node) (below : List Frame) (held : Frame) (f : Machine.Frame) (fs : List Machine.Frame) (t : Lexeme) : Type 0 where
-  pub frame : Machine.Frame
-  pub frames : List Machine.Frame
-  pub grows : Grows nodes more
-  pub is : IsFrame more held frame
-  pub are : AreFrames more (reverse below) frames
-  pub same : (b : Machine.Begun) → (d : ℕ) → (us : List UnitTree) → part_step fs b f d us t ≡ part_step frames b frame d us t
-
-pub goes-first : (nodes : List Arena.Node) (below : List Frame) (held : Frame) (f : Machine.Frame) (fs : List Machine.Frame) (t : Lexeme) → IsFrame nodes held f → AreFrames nodes (reverse below) fs → Goes nodes nodes below held f fs t
-goes-first nodes below held f fs t i a = record { frame = f; frames = fs; grows = grows-same nodes; is = i; are = a; same = λ b d us. refl }
-
-pub goes-moves : {nodes more : List Arena.Node} {below : List Frame} {held : Frame} {f : Machine.Frame} {fs : List Machine.Frame} {t : Lexeme} (to : Move) → to ≡ move held.wait t → DoesNotEnd to → Goes nodes more below held f fs t → Ends nodes more below held Ended.Moves f fs t
-goes-moves {t = t} to q k g = record {
-  grows = g.grows;
-  is = record {
-    frame = g.frame;
-    frames = g.frames;
-    is = g.is;
-    below = g.are;
-    same = λ b d us. g.same b d us ∙ step-still (move g.frame.wait t) b g.frame g.frames d us t refl (subst DoesNotEnd (q ∙ ap (λ z. move z t) g.is.wait) k);
-  };
-}
-
-pub not-some : (o : Option Part) → ((part : Part) → o ≡ Some part → ⊥) → o ≡ None
-not-some None k = refl
-not-some (Some part) k = absurd (k part refl)
-
--- no frame is left below the one that ends
-pub goes-whole : {nodes more : List Arena.Node} {below : List Frame} {held : Frame} {f : Machine.Frame} {fs : List Machine.Frame} {t : Lexeme} (most : List Arena.Node) (left : List Frame) (last : Frame) (part : Part) (form : Form) (ended : Option Part) → Move.Ends form ≡ move held.wait t → ended ≡ Some part → (g : Goes nodes more below held f fs t) → EndsFrame more most left last form g.frame g.frames ended → Ends nodes most left last (Ended.Whole part) f fs t
-goes-whole {nodes = nodes} {more = more} {t = t} most left last part form ended q s g n =
-    let e : EndsFrame more most left last form g.frame g.frames (Some part) = subst (EndsFrame more most left last form g.frame g.frames) s n in
-    record {
-      grows = grows-on nodes more most g.grows e.grows;
-      is = record {
-        tree = Machine.node form g.frame;
-        spelled = g.frame.read;
-        is = e.is.1;
-        same = λ b d us. g.same b d us ∙ (ap (λ z. part_step z b g.frame d us t) e.is.0 ∙ step-whole form b g.frame d us t (sym (q ∙ ap (λ z. move z t) g.is.wait)));
-      };
+      is = subst (IsMoved more (Some (State.Expression unfinished reading))) (sym e) (under-grows nodes more unfinished b.begun b.frames b.depth b.units k.grows b.under, k.is.1.is);
     }
 
--- and the one below goes on
-pub goes-on : {nodes more : List Arena.Node} {below : List Frame} {held : Frame} {f : Machine.Frame} {fs : List Machine.Frame} {t : Lexeme} (most : List Arena.Node) (left : List Frame) (outer : Frame) (form : Form) (ended : Option Part) → Move.Ends form ≡ move held.wait t → ended ≡ None → (g : Goes nodes more below held f fs t) → EndsFrame more most left outer form g.frame g.frames ended → Goes nodes most left outer f fs t
-goes-on {nodes = nodes} {more = more} {t = t} most left outer form ended q s g n =
-    let e : EndsFrame more most left outer form g.frame g.frames None = subst (EndsFrame more most left outer form g.frame g.frames) s n in
-    record {
-      frame = Machine.taking e.is.outer (Machine.node form g.frame) g.frame.read;
-      frames = e.is.outers;
-      grows = grows-on nodes more most g.grows e.grows;
-      is = e.is.is;
-      are = e.is.below;
-      same = λ b d us. g.same b d us ∙ (ap (λ z. part_step z b g.frame d us t) e.is.was ∙ step-ends form b g.frame e.is.outer e.is.outers d us t (sym (q ∙ ap (λ z. move z t) g.is.wait)));
-    }
+pub begin-refused : (nodes more : List Arena.Node) (unfinished : Unfinished) (reading : Reading) (t : Lexeme) (heard : Heard) (st : Option Machine.State) → (heard ≡ Heard.Going → ⊥) → Steps.Begins nodes unfinished t st → Hears nodes more reading Goal.Expression start [] t heard → Moves nodes more None st
+begin-refused nodes more unfinished reading t Heard.Going st q b h = absurd (q refl)
+begin-refused nodes more unfinished reading t (Heard.Done part) st q b h = absurd (start-not-done t.kind (tree_at more part.node) h.is.0)
+begin-refused nodes more unfinished reading t Heard.Refused st q b h =
+    let e : st ≡ None = b.same ∙ ap (λ o. Machine.reading o b.begun b.frames (t ∷ []) b.depth b.units) h.is.1 in
+    record { grows = h.grows; is = subst (IsMoved more None) (sym e) tt }
 
--- ---- one frame ends
+-- ---- where units and frames lead
 
-pub ended-alone : (nodes more : List Arena.Node) (below left : List Frame) (held : Frame) (part : Part) (form : Form) (f : Machine.Frame) (fs : List Machine.Frame) → below ≡ [] → AreFrames nodes (reverse below) fs → Makes nodes more part (Machine.node form f) f.read → EndsFrame nodes more left held form f fs (Some part)
-ended-alone nodes more below left held part form f fs e a m = record {
-  grows = m.grows;
-  is = (none fs (subst (λ z. AreFrames nodes (reverse z) fs) e a), m.is);
-}
+-- nothing was added
+pub still : {nodes : List Arena.Node} {state : Option State} {st : Option Machine.State} → IsMoved nodes state st → Moves nodes nodes state st
+still {nodes = nodes} i = record { grows = grows-same nodes; is = i }
+
+-- a step that leads there, and what is entered then
+pub leads-on : (nodes more most : List Arena.Node) (next : Option Next) (state : Option State) (st : Option Machine.State) → Steps.Moves nodes more next st → ((o : Option Machine.State) → Steps.IsMoved more next o → Moves more most state o) → Moves nodes most state st
+leads-on nodes more most next state st m k = let e = k st m.is in record { grows = grows-on nodes more most m.grows e.grows; is = e.is }
+
+pub leads-to : (nodes : List Arena.Node) (moved : Option Next) (next leads : Next) (st : Option Machine.State) → moved ≡ Some next → next ≡ leads → Steps.IsMoved nodes moved st → Steps.IsMoved nodes (Some leads) st
+leads-to nodes moved next leads st q r i = subst (λ z. Steps.IsMoved nodes (Some z) st) r (subst (λ z. Steps.IsMoved nodes z st) q i)
+
+pub enters-none : (nodes : List Arena.Node) (next : Option Next) (st : Option Machine.State) → next ≡ None → Steps.IsMoved nodes next st → IsMoved nodes None st
+enters-none nodes next st q i = by st (subst (λ z. Steps.IsMoved nodes z st) q i)
   where
-    none : (gs : List Machine.Frame) → AreFrames nodes [] gs → gs ≡ []
-    none [] a = refl
-    none (h ∷ hs) a = absurd a
+    by : (o : Option Machine.State) → Steps.IsMoved nodes None o → IsMoved nodes None o
+    by None k = tt
+    by (Some s) k = absurd k
 
-pub ended-below : (nodes more : List Arena.Node) (below left : List Frame) (outer taken : Frame) (part : Part) (form : Form) (f : Machine.Frame) (fs : List Machine.Frame) → reverse below ≡ outer ∷ reverse left → AreFrames nodes (reverse below) fs → Makes nodes more part (Machine.node form f) f.read → ((h : Machine.Frame) → (x : Tree) → (b : List Lexeme) → IsFrame more outer h → IsPart more part x b → IsFrame more taken (Machine.frame (after_part outer.wait) (then h.parts x) (h.read ++ b))) → EndsFrame nodes more left taken form f fs None
-ended-below nodes more below left outer taken part form f fs e a m k = record {
-  grows = m.grows;
-  is = by fs (subst (λ z. AreFrames nodes z fs) e a);
-}
+pub enters-point : (nodes : List Arena.Node) (point : Point) (st : Option Machine.State) → Steps.IsMoved nodes (Some (Next.At point)) st → IsMoved nodes (Some (State.At point)) st
+enters-point nodes point None k = absurd k
+enters-point nodes point (Some s) k = k
+
+pub enters-expression : (nodes : List Arena.Node) (unfinished : Unfinished) (reading : Reading) (st : Option Machine.State) → IsReading nodes reading Goal.Expression start [] → Steps.IsMoved nodes (Some (Next.Awaits unfinished)) st → IsMoved nodes (Some (State.Expression unfinished reading)) st
+enters-expression nodes unfinished reading None r k = absurd k
+enters-expression nodes unfinished reading (Some s) r k = by s.focus k
   where
-    by : (gs : List Machine.Frame) → AreFrames nodes (outer ∷ reverse left) gs → TakesBelow more left taken form f gs
-    by [] a = absurd a
-    by (h ∷ hs) a = record {
-      outer = h;
-      outers = hs;
-      was = refl;
-      is = subst (λ z. IsFrame more taken (Machine.frame (after_part z) (then h.parts (Machine.node form f)) (h.read ++ f.read))) a.0.wait (k h (Machine.node form f) f.read (frame-grows nodes more outer h m.grows a.0) m.is);
-      below = frames-grow nodes more _ hs m.grows a.1;
-    }
+    by : (focus : Machine.Focus) → Steps.IsNextFocus nodes (Next.Awaits unfinished) focus s.depth s.units → IsFocus nodes (State.Expression unfinished reading) focus s.depth s.units
+    by (Machine.Expression b fs e a) k = (k.0, rw (k.1, k.2) r)
+    by (Machine.Stands due names) k = absurd k
+    by (Machine.Declared xs) k = absurd k
+    by (Machine.Part b f fs) k = absurd k
+    by (Machine.Bounds b f e a) k = absurd k
 
-pub popped : (old new : List Frame) (last : Frame) → old ≡ new ++ last ∷ [] → reverse old ≡ last ∷ reverse new
-popped old new last e = ap reverse e ∙ reverse-append new (last ∷ [])
-
-pub nothing-left : (old : List Frame) → length old ≡ 0 → old ≡ []
-nothing-left [] e = refl
-nothing-left (h ∷ hs) e = cc
-
--- ---- the step, once the frames have ended
-
-pub ended-whole : (nodes : List Arena.Node) (below : List Frame) (held : Frame) (ended : Ended) (part : Part) (f : Machine.Frame) (fs : List Machine.Frame) (t : Lexeme) → ended ≡ Ended.Whole part → IsEnded nodes below held ended f fs t → EndsWhole nodes part f fs t
-ended-whole nodes below held ended part f fs t q e = subst (λ z. IsEnded nodes below held z f fs t) q e
-
-pub ended-moves : (nodes : List Arena.Node) (below : List Frame) (held : Frame) (ended : Ended) (f : Machine.Frame) (fs : List Machine.Frame) (t : Lexeme) → ended ≡ Ended.Moves → IsEnded nodes below held ended f fs t → EndsMoving nodes below held f fs t
-ended-moves nodes below held ended f fs t q e = subst (λ z. IsEnded nodes below held z f fs t) q e
-
-pub step-whole-is : (nodes : List Arena.Node) (part : Part) (b : Machine.Begun) (f : Machine.Frame) (fs : List Machine.Frame) (d : ℕ) (us : List UnitTree) (t : Lexeme) (state : Option State) → (w : EndsWhole nodes part f fs t) → IsMoved nodes state (finished b w.tree d us t) → Moves nodes nodes state (part_step fs b f d us t)
-step-whole-is nodes part b f fs d us t state w i = still (subst (IsMoved nodes state) (sym (w.same b d us)) i)
-
-pub step-moves-is : (nodes more : List Arena.Node) (below : List Frame) (held : Frame) (b : Machine.Begun) (f : Machine.Frame) (fs : List Machine.Frame) (d : ℕ) (us : List UnitTree) (t : Lexeme) (state : Option State) → (w : EndsMoving nodes below held f fs t) → Moves nodes more state (moved (move w.frame.wait t) b w.frame w.frames d us t (λ form. None)) → Moves nodes more state (part_step fs b f d us t)
-step-moves-is nodes more below held b f fs d us t state w m = subst (Moves nodes more state) (sym (w.same b d us)) m
-
-pub moves-as : (nodes more : List Arena.Node) (held : Frame) (to : Move) (b : Machine.Begun) (f : Machine.Frame) (fs : List Machine.Frame) (d : ℕ) (us : List UnitTree) (t : Lexeme) (state : Option State) → to ≡ move held.wait t → IsFrame nodes held f → Moves nodes more state (moved to b f fs d us t (λ form. None)) → Moves nodes more state (moved (move f.wait t) b f fs d us t (λ form. None))
-moves-as nodes more held to b f fs d us t state q i m = subst (λ z. Moves nodes more state (moved z b f fs d us t (λ form. None))) (q ∙ ap (λ z. move z t) i.wait) m
-
--- nodes were added before
-pub moves-later : (nodes more most : List Arena.Node) (state : Option State) (st : Option Machine.State) → Grows nodes more → Moves more most state st → Moves nodes most state st
-moves-later nodes more most state st g m = record { grows = grows-on nodes more most g m.grows; is = m.is }
-
--- ---- an expression or bounds that are whole
-
-pub under-popped : (nodes : List Arena.Node) (unfinished after : Unfinished) (top : Frame) (b : Machine.Begun) (fs : List Machine.Frame) (d : ℕ) (us : List UnitTree) → after.reached ≡ unfinished.reached → after.begun ≡ unfinished.begun → reverse unfinished.below.items ≡ top ∷ reverse after.below.items → IsUnder nodes unfinished b fs d us → (g : Machine.Frame) × (gs : List Machine.Frame) × (fs ≡ g ∷ gs) × IsFrame nodes top g × IsUnder nodes after b gs d us
-under-popped nodes unfinished after top b fs d us r s e u = by fs (subst (λ z. AreFrames nodes z fs) e u.below)
+pub enters-bounds : (nodes : List Arena.Node) (unfinished : Unfinished) (held : Frame) (reading : Reading) (st : Option Machine.State) → IsReading nodes reading Goal.Bounds start_bounds [] → Steps.IsMoved nodes (Some (Next.Bounds unfinished held)) st → IsMoved nodes (Some (State.Bounds unfinished held reading)) st
+enters-bounds nodes unfinished held reading None r k = absurd k
+enters-bounds nodes unfinished held reading (Some s) r k = by s.focus k
   where
-    by : (hs : List Machine.Frame) → AreFrames nodes (top ∷ reverse after.below.items) hs → (g : Machine.Frame) × (gs : List Machine.Frame) × (hs ≡ g ∷ gs) × IsFrame nodes top g × IsUnder nodes after b gs d us
-    by [] a = absurd a
-    by (g ∷ gs) a = (g, gs, refl, a.0, record { reached = rw r u.reached; begun = rw s u.begun; below = a.1 })
-
-pub under-none : (nodes : List Arena.Node) (unfinished : Unfinished) (b : Machine.Begun) (fs : List Machine.Frame) (d : ℕ) (us : List UnitTree) → unfinished.below.items ≡ [] → IsUnder nodes unfinished b fs d us → fs ≡ []
-under-none nodes unfinished b fs d us e u = by fs (subst (λ z. AreFrames nodes (reverse z) fs) e u.below)
-  where
-    by : (hs : List Machine.Frame) → AreFrames nodes [] hs → hs ≡ []
-    by [] a = refl
-    by (h ∷ hs) a = absurd a
-
-pub given-none : (nodes : List Arena.Node) (b : Machine.Begun) (fs : List Machine.Frame) (x : Tree) (spelled : List Lexeme) (d : ℕ) (us : List UnitTree) (t : Lexeme) (state : Option State) → fs ≡ [] → IsMoved nodes state (finished b x d us t) → Moves nodes nodes state (given fs b x spelled d us t)
-given-none nodes b fs x spelled d us t state e i = rw e (still i)
-
-pub given-frame : (nodes more : List Arena.Node) (b : Machine.Begun) (fs gs : List Machine.Frame) (g : Machine.Frame) (x : Tree) (spelled : List Lexeme) (d : ℕ) (us : List UnitTree) (t : Lexeme) (state : Option State) → fs ≡ g ∷ gs → Moves nodes more state (part_step gs b (Machine.frame (after_expression g.wait) (then g.parts x) (g.read ++ spelled)) d us t) → Moves nodes more state (given fs b x spelled d us t)
-given-frame nodes more b fs gs g x spelled d us t state e m = rw e m
-
--- the frame that takes it waits for what the machine's does
-pub waits-as : (nodes : List Arena.Node) (taken top : Frame) (w : _) (g : Machine.Frame) (ps : Trees) (a : List Lexeme) → w ≡ after_expression top.wait → IsFrame nodes top g → IsFrame nodes taken (Machine.frame w ps a) → IsFrame nodes taken (Machine.frame (after_expression g.wait) ps a)
-waits-as nodes taken top w g ps a q i k = subst (λ z. IsFrame nodes taken (Machine.frame z ps a)) (q ∙ ap after_expression i.wait) k
-
-pub bounds-wait : (nodes : List Arena.Node) (taken top : Frame) (w : _) (g : Machine.Frame) (ps : Trees) (a : List Lexeme) → w ≡ after_bounds top.wait → IsFrame nodes top g → IsFrame nodes taken (Machine.frame w ps a) → IsFrame nodes taken (Machine.frame (after_bounds g.wait) ps a)
-bounds-wait nodes taken top w g ps a q i k = subst (λ z. IsFrame nodes taken (Machine.frame z ps a)) (q ∙ ap after_bounds i.wait) k
+    by : (focus : Machine.Focus) → Steps.IsNextFocus nodes (Next.Bounds unfinished held) focus s.depth s.units → IsFocus nodes (State.Bounds unfinished held reading) focus s.depth s.units
+    by (Machine.Bounds b f e a) k = (k.0, k.1, rw (k.2, k.3) r)
+    by (Machine.Stands due names) k = absurd k
+    by (Machine.Declared xs) k = absurd k
+    by (Machine.Part b f fs) k = absurd k
+    by (Machine.Expression b fs e a) k = absurd k
 
 -- ---- what the reader of expressions answered
 
@@ -299,35 +176,8 @@ heard-done nodes more reading goal st read t heard part q h = subst (Hears nodes
 
 -- ---- a state in code, by what it is
 
-pub as-stands : (nodes : List Arena.Node) (state : State) (reached : Reached) (due : Due) (names : List Lexeme) (st : Machine.State) → state ≡ State.Stands reached due names → IsState nodes state st → (st.focus ≡ Machine.Stands due names) × IsReached nodes reached st.depth st.units
-as-stands nodes state reached due names st q i = by st.focus (subst (λ z. IsFocus nodes z st.focus st.depth st.units) q i)
-  where
-    by : (focus : Machine.Focus) → IsFocus nodes (State.Stands reached due names) focus st.depth st.units → (focus ≡ Machine.Stands due names) × IsReached nodes reached st.depth st.units
-    by (Machine.Stands d ns) k = (ap (λ z. Machine.Stands z ns) (sym k.0) ∙ ap (Machine.Stands due) (sym k.1), k.2)
-    by (Machine.Declared xs) k = absurd k
-    by (Machine.Part b f fs) k = absurd k
-    by (Machine.Expression b fs s a) k = absurd k
-    by (Machine.Bounds b f s a) k = absurd k
-
-pub as-declared : (nodes : List Arena.Node) (state : State) (reached : Reached) (declarations : List ℕ) (st : Machine.State) → state ≡ State.Declared reached declarations → IsState nodes state st → (xs : Trees) × (st.focus ≡ Machine.Declared xs) × AreParts nodes declarations xs × IsReached nodes reached st.depth st.units
-as-declared nodes state reached declarations st q i = by st.focus (subst (λ z. IsFocus nodes z st.focus st.depth st.units) q i)
-  where
-    by : (focus : Machine.Focus) → IsFocus nodes (State.Declared reached declarations) focus st.depth st.units → (xs : Trees) × (focus ≡ Machine.Declared xs) × AreParts nodes declarations xs × IsReached nodes reached st.depth st.units
-    by (Machine.Declared xs) k = (xs, refl, k.0, k.1)
-    by (Machine.Stands d ns) k = absurd k
-    by (Machine.Part b f fs) k = absurd k
-    by (Machine.Expression b fs s a) k = absurd k
-    by (Machine.Bounds b f s a) k = absurd k
-
-pub as-part : (nodes : List Arena.Node) (state : State) (unfinished : Unfinished) (held : Frame) (st : Machine.State) → state ≡ State.Part unfinished held → IsState nodes state st → (b : Machine.Begun) × (f : Machine.Frame) × (fs : List Machine.Frame) × (st.focus ≡ Machine.Part b f fs) × IsUnder nodes unfinished b fs st.depth st.units × IsFrame nodes held f
-as-part nodes state unfinished held st q i = by st.focus (subst (λ z. IsFocus nodes z st.focus st.depth st.units) q i)
-  where
-    by : (focus : Machine.Focus) → IsFocus nodes (State.Part unfinished held) focus st.depth st.units → (b : Machine.Begun) × (f : Machine.Frame) × (fs : List Machine.Frame) × (focus ≡ Machine.Part b f fs) × IsUnder nodes unfinished b fs st.depth st.units × IsFrame nodes held f
-    by (Machine.Part b f fs) k = (b, f, fs, refl, k.0, k.1)
-    by (Machine.Stands due names) k = absurd k
-    by (Machine.Declared xs) k = absurd k
-    by (Machine.Expression b fs s a) k = absurd k
-    by (Machine.Bounds b f s a) k = absurd k
+pub as-point : (nodes : List Arena.Node) (state : State) (point : Point) (st : Machine.State) → state ≡ State.At point → IsState nodes state st → Steps.IsPoint nodes point st
+as-point nodes state point st q i = subst (λ z. IsFocus nodes z st.focus st.depth st.units) q i
 
 pub as-expression : (nodes : List Arena.Node) (state : State) (unfinished : Unfinished) (reading : Reading) (st : Machine.State) → state ≡ State.Expression unfinished reading → IsState nodes state st → (b : Machine.Begun) × (fs : List Machine.Frame) × (s : Expressions.State) × (a : List Lexeme) × (st.focus ≡ Machine.Expression b fs s a) × IsUnder nodes unfinished b fs st.depth st.units × IsReading nodes reading Goal.Expression s a
 as-expression nodes state unfinished reading st q i = by st.focus (subst (λ z. IsFocus nodes z st.focus st.depth st.units) q i)

@@ -4,18 +4,12 @@
 //! begins so. Knows nothing of how lexemes are found, and of what names mean.
 #![tactic(auto)]
 
-mod due;
-mod ending;
-mod frame;
-mod height;
-mod moves;
+mod enter;
 mod parse;
 mod parts;
-mod reached;
 mod reading;
 mod state;
 mod step;
-mod whole;
 
-pub use ending::ends_once;
 pub use parse::{ParseError, parse_module};
+pub use unit_frames::ends_once;

@@ -7,12 +7,13 @@ ghost use Rattle.unit_machine.specs.Machine as machine;
 ghost use Rattle.unit_parse.specs.Modules.{AreUnits, IsFault, IsModule};
 ghost use Rattle.unit_parse.specs.Standing.{IsState};
 
-use crate::height::highest;
 use crate::state::State;
 use std::alloc::Global;
 use tla_symbols::Lexeme;
 use tla_tree::{ModuleTree, Tree, Unit};
 use tool_list::{Chars, List, Memory};
+use unit_frames::highest;
+use unit_steps::Point;
 
 /// Why no module was read.
 #[derive(Clone, Copy, Debug, PartialEq, Eq)]
@@ -61,7 +62,10 @@ fn closed(alloc: Global, state: State, tree: Tree) -> Result<ModuleTree, Memory>
     requires { (st : machine.State) × (found : ModuleUnits) × IsState tree state st × (machine.answer (Some st) ≡ Some found) }
     ensures { IfOk result (λ parsed. (st : machine.State) → (found : ModuleUnits) → IsState tree state st → machine.answer (Some st) ≡ Some found → IsModule parsed found) }
 {
-    let State::Stands(reached, _, _) = state else {
+    let State::At(point) = state else {
+        unreachable!();
+    };
+    let Point::Stands(reached, _, _) = point else {
         unreachable!();
     };
     let module = module_of(alloc, tree, reached.units)?;

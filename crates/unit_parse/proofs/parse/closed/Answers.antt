@@ -3,4 +3,4 @@ use Rattle.unit_parse.proofs.parse.closed.Goals as goal
 
 pub returns : goal.returns
 returns c st found i e =
-    c.in_ok-module.ensures st.units found (closed-units _ _ c.in-Stands.reached c.in-Stands.field-1 c.in-Stands.field-2 st c.in-Stands.is i) (closed-whole st.focus st.units found e)
+    c.in_ok-module.ensures st.units found (closed-units _ _ c.in-At.point c.in-Stands.reached c.in-Stands.field-1 c.in-Stands.field-2 st c.in-At.is c.in-Stands.is i) (closed-whole st.focus st.units found e)

@@ -1,5 +1,5 @@
 use Rattle.std.proofs.lemmas.Result.{IfOk-weaker}
-use Rattle.unit_parse.proofs.Growing.{under-grows}
+use Rattle.unit_frames.proofs.Growing.{under-grows}
 use Rattle.unit_parse.proofs.Hearing.{reading-ready}
 use Rattle.unit_parse.proofs.Stepping.{moves-later}
 use Rattle.unit_parse.proofs.parts.expression_step.Goals as goal

@@ -1,5 +1,4 @@
-use Rattle.std.proofs.Common.{refl}
 use Rattle.unit_parse.proofs.state.State.opening.Goals as goal
 
 pub returns : goal.returns
-returns c nodes = (refl, c.new-2.ensures, c.new.ensures nodes)
+returns c nodes = c.opening.ensures nodes

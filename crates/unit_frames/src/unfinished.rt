@@ -1,0 +1,57 @@
+// The unit that is read, and its frames that wait for their parts.
+ghost use Rattle.std.specs.Prelude.{◌≡◌, ℕ, List, [], ◌∷◌, OnOk};
+ghost use Rattle.tla_tree.specs.Arena as arena;
+ghost use Rattle.unit_grammar.specs.Units as units;
+ghost use Rattle.unit_machine.specs.Machine as machine;
+ghost use Rattle.unit_frames.specs.Standing.{IsFrame, IsUnder};
+
+use crate::frame::Frame;
+use crate::reached::Reached;
+use tla_symbols::Lexeme;
+use tool_list::{List, Memory};
+
+/// The unit that is read, with what it has beside its last part.
+#[derive(Drop)]
+pub enum Begun {
+    /// The nodes of the declarations so far.
+    Constants(List<u32>),
+    /// The LOCAL before a definition, if one stands there.
+    Definition(Option<Lexeme>),
+    Instance(Option<Lexeme>),
+    /// The word of an assumption.
+    Assumption(Lexeme),
+    Theorem(Lexeme),
+}
+
+/// A unit that is read after others, and its frames that wait for their parts, the innermost last.
+#[derive(Drop)]
+pub struct Unfinished {
+    pub reached: Reached,
+    pub begun: Begun,
+    pub below: Vec<Frame>,
+}
+
+impl Unfinished {
+    /// A frame waits for a part above those that do.
+    pub fn under(&mut self, frame: Frame) -> Result<(), Memory>
+        ensures { OnOk result ((nodes : List arena.Node) → (depth : ℕ) → (us : List units.UnitTree)
+            → (b : machine.Begun) → (fs : List machine.Frame) → (f : machine.Frame)
+            → IsUnder nodes self.old b fs depth us → IsFrame nodes frame f
+            → IsUnder nodes self.new b (f ∷ fs) depth us) }
+    {
+        self.below.push(frame)?;
+        Ok(())
+    }
+
+    /// No frame waits below.
+    pub fn alone(self) -> Unfinished
+        ensures { (nodes : List arena.Node) → (depth : ℕ) → (us : List units.UnitTree) → (b : machine.Begun) → (fs : List machine.Frame) → IsUnder nodes self b fs depth us → IsUnder nodes result b [] depth us }
+    {
+        let below = Vec::new(self.reached.alloc);
+        Unfinished {
+            reached: self.reached,
+            begun: self.begun,
+            below,
+        }
+    }
+}

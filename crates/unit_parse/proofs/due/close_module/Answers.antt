@@ -1,7 +1,0 @@
-use Rattle.std.proofs.lemmas.Bool.Decides.{nat_tests}
-use Rattle.std.proofs.Common.{arith}
-use Rattle.unit_parse.proofs.Reaching.{closed-outermost}
-use Rattle.unit_parse.proofs.due.close_module.Goals as goal
-
-pub returns : goal.returns
-returns c nodes d us i = closed-outermost nodes c.args.reached c.closes.result c.new.result d us (grind (arith, nat_tests, c.if-reached-ne1.false)) c.closes.ensures c.new.ensures i

@@ -1,9 +1,0 @@
-use Rattle.std.proofs.lemmas.Bool.Decides.{nat_tests}
-use Rattle.std.proofs.Common.{arith, refl}
-use Rattle.unit_parse.proofs.Reaching.{ended-nested}
-use Rattle.unit_parse.proofs.due.end_module.Goals as goal
-
-pub returns : goal.returns
-returns c nodes d us i =
-    ended-nested nodes c.args.reached c.in_ok-reached.reached c.args.lexeme c.new.result d us (grind (arith, nat_tests, c.if-reached-lt2.false))
-    (λ e j. c.in_ok-reached.ensures nodes e us _ (c.closes.ensures nodes e us j) (record { there = (tt, tt); are = refl })) c.new.ensures i

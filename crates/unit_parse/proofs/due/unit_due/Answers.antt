@@ -1,4 +1,0 @@
-use Rattle.unit_parse.proofs.due.unit_due.Goals as goal
-
-pub returns : goal.returns
-returns c = rw (← c.unit_start.ensures) c.start.ensures

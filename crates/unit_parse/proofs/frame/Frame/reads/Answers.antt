@@ -1,5 +1,0 @@
-use Rattle.unit_parse.proofs.Taking.{frame-reads}
-use Rattle.unit_parse.proofs.frame.Frame.reads.Goals as goal
-
-pub returns : goal.returns
-returns c nodes frame is = rw c.joined.ensures (frame-reads nodes c.args.self c.args.wait c.args.lexeme frame is)

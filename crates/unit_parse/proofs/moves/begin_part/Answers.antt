@@ -1,4 +1,0 @@
-use Rattle.unit_parse.proofs.moves.begin_part.Goals as goal
-
-pub returns : goal.returns
-returns c nodes d us b fs f read u i p = (c.in_ok-under.ensures nodes d us b fs f u i, c.new-frame.ensures nodes read p)

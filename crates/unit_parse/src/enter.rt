@@ -1,0 +1,73 @@
+// Where a lexeme leads: an expression, or bounds, are read by a machine of their own.
+ghost use Rattle.std.specs.Prelude.{List, [], Option, Some, IfOk};
+ghost use Rattle.tla_symbols.specs.declared.lexeme.Lexeme.{Lexeme};
+ghost use Rattle.tla_tree.specs.Arena as arena;
+ghost use Rattle.expr_grammar.specs.Machine as expressions;
+ghost use Rattle.expr_parse.specs.declared.goal.Goal.TheVariants as goals;
+ghost use Rattle.unit_machine.specs.Machine as machine;
+ghost use Rattle.unit_steps.specs.declared.point.Next.TheVariants as leads;
+ghost use Rattle.unit_steps.specs.Standing as steps;
+ghost use Rattle.unit_parse.specs.Standing.{IsMoved, Moves, Hears};
+
+use crate::reading::{Heard, Reading};
+use crate::state::State;
+use expr_parse::Goal;
+use tla_symbols::Lexeme;
+use tla_tree::Tree;
+use tool_list::Memory;
+use unit_frames::{Frame, Unfinished};
+use unit_steps::Next;
+
+/// An expression is due.
+fn await_expression(unfinished: Unfinished) -> State
+    ensures { (nodes : List arena.Node) → (st : Option machine.State) → steps.IsMoved nodes (Some (leads.Awaits unfinished)) st → IsMoved nodes (Some result) st }
+{
+    let alloc = unfinished.reached.alloc;
+    State::Expression(unfinished, Reading::new(alloc, Goal::Expression))
+}
+
+/// Bounds are due, for which the frame waits.
+fn await_bounds(unfinished: Unfinished, frame: Frame) -> State
+    ensures { (nodes : List arena.Node) → (st : Option machine.State) → steps.IsMoved nodes (Some (leads.Bounds unfinished frame)) st → IsMoved nodes (Some result) st }
+{
+    let alloc = unfinished.reached.alloc;
+    State::Bounds(unfinished, frame, Reading::new(alloc, Goal::Bounds))
+}
+
+/// What an expression makes of its first lexeme.
+fn expression_begun(unfinished: Unfinished, reading: Reading, heard: Heard) -> Option<State>
+    ensures { (nodes : List arena.Node) → (more : List arena.Node) → (first : Lexeme) → (st : Option machine.State) → steps.Begins nodes unfinished first st → Hears nodes more reading goals.Expression expressions.start [] first heard → Moves nodes more result st }
+{
+    match heard {
+        Heard::Going => Some(State::Expression(unfinished, reading)),
+        _ => None,
+    }
+}
+
+/// The lexeme is the first of an expression.
+fn begin_expression(
+    unfinished: Unfinished,
+    tree: &mut Tree,
+    first: Lexeme,
+) -> Result<Option<State>, Memory>
+    ensures { IfOk result (λ moved. (st : Option machine.State) → steps.Begins tree.old unfinished first st → Moves tree.old tree.new moved st) }
+{
+    let mut reading = Reading::new(unfinished.reached.alloc, Goal::Expression);
+    let heard = reading.hears(tree, first)?;
+    Ok(expression_begun(unfinished, reading, heard))
+}
+
+/// The reader goes where units and frames lead.
+pub(crate) fn enter(next: Option<Next>, tree: &mut Tree) -> Result<Option<State>, Memory>
+    ensures { IfOk result (λ moved. (st : Option machine.State) → steps.IsMoved tree.old next st → Moves tree.old tree.new moved st) }
+{
+    let Some(next) = next else {
+        return Ok(None);
+    };
+    match next {
+        Next::At(point) => Ok(Some(State::At(point))),
+        Next::Awaits(unfinished) => Ok(Some(await_expression(unfinished))),
+        Next::Begins(unfinished, first) => begin_expression(unfinished, tree, first),
+        Next::Bounds(unfinished, frame) => Ok(Some(await_bounds(unfinished, frame))),
+    }
+}

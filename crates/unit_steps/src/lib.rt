@@ -1,0 +1,16 @@
+//! What a lexeme does where a module is read, as far as no expression is read: to units, and to the frames of their parts.
+//!
+//! Answers where the machine of `unit_grammar` goes, and where an expression or bounds begin. Knows nothing of how
+//! these are read.
+#![tactic(auto)]
+
+mod due;
+mod endings;
+mod moves;
+mod parts;
+mod point;
+mod step;
+mod whole;
+
+pub use parts::{give, take_bounds};
+pub use point::{Next, Point};

@@ -1,0 +1,140 @@
+// What a lexeme does to the parts of a unit: frames end before it, and it moves the one that is left.
+ghost use Rattle.std.specs.Prelude.{◌≡◌, ℕ, List, ◌++◌, IfOk};
+ghost use Rattle.tla_symbols.specs.declared.lexeme.Lexeme.{Lexeme};
+ghost use Rattle.tla_tree.specs.Syntax as syntax;
+ghost use Rattle.tla_tree.specs.Lexemes as lexemes;
+ghost use Rattle.tree_parts.specs.Parts.{IsPart, parts_of};
+ghost use Rattle.unit_grammar.specs.Units as units;
+ghost use Rattle.unit_machine.specs.Tables as tables;
+ghost use Rattle.unit_machine.specs.Machine as machine;
+ghost use Rattle.unit_frames.specs.Standing.{IsFrame, IsBegun, IsReached, IsUnder};
+ghost use Rattle.unit_steps.specs.Standing.{Moves, IsEnded, IsReadyEnded, IsReadyPart, IsReadyTaking, IsReadyWhole};
+
+use crate::endings::{Ended, end_frames, next_move};
+use crate::moves::move_frame;
+use crate::point::Next;
+use crate::whole::finish;
+use tla_symbols::Lexeme;
+use tla_tree::Tree;
+use tool_list::Memory;
+use tree_parts::Part;
+use unit_frames::{Frame, Unfinished};
+use unit_tables::{after_bounds, after_expression};
+
+/// What a lexeme does to a frame that does not end before it.
+fn move_on(
+    unfinished: Unfinished,
+    frame: Frame,
+    tree: &mut Tree,
+    lexeme: Lexeme,
+) -> Result<Option<Next>, Memory>
+    requires { (f : machine.Frame) × IsFrame tree.old frame f }
+    ensures { IfOk result (λ moved. (depth : ℕ) → (us : List units.UnitTree) → (b : machine.Begun)
+        → (fs : List machine.Frame) → (f : machine.Frame)
+        → IsUnder tree.old unfinished b fs depth us → IsFrame tree.old frame f
+        → Moves tree.old tree.new moved
+        (machine.moved (tables.move f.wait lexeme) b f fs depth us lexeme (λ form. None))) }
+{
+    let to = next_move(frame.wait, lexeme)?;
+    move_frame(unfinished, frame, tree, to, lexeme)
+}
+
+/// What a lexeme does once the frames that end before it have ended.
+fn go_on(
+    unfinished: Unfinished,
+    frame: Frame,
+    ended: Ended,
+    tree: &mut Tree,
+    lexeme: Lexeme,
+) -> Result<Option<Next>, Memory>
+    requires { IsReadyEnded tree.old unfinished frame ended lexeme }
+    ensures { IfOk result (λ moved. (depth : ℕ) → (us : List units.UnitTree) → (b : machine.Begun)
+        → (fs : List machine.Frame) → (f : machine.Frame)
+        → IsReached tree.old unfinished.reached depth us → IsBegun tree.old unfinished.begun b
+        → IsEnded tree.old unfinished.below.items frame ended f fs lexeme
+        → Moves tree.old tree.new moved (machine.part_step fs b f depth us lexeme)) }
+{
+    match ended {
+        Ended::Whole(part) => finish(unfinished, tree, part, lexeme),
+        Ended::Moves => move_on(unfinished, frame, tree, lexeme),
+    }
+}
+
+/// A lexeme where a frame waits for one.
+pub(crate) fn part_step(
+    unfinished: Unfinished,
+    frame: Frame,
+    tree: &mut Tree,
+    lexeme: Lexeme,
+) -> Result<Option<Next>, Memory>
+    requires { IsReadyPart tree.old unfinished frame }
+    ensures { IfOk result (λ moved. (depth : ℕ) → (us : List units.UnitTree) → (b : machine.Begun) → (fs : List machine.Frame) → (f : machine.Frame) → IsUnder tree.old unfinished b fs depth us → IsFrame tree.old frame f → Moves tree.old tree.new moved (machine.part_step fs b f depth us lexeme)) }
+{
+    let mut unfinished = unfinished;
+    let mut frame = frame;
+    let ended = end_frames(&mut unfinished.below, &mut frame, tree, lexeme)?;
+    go_on(unfinished, frame, ended, tree, lexeme)
+}
+
+/// A frame takes an expression that is whole before the lexeme.
+fn give_to(
+    unfinished: Unfinished,
+    frame: Frame,
+    part: Part,
+    tree: &mut Tree,
+    lexeme: Lexeme,
+) -> Result<Option<Next>, Memory>
+    requires { IsReadyTaking tree.old unfinished frame part }
+    ensures { IfOk result (λ moved. (depth : ℕ) → (us : List units.UnitTree) → (b : machine.Begun)
+        → (fs : List machine.Frame) → (f : machine.Frame) → (x : syntax.Tree)
+        → (spelled : List Lexeme) → IsUnder tree.old unfinished b fs depth us
+        → IsFrame tree.old frame f → IsPart tree.old part x spelled
+        → Moves tree.old tree.new moved (machine.part_step fs b
+        (machine.frame (tables.after_expression f.wait) (lexemes.then f.parts x)
+        (f.read ++ spelled)) depth us lexeme)) }
+{
+    let mut frame = frame;
+    let wait = after_expression(frame.wait);
+    frame.takes(wait, part)?;
+    part_step(unfinished, frame, tree, lexeme)
+}
+
+/// An expression is whole before the lexeme.
+pub fn give(
+    unfinished: Unfinished,
+    part: Part,
+    tree: &mut Tree,
+    lexeme: Lexeme,
+) -> Result<Option<Next>, Memory>
+    requires { IsReadyWhole tree.old unfinished part }
+    ensures { IfOk result (λ moved. (depth : ℕ) → (us : List units.UnitTree) → (b : machine.Begun) → (fs : List machine.Frame) → (x : syntax.Tree) → (spelled : List Lexeme) → IsUnder tree.old unfinished b fs depth us → IsPart tree.old part x spelled → Moves tree.old tree.new moved (machine.given fs b x spelled depth us lexeme)) }
+{
+    let mut unfinished = unfinished;
+    match unfinished.below.pop() {
+        Some(frame) => give_to(unfinished, frame, part, tree, lexeme),
+        None => finish(unfinished, tree, part, lexeme),
+    }
+}
+
+/// A frame takes the bounds that are whole before the lexeme.
+pub fn take_bounds(
+    unfinished: Unfinished,
+    frame: Frame,
+    part: Part,
+    tree: &mut Tree,
+    lexeme: Lexeme,
+) -> Result<Option<Next>, Memory>
+    requires { IsReadyTaking tree.old unfinished frame part }
+    ensures { IfOk result (λ moved. (depth : ℕ) → (us : List units.UnitTree) → (b : machine.Begun)
+        → (fs : List machine.Frame) → (f : machine.Frame) → (x : syntax.Tree)
+        → (spelled : List Lexeme) → IsUnder tree.old unfinished b fs depth us
+        → IsFrame tree.old frame f → IsPart tree.old part x spelled
+        → Moves tree.old tree.new moved (machine.part_step fs b
+        (machine.frame (tables.after_bounds f.wait) (parts_of x) (f.read ++ spelled))
+        depth us lexeme)) }
+{
+    let mut frame = frame;
+    let wait = after_bounds(frame.wait);
+    frame.takes_bounds(unfinished.reached.alloc, tree, wait, part)?;
+    part_step(unfinished, frame, tree, lexeme)
+}
