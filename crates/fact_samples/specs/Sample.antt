@@ -1,7 +1,7 @@
 -- Small texts: a face, a part that no other text sees, and names of two bytes that are needed.
 use Rattle.std.specs.Prelude.{ℕ, ◌+◌, ◌*◌, ◌%◌, Bool, ◌==◌, if◌then◌else◌, fold, List, [], ◌∷◌, Option, Some, None, slice_index, drop}
 use Rattle.fact_samples.specs.declared.SampleFact.{SampleFact}
-use Rattle.fact_store.specs.States.{State, no_text, cyclic, broken, fact}
+use Rattle.fact_values.specs.States.{State, no_text, cyclic, broken, fact}
 
 -- the own part of a text is the text
 abbrev pub own_of : List ℕ → List ℕ → List ℕ

@@ -5,8 +5,8 @@ use Rattle.std.proofs.lemmas.Bool.{eqb-true, eq-eqb}
 use Rattle.std.proofs.lemmas.List.{map-append, take_more}
 use Rattle.std.proofs.lemmas.List.Sums.{fold-append}
 use Rattle.fact_store.specs.declared.given.Gave.{Gave}
-use Rattle.fact_store.specs.Names.{name_eq}
-use Rattle.fact_store.specs.States.{State, no_text, cyclic, broken, fact, same_state, same_given}
+use Rattle.fact_values.specs.Names.{name_eq}
+use Rattle.fact_values.specs.States.{State, no_text, cyclic, broken, fact, same_state, same_given}
 use Rattle.fact_store.specs.Given.{gave_state, states}
 use Rattle.fact_samples.specs.declared.SampleFact.{SampleFact}
 use Rattle.fact_samples.specs.Sample.{names, seen, below, same}

@@ -5,7 +5,7 @@
 #![tactic(auto)]
 
 ghost use Rattle.std.specs.Prelude.{◌≡◌, ◌+◌, ◌*◌, ◌%◌, ◌^◌, ◌<◌, ℕ, List, IfOk, drop, fold, slice_index};
-ghost use Rattle.fact_store.specs.States.{State};
+ghost use Rattle.fact_values.specs.States.{State};
 ghost use Rattle.fact_store.specs.Given.{gave_state, states};
 ghost use Rattle.fact_samples.specs.Sample as sample;
 

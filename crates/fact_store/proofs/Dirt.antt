@@ -11,12 +11,12 @@ use Rattle.std.proofs.lemmas.Option.{slice_get_within}
 use Rattle.list_laws.proofs.Tests.{and-left, and-right}
 use Rattle.fact_store.specs.declared.slot.Slot.{Slot}
 use Rattle.fact_store.specs.declared.slot.Kept.{Kept}
-use Rattle.fact_store.specs.Names.{name_cmp, name_eq, Texts}
-use Rattle.fact_store.specs.States.{State, same_given}
-use Rattle.fact_store.specs.Values.{given_in, same_text, is_dirty, dirty}
+use Rattle.fact_values.specs.Names.{name_cmp, name_eq, Texts}
+use Rattle.fact_values.specs.States.{State, same_given}
+use Rattle.fact_values.specs.Values.{given_in, same_text, is_dirty, dirty}
 use Rattle.fact_store.specs.Given.{states}
 use Rattle.fact_store.specs.Slots.{named_texts, texts_of, source, AreDistinct, HasNoSlot, is_made_from, is_settled, owed}
-use Rattle.fact_store.proofs.NameLemmas.{true_or_false, same_name, name_eq-same, and_both}
+use Rattle.fact_values.proofs.NameLemmas.{true_or_false, same_name, name_eq-same, and_both}
 use Rattle.fact_store.proofs.Pairs.{same_given-trans}
 use Rattle.std.proofs.lemmas.List.{length-set, length-map}
 use Rattle.fact_store.proofs.SlotLemmas.{distinct-tail, none_found, text_of-slot, text_of-none}

@@ -8,12 +8,12 @@ use Rattle.std.proofs.lemmas.Option.{slice_get_within}
 use Rattle.fact_store.specs.declared.slot.Slot.{Slot}
 use Rattle.fact_store.specs.declared.slot.Kept.{Kept}
 use Rattle.fact_store.specs.declared.plan.Plan.{Plan}
-use Rattle.fact_store.specs.Names.{has}
-use Rattle.fact_store.specs.States.{State, cyclic, broken, fact, same_given}
-use Rattle.fact_store.specs.Values.{needs_or_none, reaches, gives, value}
+use Rattle.fact_values.specs.Names.{has}
+use Rattle.fact_values.specs.States.{State, cyclic, broken, fact, same_given}
+use Rattle.fact_values.specs.Values.{needs_or_none, reaches, gives, value}
 use Rattle.fact_store.specs.Slots.{texts_of, IsPlaceOf, is_settled}
 use Rattle.fact_store.specs.Right.{IsPlan, IsDone, IsReady, IsRight}
-use Rattle.fact_store.proofs.NameLemmas.{true_or_false}
+use Rattle.fact_values.proofs.NameLemmas.{true_or_false}
 use Rattle.fact_store.proofs.Ranks.{rank_tells}
 use Rattle.fact_store.proofs.Gifts.{gives-cyclic, gives-value, value-broken, value-settled, settled-kept}
 

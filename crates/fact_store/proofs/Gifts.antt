@@ -6,15 +6,15 @@ use Rattle.std.specs.FinMap.{keys}
 use Rattle.list_laws.proofs.Tests.{and-left, and-right}
 use Rattle.fact_store.specs.declared.slot.Slot.{Slot}
 use Rattle.fact_store.specs.declared.slot.Kept.{Kept}
-use Rattle.fact_store.specs.Names.{name_eq}
-use Rattle.fact_store.specs.States.{State, no_text, cyclic, broken, fact, same_given}
-use Rattle.fact_store.specs.Values.{needs_or_none, needs_of_text, needs_in, reaches, gives, all_given, value_of_needs, value_of_text, value, given_in}
+use Rattle.fact_values.specs.Names.{name_eq}
+use Rattle.fact_values.specs.States.{State, no_text, cyclic, broken, fact, same_given}
+use Rattle.fact_values.specs.Values.{needs_or_none, needs_of_text, needs_in, reaches, gives, all_given, value_of_needs, value_of_text, value, given_in}
 use Rattle.fact_store.specs.Given.{states}
 use Rattle.fact_store.specs.Slots.{texts_of, source, HasNoSlot, IsSound, AreSound, is_made_from, is_settled}
 use Rattle.fact_store.specs.Right.{is_fresh}
-use Rattle.fact_store.proofs.NameLemmas.{true_or_false, same_name, name_eq-refl, name_eq-same}
-use Rattle.fact_store.proofs.ReachLemmas.{leads-stuck}
-use Rattle.fact_store.proofs.ValueLemmas.{value-step}
+use Rattle.fact_values.proofs.NameLemmas.{true_or_false, same_name, name_eq-refl, name_eq-same}
+use Rattle.fact_values.proofs.ReachLemmas.{leads-stuck}
+use Rattle.fact_values.proofs.ValueLemmas.{value-step}
 use Rattle.fact_store.proofs.SlotLemmas.{text_of-slot, text_of-none}
 use Rattle.fact_store.proofs.Ranks.{needs_in-slot}
 

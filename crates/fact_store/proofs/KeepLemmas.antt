@@ -7,11 +7,11 @@ use Rattle.std.proofs.lemmas.List.Sums.{sum_by-set}
 use Rattle.std.proofs.lemmas.Option.{slice_get_within, get_or_from_slice_get}
 use Rattle.list_laws.proofs.Tests.{same-or-other}
 use Rattle.fact_store.specs.declared.slot.Slot.{Slot}
-use Rattle.fact_store.specs.States.{State, same_given}
-use Rattle.fact_store.specs.Values.{given_in, ComesFromTexts}
+use Rattle.fact_values.specs.States.{State, same_given}
+use Rattle.fact_values.specs.Values.{given_in, ComesFromTexts}
 use Rattle.fact_store.specs.Slots.{named_texts, texts_of, AreDistinct, IsSound, AreSound, is_settled, owed}
 use Rattle.fact_store.specs.Right.{outline, outlines, IsRight, is_fresh}
-use Rattle.fact_store.proofs.NameLemmas.{true_or_false}
+use Rattle.fact_values.proofs.NameLemmas.{true_or_false}
 use Rattle.fact_store.proofs.Marks.{is_marked-set_other, same_place}
 use Rattle.fact_store.proofs.Gifts.{is_fresh-settled}
 use Rattle.fact_store.proofs.Pairs.{same_given-refl}

@@ -6,12 +6,12 @@ use Rattle.list_laws.proofs.Tests.{and-right}
 use Rattle.fact_store.specs.declared.slot.Slot.{Slot}
 use Rattle.fact_store.specs.declared.slot.Kept.{Kept}
 use Rattle.fact_store.specs.declared.given.Gave.{Gave}
-use Rattle.fact_store.specs.Names.{name_eq}
-use Rattle.fact_store.specs.States.{State, same_given}
+use Rattle.fact_values.specs.Names.{name_eq}
+use Rattle.fact_values.specs.States.{State, same_given}
 use Rattle.fact_store.specs.Given.{states}
 use Rattle.fact_store.specs.Slots.{source, IsSound}
 use Rattle.fact_store.specs.Right.{is_fresh, with_given, Keeps}
-use Rattle.fact_store.proofs.NameLemmas.{and_both}
+use Rattle.fact_values.proofs.NameLemmas.{and_both}
 use Rattle.fact_store.proofs.Pairs.{same_given-refl, is_fresh-with_given}
 
 module _ {Own F : Type 0} (own_of : List ℕ → List ℕ → Own) (needs_of : Own → Option (List (List ℕ))) (fact_of : List ℕ → Own → List (List ℕ × State F) → F) (same : F → F → Bool) (same_refl : (a : F) → same a a ≡ true) (old new : List (Slot Own F)) (place : ℕ) (slot : Slot Own F) (given : List (List ℕ × Gave F)) (sound : IsSound own_of needs_of fact_of slot) where

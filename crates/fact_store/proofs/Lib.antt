@@ -1,6 +1,3 @@
-pub mod NameLemmas
-pub mod ReachLemmas
-pub mod ValueLemmas
 pub mod Marks
 pub mod Search
 pub mod SlotLemmas

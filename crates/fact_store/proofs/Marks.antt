@@ -10,7 +10,7 @@ use Rattle.std.proofs.lemmas.List.Sums.{sum_by-set}
 use Rattle.std.proofs.lemmas.List.Elements.{All-push}
 use Rattle.list_laws.proofs.Tests.{or-right}
 use Rattle.fact_store.specs.Plans.{among, is_marked, MarksRow}
-use Rattle.fact_store.proofs.NameLemmas.{true_or_false, or_left, or_cases}
+use Rattle.fact_values.proofs.NameLemmas.{true_or_false, or_left, or_cases}
 
 pub same_place : (a b : ℕ) → nat_eq a b ≡ true → a ≡ b
 same_place a b e = eqb-true a b e

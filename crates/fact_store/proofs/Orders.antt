@@ -10,13 +10,13 @@ use Rattle.list_laws.proofs.Tests.{or-right}
 use Rattle.list_laws.proofs.Lists.{item-at}
 use Rattle.fact_store.specs.declared.slot.Slot.{Slot}
 use Rattle.fact_store.specs.declared.plan.Plan.{Plan}
-use Rattle.fact_store.specs.Names.{has}
-use Rattle.fact_store.specs.States.{State}
-use Rattle.fact_store.specs.Values.{needs_or_none}
+use Rattle.fact_values.specs.Names.{has}
+use Rattle.fact_values.specs.States.{State}
+use Rattle.fact_values.specs.Values.{needs_or_none}
 use Rattle.fact_store.specs.Slots.{AreSound}
 use Rattle.fact_store.specs.Plans.{among, is_marked, AreReached, IsRow, IsOrder}
 use Rattle.fact_store.specs.Right.{outlines, IsPlan, IsDone, IsReady}
-use Rattle.fact_store.proofs.NameLemmas.{or_left, or_cases, and_both}
+use Rattle.fact_values.proofs.NameLemmas.{or_left, or_cases, and_both}
 use Rattle.fact_store.proofs.Marks.{same_place}
 use Rattle.fact_store.proofs.Search.{among-within}
 use Rattle.fact_store.proofs.Ranks.{rank_falls}

@@ -4,13 +4,13 @@ use Rattle.std.specs.Prelude.{◌&&◌, is_none}
 use Rattle.list_laws.proofs.Tests.{and-left, and-right, or-right}
 use Rattle.fact_store.specs.declared.given.Gave.{Gave}
 use Rattle.std.proofs.lemmas.List.{take_more, map-append}
-use Rattle.fact_store.specs.Names.{name_eq, has, Texts}
-use Rattle.fact_store.specs.Values.{gives, all_given}
-use Rattle.fact_store.specs.States.{State, no_text, cyclic, broken, fact, same_state, same_given}
+use Rattle.fact_values.specs.Names.{name_eq, has, Texts}
+use Rattle.fact_values.specs.Values.{gives, all_given}
+use Rattle.fact_values.specs.States.{State, no_text, cyclic, broken, fact, same_state, same_given}
 use Rattle.fact_store.specs.Given.{gave_state, states}
 use Rattle.fact_store.specs.declared.slot.Kept.{Kept}
 use Rattle.fact_store.specs.Right.{is_fresh, with_given}
-use Rattle.fact_store.proofs.NameLemmas.{name_eq-refl, name_eq-same, same_name, or_left, and_both}
+use Rattle.fact_values.proofs.NameLemmas.{name_eq-refl, name_eq-same, same_name, or_left, and_both}
 
 module _ {F : Type 0} (same : F → F → Bool) where
   -- lists of different lengths differ

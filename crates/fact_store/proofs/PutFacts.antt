@@ -4,8 +4,8 @@ use Rattle.std.specs.Prelude.{slice_set, remove}
 use Rattle.std.specs.FinMap.{insert}
 use Rattle.std.specs.FinMap as map
 use Rattle.fact_store.specs.declared.slot.Slot.{Slot}
-use Rattle.fact_store.specs.States.{State}
-use Rattle.fact_store.specs.Values.{dirty}
+use Rattle.fact_values.specs.States.{State}
+use Rattle.fact_values.specs.Values.{dirty}
 use Rattle.fact_store.specs.Slots.{texts_of, HasNoSlot, IsPlaceOf, AreSound, owed}
 use Rattle.fact_store.proofs.TextLemmas.{texts_of-set, texts_of-push, texts_of-remove}
 use Rattle.fact_store.proofs.PutLemmas.{retexted, retexted-kept, IsSound-retexted, AreSound-retext, AreSound-push, AreSound-remove, IsSound-new}

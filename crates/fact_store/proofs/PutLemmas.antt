@@ -11,14 +11,14 @@ use Rattle.list_laws.proofs.Tests.{and-left, and-right}
 use Rattle.fact_store.specs.declared.slot.Slot.{Slot}
 use Rattle.fact_store.specs.declared.slot.Kept.{Kept}
 use Rattle.fact_store.specs.declared.plan.Plan.{Plan}
-use Rattle.fact_store.specs.Names.{name_eq, has}
-use Rattle.fact_store.specs.States.{State}
-use Rattle.fact_store.specs.Values.{needs_or_none}
+use Rattle.fact_values.specs.Names.{name_eq, has}
+use Rattle.fact_values.specs.States.{State}
+use Rattle.fact_values.specs.Values.{needs_or_none}
 use Rattle.fact_store.specs.Given.{states}
 use Rattle.fact_store.specs.Slots.{source, source_after, kept_after, HasNoSlot, IsSound, AreSound}
 use Rattle.fact_store.specs.Plans.{among, IsRow}
 use Rattle.fact_store.specs.Right.{IsPlan, HoldsPlan}
-use Rattle.fact_store.proofs.NameLemmas.{same_name}
+use Rattle.fact_values.proofs.NameLemmas.{same_name}
 use Rattle.fact_store.proofs.KeepLemmas.{set_cases}
 use Rattle.fact_store.proofs.TextLemmas.{AreDistinct-names, names-set, AreDistinct-push, AreDistinct-remove, left_at}
 

@@ -7,14 +7,14 @@ use Rattle.std.proofs.lemmas.List.Sums.{sum_by-cons}
 use Rattle.std.proofs.lemmas.Option.{slice_get_within}
 use Rattle.list_laws.proofs.Lists.{item-at}
 use Rattle.fact_store.specs.declared.slot.Slot.{Slot}
-use Rattle.fact_store.specs.Names.{has}
-use Rattle.fact_store.specs.States.{State}
-use Rattle.fact_store.specs.Values.{needs_or_none, needs_of_text, needs_in, reaches}
+use Rattle.fact_values.specs.Names.{has}
+use Rattle.fact_values.specs.States.{State}
+use Rattle.fact_values.specs.Values.{needs_or_none, needs_of_text, needs_in, reaches}
 use Rattle.fact_store.specs.Slots.{texts_of, AreSound}
 use Rattle.fact_store.specs.Plans.{is_marked, Edges, AreClosed, IsReach, IsRow, AreEdges, IsRank, AreRanks}
-use Rattle.fact_store.proofs.NameLemmas.{true_or_false}
-use Rattle.fact_store.proofs.ReachLemmas.{leads-refl, leads-need, leads-trans, reaches_from-leads, closed_under-reach}
-use Rattle.fact_store.proofs.ValueLemmas.{needs_in-none}
+use Rattle.fact_values.proofs.NameLemmas.{true_or_false}
+use Rattle.fact_values.proofs.ReachLemmas.{leads-refl, leads-need, leads-trans, reaches_from-leads, closed_under-reach}
+use Rattle.fact_values.proofs.ValueLemmas.{needs_in-none}
 use Rattle.fact_store.proofs.SlotLemmas.{slot_with, text_of-slot}
 use Rattle.fact_store.proofs.Search.{among-within}
 use Rattle.fact_store.proofs.Rows.{slot_at, same_test}

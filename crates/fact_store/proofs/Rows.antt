@@ -10,11 +10,11 @@ use Rattle.list_laws.proofs.Lists.{pushed-cases}
 use Rattle.list_laws.proofs.Tests.{and-left, and-right, or-right}
 use Rattle.list_laws.proofs.Lists.{item-at}
 use Rattle.fact_store.specs.declared.slot.Slot.{Slot}
-use Rattle.fact_store.specs.Names.{name_eq, has}
-use Rattle.fact_store.specs.Values.{needs_or_none}
+use Rattle.fact_values.specs.Names.{name_eq, has}
+use Rattle.fact_values.specs.Values.{needs_or_none}
 use Rattle.fact_store.specs.Slots.{AreDistinct, HasNoSlot, IsPlaceOf}
 use Rattle.fact_store.specs.Plans.{among, Edges, HasPlaces, IsRow, AreEdges, AreReached, IsRank, IsGround, AreGrounds}
-use Rattle.fact_store.proofs.NameLemmas.{true_or_false, same_name, name_eq-same, or_left, or_cases, and_both}
+use Rattle.fact_values.proofs.NameLemmas.{true_or_false, same_name, name_eq-same, or_left, or_cases, and_both}
 use Rattle.fact_store.proofs.Marks.{among-push, or_false, same_place}
 
 -- tests that hold alike are equal

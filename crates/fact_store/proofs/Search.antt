@@ -10,7 +10,7 @@ use Rattle.std.proofs.lemmas.List.Sums.{sum_by-cons}
 use Rattle.std.proofs.lemmas.Option.{slice_get_read}
 use Rattle.list_laws.proofs.Tests.{or-right}
 use Rattle.fact_store.specs.Plans.{among, is_marked, Edges, AreClosed, MarksRow, AreReached}
-use Rattle.fact_store.proofs.NameLemmas.{true_or_false, or_left, or_cases}
+use Rattle.fact_values.proofs.NameLemmas.{true_or_false, or_left, or_cases}
 use Rattle.fact_store.proofs.Marks.{among-push, is_marked-set_same, is_marked-set_other, same_place, open_count}
 
 -- the rows of the places before `next` in the queue are marked

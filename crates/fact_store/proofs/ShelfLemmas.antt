@@ -19,10 +19,10 @@ use Rattle.slab.specs.Slab.{Slab, get, slab_len, with_value, ContainsKey, Update
 use Rattle.list_laws.proofs.Lists.{pushed-cases}
 use Rattle.list_laws.proofs.Tests.{same-or-other}
 use Rattle.fact_store.specs.declared.slot.Slot.{Slot}
-use Rattle.fact_store.specs.Names.{name_eq}
+use Rattle.fact_values.specs.Names.{name_eq}
 use Rattle.fact_store.specs.Shelf.{Names, shelved, IsShelf}
 use Rattle.fact_store.specs.Slots.{HasNoSlot, IsPlaceOf}
-use Rattle.fact_store.proofs.NameLemmas.{name_eq-same, same_name}
+use Rattle.fact_values.proofs.NameLemmas.{name_eq-same, same_name}
 use Rattle.fact_store.proofs.Lookups.{AllFound, found_at, length-found, found-same, found-set, found-remove, item_at, passes_at, passes_not, write_same, write_other, write_count}
 use Rattle.fact_store.proofs.TextLemmas.{skip, skip-injective, skip-other, slice_get-remove}
 

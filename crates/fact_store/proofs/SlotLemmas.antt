@@ -4,9 +4,9 @@ use Rattle.std.specs.Prelude.{slice_get}
 use Rattle.std.specs.FinMap.{get, get-from_entries, find}
 use Rattle.std.specs.Cmp.Lexicographic.{nat_list_cmp_total}
 use Rattle.fact_store.specs.declared.slot.Slot.{Slot}
-use Rattle.fact_store.specs.Names.{name_cmp, name_eq}
+use Rattle.fact_values.specs.Names.{name_cmp, name_eq}
 use Rattle.fact_store.specs.Slots.{named_texts, texts_of, AreDistinct, HasNoSlot}
-use Rattle.fact_store.proofs.NameLemmas.{true_or_false, same_name, name_eq-refl}
+use Rattle.fact_values.proofs.NameLemmas.{true_or_false, same_name, name_eq-refl}
 
 module _ {Own F : Type 0} where
   pub distinct-tail : (slot : Slot Own F) (slots : List (Slot Own F)) → AreDistinct (slot ∷ slots) → AreDistinct slots

@@ -3,9 +3,9 @@ use Rattle.std.proofs.Common.{◌≡◌, ℕ, ◌+◌, ◌<◌, ◌≤◌, Bool,
 use Rattle.std.proofs.lemmas.Option.{slice_get_within}
 use Rattle.fact_store.specs.declared.slot.Slot.{Slot}
 use Rattle.fact_store.specs.declared.plan.Plan.{Plan}
-use Rattle.fact_store.specs.States.{State, no_text}
-use Rattle.fact_store.specs.Names.{Texts}
-use Rattle.fact_store.specs.Values.{value, dirty}
+use Rattle.fact_values.specs.States.{State, no_text}
+use Rattle.fact_values.specs.Names.{Texts}
+use Rattle.fact_values.specs.Values.{value, dirty}
 use Rattle.fact_store.specs.Slots.{texts_of, HasNoSlot, IsPlaceOf, AreSound, owed}
 use Rattle.fact_store.specs.Right.{outlines, HoldsPlan, IsStore}
 use Rattle.fact_store.proofs.Gifts.{value-none}

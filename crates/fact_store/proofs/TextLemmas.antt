@@ -6,9 +6,9 @@ use Rattle.std.specs.FinMap as map_of
 use Rattle.std.specs.Cmp.Lexicographic.{nat_list_cmp_total}
 use Rattle.list_laws.proofs.Lists.{pushed-cases}
 use Rattle.fact_store.specs.declared.slot.Slot.{Slot}
-use Rattle.fact_store.specs.Names.{name_cmp, name_eq, Texts}
+use Rattle.fact_values.specs.Names.{name_cmp, name_eq, Texts}
 use Rattle.fact_store.specs.Slots.{named_texts, texts_of, AreDistinct, HasNoSlot}
-use Rattle.fact_store.proofs.NameLemmas.{true_or_false, same_name, name_eq-same}
+use Rattle.fact_values.proofs.NameLemmas.{true_or_false, same_name, name_eq-same}
 use Rattle.fact_store.proofs.SlotLemmas.{distinct-tail, none_found}
 
 shadowed : {A : Type 0} (b : Bool) (u v w : A) → cond b u w ≡ cond b u (cond b v w)

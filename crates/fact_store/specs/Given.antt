@@ -5,7 +5,7 @@ use Rattle.fact_store.specs.declared.given.Gave.{Gave}
 use Rattle.fact_store.specs.declared.given.Gave.TheVariants as gave
 use Rattle.fact_store.specs.declared.given.Answer.{Answer}
 use Rattle.fact_store.specs.declared.given.Answer.TheVariants as answer
-use Rattle.fact_store.specs.States.{State, no_text, cyclic, broken, fact}
+use Rattle.fact_values.specs.States.{State, no_text, cyclic, broken, fact}
 
 module _ {F : Type 0} where
   abbrev pub gave_state : Gave F → State F

@@ -3,7 +3,7 @@ use Rattle.std.specs.Prelude.{ℕ, List, Option, Some, None, refl}
 use Rattle.std.specs.Coded.{Coded, code_by, coded×, coded_list, coded_ℕ}
 use Rattle.std.specs.FinMap.{insert, remove}
 use Rattle.std.specs.FinMap as map
-use Rattle.fact_store.specs.Names.{Texts}
+use Rattle.fact_values.specs.Names.{Texts}
 
 -- the texts, and for how many names no fact was made from them as they are
 pub record Holding : Type 0 where

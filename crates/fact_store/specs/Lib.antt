@@ -1,7 +1,3 @@
-pub mod Names
-pub mod Reach
-pub mod States
-pub mod Values
 pub mod Given
 pub mod Slots
 pub mod Plans

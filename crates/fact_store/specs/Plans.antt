@@ -4,8 +4,8 @@ use Rattle.std.specs.List.{list_any}
 use Rattle.std.specs.List.Sorted.{IsNonDecreasingBy}
 use Rattle.std.specs.declared.alloc.Global.{Global}
 use Rattle.fact_store.specs.declared.slot.Slot.{Slot}
-use Rattle.fact_store.specs.Names.{has}
-use Rattle.fact_store.specs.Values.{needs_or_none}
+use Rattle.fact_values.specs.Names.{has}
+use Rattle.fact_values.specs.Values.{needs_or_none}
 
 -- whether a place is among these
 abbrev pub among : List ℕ → ℕ → Bool

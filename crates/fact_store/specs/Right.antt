@@ -4,9 +4,9 @@ use Rattle.fact_store.specs.declared.slot.Slot.{Slot}
 use Rattle.fact_store.specs.declared.slot.Kept.{Kept}
 use Rattle.fact_store.specs.declared.given.Gave.{Gave}
 use Rattle.fact_store.specs.declared.plan.Plan.{Plan}
-use Rattle.fact_store.specs.Names.{has}
-use Rattle.fact_store.specs.States.{State, same_given}
-use Rattle.fact_store.specs.Values.{needs_or_none}
+use Rattle.fact_values.specs.Names.{has}
+use Rattle.fact_values.specs.States.{State, same_given}
+use Rattle.fact_values.specs.Values.{needs_or_none}
 use Rattle.fact_store.specs.Given.{states}
 use Rattle.fact_store.specs.Slots.{texts_of, IsSound, AreSound, is_settled}
 use Rattle.fact_store.specs.Plans.{is_marked, AreEdges, AreRanks, AreGrounds}

@@ -4,9 +4,9 @@ use Rattle.std.specs.Arc.{arc_value}
 use Rattle.std.specs.FinMap.{from_entries}
 use Rattle.fact_store.specs.declared.slot.Slot.{Slot}
 use Rattle.fact_store.specs.declared.slot.Kept.{Kept}
-use Rattle.fact_store.specs.Names.{name_eq, Texts}
-use Rattle.fact_store.specs.States.{State, same_given}
-use Rattle.fact_store.specs.Values.{given_in}
+use Rattle.fact_values.specs.Names.{name_eq, Texts}
+use Rattle.fact_values.specs.States.{State, same_given}
+use Rattle.fact_values.specs.Values.{given_in}
 use Rattle.fact_store.specs.Given.{states}
 
 -- the bytes from which a fact was made, in a slot that has these now

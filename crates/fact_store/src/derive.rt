@@ -1,7 +1,7 @@
 ghost use Rattle.std.specs.Prelude.{◌≡◌, ◌≤◌, ◌+◌, ℕ, List, Option, Bool, true, IfOk};
-ghost use Rattle.fact_store.specs.States.{State, same_given};
+ghost use Rattle.fact_values.specs.States.{State, same_given};
 ghost use Rattle.fact_store.specs.Given.{states};
-ghost use Rattle.fact_store.specs.Values.{ComesFromTexts};
+ghost use Rattle.fact_values.specs.Values.{ComesFromTexts};
 
 use crate::given::Given;
 use std::alloc::Global;

@@ -2,10 +2,10 @@
 ghost use Rattle.std.specs.Prelude.{◌≡◌, ℕ, ◌+◌, ◌<◌, ◌≤◌, ◌||◌, true, Option, Some, None, IfOk, OnOk, OnErr, length, vec_len, map, if◌then◌else◌, option_map};
 ghost use Rattle.std.specs.Arc.{arc_value};
 ghost use Rattle.std.specs.List.{slice_get};
-ghost use Rattle.fact_store.specs.Names.{has};
-ghost use Rattle.fact_store.specs.States.{same_state, same_given};
+ghost use Rattle.fact_values.specs.Names.{has};
+ghost use Rattle.fact_values.specs.States.{same_state, same_given};
 ghost use Rattle.fact_store.specs.Given.{gave_state, states};
-ghost use Rattle.fact_store.specs.Values.{needs_or_none, gives, value, given_in, ComesFromTexts};
+ghost use Rattle.fact_values.specs.Values.{needs_or_none, gives, value, given_in, ComesFromTexts};
 ghost use Rattle.fact_store.specs.Slots.{texts_of, IsSound, owed};
 ghost use Rattle.fact_store.specs.Right.{outlines, IsPlan, IsDone, IsReady, IsRight, Keeps};
 ghost use Rattle.fact_store.specs.Plans.{is_marked};

@@ -14,7 +14,6 @@ mod derive;
 mod fresh;
 mod given;
 mod graph;
-mod laws;
 mod order;
 mod plan;
 mod shelf;
@@ -24,5 +23,4 @@ mod texts;
 
 pub use derive::Derive;
 pub use given::{Answer, Gave, Given};
-pub use laws::{reach_is_paths, values_unfold};
 pub use store::FactStore;

@@ -1,7 +1,7 @@
 // What is found of the present texts.
 ghost use Rattle.std.specs.Prelude.{◌≡◌, ◌<◌, All, IfOk, length};
 ghost use Rattle.fact_store.specs.Slots.{AreDistinct};
-ghost use Rattle.fact_store.specs.Values.{needs_or_none};
+ghost use Rattle.fact_values.specs.Values.{needs_or_none};
 ghost use Rattle.fact_store.specs.Plans.{IsRow, AreEdges, AreRanks, AreGrounds, IsGround, HasPlaces};
 ghost use Rattle.fact_store.specs.Right.{IsPlan};
 

@@ -1,5 +1,5 @@
 ghost use Rattle.std.specs.Prelude.{◌≡◌};
-ghost use Rattle.fact_store.specs.Names.{name_eq};
+ghost use Rattle.fact_values.specs.Names.{name_eq};
 ghost use Rattle.fact_store.specs.Slots as slots_of;
 ghost use Rattle.fact_store.specs.Right as rules;
 

@@ -1,6 +1,6 @@
 ghost use Rattle.std.specs.Prelude.{◌≡◌, ℕ, ◌+◌, ◌<◌, ◌≤◌, true, Option, Some, None, IfOk, OnOk, OnErr, length, vec_len, slice_get, option_copied};
 ghost use Rattle.std.specs.FinMap as map;
-ghost use Rattle.fact_store.specs.Values.{value, dirty};
+ghost use Rattle.fact_values.specs.Values.{value, dirty};
 ghost use Rattle.fact_store.specs.Given.{answer_state};
 ghost use Rattle.fact_store.specs.Slots.{texts_of, owed};
 ghost use Rattle.fact_store.specs.Plans.{is_marked};

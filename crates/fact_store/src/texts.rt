@@ -1,7 +1,7 @@
 // Texts that are put, and removed.
 ghost use Rattle.std.specs.Prelude.{◌≡◌, ℕ, ◌+◌, ◌<◌, ◌≤◌, true, Option, Some, None, IfOk, OnOk, OnErr, IsTrue, length, vec_len, map, remove, slice_get, slice_set};
 ghost use Rattle.std.specs.FinMap as map;
-ghost use Rattle.fact_store.specs.Values.{dirty};
+ghost use Rattle.fact_values.specs.Values.{dirty};
 ghost use Rattle.fact_store.specs.Slots.{texts_of, owed, AreSound};
 ghost use Rattle.fact_store.specs.Slots as slots_of;
 ghost use Rattle.fact_store.specs.Right.{HoldsPlan};

@@ -2,7 +2,7 @@ use Rattle.std.proofs.Common.{refl, sym, ap, ◌∙◌, arith}
 use Rattle.std.proofs.lemmas.Option.{slice_get_within}
 use Rattle.list_laws.proofs.Options.{none-there, some-there}
 use Rattle.fact_store.specs.declared.slot.Slot.{Slot}
-use Rattle.fact_store.specs.States.{fact}
+use Rattle.fact_values.specs.States.{fact}
 use Rattle.fact_store.proofs.Gifts.{gives-none}
 use Rattle.fact_store.proofs.GaveLemmas.{gave-cyclic, gave-broken, gave-kept, gave-fact, one_at}
 use Rattle.fact_store.proofs.Rows.{slot_at}

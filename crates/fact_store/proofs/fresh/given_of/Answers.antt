@@ -1,7 +1,7 @@
 use Rattle.std.proofs.Common.{◌≡◌, ℕ, ◌≤◌, List, length, sym, ap, ◌∙◌, arith}
 use Rattle.fact_store.specs.declared.slot.Slot.{Slot}
-use Rattle.fact_store.specs.Names.{has}
-use Rattle.fact_store.specs.Values.{needs_or_none, gives, all_given, value}
+use Rattle.fact_values.specs.Names.{has}
+use Rattle.fact_values.specs.Values.{needs_or_none, gives, all_given, value}
 use Rattle.fact_store.specs.Slots.{texts_of}
 use Rattle.fact_store.proofs.GaveLemmas.{one_at}
 use Rattle.fact_store.proofs.Pairs.{has-read, all_given-more}

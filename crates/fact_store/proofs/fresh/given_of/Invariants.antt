@@ -1,6 +1,6 @@
 use Rattle.std.proofs.Common.{◌≡◌, Some, take}
 use Rattle.std.specs.Prelude.{slice_get}
-use Rattle.fact_store.specs.Values.{all_given, value}
+use Rattle.fact_values.specs.Values.{all_given, value}
 use Rattle.fact_store.specs.Given.{states}
 use Rattle.fact_store.specs.Slots.{texts_of}
 use Rattle.fact_store.proofs.fresh.given_of.Given as goal

@@ -1,5 +1,5 @@
 use Rattle.std.proofs.Common.{◌≡◌, drop}
-use Rattle.fact_store.specs.States.{same_given}
+use Rattle.fact_values.specs.States.{same_given}
 use Rattle.fact_store.specs.Given.{states}
 use Rattle.fact_store.proofs.fresh.same_pairs.Given as goal
 

@@ -1,9 +1,9 @@
 use Rattle.std.proofs.Common.{sym, ap, ◌∙◌}
 use Rattle.list_laws.proofs.Options.{none-there, some-there}
 use Rattle.fact_store.specs.declared.slot.Slot.{Slot}
-use Rattle.fact_store.specs.States.{fact}
+use Rattle.fact_values.specs.States.{fact}
 use Rattle.fact_store.specs.Slots.{texts_of}
-use Rattle.fact_store.specs.Values.{value}
+use Rattle.fact_values.specs.Values.{value}
 use Rattle.fact_store.proofs.Gifts.{value-broken}
 use Rattle.fact_store.proofs.GaveLemmas.{done-kept, done-value, one_at}
 use Rattle.fact_store.proofs.store.fact_at.Goals as goal

@@ -1,7 +1,7 @@
 use Rattle.std.proofs.Common.{◌≤◌, List, Bool, sym, ap, ◌∙◌, subst, arith}
 use Rattle.std.proofs.lemmas.Option.{slice_get_within}
 use Rattle.std.proofs.lemmas.Result.{IfOk-weaker}
-use Rattle.fact_store.specs.Values.{value}
+use Rattle.fact_values.specs.Values.{value}
 use Rattle.std.specs.FinMap.{len}
 use Rattle.fact_store.specs.Slots.{texts_of, owed}
 use Rattle.fact_store.proofs.Dirt.{owed-le}

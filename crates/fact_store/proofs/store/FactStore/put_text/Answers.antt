@@ -1,7 +1,7 @@
 use Rattle.std.proofs.Common.{◌+◌, ◌≤◌, List, Option, sym, ap, subst}
 use Rattle.fact_store.specs.declared.slot.Slot.{Slot}
 use Rattle.fact_store.specs.declared.plan.Plan.{Plan}
-use Rattle.fact_store.specs.Values.{dirty}
+use Rattle.fact_values.specs.Values.{dirty}
 use Rattle.fact_store.specs.Slots.{texts_of, AreSound, owed}
 use Rattle.fact_store.specs.Right.{HoldsPlan}
 use Rattle.fact_store.proofs.Dirt.{owed-le}

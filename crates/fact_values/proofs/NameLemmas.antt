@@ -8,7 +8,7 @@ use Rattle.std.specs.Cmp.Lexicographic.{nat_list_cmp_total}
 use Rattle.std.specs.Cmp.{eq_by_cmp_equiv}
 use Rattle.std.specs.FinMap.{nat_cmp-IsAntisymmetric, slice_cmp-IsAntisymmetric}
 use Rattle.list_laws.proofs.Tests.{equal-is}
-use Rattle.fact_store.specs.Names.{name_cmp, name_eq, has}
+use Rattle.fact_values.specs.Names.{name_cmp, name_eq, has}
 
 -- a test is true or false
 pub true_or_false : (b : Bool) → (b ≡ true) ⊎ (b ≡ false)

@@ -1,6 +1,6 @@
 -- What leads where, by needs.
 use Rattle.std.specs.Prelude.{◌≡◌, ℕ, Bool, ◌||◌, ◌&&◌, List, [], ◌∷◌, IsTrue, count_by}
-use Rattle.fact_store.specs.Names.{name_eq, has}
+use Rattle.fact_values.specs.Names.{name_eq, has}
 
 module _ (needs : List ℕ → List (List ℕ)) where
   -- each of these names is needed by the one before it, from a to b

@@ -2,9 +2,9 @@
 use Rattle.std.specs.Prelude.{ℕ, Bool, true, false, ◌&&◌, not, ◌≡◌, IsSome, if◌then◌else◌, List, [], Option, Some, None, map, count_by}
 use Rattle.std.specs.FinMap.{get, keys}
 use Rattle.order_rec.specs.Ranked.{ranked}
-use Rattle.fact_store.specs.Names.{name_eq, Texts}
-use Rattle.fact_store.specs.Reach.{leads, rank}
-use Rattle.fact_store.specs.States.{State, no_text, cyclic, broken, fact, same_given}
+use Rattle.fact_values.specs.Names.{name_eq, Texts}
+use Rattle.fact_values.specs.Reach.{leads, rank}
+use Rattle.fact_values.specs.States.{State, no_text, cyclic, broken, fact, same_given}
 
 -- the needs of an own part, of which a broken one has none
 abbrev pub needs_or_none : Option (List (List ℕ)) → List (List ℕ)

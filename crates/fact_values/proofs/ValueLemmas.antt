@@ -5,12 +5,12 @@ use Rattle.std.specs.FinMap.{get, keys, contains_key-keys}
 use Rattle.order_rec.specs.Ranked.{lower, ranked}
 use Rattle.order_rec.proofs.Rank.{ranked-step, lower-lt}
 use Rattle.list_laws.proofs.Tests.{or-right}
-use Rattle.fact_store.specs.Names.{name_eq, has, Texts}
-use Rattle.fact_store.specs.Reach.{rank}
-use Rattle.fact_store.specs.States.{State, no_text, cyclic, fact}
-use Rattle.fact_store.specs.Values.{needs_or_none, needs_of_text, needs_in, reaches, gives, value_of_needs, value_of_text, value}
-use Rattle.fact_store.proofs.NameLemmas.{true_or_false, has_head}
-use Rattle.fact_store.proofs.ReachLemmas.{leads-need, rank-lt}
+use Rattle.fact_values.specs.Names.{name_eq, has, Texts}
+use Rattle.fact_values.specs.Reach.{rank}
+use Rattle.fact_values.specs.States.{State, no_text, cyclic, fact}
+use Rattle.fact_values.specs.Values.{needs_or_none, needs_of_text, needs_in, reaches, gives, value_of_needs, value_of_text, value}
+use Rattle.fact_values.proofs.NameLemmas.{true_or_false, has_head}
+use Rattle.fact_values.proofs.ReachLemmas.{leads-need, rank-lt}
 
 -- only what is among the names counts
 pub map-same : {B : Type 0} (f g : List ℕ → B) (xs : List (List ℕ)) → ((x : List ℕ) → has xs x ≡ true → f x ≡ g x) → map f xs ≡ map g xs

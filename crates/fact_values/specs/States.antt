@@ -1,6 +1,6 @@
 -- What a name gives to those that need it, and its value.
 use Rattle.std.specs.Prelude.{ℕ, Bool, true, false, ◌&&◌, List, [], ◌∷◌}
-use Rattle.fact_store.specs.Names.{name_eq}
+use Rattle.fact_values.specs.Names.{name_eq}
 
 -- there is no text, the need leads back to the one that needs, the text is broken, or a fact
 pub data State (F : Type 0) : Type 0 where

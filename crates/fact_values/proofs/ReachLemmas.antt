@@ -3,9 +3,9 @@ use Rattle.std.proofs.Common.{◌≡◌, ℕ, ◌≤◌, ◌<◌, Bool, true, fa
 use Rattle.std.specs.Prelude.{◌||◌, ◌&&◌, count_by}
 use Rattle.std.proofs.lemmas.List.Sums.{sum_by-cons}
 use Rattle.list_laws.proofs.Tests.{and-left, and-right, or-right}
-use Rattle.fact_store.specs.Names.{name_eq, has}
-use Rattle.fact_store.specs.Reach.{IsPath, Reaches, leads, rank}
-use Rattle.fact_store.proofs.NameLemmas.{true_or_false, same_name, name_eq-refl, or_left, or_cases, and_both}
+use Rattle.fact_values.specs.Names.{name_eq, has}
+use Rattle.fact_values.specs.Reach.{IsPath, Reaches, leads, rank}
+use Rattle.fact_values.proofs.NameLemmas.{true_or_false, same_name, name_eq-refl, or_left, or_cases, and_both}
 
 -- what a test adds to a count
 abbrev one : Bool → ℕ

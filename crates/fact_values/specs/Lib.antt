@@ -1,0 +1,4 @@
+pub mod Names
+pub mod Reach
+pub mod States
+pub mod Values
