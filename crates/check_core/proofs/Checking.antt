@@ -19,7 +19,7 @@ use Rattle.module_model.specs.Parts.{Held, last}
 use Rattle.module_model.specs.Resolution.{findings, outside_in}
 use Rattle.module_graph.specs.Imports.{imports_of}
 use Rattle.unit_grammar.specs.Units.{ModuleUnits}
-use Rattle.check_core.specs.Checks.{CheckedModule, IsChecked, files_given, given_by, given_in, import_faults, or_else, outside_by, unless_any}
+use Rattle.module_facts.specs.Checks.{CheckedModule, IsChecked, files_given, given_by, given_in, import_faults, or_else, outside_by, unless_any}
 use Rattle.check_core.specs.Faces.{IsFace, IsFaceOf, bare, is_among, key_in, keys_in, with_face, with_import, with_imports, with_part, with_parts}
 use Rattle.check_core.specs.Outcomes.{IsRefused, IsResolved}
 use Rattle.module_model.proofs.Ordering.{none-at-all}

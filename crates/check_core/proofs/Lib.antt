@@ -2,4 +2,3 @@ mod Lying
 mod Holding
 mod Checking
 mod Facing
-mod Standing

@@ -1,4 +1,3 @@
-pub mod Checks
 pub mod Codes
 pub mod Faces
 pub mod Outcomes

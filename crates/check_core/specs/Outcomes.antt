@@ -7,7 +7,7 @@ use Rattle.module_model.specs.Exports.{files_of}
 use Rattle.module_model.specs.Imports.{Imports}
 use Rattle.module_model.specs.Modules.{text_of}
 use Rattle.module_model.specs.Resolution.{findings}
-use Rattle.check_core.specs.Checks.{CheckedModule}
+use Rattle.module_facts.specs.Checks.{CheckedModule}
 use Rattle.check_core.specs.Faces.{IsFaceOf}
 use Rattle.unit_grammar.specs.Units.{ModuleUnits}
 

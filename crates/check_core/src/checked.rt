@@ -5,7 +5,7 @@ ghost use Rattle.tla_model.specs.Lexemes.{spelled};
 ghost use Rattle.symbol_scope.specs.Given.{IsReadable, IsWithoutInstances};
 ghost use Rattle.module_model.specs.Exports.{parts_behind};
 ghost use Rattle.module_graph.specs.Imports.{imports_of};
-ghost use Rattle.check_core.specs.Checks.{IsChecked, given_in};
+ghost use Rattle.module_facts.specs.Checks.{IsChecked, given_in};
 ghost use Rattle.check_core.specs.Faces.{IsFaceBy, IsFaceOf};
 ghost use Rattle.check_core.specs.Outcomes.{IsRefused, IsResolved};
 ghost use Rattle.std.specs.Arc.{arc_value};
@@ -35,7 +35,7 @@ pub struct Checked {
 }
 
 impl Model for Checked {
-    ghost use Rattle.check_core.specs.Checks.{CheckedModule};
+    ghost use Rattle.module_facts.specs.Checks.{CheckedModule};
     ghost use Rattle.std.specs.Arc.{arc_value};
 
     ghost Value = { CheckedModule };

@@ -6,8 +6,8 @@ ghost use Rattle.tla_model.specs.Lexemes.{LiesIn};
 ghost use Rattle.unit_grammar.specs.UnitNodes.{module_of};
 ghost use Rattle.module_graph.specs.Imports.{imports_of};
 ghost use Rattle.symbol_scope.specs.Given.{IsReadable};
-ghost use Rattle.check_core.specs.Checks.{cyclic_at, faults_of_imports, given_by, given_in, import_fault};
-ghost use Rattle.check_core.specs.Checks as faults_of;
+ghost use Rattle.module_facts.specs.Checks.{cyclic_at, faults_of_imports, given_by, given_in, import_fault};
+ghost use Rattle.module_facts.specs.Checks as faults_of;
 ghost use Rattle.check_core.specs.Codes.{coded};
 
 use module_graph::{enclosing, imports_are_lexemes, lexemes_lie_names};

@@ -7,8 +7,6 @@
 mod checked;
 mod face;
 mod imports;
-mod laws;
 mod parts;
 
 pub use checked::{Checked, check_module};
-pub use laws::{faults_stand_at_lexemes, none_in_order, one_order};

@@ -16,7 +16,7 @@ use Rattle.tla_front.specs.Fronts.{Front, Tree, Fault, IsFront, read}
 use Rattle.unit_grammar.specs.Units.{ModuleUnits}
 use Rattle.unit_grammar.specs.UnitNodes.{module_of}
 use Rattle.tla_model.specs.ModuleNames.{holds_instance}
-use Rattle.check_core.specs.Checks.{Given, all_faults}
+use Rattle.module_facts.specs.Checks.{Given, all_faults}
 use Rattle.list_laws.proofs.Lists.{contains-map}
 use Rattle.family_check.specs.Family.{Member, Diagnosed, is_there}
 use Rattle.family_check.specs.Modules.{Entry, IsEntry, IsReading, AreModules, tree_count, reading_holds_instance}

@@ -17,7 +17,7 @@ use Rattle.tla_front.specs.Fronts.{Tree, Fault, IsFront}
 use Rattle.unit_grammar.specs.Units.{ModuleUnits}
 use Rattle.unit_grammar.specs.UnitNodes.{module_of}
 use Rattle.tool_list.specs.declared.Memory.{Memory}
-use Rattle.check_core.specs.Checks.{Given, CheckedModule, IsChecked, all_faults, files_given, given_in}
+use Rattle.module_facts.specs.Checks.{Given, CheckedModule, IsChecked, all_faults, files_given, given_in}
 use Rattle.list_laws.proofs.Lists.{contains-map}
 use Rattle.list_laws.proofs.Texts.{same-text, text-itself}
 use Rattle.family_check.specs.Family as families

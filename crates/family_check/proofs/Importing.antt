@@ -10,7 +10,7 @@ use Rattle.std.proofs.lemmas.List.Elements.{Contains-append_left, Contains-appen
 use Rattle.module_model.specs.declared.imported.Import.{Import}
 use Rattle.module_model.specs.Exports.{face_outside, import_behind}
 use Rattle.module_model.specs.Imports.{Imports, import_of}
-use Rattle.check_core.specs.Checks.{Given, Unknown, Cyclic, Refused, Accepted, given_by, given_in}
+use Rattle.module_facts.specs.Checks.{Given, Unknown, Cyclic, Refused, Accepted, given_by, given_in}
 use Rattle.list_laws.proofs.Texts.{same-text, text-itself}
 use Rattle.family_check.specs.Family as families
 use Rattle.family_check.specs.Family.{Member, IsGiven, unknown, cyclic, refused, accepted, is_there}

@@ -10,7 +10,7 @@ use Rattle.module_model.specs.Exports.{nothing}
 use Rattle.module_model.specs.Resolution.{outside_in}
 use Rattle.module_graph.specs.Family.{last, more}
 use Rattle.tla_front.specs.Fronts.{Front, IsFront, Tree, Fault, MOST_TEXT, fault_at, greatest, not_utf8, readable_len, too_large}
-use Rattle.check_core.specs.Checks.{Given, Unknown, Cyclic, Refused, Accepted, all_faults, files_given}
+use Rattle.module_facts.specs.Checks.{Given, Unknown, Cyclic, Refused, Accepted, all_faults, files_given}
 use Rattle.family_check.specs.Family.{Member, Needs, Reaches, IsCyclic, Diagnosed, IsGiven, unknown, cyclic, refused, accepted, IsDiagnosed, front_fault, checked, is_there}
 use Rattle.family_check.specs.Verdicts.{AreDistinct, AreVerdicts, IsVerdict, family_of, member_of, text_of}
 use Rattle.family_check.specs.declared.verdict.File.{File}

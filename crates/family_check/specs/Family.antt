@@ -11,7 +11,7 @@ use Rattle.module_graph.specs.Family.{Leads}
 use Rattle.module_graph.specs.Imports.{imports_of}
 use Rattle.tla_front.specs.Fronts.{IsFront, Tree, Fault}
 use Rattle.unit_grammar.specs.Units.{ModuleUnits}
-use Rattle.check_core.specs.Checks.{Given, Unknown, Cyclic, Refused, Accepted, all_faults, files_given}
+use Rattle.module_facts.specs.Checks.{Given, Unknown, Cyclic, Refused, Accepted, all_faults, files_given}
 
 -- a module's text under its name
 pub record Member : Type 0 where

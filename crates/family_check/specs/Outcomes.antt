@@ -6,7 +6,7 @@ use Rattle.tla_model.specs.declared.Diagnostic.{Diagnostic}
 use Rattle.module_model.specs.declared.imported.Import.{Import}
 use Rattle.module_model.specs.Exports.{Outside, face_outside, import_behind, parts_behind}
 use Rattle.module_model.specs.Imports.{Imports, import_of}
-use Rattle.check_core.specs.Checks.{Unknown, given_by, given_in}
+use Rattle.module_facts.specs.Checks.{Unknown, given_by, given_in}
 use Rattle.family_check.specs.Family as families
 use Rattle.family_check.specs.Family.{Member, Diagnosed, IsDiagnosed, IsGiven, is_there}
 use Rattle.family_check.specs.Modules.{Entry, IsModule, IsReading, reading_holds_instance, tree_count}

@@ -10,7 +10,7 @@ use crate::outcomes::check_all;
 use crate::read::{Module, Reading, read_family};
 use crate::table::Table;
 use crate::verdict::{File, Verdict, verdicts_of};
-use check_core::faults_stand_at_lexemes;
+use module_facts::faults_stand_at_lexemes;
 use module_graph::holds_instance;
 use std::alloc::Global;
 use step_count::Steps;

@@ -5,7 +5,7 @@ ghost use Rattle.family_check.specs.Verdicts.{AreDistinct, AreVerdicts, family_o
 ghost use Rattle.family_check.specs.declared.verdict.File.{File};
 ghost use Rattle.family_check.specs.declared.verdict.Verdict.{Verdict};
 
-use check_core::one_order;
+use module_facts::one_order;
 
 /// No two modules of the files over the built-in ones have one name, where no two files do.
 pub fn names_differ()

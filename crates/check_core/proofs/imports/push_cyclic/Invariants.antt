@@ -1,5 +1,5 @@
 use Rattle.std.proofs.Common.{◌≡◌, ◌++◌, drop}
-use Rattle.check_core.specs.Checks.{cyclic_at}
+use Rattle.module_facts.specs.Checks.{cyclic_at}
 use Rattle.check_core.proofs.imports.push_cyclic.Given as goal
 
 abbrev pub invariant-loop-name : goal.invariant-loop-name

@@ -1,5 +1,5 @@
 use Rattle.std.proofs.Common.{◌≡◌, ◌++◌, drop}
-use Rattle.check_core.specs.Checks.{faults_of_imports, given_in}
+use Rattle.module_facts.specs.Checks.{faults_of_imports, given_in}
 use Rattle.check_core.proofs.imports.push_faults.Given as goal
 
 abbrev pub invariant-loop-name : goal.invariant-loop-name

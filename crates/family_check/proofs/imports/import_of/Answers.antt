@@ -1,5 +1,5 @@
 use Rattle.std.proofs.Common.{◌∙◌, ap, refl, sym, Some}
-use Rattle.check_core.specs.Checks.{Accepted, Refused}
+use Rattle.module_facts.specs.Checks.{Accepted, Refused}
 use Rattle.module_model.specs.Exports.{face_outside, parts_behind}
 use Rattle.std.specs.Arc.{arc_value}
 use Rattle.module_model.specs.declared.face.Face.{Face}

@@ -1,6 +1,6 @@
 use Rattle.std.proofs.Common.{◌+◌, ◌∙◌, ap, subst, sym, take}
 use Rattle.std.proofs.lemmas.List.{take_all}
-use Rattle.check_core.specs.Checks.{given_by}
+use Rattle.module_facts.specs.Checks.{given_by}
 use Rattle.family_check.specs.Outcomes.{AreBareImports}
 use Rattle.module_model.specs.Imports.{import_of}
 use Rattle.family_check.proofs.Importing.{AreGiven, AreOthers, bare-more, given-again, given-more, item-needed, none-from, others-again, others-more, some-from}

@@ -1,6 +1,6 @@
 use Rattle.std.proofs.Common.{◌≡◌, ℕ, List, None, take}
 use Rattle.std.specs.Prelude.{Contains}
-use Rattle.check_core.specs.Checks.{given_in}
+use Rattle.module_facts.specs.Checks.{given_in}
 use Rattle.module_model.specs.Imports.{import_of}
 use Rattle.family_check.specs.Family as families
 use Rattle.family_check.specs.Family.{Member, IsGiven}

@@ -5,7 +5,8 @@ ghost use Rattle.unit_grammar.specs.Units.{ModuleUnits};
 ghost use Rattle.tla_model.specs.declared.Diagnostic.{Diagnostic};
 ghost use Rattle.module_model.specs.Bindings.{AreInOrder};
 ghost use Rattle.tla_model.specs.Lexemes.{module_lexemes};
-ghost use Rattle.check_core.specs.Checks.{Given, all_faults};
+ghost use Rattle.module_facts.specs.Checks.{Given, all_faults};
+ghost use Rattle.module_facts.specs.Ordered as ordered;
 
 use model_laws::faults_at_lexemes;
 use module_graph::{enclosing_are_lexemes, imports_are_lexemes};
@@ -13,6 +14,12 @@ use module_graph::{enclosing_are_lexemes, imports_are_lexemes};
 /// Diagnostics have one order.
 pub fn one_order()
     ensures { (all found other : List Diagnostic) → AreInOrder all found → AreInOrder all other → found ≡ other }
+{}
+
+/// Diagnostics are put in order by `in_order`, and in no other way.
+pub fn in_order()
+    ensures are { (all : List Diagnostic) → AreInOrder all (ordered.in_order all) }
+    ensures no_other { (all found : List Diagnostic) → AreInOrder all found → found ≡ ordered.in_order all }
 {}
 
 /// Where there are no diagnostics, there are none in order, and the other way round.

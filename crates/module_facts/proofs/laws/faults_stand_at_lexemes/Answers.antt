@@ -1,6 +1,6 @@
-use Rattle.check_core.specs.Checks.{files_given}
-use Rattle.check_core.proofs.Standing.{all-stand}
-use Rattle.check_core.proofs.laws.faults_stand_at_lexemes.Goals as goal
+use Rattle.module_facts.specs.Checks.{files_given}
+use Rattle.module_facts.proofs.Standing.{all-stand}
+use Rattle.module_facts.proofs.laws.faults_stand_at_lexemes.Goals as goal
 
 pub returns : goal.returns
 returns c = λ given source units.

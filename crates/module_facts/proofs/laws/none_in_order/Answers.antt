@@ -1,5 +1,5 @@
 use Rattle.module_model.proofs.Ordering.{none-found, none-at-all}
-use Rattle.check_core.proofs.laws.none_in_order.Goals as goal
+use Rattle.module_facts.proofs.laws.none_in_order.Goals as goal
 
 pub returns-clause-none : goal.returns-clause-none
 returns-clause-none c = none-found

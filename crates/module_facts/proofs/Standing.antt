@@ -12,7 +12,7 @@ use Rattle.module_model.specs.Resolution.{findings}
 use Rattle.module_graph.specs.Imports.{enclosing_of, imports_of}
 use Rattle.unit_grammar.specs.Units.{ModuleUnits}
 use Rattle.list_laws.proofs.Lists.{contains-map}
-use Rattle.check_core.specs.Checks.{Given, Unknown, Cyclic, Refused, Accepted, all_faults, cyclic_at, faults_of_imports, files_given, import_fault, import_faults, or_else}
+use Rattle.module_facts.specs.Checks.{Given, Unknown, Cyclic, Refused, Accepted, all_faults, cyclic_at, faults_of_imports, files_given, import_fault, import_faults, or_else}
 
 module _ (P : Span → Type 0) where
   abbrev Stands : Diagnostic → Type 0
