@@ -1,10 +1,10 @@
 -- What is answered on the files of a family.
 use Rattle.std.proofs.Common.{◌≡◌, ◌<◌, ◌≤◌, ◌^◌, ◌-◌, min, ℕ, zero, suc, ◌+◌, List, [], ◌∷◌, Some, Result, Ok, Err, IfOk, refl, sym, ap, ◌∙◌, map, filter, not, take, get_or, arith, true, false, Bool, ◌||◌, subst}
-use Rattle.std.specs.Prelude.{Contains, slice_get}
+use Rattle.std.specs.Prelude.{Contains, slice_get, sum_by}
 use Rattle.std.specs.List.{All, AllZip, list_any}
 use Rattle.std.proofs.Math.Seq.{take-length}
 use Rattle.std.proofs.lemmas.Bool.{both_ways}
-use Rattle.std.proofs.lemmas.List.Elements.{Contains-append_left}
+use Rattle.std.proofs.lemmas.List.Sums.{sum_by-cons}
 use Rattle.std.proofs.lemmas.Option.{slice_get-get_or}
 use Rattle.tool_list.specs.declared.Memory.{Memory}
 use Rattle.tla_lexeme.specs.Spans.{IsPlaced}
@@ -17,22 +17,24 @@ use Rattle.unit_grammar.specs.Units.{ModuleUnits}
 use Rattle.unit_grammar.specs.UnitNodes.{module_of}
 use Rattle.tla_model.specs.ModuleNames.{holds_instance}
 use Rattle.module_facts.specs.Checks.{Given, all_faults}
-use Rattle.list_laws.proofs.Lists.{contains-map}
-use Rattle.family_check.specs.Family.{Member, Diagnosed, is_there}
+use Rattle.family_facts.specs.Family.{Member, Diagnosed, is_there}
 use Rattle.family_check.specs.Modules.{Entry, IsEntry, IsReading, AreModules, tree_count, reading_holds_instance}
 use Rattle.family_check.specs.Outcomes.{AreOutcomes, AreWithoutInstances, IsSaid, IsSomeModule, Says, after_ticks, faults_of, trees_in}
-use Rattle.family_check.specs.Verdicts.{AreFronts, AreVerdicts, HoldsInstance, IsStepped, IsVerdict, IsVerdictPlaced, check_count, checks_of, built_in_members, family_of, member_of, text_of}
+use Rattle.family_facts.specs.Facts.{front_holds, some_instance}
+use Rattle.family_facts.specs.Fronts.{front_of}
+use Rattle.family_facts.specs.Verdicts.{AreVerdicts, IsVerdict, IsVerdictPlaced, after_checks, check_count, checks_of, family_of, member_of, text_of, verdicts_on}
 use Rattle.family_check.specs.declared.outcomes.Outcome.{Outcome}
 use Rattle.family_check.specs.declared.outcomes.Outcome.TheVariants as outcome
 use Rattle.family_check.specs.declared.read.Reading.TheVariants as reading
-use Rattle.family_check.specs.declared.verdict.File.{File}
-use Rattle.family_check.specs.declared.verdict.Verdict.{Verdict}
-use Rattle.family_check.proofs.Lists.{at-contains, behind, contains-at, here, zip-left, zip-right}
-use Rattle.family_check.proofs.Members.{AreOneEach, member-there}
-use Rattle.family_check.proofs.OneVerdict.{HasNoOther, IsCheckedOf, Found, of_fault, of_tree, found-of, fault-same, tree-same, tree-no-fault}
+use Rattle.family_facts.specs.declared.verdict.File.{File}
+use Rattle.family_facts.specs.declared.verdict.Verdict.{Verdict}
+use Rattle.family_facts.proofs.Lists.{at-contains, behind, contains-at, here, zip-left, zip-right}
+use Rattle.family_facts.proofs.FrontLaws.{front-is}
+use Rattle.family_facts.proofs.Members.{AreOneEach, member-there}
+use Rattle.family_facts.proofs.Saying.{file-there}
+use Rattle.family_facts.proofs.OneVerdict.{HasNoOther, IsCheckedOf, Found, of_fault, of_tree, found-of, fault-same, tree-same, tree-no-fault}
 use Rattle.family_check.proofs.Checking.{ticks-within}
 use Rattle.family_check.proofs.Lying.{span-placed}
-use Rattle.family_check.proofs.Sums.{sum-map}
 
 all-by : {A : Type 0} (P : A → Type 0) (xs : List A) → ((x : A) → Contains xs x → P x) → All P xs
 all-by P xs f = λ k d l. f (get_or xs k d) (at-contains xs k (get_or xs k d) (slice_get-get_or xs k d l))
@@ -54,9 +56,6 @@ zip-map R S (x ∷ xs) (y ∷ ys) f h = (f x y (here x xs) h.0, zip-map R S xs y
 says-faults : (faults : List Diagnostic) (outside : Outside) (o : outcome.the_data) → Says faults outside o → faults_of (Some o) ≡ faults
 says-faults faults outside (outcome.Refused found) h = h.0
 says-faults faults outside (outcome.Accepted face) h = sym h.0
-
-pub file-there : (files : List File) (f : File) → Contains files f → Contains (family_of files) (member_of f)
-file-there files f h = Contains-append_left (map member_of files) (filter (λ m. not (is_there (map member_of files) m.name)) built_in_members) (member_of f) (contains-map member_of files f h)
 
 verdict-of : (files : List File) (outcomes : List (List ℕ × Outcome)) → AreOutcomes (family_of files) outcomes → (f : File) (v : Verdict) → Contains files f → IsSaid outcomes f v → IsVerdict (family_of files) f v
 verdict-of files outcomes are f v h said =
@@ -93,19 +92,19 @@ module _ (one : HasNoOther) (law : FaultsAtLexemes) (family : List Member) (m : 
       let same : module_of tree ≡ units = tree-same (one m.name m.bytes (Tree (module_of tree)) (Tree units) (subst (λ n. IsFront n m.bytes (Tree (module_of tree))) named is.front) front) in
       subst (λ (u : ModuleUnits). LexemesLie m.bytes u) same (subst (λ s. LexemesLie s (module_of tree)) is.source is.readable.lie)
 
-  tree-placed : (units : ModuleUnits) (d : Diagnosed family) → IsFront m.name m.bytes (Tree units) → LexemesLie m.bytes units → IsCheckedOf family m units d → (fault : Diagnostic) → Contains d.faults fault → IsPlaced (text_of m.bytes) fault.span
+  tree-placed : (units : ModuleUnits) (d : Diagnosed) → IsFront m.name m.bytes (Tree units) → LexemesLie m.bytes units → IsCheckedOf family m units d → (fault : Diagnostic) → Contains d.faults fault → IsPlaced (text_of m.bytes) fault.span
   tree-placed units d front lie k fault h =
-      let listed : Contains k.list fault = subst (λ (x : Diagnosed family). Contains x.faults fault) k.is h in
+      let listed : Contains k.list fault = subst (λ (x : Diagnosed). Contains x.faults fault) k.is h in
       let all : Contains (all_faults k.given m.bytes units) fault = (k.ordered.same fault).0 listed in
       subst (λ t. IsPlaced t fault.span) (sym (tree-text front)) (span-placed m.bytes units fault.span lie (all-at (λ (f : Diagnostic). Contains (map (λ (x : Lexeme). x.span) (module_lexemes units)) f.span) (all_faults k.given m.bytes units) fault (law k.given m.bytes units) all))
 
 module _ (one : HasNoOther) (law : FaultsAtLexemes) (family : List Member) (distinct : AreOneEach family) (entries : List Entry) (are : AreModules family entries) where
-  found-placed : (m : Member) (d : Diagnosed family) → Contains family m → Found family m.name d → (fault : Diagnostic) → Contains d.faults fault → IsPlaced (text_of m.bytes) fault.span
+  found-placed : (m : Member) (d : Diagnosed) → Contains family m → Found family m.name d → (fault : Diagnostic) → Contains d.faults fault → IsPlaced (text_of m.bytes) fault.span
   found-placed m d there (of_fault m' fault' there' named' front' is) fault h =
       let same : m' ≡ m = distinct m' m there' there named' in
       let front : IsFront m.name m.bytes (Fault fault') = subst (λ (x : Member). IsFront x.name x.bytes (Fault fault')) same front' in
       let e = zip-left IsEntry family entries m are there in
-      let at : fault' ≡ fault = one-fault fault' fault (subst (λ (x : Diagnosed family). Contains x.faults fault) is h) in
+      let at : fault' ≡ fault = one-fault fault' fault (subst (λ (x : Diagnosed). Contains x.faults fault) is h) in
       subst (λ (x : Diagnostic). IsPlaced (text_of m.bytes) x.span) at (fault-placed one law family m (e.0).0 (e.0).1.reading fault' (e.2).named (e.2).is.reading front)
     where
       one-fault : (x y : Diagnostic) → Contains (x ∷ []) y → x ≡ y
@@ -128,37 +127,38 @@ verdicts-placed one law files entries verdicts distinct are said = all-by IsVerd
 
 -- ---- steps
 
-front_of : reading.the_data → Front
-front_of (reading.Tree tree) = Tree (module_of tree)
-front_of (reading.Fault fault) = Fault fault
+front_in : reading.the_data → Front
+front_in (reading.Tree tree) = Tree (module_of tree)
+front_in (reading.Fault fault) = Fault fault
 
-front-is : (name bytes : List ℕ) (r : reading.the_data) → IsReading name bytes r → IsFront name bytes (front_of r)
-unfolding front_of
-front-is name bytes (reading.Tree tree) is = is.front
-front-is name bytes (reading.Fault fault) is = is.0
+front-in-is : (name bytes : List ℕ) (r : reading.the_data) → IsReading name bytes r → IsFront name bytes (front_in r)
+unfolding front_in
+front-in-is name bytes (reading.Tree tree) is = is.front
+front-in-is name bytes (reading.Fault fault) is = is.0
 
-front-count : (r : reading.the_data) → check_count (front_of r) ≡ tree_count r
-unfolding front_of
-front-count (reading.Tree tree) = refl
-front-count (reading.Fault fault) = refl
+-- what was read of a member is its front
+front-same : HasNoOther → (m : Member) (e : Entry) → IsEntry m e → front_in e.1.reading ≡ front_of m.name m.bytes
+front-same one m e is = one m.name m.bytes (front_in e.1.reading) (front_of m.name m.bytes) (subst (λ n. IsFront n m.bytes (front_in e.1.reading)) is.named (front-in-is e.0 m.bytes e.1.reading is.is.reading)) (front-is m.name m.bytes)
 
-fronts-are : (family : List Member) (entries : List Entry) → AreModules family entries → AreFronts family (map (λ (e : Entry). front_of e.1.reading) entries)
-fronts-are [] [] h = tt
-fronts-are [] (e ∷ entries) h = absurd h
-fronts-are (m ∷ family) [] h = absurd h
-fronts-are (m ∷ family) (e ∷ entries) h =
-    (subst (λ n. IsFront n m.bytes (front_of e.1.reading)) h.0.named (front-is e.0 m.bytes e.1.reading h.0.is.reading), fronts-are family entries h.1)
+count-in : (r : reading.the_data) → tree_count r ≡ check_count (front_in r)
+unfolding front_in
+count-in (reading.Tree tree) = refl
+count-in (reading.Fault fault) = refl
 
-pub steps-are : (files : List File) (entries : List Entry) (old new : ℕ) → AreModules (family_of files) entries → old < 2 ^ 64 → new ≡ after_ticks (trees_in entries) old → IsStepped files old new
-steps-are files entries old new are few ticks =
-    let front : Entry → Front = λ (e : Entry). front_of e.1.reading in
-    let count : checks_of (map front entries) ≡ trees_in entries = sum-map check_count front (λ (e : Entry). tree_count e.1.reading) entries (λ e h. front-count e.1.reading) in
+-- as many modules are checked as have a tree
+trees-same : HasNoOther → (family : List Member) (entries : List Entry) → AreModules family entries → trees_in entries ≡ sum_by (λ (m : Member). check_count (front_of m.name m.bytes)) family
+trees-same one [] [] h = refl
+trees-same one [] (e ∷ entries) h = absurd h
+trees-same one (m ∷ family) [] h = absurd h
+trees-same one (m ∷ family) (e ∷ entries) h =
+    let first : tree_count e.1.reading ≡ check_count (front_of m.name m.bytes) = count-in e.1.reading ∙ ap check_count (front-same one m e h.0) in
+    let rest = trees-same one family entries h.1 in
+    sum_by-cons (λ (x : Entry). tree_count x.1.reading) e entries ∙ ((λ i. first i + rest i) ∙ sym (sum_by-cons (λ (x : Member). check_count (front_of x.name x.bytes)) m family))
+
+pub steps-are : HasNoOther → (files : List File) (entries : List Entry) (old new : ℕ) → AreModules (family_of files) entries → old < 2 ^ 64 → new ≡ after_ticks (trees_in entries) old → new ≡ after_checks (checks_of files) old
+steps-are one files entries old new are few ticks =
     let l : old ≤ 2 ^ 64 - 1 = omega (arith, few) in
-    record {
-      fronts = map front entries;
-      are = fronts-are (family_of files) entries are;
-      steps = ticks ∙ (ticks-within (trees_in entries) old l ∙ ap (λ n. min (old + n) (2 ^ 64 - 1)) (sym count));
-    }
+    ticks ∙ (ticks-within (trees_in entries) old l ∙ ap (λ n. min (old + n) (2 ^ 64 - 1)) (trees-same one (family_of files) entries are))
 
 -- ---- INSTANCE
 
@@ -185,36 +185,20 @@ none-more (x ∷ xs) (suc i) e h n f = or-none (reading_holds_instance x.1.readi
 pub none-further : (entries : List Entry) (i : ℕ) (e : Entry) → slice_get entries i ≡ Some e → list_any (λ (x : Entry). reading_holds_instance x.1.reading) (take i entries) ≡ false → reading_holds_instance e.1.reading ≡ false → list_any (λ (x : Entry). reading_holds_instance x.1.reading) (take (i + 1) entries) ≡ false
 none-further entries i e h n f = let k : i + 1 ≡ suc i = omega arith in ap (λ j. list_any (λ (x : Entry). reading_holds_instance x.1.reading) (take j entries)) k ∙ none-more entries i e h n f
 
-reading-holds : (files : List File) (m : Member) (name : List ℕ) (r : reading.the_data) → Contains (family_of files) m → name ≡ m.name → IsReading name m.bytes r → reading_holds_instance r ≡ true → HoldsInstance files
-reading-holds files m name (reading.Tree tree) there named is t = record { member = m; found = module_of tree; there = there; front = subst (λ n. IsFront n m.bytes (Tree (module_of tree))) named is.front; holds = t }
-reading-holds files m name (reading.Fault fault) there named is t = cc
+holds-in : (r : reading.the_data) → reading_holds_instance r ≡ front_holds (front_in r)
+unfolding front_in
+holds-in (reading.Tree tree) = refl
+holds-in (reading.Fault fault) = refl
 
-holds-reading : HasNoOther → (m : Member) (name : List ℕ) (r : reading.the_data) (found : ModuleUnits) → name ≡ m.name → IsReading name m.bytes r → IsFront m.name m.bytes (Tree found) → holds_instance found ≡ true → reading_holds_instance r ≡ true
-holds-reading one m name (reading.Tree tree) found named is front t =
-    let same : found ≡ module_of tree = tree-same (one m.name m.bytes (Tree found) (Tree (module_of tree)) front (subst (λ n. IsFront n m.bytes (Tree (module_of tree))) named is.front)) in
-    ap holds_instance (sym same) ∙ t
-holds-reading one m name (reading.Fault fault) found named is front t = absurd (tree-no-fault (one m.name m.bytes (Tree found) (Fault fault) front (subst (λ n. IsFront n m.bytes (Fault fault)) named is.0)))
-
-any-some : (entries : List Entry) → list_any (λ (x : Entry). reading_holds_instance x.1.reading) entries ≡ true → (e : Entry) × Contains entries e × (reading_holds_instance e.1.reading ≡ true)
-any-some [] t = cc
-any-some (x ∷ xs) t = by (reading_holds_instance x.1.reading) refl (any-some xs) t
-  where
-    by : (b : Bool) → reading_holds_instance x.1.reading ≡ b → (list_any (λ (z : Entry). reading_holds_instance z.1.reading) xs ≡ true → (e : Entry) × Contains xs e × (reading_holds_instance e.1.reading ≡ true)) → (b || list_any (λ (z : Entry). reading_holds_instance z.1.reading) xs) ≡ true → (e : Entry) × Contains (x ∷ xs) e × (reading_holds_instance e.1.reading ≡ true)
-    by true h rest k = (x, here x xs, h)
-    by false h rest k = let r = rest k in (r.0, behind x xs r.0 r.1, r.2)
-
-pub instance-held : (files : List File) (entries : List Entry) → AreModules (family_of files) entries → list_any (λ (x : Entry). reading_holds_instance x.1.reading) entries ≡ true → HoldsInstance files
-instance-held files entries are t =
-    let e = any-some entries t in
-    let m = zip-right IsEntry (family_of files) entries e.0 are e.1 in
-    reading-holds files m.0 (e.0).0 (e.0).1.reading m.1 (m.2).named (m.2).is.reading e.2
-
-pub instance-none : HasNoOther → (files : List File) (entries : List Entry) → AreModules (family_of files) entries → list_any (λ (x : Entry). reading_holds_instance x.1.reading) entries ≡ false → HoldsInstance files → ⊥
-instance-none one files entries are f h =
-    let e = zip-left IsEntry (family_of files) entries h.member are h.there in
-    let t = holds-reading one h.member (e.0).0 (e.0).1.reading h.found (e.2).named (e.2).is.reading h.front h.holds in
-    let k = contains-at entries e.0 e.1 in
-    both_ways (list_any (λ (x : Entry). reading_holds_instance x.1.reading) entries) f (any-here entries k.0 e.0 k.1 t)
+-- the word INSTANCE is held by what was read exactly where it is by the family
+pub instance-same : HasNoOther → (family : List Member) (entries : List Entry) → AreModules family entries → list_any (λ (x : Entry). reading_holds_instance x.1.reading) entries ≡ some_instance family
+instance-same one [] [] h = refl
+instance-same one [] (e ∷ entries) h = absurd h
+instance-same one (m ∷ family) [] h = absurd h
+instance-same one (m ∷ family) (e ∷ entries) h =
+    let first : reading_holds_instance e.1.reading ≡ front_holds (front_of m.name m.bytes) = holds-in e.1.reading ∙ ap front_holds (front-same one m e h.0) in
+    let rest = instance-same one family entries h.1 in
+    λ i. first i || rest i
 
 pub none-without : (entries : List Entry) → list_any (λ (x : Entry). reading_holds_instance x.1.reading) entries ≡ false → AreWithoutInstances entries
 none-without entries f = all-by (λ (e : Entry). reading_holds_instance e.1.reading ≡ false) entries (λ e h. by e h (reading_holds_instance e.1.reading) refl)
@@ -225,18 +209,19 @@ none-without entries f = all-by (λ (e : Entry). reading_holds_instance e.1.read
 
 -- ---- answers
 
-pub verdicts-answer : (files : List File) (outcomes : List (List ℕ × Outcome)) (r : Result (List Verdict) Memory) → AreOutcomes (family_of files) outcomes → IfOk r (AllZip (IsSaid outcomes) files) → IfOk r (AreVerdicts files)
-verdicts-answer files outcomes (Ok verdicts) are said = verdicts-are files outcomes verdicts are said
-verdicts-answer files outcomes (Err e) are said = tt
+pub verdicts-answer : (files : List File) → ((verdicts : List Verdict) → AreVerdicts files verdicts → verdicts ≡ verdicts_on files) → (outcomes : List (List ℕ × Outcome)) (r : Result (List Verdict) Memory) → AreOutcomes (family_of files) outcomes → IfOk r (AllZip (IsSaid outcomes) files) →
+    IfOk r (λ verdicts. verdicts ≡ verdicts_on files)
+verdicts-answer files one outcomes (Ok verdicts) are said = one verdicts (verdicts-are files outcomes verdicts are said)
+verdicts-answer files one outcomes (Err e) are said = tt
 
 pub placed-answer : HasNoOther → FaultsAtLexemes → (files : List File) (entries : List Entry) (outcomes : List (List ℕ × Outcome)) (r : Result (List Verdict) Memory) → AreOneEach (family_of files) → AreModules (family_of files) entries → AreOutcomes (family_of files) outcomes →
     IfOk r (AllZip (IsSaid outcomes) files) → IfOk r (All IsVerdictPlaced)
 placed-answer one law files entries outcomes (Ok verdicts) distinct modules are said = verdicts-placed one law files entries verdicts distinct modules (verdicts-are files outcomes verdicts are said)
 placed-answer one law files entries outcomes (Err e) distinct modules are said = tt
 
-pub steps-answer : (files : List File) (entries : List Entry) (old new count : ℕ) (r : Result (List Verdict) Memory) → AreModules (family_of files) entries → count < 2 ^ 64 → count ≡ old → new ≡ after_ticks (trees_in entries) old → IfOk r (λ _. IsStepped files old new)
-steps-answer files entries old new count (Ok verdicts) are few is ticks = steps-are files entries old new are (subst (λ n. n < 2 ^ 64) is few) ticks
-steps-answer files entries old new count (Err e) are few is ticks = tt
+pub steps-answer : HasNoOther → (files : List File) (entries : List Entry) (old new count : ℕ) (r : Result (List Verdict) Memory) → AreModules (family_of files) entries → count < 2 ^ 64 → count ≡ old → new ≡ after_ticks (trees_in entries) old → IfOk r (λ _. new ≡ after_checks (checks_of files) old)
+steps-answer one files entries old new count (Ok verdicts) are few is ticks = steps-are one files entries old new are (subst (λ n. n < 2 ^ 64) is few) ticks
+steps-answer one files entries old new count (Err e) are few is ticks = tt
 
 pub some-at : (entries : List Entry) (i : ℕ) (e : Entry) → slice_get entries i ≡ Some e → All (λ (entry : Entry). IsSomeModule entry.0 entry.1) entries → IsSomeModule e.0 e.1
 some-at entries i e h all = all-at (λ (entry : Entry). IsSomeModule entry.0 entry.1) entries e all (at-contains entries i e h)

@@ -7,16 +7,16 @@ use Rattle.module_graph.specs.Imports.{imports_of}
 use Rattle.unit_grammar.specs.Units.{ModuleUnits}
 use Rattle.unit_grammar.specs.UnitNodes.{module_of}
 use Rattle.module_graph.specs.Family.{Leads}
-use Rattle.family_check.specs.Family as families
-use Rattle.family_check.specs.Family.{Member, Diagnosed, IsDiagnosed, is_there}
+use Rattle.family_facts.specs.Family as families
+use Rattle.family_facts.specs.Family.{Member, Diagnosed, IsDiagnosed, is_there}
 use Rattle.family_check.specs.Modules.{Entry, IsEntry, IsReading, AreModules, needs_in}
 use Rattle.family_check.specs.Plans as plans
 use Rattle.family_check.specs.declared.read.Reading.{Reading}
 use Rattle.family_check.specs.declared.read.Reading.TheVariants as reading
 use Rattle.family_check.proofs.Graphs.{first-step, leads-map}
-use Rattle.family_check.proofs.Lists.{none-there, zip-left, zip-right}
-use Rattle.family_check.proofs.Members.{member-there}
-use Rattle.family_check.proofs.OneVerdict.{HasNoOther, Found, of_fault, of_tree, found-of, needed, tree-same, tree-no-fault}
+use Rattle.family_facts.proofs.Lists.{none-there, zip-left, zip-right}
+use Rattle.family_facts.proofs.Members.{member-there}
+use Rattle.family_facts.proofs.OneVerdict.{HasNoOther, Found, of_fault, of_tree, found-of, needed, tree-same, tree-no-fault}
 
 -- what a module that was read needs
 pub reading-needs : (m : Member) (name : List ℕ) (r : reading.the_data) (needs : List (List ℕ)) (need : List ℕ) → name ≡ m.name → IsReading name m.bytes r → needs ≡ needs_in r → Contains needs need → (found : ModuleUnits) × IsFront m.name m.bytes (Tree found) × Contains (needed m.bytes found) need
@@ -63,7 +63,7 @@ cyclic-there family name need n c = elim c as (λ _. is_there family need ≡ tr
   | inr r ↦ let s = first-step r in needs-there family need s.0 s.1
 ]
 
-pub diagnosed-there : (family : List Member) (name : List ℕ) (d : Diagnosed family) → IsDiagnosed family name d → is_there family name ≡ true
+pub diagnosed-there : (family : List Member) (name : List ℕ) (d : Diagnosed) → IsDiagnosed family name d → is_there family name ≡ true
 diagnosed-there family name d h = by (found-of h)
   where
     by : Found family name d → is_there family name ≡ true

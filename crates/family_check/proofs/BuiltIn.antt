@@ -3,7 +3,7 @@ use Rattle.std.proofs.Common.{◌≡◌, ◌<◌, ◌^◌, ℕ, List, length, re
 use Rattle.std.specs.Prelude.{codes}
 use Rattle.std.specs.List.{AllByRecursion}
 use Rattle.std_modules.specs.StdTexts.{std_text, STD_MODULES, naturals, integers, reals, sequences, finite_sets, bags, real_time, tlc}
-use Rattle.family_check.specs.Verdicts.{built_in_names, text_or_none}
+use Rattle.family_facts.specs.Verdicts.{built_in_names, text_or_none}
 
 abbrev pub IsSmall : List ℕ → Type 0
 IsSmall name = length (text_or_none (std_text name)) < 2 ^ 31

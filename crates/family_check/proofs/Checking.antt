@@ -20,8 +20,8 @@ use Rattle.tool_list.specs.declared.Memory.{Memory}
 use Rattle.module_facts.specs.Checks.{Given, CheckedModule, IsChecked, all_faults, files_given, given_in}
 use Rattle.list_laws.proofs.Lists.{contains-map}
 use Rattle.list_laws.proofs.Texts.{same-text, text-itself}
-use Rattle.family_check.specs.Family as families
-use Rattle.family_check.specs.Family.{Member, Diagnosed, IsDiagnosed, IsGiven, front_fault, checked, is_there}
+use Rattle.family_facts.specs.Family as families
+use Rattle.family_facts.specs.Family.{Member, Diagnosed, IsDiagnosed, IsGiven, front_fault, checked, is_there}
 use Rattle.family_check.specs.Modules.{Entry, IsEntry, AreModules, reading_holds_instance, tree_count}
 use Rattle.family_check.specs.Plans as plans
 use Rattle.family_check.specs.Plans.{AreOnce, IsPlan}
@@ -32,9 +32,9 @@ use Rattle.family_check.specs.declared.outcomes.Outcome.{Outcome}
 use Rattle.family_check.specs.declared.outcomes.Outcome.TheVariants as outcome
 use Rattle.family_check.specs.declared.read.Module.{Module}
 use Rattle.family_check.specs.declared.read.Reading.TheVariants as reading
-use Rattle.family_check.proofs.Lists.{at-contains, contains-at, zip-right}
-use Rattle.family_check.proofs.Members.{there-member}
-use Rattle.family_check.proofs.OneVerdict.{HasNoOther}
+use Rattle.family_facts.proofs.Lists.{at-contains, contains-at, zip-right}
+use Rattle.family_facts.proofs.Members.{there-member}
+use Rattle.family_facts.proofs.OneVerdict.{HasNoOther}
 use Rattle.family_check.proofs.Tabling.{entry-found, entry-none, entry-some}
 use Rattle.family_check.proofs.Reading.{at-taken, at-take, named-member}
 use Rattle.family_check.proofs.Bridging.{own-needs, all-needs, cyclic-map}
@@ -52,7 +52,7 @@ tree-outcome family name tree needs imports ch (Ok o) h imported k says =
     let units : ModuleUnits = module_of tree in
     let given : List ℕ → Given = given_in imports in
     let outside : Outside = outside_in (files_given given) m.bytes units in
-    let found : Diagnosed family = record { faults = ch.faults; outside = outside } in
+    let found : Diagnosed = record { faults = ch.faults; outside = outside } in
     let front : IsFront m.name m.bytes (Tree units) = subst (λ n. IsFront n m.bytes (Tree units)) (sym h.named) h.is.front in
     let order : AreInOrder (all_faults given m.bytes units) ch.faults = subst (λ s. AreInOrder (all_faults given s units) ch.faults) h.is.source k.faults in
     let gives : (need : List ℕ) → families.Needs family m.name need → IsGiven family m.name need (given need) =
@@ -67,7 +67,7 @@ tree-outcome family name tree needs imports ch (Ok o) h imported k says =
 pub fault-outcome : (family : List Member) (name : List ℕ) (fault : Diagnostic) (needs : List (List ℕ)) (faults : List Diagnostic) → IsMember family name (reading.Fault fault) needs → faults ≡ fault ∷ [] → IsOutcome family name (outcome.Refused faults)
 fault-outcome family name fault needs faults h e =
     let m : Member = h.member in
-    let found : Diagnosed family = record { faults = fault ∷ []; outside = nothing } in
+    let found : Diagnosed = record { faults = fault ∷ []; outside = nothing } in
     let diagnosed : IsDiagnosed family m.name found = front_fault h.there (subst (λ n. IsFront n m.bytes (Fault fault)) (sym h.named) h.is.0) in
     record { found = found; diagnosed = subst (λ x. IsDiagnosed family x found) h.named diagnosed; says = (e, λ k. cc) }
 

@@ -17,7 +17,7 @@ use Rattle.list_laws.proofs.Texts.{same-text, text-itself}
 use Rattle.family_check.specs.Modules.{Entry}
 use Rattle.family_check.specs.Plans.{AreOnce, Needs, Reaches, IsCyclic, NeedsBefore, IsGraph, IsCyclicIn, AreKept, IsOrder}
 use Rattle.family_check.specs.Tables.{names_in}
-use Rattle.family_check.proofs.Lists.{at-contains, at-same, contains-at, contains-pushed, here, none-there}
+use Rattle.family_facts.proofs.Lists.{at-contains, at-same, contains-at, contains-pushed, here, none-there}
 
 -- ---- steps
 

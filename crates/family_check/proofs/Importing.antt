@@ -12,8 +12,8 @@ use Rattle.module_model.specs.Exports.{face_outside, import_behind}
 use Rattle.module_model.specs.Imports.{Imports, import_of}
 use Rattle.module_facts.specs.Checks.{Given, Unknown, Cyclic, Refused, Accepted, given_by, given_in}
 use Rattle.list_laws.proofs.Texts.{same-text, text-itself}
-use Rattle.family_check.specs.Family as families
-use Rattle.family_check.specs.Family.{Member, IsGiven, unknown, cyclic, refused, accepted, is_there}
+use Rattle.family_facts.specs.Family as families
+use Rattle.family_facts.specs.Family.{Member, IsGiven, unknown, cyclic, refused, accepted, is_there}
 use Rattle.family_check.specs.Modules.{Entry}
 use Rattle.family_check.specs.Plans as plans
 use Rattle.family_check.specs.Plans.{IsPlan}
@@ -22,7 +22,7 @@ use Rattle.family_check.specs.Outcomes.{AreBareImports, IsBareImport, IsImport, 
 use Rattle.family_check.specs.declared.order.Plan.{Plan}
 use Rattle.family_check.specs.declared.outcomes.Outcome.{Outcome}
 use Rattle.family_check.specs.declared.outcomes.Outcome.TheVariants as outcome
-use Rattle.family_check.proofs.Lists.{among-or-not, at-contains, contains-pushed, here}
+use Rattle.family_facts.proofs.Lists.{among-or-not, at-contains, contains-pushed, here}
 use Rattle.family_check.proofs.Bridging.{cyclic-map, cyclic-there, diagnosed-there}
 
 -- ---- one import

@@ -1,7 +1,4 @@
-pub mod Lists
 pub mod Graphs
-pub mod Members
-pub mod OneVerdict
 pub mod Tabling
 pub mod Lying
 pub mod Reading
@@ -13,6 +10,3 @@ pub mod Sums
 pub mod Checking
 pub mod Once
 pub mod Answering
-pub mod Sorting
-pub mod Steps
-pub mod SomeVerdict

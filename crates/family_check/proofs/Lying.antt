@@ -8,7 +8,7 @@ use Rattle.tla_symbols.specs.declared.lexeme.Span.{Span}
 use Rattle.tla_model.specs.Lexemes.{LexemesLie, LiesIn, module_lexemes}
 use Rattle.module_graph.specs.Imports.{imports_of}
 use Rattle.unit_grammar.specs.Units.{ModuleUnits}
-use Rattle.family_check.proofs.Lists.{behind, here, mapped}
+use Rattle.family_facts.proofs.Lists.{behind, here, mapped}
 
 all-there : {A : Type 0} (P : A → Type 0) (xs : List A) (x : A) → AllByRecursion P xs → Contains xs x → P x
 all-there P [] x all h = absurd (omega (arith, h.1))

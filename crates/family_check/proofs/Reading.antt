@@ -17,14 +17,15 @@ use Rattle.std_modules.specs.StdTexts.{std_text}
 use Rattle.list_laws.proofs.Lists.{contains-map}
 use Rattle.list_laws.proofs.Options.{some-there}
 use Rattle.list_laws.proofs.Tests.{and-both}
-use Rattle.family_check.specs.Family.{Member, is_there}
-use Rattle.family_check.specs.Verdicts.{AreDistinct, built_in_names, member_of, text_or_none}
-use Rattle.family_check.specs.Modules.{Entry, IsEntry, IsModule, IsTreeOf, AreModules, added, built_in}
+use Rattle.family_facts.specs.Family.{Member, is_there}
+use Rattle.family_facts.specs.Verdicts.{AreDistinct, built_in, built_in_names, member_of, text_or_none}
+use Rattle.family_check.specs.Modules.{Entry, IsEntry, IsModule, IsTreeOf, AreModules, added}
 use Rattle.family_check.specs.Tables.{entry_of, names_in}
 use Rattle.family_check.specs.declared.read.Module.{Module}
-use Rattle.family_check.specs.declared.verdict.File.{File}
-use Rattle.family_check.proofs.Lists.{contains-at, mapped, zip-left, zip-right, zip-push}
-use Rattle.family_check.proofs.Members.{member-there, there-member}
+use Rattle.family_facts.specs.declared.verdict.File.{File}
+use Rattle.family_facts.proofs.Lists.{contains-at, mapped, zip-left, zip-right, zip-push}
+use Rattle.family_facts.proofs.Members.{member-there, there-member}
+use Rattle.family_facts.proofs.Once.{are_apart, is_apart, not-so}
 use Rattle.family_check.proofs.Tabling.{entry-found, entry-none, entry-some}
 
 -- ---- trees
@@ -140,19 +141,6 @@ built-in-more members entries entries' name bytes o m e none isbytes is same are
     subst (λ ms. AreModules ms entries') (sym (ap (λ b. cond b members (members ++ built_in name ∷ [])) new))
     (subst (λ es. AreModules (members ++ built_in name ∷ []) es) (sym same) (zip-push IsEntry members entries (built_in name) (name, m) are next))
 
--- the name is none of these
-abbrev pub is_apart : List ℕ → List (List ℕ) → Bool
-is_apart name [] = true
-is_apart name (other ∷ names) = not (bytes_eq other name) && is_apart name names
-
-abbrev pub are_apart : List (List ℕ) → Bool
-are_apart [] = true
-are_apart (name ∷ names) = is_apart name names && are_apart names
-
-pub not-so : (a : Bool) → not a ≡ true → a ≡ false
-not-so true e = cc
-not-so false e = refl
-
 or-false : (b : Bool) → (b || false) ≡ b
 or-false true = refl
 or-false false = refl
@@ -186,6 +174,3 @@ added-all members (name ∷ names) apart =
     ∙ (ap (λ fs. (members ++ built_in name ∷ []) ++ fs) (visible-same members name names parts.0)
     ∙ (append_assoc members (built_in name ∷ []) rest ∙ ap (λ b. members ++ cond (not b) (built_in name ∷ rest) rest) (sym f)))))
     (cases_Bool (is_there members name))
-
-pub built-in-apart : are_apart built_in_names ≡ true
-built-in-apart = refl

@@ -6,7 +6,7 @@ use Rattle.std.proofs.lemmas.Bool.{cases_Bool}
 use Rattle.std.proofs.lemmas.List.Sums.{sum_by-cons}
 use Rattle.list_laws.proofs.Texts.{same-text, text-itself}
 use Rattle.family_check.specs.Plans.{AreOnce}
-use Rattle.family_check.proofs.Lists.{behind, contains-at, first-or-rest, here, none-there}
+use Rattle.family_facts.proofs.Lists.{behind, contains-at, first-or-rest, here, none-there}
 
 IsOnce : List (List ℕ) → Type 0
 IsOnce [] = Unit {0}

@@ -4,7 +4,7 @@ use Rattle.std.proofs.Math.Seq.{take-length}
 use Rattle.std.specs.Str.{IsUtf8}
 use Rattle.tla_text.specs.Places.{IsLongestUtf8}
 use Rattle.tla_front.proofs.Reading.{readable_len-longest, readable_len-text}
-use Rattle.family_check.specs.Verdicts.{text_of}
+use Rattle.family_facts.specs.Verdicts.{text_of}
 
 -- the text of bytes that are one
 pub text_of-text : (bytes text : List ℕ) → text ≡ bytes → IsUtf8 bytes → text ≡ text_of bytes

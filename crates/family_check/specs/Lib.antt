@@ -1,5 +1,3 @@
-pub mod Family
-pub mod Verdicts
 pub mod Tables
 pub mod Modules
 pub mod Plans

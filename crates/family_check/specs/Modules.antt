@@ -10,8 +10,8 @@ use Rattle.symbol_scope.specs.Given.{IsReadable}
 use Rattle.tla_model.specs.ModuleNames.{holds_instance}
 use Rattle.module_graph.specs.Imports.{imports_of}
 use Rattle.std_modules.specs.StdTexts.{std_text}
-use Rattle.family_check.specs.Family.{Member, is_there}
-use Rattle.family_check.specs.Verdicts.{text_of, text_or_none}
+use Rattle.family_facts.specs.Family.{Member, is_there}
+use Rattle.family_facts.specs.Verdicts.{text_of, text_or_none}
 use Rattle.family_check.specs.declared.read.Module.{Module}
 use Rattle.family_check.specs.declared.read.Reading.{Reading}
 
@@ -52,9 +52,6 @@ abbrev pub AreModules : List Member → List Entry → Type 0
 AreModules family entries = AllZip IsEntry family entries
 
 -- ---- built-in modules
-
-abbrev pub built_in : List ℕ → Member
-built_in name = record { name = name; bytes = text_or_none (std_text name) }
 
 -- members and one more; one whose name is there is hidden
 abbrev pub added : List Member → Member → List Member

@@ -7,19 +7,19 @@ use Rattle.module_model.specs.declared.imported.Import.{Import}
 use Rattle.module_model.specs.Exports.{Outside, face_outside, import_behind, parts_behind}
 use Rattle.module_model.specs.Imports.{Imports, import_of}
 use Rattle.module_facts.specs.Checks.{Unknown, given_by, given_in}
-use Rattle.family_check.specs.Family as families
-use Rattle.family_check.specs.Family.{Member, Diagnosed, IsDiagnosed, IsGiven, is_there}
+use Rattle.family_facts.specs.Family as families
+use Rattle.family_facts.specs.Family.{Member, Diagnosed, IsDiagnosed, IsGiven, is_there}
 use Rattle.family_check.specs.Modules.{Entry, IsModule, IsReading, reading_holds_instance, tree_count}
 use Rattle.family_check.specs.Plans as plans
 use Rattle.family_check.specs.Plans.{IsPlan}
-use Rattle.family_check.specs.Verdicts.{text_of}
+use Rattle.family_facts.specs.Verdicts.{text_of}
 use Rattle.family_check.specs.Tables.{entry_of}
 use Rattle.family_check.specs.declared.read.Module.{Module}
 use Rattle.family_check.specs.declared.read.Reading.{Reading}
 use Rattle.family_check.specs.declared.order.Plan.{Plan}
 use Rattle.family_check.specs.declared.outcomes.Outcome.{Outcome}
-use Rattle.family_check.specs.declared.verdict.File.{File}
-use Rattle.family_check.specs.declared.verdict.Verdict.{Verdict}
+use Rattle.family_facts.specs.declared.verdict.File.{File}
+use Rattle.family_facts.specs.declared.verdict.Verdict.{Verdict}
 
 -- an outcome says these faults, and what the module is to others where there are none
 abbrev pub Says : List Diagnostic → Outside → Outcome → Type 0
@@ -28,7 +28,7 @@ Says faults outside (Outcome.Accepted face) = (faults ≡ []) × (face_outside (
 
 -- an outcome says what is found of the member of a name
 pub record IsOutcome (family : List Member) (name : List ℕ) (outcome : Outcome) : Type 0 where
-  pub found : Diagnosed family
+  pub found : Diagnosed
   pub diagnosed : IsDiagnosed family name found
   pub says : Says found.faults found.outside outcome
 

@@ -1,15 +1,17 @@
 // A family of modules, each checked behind what it needs.
-ghost use Rattle.std.specs.Prelude.{◌≡◌, ◌<◌, ◌^◌, ◌↔◌, ℕ, List as ListOf, None, Some, IfOk, IfSome, sum_by, length};
+ghost use Rattle.std.specs.Prelude.{◌≡◌, ◌<◌, ◌^◌, ℕ, List as ListOf, IfOk, IfSome, sum_by, length};
 ghost use Rattle.std.specs.List.{All, list_any};
 ghost use Rattle.family_check.specs.Modules.{AreModules, IsModule, reading_holds_instance};
 ghost use Rattle.family_check.specs.Outcomes.{AreWithoutInstances, IsSomeModule};
-ghost use Rattle.family_check.specs.Verdicts.{AreDistinct, AreVerdicts, HoldsInstance, IsStepped, IsVerdictPlaced, family_of};
+ghost use Rattle.family_facts.specs.Verdicts as facts;
+ghost use Rattle.family_facts.specs.Verdicts.{AreDistinct, IsVerdictPlaced, after_checks, checks_of, family_of, verdicts_if_built};
 
 use crate::order::plan_of;
 use crate::outcomes::check_all;
 use crate::read::{Module, Reading, read_family};
 use crate::table::Table;
-use crate::verdict::{File, Verdict, verdicts_of};
+use crate::verdict::verdicts_of;
+use family_facts::{File, Verdict, verdicts_are};
 use module_facts::faults_stand_at_lexemes;
 use module_graph::holds_instance;
 use std::alloc::Global;
@@ -52,12 +54,13 @@ fn verdicts_on<L>(
     requires small { sum_by (λ file. length file.bytes) files.now < 2 ^ 31 }
     requires modules { AreModules (family_of files.now) modules.now }
     requires without { AreWithoutInstances modules.now }
-    ensures verdicts { IfOk result (AreVerdicts files.now) }
+    ensures verdicts { IfOk result (λ verdicts. verdicts ≡ facts.verdicts_on files.now) }
     ensures placed { IfOk result (All IsVerdictPlaced) }
-    ensures steps { IfOk result (λ _. IsStepped files.now steps.old steps.new) }
+    ensures steps { IfOk result (λ _. steps.new ≡ after_checks (checks_of files.now) steps.old) }
 {
     tla_front::one_front();
     faults_stand_at_lexemes();
+    verdicts_are();
     // The proof needs that a count is below 2^64.
     let _count = steps.count();
     let plan = plan_of(alloc, modules)?;
@@ -75,10 +78,9 @@ pub fn check_family<L>(
 ) -> Result<Option<List<Verdict>>, Memory>
     requires distinct { AreDistinct files.now }
     requires small { sum_by (λ file. length file.bytes) files.now < 2 ^ 31 }
-    ensures verdicts { IfOk result (λ found. IfSome found (AreVerdicts files.now)) }
+    ensures verdicts { IfOk result (λ found. found ≡ verdicts_if_built files.now) }
     ensures placed { IfOk result (λ found. IfSome found (All IsVerdictPlaced)) }
-    ensures not_built { IfOk result (λ found. (found ≡ None) ↔ HoldsInstance files.now) }
-    ensures steps { IfOk result (λ found. IfSome found (λ _. IsStepped files.now steps.old steps.new)) }
+    ensures steps { IfOk result (λ found. IfSome found (λ _. steps.new ≡ after_checks (checks_of files.now) steps.old)) }
 {
     tla_front::one_front();
     let modules = read_family(alloc, files)?;

@@ -1,7 +1,7 @@
 // What the modules are that a module needs.
 ghost use Rattle.std.specs.Prelude.{◌≡◌, ℕ, List as ListOf, IfOk, Contains};
-ghost use Rattle.family_check.specs.Family as families;
-ghost use Rattle.family_check.specs.Family.{Member};
+ghost use Rattle.family_facts.specs.Family as families;
+ghost use Rattle.family_facts.specs.Family.{Member};
 ghost use Rattle.family_check.specs.Outcomes.{IsReady, IsImport, IsBareImport, AreBare, AreBareImports, AreImports};
 
 use crate::order::Plan;

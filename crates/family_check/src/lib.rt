@@ -6,7 +6,6 @@
 
 mod family;
 mod imports;
-mod laws;
 mod order;
 mod outcomes;
 mod read;
@@ -14,5 +13,3 @@ mod table;
 mod verdict;
 
 pub use family::check_family;
-pub use laws::{names_differ, one_verdict, some_verdict, some_verdicts};
-pub use verdict::{File, Verdict};

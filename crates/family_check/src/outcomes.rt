@@ -4,7 +4,7 @@ ghost use Rattle.module_model.specs.Exports.{Outside, face_outside, parts_behind
 ghost use Rattle.tla_model.specs.ModuleNames.{holds_instance};
 ghost use Rattle.unit_grammar.specs.UnitNodes.{module_of};
 ghost use Rattle.std.specs.List.{All};
-ghost use Rattle.family_check.specs.Family.{Member};
+ghost use Rattle.family_facts.specs.Family.{Member};
 ghost use Rattle.family_check.specs.Modules as modules_of;
 ghost use Rattle.family_check.specs.Outcomes as outcomes_of;
 ghost use Rattle.family_check.specs.Outcomes.{IsReady};

@@ -11,14 +11,14 @@ ghost use Rattle.tla_model.specs.Entities.{declaring};
 ghost use Rattle.tla_model.specs.Lexemes.{LexemesLie};
 ghost use Rattle.tla_model.specs.Lexemes as lexemes_of;
 ghost use Rattle.std_modules.specs.StdTexts.{std_text};
-ghost use Rattle.family_check.specs.Family.{Member};
-ghost use Rattle.family_check.specs.Verdicts.{AreDistinct, family_of, member_of, text_or_none};
+ghost use Rattle.family_facts.specs.Family.{Member};
+ghost use Rattle.family_facts.specs.Verdicts.{AreDistinct, built_in, family_of, member_of, text_or_none};
 ghost use Rattle.family_check.specs.Modules as modules_of;
-ghost use Rattle.family_check.specs.Modules.{IsTreeOf, IsModule, IsEntry, AreModules, built_in, added};
+ghost use Rattle.family_check.specs.Modules.{IsTreeOf, IsModule, IsEntry, AreModules, added};
 ghost use Rattle.family_check.specs.Tables.{entry_of};
 
 use crate::table::Table;
-use crate::verdict::File;
+use family_facts::File;
 use module_graph::{imports, imports_are_lexemes, lexemes_lie_names};
 use std::alloc::Global;
 use std_modules::std_text;

@@ -1,34 +1,19 @@
-// Files of modules, and what is found of them.
+// The verdicts on files, by what was found of their modules.
 ghost use Rattle.std.specs.Prelude.{◌≡◌, ◌<◌, ◌≤◌, ◌^◌, IfOk, length, sum_by, take};
 ghost use Rattle.std.specs.List.{AllZip};
 ghost use Rattle.std.specs.Str.{IsUtf8};
 ghost use Rattle.family_check.specs.Outcomes as outcomes_of;
 ghost use Rattle.family_check.specs.Outcomes.{IsSaid};
 ghost use Rattle.family_check.specs.Tables.{entry_of};
-ghost use Rattle.family_check.specs.Verdicts.{text_of};
+ghost use Rattle.family_facts.specs.Verdicts.{text_of};
 
 use crate::outcomes::{Outcome, copied};
 use crate::table::Table;
+use family_facts::{File, Verdict};
 use std::alloc::Global;
 use tla_model::Diagnostic;
 use tla_text::{Text, TextError};
 use tool_list::{Chars, List, Memory};
-
-/// A module file, by the name of its module.
-#[derive(Drop)]
-pub struct File {
-    pub name: Chars,
-    pub bytes: List<u8>,
-}
-
-/// What was found of a module. It is accepted exactly where there are no faults.
-#[derive(Drop)]
-pub struct Verdict {
-    pub name: Chars,
-    /// The longest front of the file that is a text; the faults stand in it.
-    pub text: Text,
-    pub faults: List<Diagnostic>,
-}
 
 // A front of some bytes that is a text.
 fn front_text(alloc: Global, bytes: &[u8], at: usize) -> Result<Text, Memory>

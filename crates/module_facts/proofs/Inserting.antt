@@ -157,10 +157,13 @@ by-tests : (d x : Diagnostic) (xs : List Diagnostic) → Rises (x ∷ xs) → Is
 by-tests d x xs up rest true second p q =
     let before-head = tested-before d x p in
     record {
-      up = (λ y at. elim (first-or-later x xs y at) as (λ _. Before d y) [
-        | inl e ↦ subst (λ z. Before d z) e before-head
-        | inr h ↦ further d x y before-head (up.0 y h)
-      ], up);
+      up = (
+        λ y at. elim (first-or-later x xs y at) as (λ _. Before d y) [
+          | inl e ↦ subst (λ z. Before d z) e before-head
+          | inr h ↦ further d x y before-head (up.0 y h)
+        ],
+        up,
+      );
       there = here d (x ∷ xs);
       kept = λ y at. later d (x ∷ xs) y at;
       from = λ y at. first-or-later d (x ∷ xs) y at;
@@ -168,10 +171,13 @@ by-tests d x xs up rest true second p q =
 by-tests d x xs up rest false true p q =
     let before-new = tested-before x d q in
     record {
-      up = (λ y at. elim (rest.from y at) as (λ _. Before x y) [
-        | inl e ↦ subst (λ z. Before x z) e before-new
-        | inr h ↦ up.0 y h
-      ], rest.up);
+      up = (
+        λ y at. elim (rest.from y at) as (λ _. Before x y) [
+          | inl e ↦ subst (λ z. Before x z) e before-new
+          | inr h ↦ up.0 y h
+        ],
+        rest.up,
+      );
       there = later x (with_one d xs) d rest.there;
       kept = λ y at. elim (first-or-later x xs y at) as (λ _. Contains (x ∷ with_one d xs) y) [
         | inl e ↦ subst (λ z. Contains (x ∷ with_one d xs) z) e (here x (with_one d xs))

@@ -5,7 +5,7 @@ use Rattle.std.proofs.Math.Seq.{take-length}
 use Rattle.std.proofs.lemmas.List.Sums.{sum_by-append}
 use Rattle.std.proofs.lemmas.Bool.{le-ltb, lt-ltb}
 use Rattle.tool_io.specs.Folder.{Told, after_call, names_at, read_at}
-use Rattle.family_check.specs.declared.verdict.File.{File}
+use Rattle.family_facts.specs.declared.verdict.File.{File}
 use Rattle.sany_run.specs.Answers.{IsLeftAfter}
 use Rattle.sany_run.specs.Program.{after_calls, byte_count, calls_made, calls_of_folder, calls_of_request, file_of, folder_of, module_names, modules_of_listing, next_len, read_len, reads, reads_made, reads_of_listing, with_read, MOST, MOST_BYTES, MOST_MODULES}
 use Rattle.sany_run.specs.Reading.{after_folder, after_reads}

@@ -1,7 +1,6 @@
 pub mod CallLemmas
 pub mod DistinctLemmas
-pub mod FamilyLemmas
 pub mod NamedLemmas
 pub mod ReadingLemmas
 pub mod RunLemmas
-pub mod VerdictLemmas
+pub mod FolderLemmas

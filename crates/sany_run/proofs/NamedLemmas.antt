@@ -5,8 +5,8 @@ use Rattle.std.specs.Ordering.{nat_cmp}
 use Rattle.std.specs.Cmp.Lexicographic.{slice_cmp}
 use Rattle.std.proofs.lemmas.List.{append-nil}
 use Rattle.std.proofs.lemmas.Option.{slice_get-get_or}
-use Rattle.family_check.specs.Verdicts.{AreDistinct}
-use Rattle.family_check.specs.declared.verdict.File.{File}
+use Rattle.family_facts.specs.Verdicts.{AreDistinct}
+use Rattle.family_facts.specs.declared.verdict.File.{File}
 use Rattle.list_laws.proofs.Lists.{pushed-cases}
 use Rattle.sany_run.specs.Program.{is_identifier, module_of_file, modules_of_listing, with_read}
 use Rattle.sany_run.specs.Reading.{AreNamed, AreNamesDistinct}

@@ -6,7 +6,7 @@ use Rattle.std.proofs.lemmas.List.Elements.{filter_map-append}
 use Rattle.std.proofs.lemmas.List.Sums.{sum_by-append}
 use Rattle.std.proofs.lemmas.Bool.{lt-ltb}
 use Rattle.tool_io.specs.Folder.{Told, after_call, read_at}
-use Rattle.family_check.specs.declared.verdict.File.{File}
+use Rattle.family_facts.specs.declared.verdict.File.{File}
 use Rattle.sany_run.specs.Program.{after_calls, byte_count, file_of, module_of_file, modules_of_listing, read_len, reads, with_read, MOST, MOST_BYTES}
 use Rattle.sany_run.specs.Reading.{modules_of_file, within}
 

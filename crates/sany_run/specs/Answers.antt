@@ -15,25 +15,21 @@ is_fault status = status == 3 || status == 5 || status == 6
 abbrev pub is_stopped : ℕ → Bool
 is_stopped status = status == 3 || status == 6
 
--- a fault, or a limit that is passed
-abbrev pub is_cut_short : ℕ → Bool
-is_cut_short status = is_fault status || status == 7
-
 -- a report was written, or some module holds the word INSTANCE
 abbrev pub is_done : ℕ → Bool
 is_done status = status == 0 || status == 1 || status == 9
 
 abbrev pub is_status : ℕ → Bool
-is_status status = is_cut_short status || is_done status || status == 2
+is_status status = is_fault status || is_done status || status == 2 || status == 7
 
 -- known bytes grow by some bytes from the front
 abbrev pub AppendsFront : Option (List ℕ) → Option (List ℕ) → List ℕ → Type 0
 AppendsFront old new bytes = (front : List ℕ) × (rest : List ℕ) × (bytes ≡ front ++ rest) × Appends old new front
 
--- The bytes written are from the front of the outcome's. A run that is not cut short has its status and has written all its bytes.
+-- The bytes written are from the front of the outcome's. A run without fault has its status and has written all its bytes.
 pub record Answers (outcome : Outcome) (status : ℕ) (old new : Option (List ℕ)) : Type 0 where
   pub front : AppendsFront old new outcome.bytes
-  pub whole : OnFalse (is_cut_short status) ((status ≡ outcome.status) × Appends old new outcome.bytes)
+  pub whole : OnFalse (is_fault status) ((status ≡ outcome.status) × Appends old new outcome.bytes)
 
 -- this status comes only where the count rose by one, and otherwise the count stays
 pub record TellsFault (fault status before now : ℕ) : Type 0 where

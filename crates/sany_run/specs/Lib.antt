@@ -6,4 +6,3 @@ pub mod Reading
 pub mod Report
 pub mod Spans
 pub mod Texts
-pub mod Verdicts

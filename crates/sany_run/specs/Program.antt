@@ -5,8 +5,9 @@ use Rattle.std.specs.Char.{is_ascii_alphanumeric, is_ascii_alphabetic}
 use Rattle.std.specs.Str.{bytes_eq}
 use Rattle.tool_io.specs.Folder.{Told, after_call, names_at, read_at}
 use Rattle.tla_spelling.specs.Spellings.{word_of, op_of}
-use Rattle.family_check.specs.declared.verdict.File.{File}
-use Rattle.family_check.specs.declared.verdict.Verdict.{Verdict}
+use Rattle.family_facts.specs.Verdicts.{verdicts_if_built}
+use Rattle.family_facts.specs.declared.verdict.File.{File}
+use Rattle.family_facts.specs.declared.verdict.Verdict.{Verdict}
 use Rattle.sany_run.specs.declared.check.Outcome.{Outcome}
 use Rattle.sany_run.specs.Report.{report, report_status}
 
@@ -116,6 +117,10 @@ silent status = record { status = status; bytes = [] }
 abbrev pub USAGE : Outcome
 USAGE = silent 2
 
+-- A limit is passed.
+abbrev pub LIMIT : Outcome
+LIMIT = silent 7
+
 -- The program does not handle the word INSTANCE as yet.
 abbrev pub NOT_BUILT : Outcome
 NOT_BUILT = silent 9
@@ -127,14 +132,19 @@ abbrev pub outcome_of_verdicts : Option (List Verdict) → Outcome
 outcome_of_verdicts None = NOT_BUILT
 outcome_of_verdicts (Some verdicts) = reported verdicts
 
-abbrev pub outcome_of_request : Option (List ℕ) → Option (List Verdict) → Outcome
-outcome_of_request None verdicts = USAGE
-outcome_of_request (Some folder) verdicts = outcome_of_verdicts verdicts
+abbrev pub outcome_of_files : List File → Outcome
+outcome_of_files files = outcome_of_verdicts (verdicts_if_built files)
 
--- What the program writes and answers for these words, where no limit is passed: of the verdicts on the files that
--- they ask to check, or of none where some module holds the word INSTANCE.
-abbrev pub program : List (List ℕ) → Option (List Verdict) → Outcome
-program words verdicts = outcome_of_request (folder_of words) verdicts
+abbrev pub outcome_of_folder : Told → List ℕ → Outcome
+outcome_of_folder t folder = if is_over_folder t folder then LIMIT else outcome_of_files (files_of t folder)
+
+abbrev pub outcome_of_request : Told → Option (List ℕ) → Outcome
+outcome_of_request t None = USAGE
+outcome_of_request t (Some folder) = outcome_of_folder t folder
+
+-- What the program writes and answers for these words and a folder that tells this.
+abbrev pub program : List (List ℕ) → Told → Outcome
+program words t = outcome_of_request t (folder_of words)
 
 -- ---- the calls of the folder
 

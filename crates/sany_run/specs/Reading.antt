@@ -2,7 +2,7 @@
 use Rattle.std.specs.Prelude.{◌≡◌, ◌<◌, ℕ, List, [], ◌∷◌, length, Option, Some, None, Result, Ok, Err, if◌then◌else◌, nat_lt, slice_get}
 use Rattle.tool_io.specs.Folder.{Told, after_call}
 use Rattle.tool_io.specs.declared.IoFault.{IoFault}
-use Rattle.family_check.specs.declared.verdict.File.{File}
+use Rattle.family_facts.specs.declared.verdict.File.{File}
 use Rattle.sany_run.specs.Program.{modules_of_listing, module_names, after_calls, byte_count, calls_of_folder, files_of, reads_made, MOST_BYTES, MOST_MODULES}
 
 -- the module that a file stands for, if it stands for one, as a list

@@ -5,7 +5,7 @@ use Rattle.tla_text.specs.Places.{place_at}
 use Rattle.tla_text.specs.declared.Place.{Place}
 use Rattle.tla_text.specs.declared.Measure.TheVariants.{Characters}
 use Rattle.tla_model.specs.declared.Diagnostic.{Diagnostic}
-use Rattle.family_check.specs.declared.verdict.Verdict.{Verdict}
+use Rattle.family_facts.specs.declared.verdict.Verdict.{Verdict}
 
 -- a place as it is shown, from 1, before some text
 abbrev pub shown_place : Place → List ℕ → List ℕ

@@ -4,16 +4,15 @@ ghost use Rattle.std.specs.Bool.{OnTrue};
 ghost use Rattle.std.specs.List.{All};
 ghost use Rattle.std.specs.Option.{option_map};
 ghost use Rattle.tool_io.specs.Causes.{HasCause};
-ghost use Rattle.family_check.specs.Verdicts.{AreDistinct, IsStepped, IsVerdictPlaced};
+ghost use Rattle.family_facts.specs.Verdicts.{AreDistinct, IsVerdictPlaced, after_checks, checks_of};
 ghost use Rattle.sany_run.specs.Answers.{IsLeftAfter, is_done};
 ghost use Rattle.sany_run.specs.Program as program;
 ghost use Rattle.sany_run.specs.Reading as reading;
-ghost use Rattle.sany_run.specs.Verdicts.{IsOutcome, OfVerdicts};
 
 use crate::files::{modules_of, read_files};
-use crate::laws::verdicts_are_one;
 use crate::report::{report_on, report_status};
-use family_check::{File, Verdict, check_family};
+use family_check::check_family;
+use family_facts::{File, Verdict};
 use std::alloc::Global;
 use step_count::Steps;
 use tool_io::{Folder, IoFault};
@@ -50,7 +49,7 @@ fn reported(alloc: Global, verdicts: &[Verdict]) -> Result<Outcome, Memory>
     })
 }
 
-/// The outcome for the files of a folder. Files have no two lists of verdicts (`verdicts_are_one`).
+// The outcome for the files of a folder.
 fn outcome_of_files<L>(
     alloc: Global,
     files: &[File],
@@ -58,12 +57,10 @@ fn outcome_of_files<L>(
 ) -> Result<Outcome, Memory>
     requires distinct { AreDistinct files.now }
     requires small { program.byte_count files.now ≤ program.MOST_BYTES }
-    ensures outcome { IfOk result (IsOutcome files.now) }
-    ensures only { IfOk result (λ outcome. OfVerdicts files.now (λ verdicts. outcome ≡ program.outcome_of_verdicts verdicts)) }
+    ensures outcome { IfOk result (λ outcome. outcome ≡ program.outcome_of_files files.now) }
     ensures done { IfOk result (λ outcome. is_done outcome.status ≡ true) }
-    ensures ticks { IfOk result (λ outcome. OnTrue (nat_le outcome.status 1) (IsStepped files.now steps.old steps.new)) }
+    ensures ticks { IfOk result (λ outcome. OnTrue (nat_le outcome.status 1) (steps.new ≡ after_checks (checks_of files.now) steps.old)) }
 {
-    verdicts_are_one();
     match check_family(alloc, files, steps)? {
         Some(verdicts) => reported(alloc, verdicts.as_slice()),
         None => Ok(not_built(alloc)),
@@ -101,11 +98,10 @@ pub fn outcome_of_folder<F: Folder, L>(
     path: &str,
     steps: &mut Steps<L>,
 ) -> Result<Option<Outcome>, IoFault>
-    ensures outcome { IfOk result (λ outcome. IfSome outcome (λ o. IfSome (F.told folder.old) (λ t. IsOutcome (program.files_of t path.now) o))) }
-    ensures only { IfOk result (λ outcome. IfSome outcome (λ o. IfSome (F.told folder.old) (λ t. OfVerdicts (program.files_of t path.now) (λ verdicts. o ≡ program.outcome_of_verdicts verdicts)))) }
+    ensures outcome { IfOk result (λ outcome. IfSome outcome (λ o. IfSome (F.told folder.old) (λ t. o ≡ program.outcome_of_files (program.files_of t path.now)))) }
     ensures limit { IfOk result (λ outcome. IfSome (F.told folder.old) (λ t. program.is_over_folder t path.now ≡ is_none outcome)) }
     ensures done { IfOk result (λ outcome. IfSome outcome (λ o. is_done o.status ≡ true)) }
-    ensures ticks { IfOk result (λ outcome. IfSome outcome (λ o. IfSome (F.told folder.old) (λ t. OnTrue (nat_le o.status 1) (IsStepped (program.files_of t path.now) steps.old steps.new)))) }
+    ensures ticks { IfOk result (λ outcome. IfSome outcome (λ o. IfSome (F.told folder.old) (λ t. OnTrue (nat_le o.status 1) (steps.new ≡ after_checks (checks_of (program.files_of t path.now)) steps.old)))) }
     ensures told { IfOk result (λ outcome. F.told folder.new ≡ option_map (reading.after_folder path.now) (F.told folder.old)) }
     ensures part { OnErr result (IfSome (F.told folder.old) (λ t. IsLeftAfter 1 (program.calls_of_folder t path.now) t (F.told folder.new))) }
     ensures cause { HasCause (F.fault_count folder.old) (F.fault_count folder.new) result }

@@ -3,13 +3,13 @@ ghost use Rattle.std.specs.Prelude.{◌≡◌, ◌++◌, ◌+◌, ◌≤◌, [],
 ghost use Rattle.std.specs.Option.{option_copied, option_map};
 ghost use Rattle.tool_io.specs.Causes.{HasCause};
 ghost use Rattle.tool_io.specs.Folder.{after_call, read_at};
-ghost use Rattle.family_check.specs.Verdicts.{AreDistinct};
+ghost use Rattle.family_facts.specs.Verdicts.{AreDistinct};
 ghost use Rattle.sany_run.specs.Answers.{IsLeftAfter};
 ghost use Rattle.sany_run.specs.Program as program;
 ghost use Rattle.sany_run.specs.Reading as reading;
 
 use crate::bytes::{all_word_bytes, has_letter, is_fair};
-use family_check::File;
+use family_facts::File;
 use std::alloc::Global;
 use tla_spelling::{op_of, word_of};
 use tool_io::{Folder, IoFault};

@@ -6,12 +6,10 @@
 mod bytes;
 mod check;
 mod files;
-mod laws;
 mod output;
 mod program;
 mod report;
 mod slices;
 mod words;
 
-pub use laws::verdicts_are_one;
 pub use program::run;

@@ -3,11 +3,10 @@ ghost use Rattle.std.specs.Prelude.{◌≡◌, ◌↔◌, ◌||◌, ◌==◌, If
 ghost use Rattle.std.specs.Io.KnownBytes.{Appends};
 ghost use Rattle.std.specs.Bool.{OnFalse, OnTrue};
 ghost use Rattle.std.specs.Option.{option_map};
-ghost use Rattle.family_check.specs.Verdicts.{IsStepped};
-ghost use Rattle.sany_run.specs.Answers.{Answers, IsLeftAfter, TellsFault, is_cut_short, is_status, is_stopped};
+ghost use Rattle.family_facts.specs.Verdicts.{after_checks, checks_of};
+ghost use Rattle.sany_run.specs.Answers.{Answers, IsLeftAfter, TellsFault, is_status, is_stopped};
 ghost use Rattle.sany_run.specs.Program.{program, calls_made, files_in, folder_of as folder_in, is_over, told_after};
 ghost use Rattle.sany_run.specs.Texts.{texts};
-ghost use Rattle.sany_run.specs.Verdicts.{IsNotBuilt, OfVerdicts, Shows, is_shown};
 
 use crate::check::outcome_of_folder;
 use crate::output::write_all;
@@ -38,16 +37,14 @@ fn status_of_run<F: Folder, K: Sink, L>(
     output: &mut K,
     steps: &mut Steps<L>,
 ) -> u8
-    ensures answers { IfSome (F.told folder.old) (λ t. OfVerdicts (files_in (texts words.now) t) (λ verdicts. Answers (program (texts words.now) verdicts) result (K.taken output.old) (K.taken output.new))) }
-    ensures shown { IfSome (F.told folder.old) (λ t. OnTrue (is_shown result) (Shows (files_in (texts words.now) t) result (K.taken output.old) (K.taken output.new))) }
+    ensures answers { IfSome (F.told folder.old) (λ t. Answers (program (texts words.now) t) result (K.taken output.old) (K.taken output.new)) }
     ensures status { is_status result ≡ true }
     ensures usage { (result ≡ 2) ↔ (folder_in (texts words.now) ≡ None) }
     ensures folder_fault { TellsFault 3 result (F.fault_count folder.old) (F.fault_count folder.new) }
     ensures output_fault { TellsFault 5 result (K.fault_count output.old) (K.fault_count output.new) }
     ensures limit { IfSome (F.told folder.old) (λ t. OnFalse (is_stopped result) ((result ≡ 7) ↔ (is_over (texts words.now) t ≡ true))) }
-    ensures not_built { IfSome (F.told folder.old) (λ t. OnFalse (is_cut_short result) ((result ≡ 9) ↔ IsNotBuilt (texts words.now) t)) }
     ensures silent { OnTrue (result == 3 || result == 7) (Appends (K.taken output.old) (K.taken output.new) []) }
-    ensures ticks { IfSome (F.told folder.old) (λ t. OnTrue (nat_le result 1) (IsStepped (files_in (texts words.now) t) steps.old steps.new)) }
+    ensures ticks { IfSome (F.told folder.old) (λ t. OnTrue (nat_le result 1) (steps.new ≡ after_checks (checks_of (files_in (texts words.now) t)) steps.old)) }
     ensures told { OnFalse (is_stopped result) (F.told folder.new ≡ option_map (told_after (texts words.now)) (F.told folder.old)) }
     ensures part { IfSome (F.told folder.old) (λ t. OnTrue (is_stopped result) (IsLeftAfter 1 (calls_made (texts words.now) t) t (F.told folder.new))) }
 {
@@ -80,12 +77,8 @@ pub fn run<F: Folder, S: Source, K: Sink, L>(
     steps: &mut Steps<L>,
 ) -> (u8, F)
     // Whatever the status, the bytes written are from the front of the program's. Where no object
-    // failed and there was room, all of them are written and the status is the program's. The files
-    // have at most one list of verdicts (`verdicts_are_one`).
-    ensures answers { IfSome (F.told folder) (λ t. OfVerdicts (files_in (texts words.now) t) (λ verdicts. Answers (program (texts words.now) verdicts) result.0 (K.taken output.old) (K.taken output.new))) }
-
-    // With 0, 1 and 5 the files have verdicts, and the bytes are those of the report on them.
-    ensures shown { IfSome (F.told folder) (λ t. OnTrue (is_shown result.0) (Shows (files_in (texts words.now) t) result.0 (K.taken output.old) (K.taken output.new))) }
+    // failed and there was room, all of them are written and the status is the program's.
+    ensures answers { IfSome (F.told folder) (λ t. Answers (program (texts words.now) t) result.0 (K.taken output.old) (K.taken output.new)) }
     ensures status { is_status result.0 ≡ true }
 
     // When each status comes that is no verdict.
@@ -93,14 +86,13 @@ pub fn run<F: Folder, S: Source, K: Sink, L>(
     ensures folder_fault { TellsFault 3 result.0 (F.fault_count folder) (F.fault_count result.1) }
     ensures output_fault { TellsFault 5 result.0 (K.fault_count output.old) (K.fault_count output.new) }
     ensures limit { IfSome (F.told folder) (λ t. OnFalse (is_stopped result.0) ((result.0 ≡ 7) ↔ (is_over (texts words.now) t ≡ true))) }
-    ensures not_built { IfSome (F.told folder) (λ t. OnFalse (is_cut_short result.0) ((result.0 ≡ 9) ↔ IsNotBuilt (texts words.now) t)) }
 
     // What it leaves. The folder is as the calls of the program leave it, and with 3 and 6 as the
     // first ones of them do: none is made behind the one with which a limit is passed.
     ensures folder_after { OnFalse (is_stopped result.0) (F.told result.1 ≡ option_map (told_after (texts words.now)) (F.told folder)) }
     ensures folder_part { IfSome (F.told folder) (λ t. OnTrue (is_stopped result.0) (IsLeftAfter 1 (calls_made (texts words.now) t) t (F.told result.1))) }
     ensures silent { OnTrue (result.0 == 3 || result.0 == 7) (Appends (K.taken output.old) (K.taken output.new) []) }
-    ensures ticks { IfSome (F.told folder) (λ t. OnTrue (nat_le result.0 1) (IsStepped (files_in (texts words.now) t) steps.old steps.new)) }
+    ensures ticks { IfSome (F.told folder) (λ t. OnTrue (nat_le result.0 1) (steps.new ≡ after_checks (checks_of (files_in (texts words.now) t)) steps.old)) }
     ensures input_after { input.new ≡ input.old }
 {
     let _ = &*input;

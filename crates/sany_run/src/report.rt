@@ -1,7 +1,7 @@
 // The report on some modules.
 ghost use Rattle.std.specs.Prelude.{◌≡◌, ◌++◌, ◌∷◌, [], IfOk, string_bytes, true, nat_le, count_by};
 ghost use Rattle.std.specs.List.{All};
-ghost use Rattle.family_check.specs.Verdicts.{IsVerdictPlaced};
+ghost use Rattle.family_facts.specs.Verdicts.{IsVerdictPlaced};
 ghost use Rattle.sany_run.specs.Report as report;
 ghost use Rattle.sany_run.specs.Cursors.{IsCursor, cursor_at};
 ghost use Rattle.sany_run.specs.Spans.{FaultsPlaced};
@@ -10,7 +10,7 @@ ghost use Rattle.tla_lexeme.specs.Spans.{IsPlaced};
 ghost use Rattle.tla_text.specs.Places.{place_at};
 ghost use Rattle.tla_text.specs.declared.Measure.TheVariants.{Characters};
 
-use family_check::Verdict;
+use family_facts::Verdict;
 use std::alloc::{AllocError, Global};
 use tla_model::Diagnostic;
 use tla_text::{Measure, Place, Text};

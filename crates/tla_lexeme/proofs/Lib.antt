@@ -12,4 +12,4 @@ mod StepLemmas
 mod CutLemmas
 mod PartLemmas
 mod TakesLongestLemmas
-mod ReadsLemmas
+pub mod ReadsLemmas

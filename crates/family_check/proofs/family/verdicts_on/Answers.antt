@@ -1,6 +1,7 @@
-use Rattle.family_check.specs.Verdicts.{family_of}
+use Rattle.family_facts.specs.Verdicts.{family_of}
 use Rattle.family_check.proofs.Answering.{modules-some, verdicts-answer, placed-answer, steps-answer}
-use Rattle.family_check.proofs.Once.{members-differ, modules-once}
+use Rattle.family_check.proofs.Once.{modules-once}
+use Rattle.family_facts.proofs.Once.{members-differ}
 use Rattle.family_check.proofs.family.verdicts_on.Goals as goal
 
 pub plan_of-requires : goal.plan_of-requires
@@ -15,7 +16,7 @@ check_all-requires-clause-read g c = modules-some (family_of c.args.files.now) c
 pub returns-clause-verdicts : goal.returns-clause-verdicts
 returns-clause-verdicts g c =
     let outcomes = c.in_ok-outcomes.ensures.outcomes (family_of c.args.files.now) c.requires.modules in
-    verdicts-answer c.args.files.now c.in_ok-outcomes.outcomes c.verdicts_of.result outcomes c.verdicts_of.ensures
+    verdicts-answer c.args.files.now (c.verdicts_are.ensures.no_other c.args.files.now c.requires.distinct) c.in_ok-outcomes.outcomes c.verdicts_of.result outcomes c.verdicts_of.ensures
 
 pub returns-clause-placed : goal.returns-clause-placed
 returns-clause-placed g c =
@@ -24,4 +25,4 @@ returns-clause-placed g c =
     placed-answer c.one_front.ensures.same c.faults_stand_at_lexemes.ensures c.args.files.now c.args.modules.now c.in_ok-outcomes.outcomes c.verdicts_of.result distinct c.requires.modules outcomes c.verdicts_of.ensures
 
 pub returns-clause-steps : goal.returns-clause-steps
-returns-clause-steps g c = steps-answer c.args.files.now c.args.modules.now c.args.steps.now c.check_all.new.steps c.count-count.result c.verdicts_of.result c.requires.modules c.count-count.type_inv c.count-count.ensures c.in_ok-outcomes.ensures.steps
+returns-clause-steps g c = steps-answer c.one_front.ensures.same c.args.files.now c.args.modules.now c.args.steps.now c.check_all.new.steps c.count-count.result c.verdicts_of.result c.requires.modules c.count-count.type_inv c.count-count.ensures c.in_ok-outcomes.ensures.steps

@@ -2,8 +2,8 @@ use Rattle.std.proofs.Common.{◌≡◌, ℕ, List, None, take}
 use Rattle.std.specs.Prelude.{Contains}
 use Rattle.module_facts.specs.Checks.{given_in}
 use Rattle.module_model.specs.Imports.{import_of}
-use Rattle.family_check.specs.Family as families
-use Rattle.family_check.specs.Family.{Member, IsGiven}
+use Rattle.family_facts.specs.Family as families
+use Rattle.family_facts.specs.Family.{Member, IsGiven}
 use Rattle.family_check.specs.Outcomes.{AreBareImports, IsReady}
 use Rattle.family_check.proofs.imports.imports_of.Given as goal
 

@@ -1,6 +1,6 @@
 use Rattle.std.proofs.Common.{◌≡◌, ℕ, List, Some, take}
 use Rattle.std.specs.Prelude.{sum_by}
-use Rattle.family_check.specs.Family.{Member}
+use Rattle.family_facts.specs.Family.{Member}
 use Rattle.family_check.specs.Modules.{AreModules}
 use Rattle.family_check.specs.declared.outcomes.Outcome.{Outcome}
 use Rattle.family_check.specs.Outcomes.{AreBare, IsOutcome, after_ticks, trees_of}

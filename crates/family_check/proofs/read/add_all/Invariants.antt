@@ -1,7 +1,8 @@
 use Rattle.std.proofs.Common.{List, take}
 use Rattle.std.specs.List.{fold}
-use Rattle.family_check.specs.Family.{Member}
-use Rattle.family_check.specs.Modules.{AreModules, added, built_in}
+use Rattle.family_facts.specs.Family.{Member}
+use Rattle.family_facts.specs.Verdicts.{built_in}
+use Rattle.family_check.specs.Modules.{AreModules, added}
 use Rattle.family_check.proofs.read.add_all.Given as goal
 
 abbrev pub invariant-loop-name : goal.invariant-loop-name

@@ -1,6 +1,6 @@
 use Rattle.std.proofs.Common.{◌≡◌, ◌∙◌, ap, refl, sym}
 use Rattle.std_modules.specs.StdTexts.{std_text}
-use Rattle.family_check.specs.Verdicts.{text_or_none}
+use Rattle.family_facts.specs.Verdicts.{text_or_none}
 use Rattle.family_check.proofs.Reading.{built-in-there, built-in-more, unwrapped}
 use Rattle.family_check.proofs.read.add_built_in.Goals as goal
 

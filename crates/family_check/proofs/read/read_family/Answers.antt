@@ -1,8 +1,9 @@
 use Rattle.std.proofs.Common.{subst, map}
 use Rattle.family_check.specs.Modules.{AreModules}
-use Rattle.family_check.specs.Verdicts.{member_of, built_in_names}
+use Rattle.family_facts.specs.Verdicts.{member_of, built_in_names}
 use Rattle.family_check.proofs.BuiltIn.{built-in-small}
-use Rattle.family_check.proofs.Reading.{added-all, built-in-apart}
+use Rattle.family_facts.proofs.Once.{built-in-apart}
+use Rattle.family_check.proofs.Reading.{added-all}
 use Rattle.family_check.proofs.read.read_family.Goals as goal
 
 pub add_all-requires : goal.add_all-requires

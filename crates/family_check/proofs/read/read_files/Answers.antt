@@ -1,5 +1,5 @@
 use Rattle.std.proofs.Common.{◌∙◌, ap}
-use Rattle.family_check.specs.declared.verdict.File.{File}
+use Rattle.family_facts.specs.declared.verdict.File.{File}
 use Rattle.family_check.proofs.Reading.{file-fresh, file-more}
 use Rattle.family_check.proofs.read.read_files.Goals as goal
 

@@ -1,5 +1,5 @@
 use Rattle.std.proofs.Common.{take, map}
-use Rattle.family_check.specs.Verdicts.{member_of}
+use Rattle.family_facts.specs.Verdicts.{member_of}
 use Rattle.family_check.specs.Modules.{AreModules}
 use Rattle.family_check.proofs.read.read_files.Given as goal
 

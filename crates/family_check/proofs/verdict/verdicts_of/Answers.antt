@@ -1,8 +1,8 @@
 use Rattle.std.proofs.Common.{subst, sym, take, ◌+◌}
 use Rattle.std.specs.List.{AllZip}
 use Rattle.family_check.specs.Outcomes.{IsSaid}
-use Rattle.family_check.specs.declared.verdict.File.{File}
-use Rattle.family_check.proofs.Lists.{zip-more}
+use Rattle.family_facts.specs.declared.verdict.File.{File}
+use Rattle.family_facts.proofs.Lists.{zip-more}
 use Rattle.family_check.proofs.verdict.verdicts_of.Goals as goal
 
 pub loop-file-preserved : goal.loop-file-preserved

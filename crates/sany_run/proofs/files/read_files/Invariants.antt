@@ -1,6 +1,6 @@
 use Rattle.std.proofs.Common.{◌≡◌, ◌≤◌, take, IfSome}
 use Rattle.std.specs.Option.{option_map}
-use Rattle.family_check.specs.Verdicts.{AreDistinct}
+use Rattle.family_facts.specs.Verdicts.{AreDistinct}
 use Rattle.sany_run.specs.Program.{after_calls, byte_count, reads, MOST_BYTES}
 use Rattle.sany_run.specs.Reading.{AreNamed}
 use Rattle.sany_run.proofs.files.read_files.Given as goal

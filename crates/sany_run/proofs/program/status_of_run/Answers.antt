@@ -1,14 +1,14 @@
 use Rattle.std.proofs.Common.{refl}
 use Rattle.sany_run.specs.Texts.{texts}
 use Rattle.sany_run.proofs.CallLemmas.{part-whole, part-words}
-use Rattle.sany_run.proofs.RunLemmas.{answers-front, answers-nothing, answers-usage, answers-whole, not_built-outcome, shown-front, shown-whole}
+use Rattle.sany_run.proofs.RunLemmas.{answers-front, answers-limit, answers-nothing, answers-usage, answers-whole}
 use Rattle.sany_run.proofs.program.status_of_run.Goals as goal
 
 pub returns-in_default-clause-answers : goal.returns-in_default-clause-answers
 returns-in_default-clause-answers g c = answers-usage (g.F.Folder.told c.args.folder.now) (texts c.args.words.now) (g.K.Sink.taken c.args.output.now) c.in_default.ensures
 
 pub returns-in-Ok-None-clause-answers : goal.returns-in-Ok-None-clause-answers
-returns-in-Ok-None-clause-answers g c = answers-nothing (g.F.Folder.told c.args.folder.now) (texts c.args.words.now) 7 (g.K.Sink.taken c.args.output.now) refl
+returns-in-Ok-None-clause-answers g c = answers-limit (texts c.args.words.now) c.in-Some.path.now c.in-Some.ensures (g.F.Folder.told c.args.folder.now) (g.K.Sink.taken c.args.output.now) (rw c.in-Ok-None.field-0-is at c.in-Ok-None.ensures.limit)
 
 pub returns-in-Err-Failed-clause-answers : goal.returns-in-Err-Failed-clause-answers
 returns-in-Err-Failed-clause-answers g c = answers-nothing (g.F.Folder.told c.args.folder.now) (texts c.args.words.now) 3 (g.K.Sink.taken c.args.output.now) refl
@@ -18,32 +18,18 @@ returns-in-Err-Memory-clause-answers g c = answers-nothing (g.F.Folder.told c.ar
 
 pub returns-in-Ok-clause-answers : goal.returns-in-Ok-clause-answers
 returns-in-Ok-clause-answers g c =
-    answers-whole (g.F.Folder.told c.args.folder.now) (texts c.args.words.now) c.in-Some.path.now c.in-Ok-Some.outcome (g.K.Sink.taken c.args.output.now) (g.K.Sink.taken c.write_all.new.output)
-    c.in-Some.ensures (rw c.in-Ok-Some.field-0-is at c.in-Ok-Some.ensures.only) (rw c.as_slice.ensures at c.in-Ok.ensures.bytes)
-
-pub returns-in-Ok-clause-shown : goal.returns-in-Ok-clause-shown
-returns-in-Ok-clause-shown g c =
-    shown-whole (g.F.Folder.told c.args.folder.now) (texts c.args.words.now) c.in-Some.path.now c.in-Some.ensures c.in-Ok-Some.outcome (g.K.Sink.taken c.args.output.now) (g.K.Sink.taken c.write_all.new.output)
-    (rw c.in-Ok-Some.field-0-is at c.in-Ok-Some.ensures.outcome) (rw c.as_slice.ensures at c.in-Ok.ensures.bytes)
-
-pub returns-in-Ok-clause-not_built : goal.returns-in-Ok-clause-not_built
-returns-in-Ok-clause-not_built g c =
-    not_built-outcome (g.F.Folder.told c.args.folder.now) (texts c.args.words.now) c.in-Some.path.now c.in-Ok-Some.outcome c.in-Some.ensures (rw c.in-Ok-Some.field-0-is at c.in-Ok-Some.ensures.outcome)
+    answers-whole (texts c.args.words.now) c.in-Some.path.now c.in-Some.ensures (g.F.Folder.told c.args.folder.now) c.in-Ok-Some.outcome (g.K.Sink.taken c.args.output.now) (g.K.Sink.taken c.write_all.new.output)
+    (rw c.in-Ok-Some.field-0-is at c.in-Ok-Some.ensures.limit) (rw c.in-Ok-Some.field-0-is at c.in-Ok-Some.ensures.outcome) (rw c.as_slice.ensures at c.in-Ok.ensures.bytes)
 
 pub returns-in-Err-Failed-write_all-clause-answers : goal.returns-in-Err-Failed-write_all-clause-answers
 returns-in-Err-Failed-write_all-clause-answers g c =
-    answers-front (g.F.Folder.told c.args.folder.now) (texts c.args.words.now) c.in-Some.path.now c.in-Ok-Some.outcome 5 (g.K.Sink.taken c.args.output.now) (g.K.Sink.taken c.write_all.new.output)
-    c.in-Some.ensures refl (rw c.in-Ok-Some.field-0-is at c.in-Ok-Some.ensures.only) (rw c.as_slice.ensures at c.in-Err-Failed-write_all.ensures.bytes)
-
-pub returns-in-Err-Failed-write_all-clause-shown : goal.returns-in-Err-Failed-write_all-clause-shown
-returns-in-Err-Failed-write_all-clause-shown g c =
-    shown-front (g.F.Folder.told c.args.folder.now) (texts c.args.words.now) c.in-Some.path.now c.in-Some.ensures c.in-Ok-Some.outcome (g.K.Sink.taken c.args.output.now) (g.K.Sink.taken c.write_all.new.output)
-    (rw c.in-Ok-Some.field-0-is at c.in-Ok-Some.ensures.outcome) 5 refl (rw c.as_slice.ensures at c.in-Err-Failed-write_all.ensures.some) (rw c.as_slice.ensures at c.in-Err-Failed-write_all.ensures.bytes)
+    answers-front (texts c.args.words.now) c.in-Some.path.now c.in-Some.ensures (g.F.Folder.told c.args.folder.now) c.in-Ok-Some.outcome 5 (g.K.Sink.taken c.args.output.now) (g.K.Sink.taken c.write_all.new.output) refl
+    (rw c.in-Ok-Some.field-0-is at c.in-Ok-Some.ensures.limit) (rw c.in-Ok-Some.field-0-is at c.in-Ok-Some.ensures.outcome) (rw c.as_slice.ensures at c.in-Err-Failed-write_all.ensures.bytes)
 
 pub returns-clause-answers : goal.returns-clause-answers
 returns-clause-answers g c =
-    answers-front (g.F.Folder.told c.args.folder.now) (texts c.args.words.now) c.in-Some.path.now c.in-Ok-Some.outcome 6 (g.K.Sink.taken c.args.output.now) (g.K.Sink.taken c.write_all.new.output)
-    c.in-Some.ensures refl (rw c.in-Ok-Some.field-0-is at c.in-Ok-Some.ensures.only) (rw c.as_slice.ensures at c.in-Err-Memory-write_all.ensures.bytes)
+    answers-front (texts c.args.words.now) c.in-Some.path.now c.in-Some.ensures (g.F.Folder.told c.args.folder.now) c.in-Ok-Some.outcome 6 (g.K.Sink.taken c.args.output.now) (g.K.Sink.taken c.write_all.new.output) refl
+    (rw c.in-Ok-Some.field-0-is at c.in-Ok-Some.ensures.limit) (rw c.in-Ok-Some.field-0-is at c.in-Ok-Some.ensures.outcome) (rw c.as_slice.ensures at c.in-Err-Memory-write_all.ensures.bytes)
 
 pub returns-clause-part : goal.returns-clause-part
 returns-clause-part g c =

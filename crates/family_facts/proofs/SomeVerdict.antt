@@ -1,52 +1,26 @@
 -- Something is found of each module of a family.
-use Rattle.std.proofs.Common.{◌≡◌, ◌≢◌, ◌<◌, ◌≤◌, ◌^◌, ℕ, zero, suc, Bool, true, false, List, [], ◌∷◌, refl, sym, ◌∙◌, subst, map, take, length, arith, ⊎_elim, inl, inr}
+use Rattle.std.proofs.Common.{◌≡◌, ◌≢◌, ◌<◌, ◌≤◌, ℕ, zero, suc, true, false, List, [], ◌∷◌, refl, sym, ◌∙◌, subst, map, length, arith, ⊎_elim, inl, inr}
 use Rattle.std.specs.Prelude.{◌⊎◌, Contains}
-use Rattle.std.specs.List.{AllZip}
-use Rattle.std.specs.Str.{bytes_eq, is_utf8}
-use Rattle.std.proofs.lemmas.Bool.{cases_Bool, cases_lt}
+use Rattle.std.specs.Str.{bytes_eq}
+use Rattle.std.proofs.lemmas.Bool.{cases_Bool}
 use Rattle.list_laws.proofs.Lists.{contains-map}
 use Rattle.list_laws.proofs.Texts.{same-text, text-itself}
 use Rattle.module_model.specs.Exports.{nothing}
 use Rattle.module_model.specs.Resolution.{outside_in}
 use Rattle.module_graph.specs.Family.{last, more}
-use Rattle.tla_front.specs.Fronts.{Front, IsFront, Tree, Fault, MOST_TEXT, fault_at, greatest, not_utf8, readable_len, too_large}
+use Rattle.tla_front.specs.Fronts.{Front, IsFront, Tree, Fault}
+use Rattle.module_facts.proofs.Inserting.{in-order}
+use Rattle.module_facts.specs.Ordered.{in_order}
 use Rattle.module_facts.specs.Checks.{Given, Unknown, Cyclic, Refused, Accepted, all_faults, files_given}
-use Rattle.family_check.specs.Family.{Member, Needs, Reaches, IsCyclic, Diagnosed, IsGiven, unknown, cyclic, refused, accepted, IsDiagnosed, front_fault, checked, is_there}
-use Rattle.family_check.specs.Verdicts.{AreDistinct, AreVerdicts, IsVerdict, family_of, member_of, text_of}
-use Rattle.family_check.specs.declared.verdict.File.{File}
-use Rattle.family_check.specs.declared.verdict.Verdict.{Verdict}
-use Rattle.family_check.proofs.Answering.{file-there}
-use Rattle.family_check.proofs.Lists.{behind, here}
-use Rattle.family_check.proofs.Members.{AreOneEach, member-there, there-member}
-use Rattle.family_check.proofs.Once.{members-differ}
-use Rattle.family_check.proofs.OneVerdict.{HasNoOther, fault-needs, needs-or-not, not-there}
-use Rattle.family_check.proofs.Sorting.{some-order}
-use Rattle.family_check.proofs.Steps.{leads-or-not, without}
+use Rattle.family_facts.specs.Family.{Member, Needs, Reaches, IsCyclic, Diagnosed, IsGiven, unknown, cyclic, refused, accepted, IsDiagnosed, front_fault, checked, is_there}
+use Rattle.family_facts.proofs.Members.{AreOneEach, member-there, there-member}
+use Rattle.family_facts.proofs.OneVerdict.{HasNoOther, fault-needs, needs-or-not, not-there}
+use Rattle.family_facts.proofs.Steps.{leads-or-not, without}
 
 -- ---- fronts
 
 abbrev pub HasSome : Type 0
 HasSome = (name bytes : List ℕ) → (front : Front) × IsFront name bytes front
-
-greatest-le : (p : ℕ → Bool) (n : ℕ) → greatest p n ≤ n
-greatest-le p zero = omega arith
-greatest-le p (suc n) = ⊎_elim
-    (λ (yes : p (suc n) ≡ true). rw yes (omega arith))
-    (λ (no : p (suc n) ≡ false). rw no (omega (arith, greatest-le p n)))
-    (cases_Bool (p (suc n)))
-
--- bytes of any length have a front where those of a length that is read have one
-pub any-front : ((name bytes : List ℕ) → length bytes < 2 ^ 31 → (front : Front) × IsFront name bytes front) → HasSome
-any-front some name bytes = ⊎_elim
-    (λ (few : length bytes < 2 ^ 31). some name bytes few)
-    (λ (many : 2 ^ 31 ≤ length bytes). ⊎_elim
-    (λ (short : readable_len bytes < length bytes). (Fault (fault_at 101 (readable_len bytes)), not_utf8 short))
-    (λ (le : length bytes ≤ readable_len bytes).
-    let text : readable_len bytes ≡ length bytes = omega (arith, le, greatest-le (λ n. is_utf8 (take n bytes)) (length bytes)) in
-    let large : MOST_TEXT < length bytes = omega arith in
-    (Fault (fault_at 104 0), too_large text large))
-    (cases_lt (readable_len bytes) (length bytes)))
-    (cases_lt (length bytes) (2 ^ 31))
 
 -- ---- what is found
 
@@ -85,7 +59,7 @@ module _ (one : HasNoOther) (front : HasSome) (family : List Member) (distinct :
       (cases_Bool (bytes_eq need name))
 
   abbrev HasFinding : List ℕ → Type 0
-  HasFinding name = (found : Diagnosed family) × IsDiagnosed family name found
+  HasFinding name = (found : Diagnosed) × IsDiagnosed family name found
 
   -- what a name is to a module, if it needs it
   record HasGiven (name need : List ℕ) : Type 0 where
@@ -93,7 +67,7 @@ module _ (one : HasNoOther) (front : HasSome) (family : List Member) (distinct :
     is : Needs family name need → IsGiven family name need given
     others : (Needs family name need → ⊥) → given ≡ Unknown
 
-  by-finding : (name need : List ℕ) → Needs family name need → is_there family need ≡ true → (IsCyclic family name need → ⊥) → (d : Diagnosed family) → IsDiagnosed family need d → HasGiven name need
+  by-finding : (name need : List ℕ) → Needs family name need → is_there family need ≡ true → (IsCyclic family name need → ⊥) → (d : Diagnosed) → IsDiagnosed family need d → HasGiven name need
   by-finding name need n t ordered d is = elim (empty-or-not d.faults) as (λ _. HasGiven name need) [
     | inl e ↦ record { given = Accepted d.outside; is = λ _. accepted t ordered is e; others = λ none. absurd (none n) }
     | inr e ↦ record { given = Refused; is = λ _. refused t ordered is e; others = λ none. absurd (none n) }
@@ -118,8 +92,8 @@ module _ (one : HasNoOther) (front : HasSome) (family : List Member) (distinct :
   by-front m there (Fault fault) is each = (record { faults = fault ∷ []; outside = nothing }, front_fault there is)
   by-front m there (Tree units) is each =
       let given : List ℕ → Given = λ need. (each need).given in
-      let o = some-order (all_faults given m.bytes units) in
-      (record { faults = o.0; outside = outside_in (files_given given) m.bytes units }, checked there is (λ need. (each need).is) (λ need. (each need).others) o.1)
+      let all = all_faults given m.bytes units in
+      (record { faults = in_order all; outside = outside_in (files_given given) m.bytes units }, checked there is (λ need. (each need).is) (λ need. (each need).others) (in-order all))
 
   by-name : (name : List ℕ) → is_there family name ≡ true → ((need : List ℕ) → HasGiven name need) → HasFinding name
   by-name name t each =
@@ -150,20 +124,5 @@ module _ (one : HasNoOther) (front : HasSome) (family : List Member) (distinct :
       less.2 x (holds x at (on-need name need x needs on)) (λ back. ordered (back-cyclic name need x on back)))))
 
   -- of each module of the family something is found
-  pub some-finding : (name : List ℕ) → is_there family name ≡ true → (found : Diagnosed family) × IsDiagnosed family name found
+  pub some-finding : (name : List ℕ) → is_there family name ≡ true → (found : Diagnosed) × IsDiagnosed family name found
   some-finding name t = finding (length names) names name (omega arith) t (λ x at on. let m = there-member family x at in among-names x m.0 m.1 m.2)
-
--- ---- verdicts
-
-all-said : {A B : Type 0} (R : A → B → Type 0) (xs : List A) → ((x : A) → Contains xs x → (y : B) × R x y) → (ys : List B) × AllZip R xs ys
-all-said R [] each = ([], tt)
-all-said R (x ∷ xs) each =
-    let y = each x (here x xs) in
-    let ys = all-said R xs (λ z at. each z (behind x xs z at)) in
-    (y.0 ∷ ys.0, (y.1, ys.1))
-
--- files with names of their own have verdicts
-pub some-verdicts : HasNoOther → HasSome → (files : List File) → AreDistinct files → (verdicts : List Verdict) × AreVerdicts files verdicts
-some-verdicts one front files d = all-said (IsVerdict (family_of files)) files (λ f at.
-    let found = some-finding one front (family_of files) (members-differ files d) f.name (member-there (family_of files) f.name (member_of f) (file-there files f at) refl) in
-    (record { name = f.name; text = text_of f.bytes; faults = found.0.faults }, record { name = refl; text = refl; found = found.0; diagnosed = found.1; faults = refl }))

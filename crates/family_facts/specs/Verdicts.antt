@@ -1,14 +1,15 @@
 -- The verdicts on the files of a family, and what they take.
-use Rattle.std.specs.Prelude.{◌≡◌, ◌+◌, ◌-◌, ◌^◌, min, ℕ, true, List, [], ◌∷◌, Option, Some, None, Contains, map, slice_get, take, sum_by, codes}
+use Rattle.std.specs.Prelude.{◌≡◌, ◌+◌, ◌-◌, ◌^◌, min, ℕ, List, [], ◌∷◌, Option, Some, None, if◌then◌else◌, map, slice_get, take, sum_by, codes}
 use Rattle.std.specs.List.{All, AllZip}
 use Rattle.tla_lexeme.specs.Spans.{IsPlaced}
-use Rattle.tla_front.specs.Fronts.{Front, IsFront, Tree, Fault, readable_len}
-use Rattle.unit_grammar.specs.Units.{ModuleUnits}
-use Rattle.tla_model.specs.ModuleNames.{holds_instance}
+use Rattle.tla_front.specs.Fronts.{Front, Tree, Fault, readable_len}
+use Rattle.fact_values.specs.Names.{Texts}
 use Rattle.std_modules.specs.StdTexts.{std_text}
-use Rattle.family_check.specs.Family.{Member, Diagnosed, IsDiagnosed, over}
-use Rattle.family_check.specs.declared.verdict.File.{File}
-use Rattle.family_check.specs.declared.verdict.Verdict.{Verdict}
+use Rattle.family_facts.specs.Facts.{diagnosed, some_instance, texts_of}
+use Rattle.family_facts.specs.Family.{Member, Diagnosed, IsDiagnosed, over}
+use Rattle.family_facts.specs.Fronts.{front_of}
+use Rattle.family_facts.specs.declared.verdict.File.{File}
+use Rattle.family_facts.specs.declared.verdict.Verdict.{Verdict}
 
 abbrev pub text_or_none : Option (List ℕ) → List ℕ
 text_or_none None = []
@@ -18,8 +19,11 @@ text_or_none (Some text) = text
 abbrev pub built_in_names : List (List ℕ)
 built_in_names = codes "Naturals" ∷ codes "Integers" ∷ codes "Reals" ∷ codes "Sequences" ∷ codes "FiniteSets" ∷ codes "Bags" ∷ codes "RealTime" ∷ codes "TLC" ∷ []
 
+abbrev pub built_in : List ℕ → Member
+built_in name = record { name = name; bytes = text_or_none (std_text name) }
+
 abbrev pub built_in_members : List Member
-built_in_members = map (λ name. record { name = name; bytes = text_or_none (std_text name) }) built_in_names
+built_in_members = map built_in built_in_names
 
 abbrev pub member_of : File → Member
 member_of file = record { name = file.name; bytes = file.bytes }
@@ -42,7 +46,7 @@ text_of bytes = take (readable_len bytes) bytes
 pub record IsVerdict (family : List Member) (file : File) (verdict : Verdict) : Type 0 where
   pub name : verdict.name ≡ file.name
   pub text : verdict.text ≡ text_of file.bytes
-  pub found : Diagnosed family
+  pub found : Diagnosed
   pub diagnosed : IsDiagnosed family file.name found
   pub faults : verdict.faults ≡ found.faults
 
@@ -53,33 +57,30 @@ AreVerdicts files verdicts = AllZip (IsVerdict (family_of files)) files verdicts
 abbrev pub IsVerdictPlaced : Verdict → Type 0
 IsVerdictPlaced verdict = All (λ fault. IsPlaced verdict.text fault.span) verdict.faults
 
--- some module without front fault holds the word INSTANCE
-pub record HoldsInstance (files : List File) : Type 0 where
-  pub member : Member
-  pub found : ModuleUnits
-  pub there : Contains (family_of files) member
-  pub front : IsFront member.name member.bytes (Tree found)
-  pub holds : holds_instance found ≡ true
+-- ---- as functions
+
+-- the verdict on a file of these texts
+abbrev pub verdict_on : Texts → File → Verdict
+verdict_on texts file = record { name = file.name; text = text_of file.bytes; faults = (diagnosed texts file.name).faults }
+
+-- the verdicts on files, over the built-in modules
+abbrev pub verdicts_on : List File → List Verdict
+verdicts_on files = map (verdict_on (texts_of (family_of files))) files
+
+-- none where some module without front fault holds the word INSTANCE
+abbrev pub verdicts_if_built : List File → Option (List Verdict)
+verdicts_if_built files = if some_instance (family_of files) then None else Some (verdicts_on files)
 
 -- ---- checks
-
-abbrev pub AreFronts : List Member → List Front → Type 0
-AreFronts members fronts = AllZip (λ m front. IsFront m.name m.bytes front) members fronts
 
 abbrev pub check_count : Front → ℕ
 check_count (Tree found) = 1
 check_count (Fault fault) = 0
 
 -- how many modules have no front fault, so that their names are checked
-abbrev pub checks_of : List Front → ℕ
-checks_of fronts = sum_by check_count fronts
+abbrev pub checks_of : List File → ℕ
+checks_of files = sum_by (λ (m : Member). check_count (front_of m.name m.bytes)) (family_of files)
 
 -- a count after so many checks
 abbrev pub after_checks : ℕ → ℕ → ℕ
 after_checks n steps = min (steps + n) (2 ^ 64 - 1)
-
--- one check for each module without front fault
-pub record IsStepped (files : List File) (old new : ℕ) : Type 0 where
-  pub fronts : List Front
-  pub are : AreFronts (family_of files) fronts
-  pub steps : new ≡ after_checks (checks_of fronts) old

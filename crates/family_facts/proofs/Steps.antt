@@ -2,7 +2,7 @@
 use Rattle.std.proofs.Common.{◌≡◌, zero, suc, List, [], ◌∷◌, refl, sym, ap, ◌∙◌, subst, inl, inr, length, arith}
 use Rattle.std.specs.Prelude.{◌⊎◌, Contains}
 use Rattle.module_graph.specs.Family.{Leads, last, more}
-use Rattle.family_check.proofs.Lists.{behind, first-or-rest, here, none-there}
+use Rattle.family_facts.proofs.Lists.{behind, first-or-rest, here, none-there}
 
 -- steps by way of places of a list
 data Via {A : Type 0} (Step : A → A → Type 0) (places : List A) : A → A → Type 0 where

@@ -4,8 +4,8 @@ use Rattle.std.specs.Prelude.{Contains, slice_get}
 use Rattle.std.specs.Str.{bytes_eq}
 use Rattle.std.proofs.lemmas.Bool.{cases_Bool}
 use Rattle.list_laws.proofs.Texts.{same-text, text-itself}
-use Rattle.family_check.proofs.Lists.{at-same, behind, contains-at, none-there}
-use Rattle.family_check.specs.Family.{Member, is_there, AreMembersDistinct}
+use Rattle.family_facts.proofs.Lists.{at-same, behind, contains-at, none-there}
+use Rattle.family_facts.specs.Family.{Member, is_there, AreMembersDistinct}
 
 -- a name that is there is that of a member
 pub there-member : (members : List Member) (name : List ℕ) → is_there members name ≡ true → (m : Member) × Contains members m × (m.name ≡ name)

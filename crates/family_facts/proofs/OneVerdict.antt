@@ -10,9 +10,9 @@ use Rattle.module_graph.specs.Imports.{imports_of}
 use Rattle.tla_front.specs.Fronts.{Front, IsFront, Tree, Fault}
 use Rattle.unit_grammar.specs.Units.{ModuleUnits}
 use Rattle.module_facts.specs.Checks.{Given, Unknown, Accepted, all_faults, files_given}
-use Rattle.family_check.specs.Family.{Member, Needs, Diagnosed, IsGiven, unknown, cyclic, refused, accepted, IsDiagnosed, front_fault, checked}
-use Rattle.family_check.proofs.Members.{AreOneEach}
-use Rattle.family_check.proofs.Lists.{among-or-not}
+use Rattle.family_facts.specs.Family.{Member, Needs, Diagnosed, IsGiven, unknown, cyclic, refused, accepted, IsDiagnosed, front_fault, checked}
+use Rattle.family_facts.proofs.Members.{AreOneEach}
+use Rattle.family_facts.proofs.Lists.{among-or-not}
 
 abbrev pub HasNoOther : Type 0
 HasNoOther = (name bytes : List ℕ) → (front other : Front) → IsFront name bytes front → IsFront name bytes other → front ≡ other
@@ -59,7 +59,7 @@ module _ (one : HasNoOther) (family : List Member) (distinct : AreOneEach family
   ]
 
 -- what is found of a member with a tree
-pub record IsCheckedOf (family : List Member) (member : Member) (units : ModuleUnits) (d : Diagnosed family) : Type 0 where
+pub record IsCheckedOf (family : List Member) (member : Member) (units : ModuleUnits) (d : Diagnosed) : Type 0 where
   pub given : List ℕ → Given
   pub list : List Diagnostic
   pub gives : (need : List ℕ) → Needs family member.name need → IsGiven family member.name need (given need)
@@ -68,18 +68,18 @@ pub record IsCheckedOf (family : List Member) (member : Member) (units : ModuleU
   pub is : d ≡ record { faults = list; outside = outside_in (files_given given) member.bytes units }
 
 -- what is found of a name, by the front of its member
-pub data Found (family : List Member) (name : List ℕ) (d : Diagnosed family) : Type 0 where
+pub data Found (family : List Member) (name : List ℕ) (d : Diagnosed) : Type 0 where
   of_fault : (m : Member) (fault : Diagnostic) → Contains family m → m.name ≡ name → IsFront m.name m.bytes (Fault fault) → d ≡ record { faults = fault ∷ []; outside = nothing } → Found family name d
   of_tree : (m : Member) (units : ModuleUnits) → Contains family m → m.name ≡ name → IsFront m.name m.bytes (Tree units) → IsCheckedOf family m units d → Found family name d
 
-pub found-of : {family : List Member} {name : List ℕ} {d : Diagnosed family} → IsDiagnosed family name d → Found family name d
+pub found-of : {family : List Member} {name : List ℕ} {d : Diagnosed} → IsDiagnosed family name d → Found family name d
 found-of (front_fault {member = m} {fault = fault} there front) = of_fault m fault there refl front refl
 found-of (checked {member = m} {found = units} {given = given} {faults = list} there front gives others ordered) =
     of_tree m units there refl front (record { given = given; list = list; gives = gives; others = others; ordered = ordered; is = refl })
 
 -- modules that are given the same have the same faults, and are the same to others
 checked-same : OneOrder → (family : List Member) (bytes : List ℕ) (units : ModuleUnits) (given given' : List ℕ → Given) (list list' : List Diagnostic) → given ≡ given' → AreInOrder (all_faults given bytes units) list → AreInOrder (all_faults given' bytes units) list' →
-    ◌≡◌ {A = Diagnosed family} (record { faults = list; outside = outside_in (files_given given) bytes units }) (record { faults = list'; outside = outside_in (files_given given') bytes units })
+    ◌≡◌ {A = Diagnosed} (record { faults = list; outside = outside_in (files_given given) bytes units }) (record { faults = list'; outside = outside_in (files_given given') bytes units })
 checked-same order family bytes units given given' list list' e o o' =
     let same : list ≡ list' = order (all_faults given bytes units) list list' o (subst (λ g. AreInOrder (all_faults g bytes units) list') (sym e) o') in
     λ i. record { faults = same i; outside = outside_in (files_given (e i)) bytes units }
@@ -88,7 +88,7 @@ pub not-there : {b : Bool} → b ≡ false → b ≡ true → ⊥
 not-there f t = let k : true ≡ false = sym t ∙ f in cc
 
 module _ (one : HasNoOther) (order : OneOrder) (family : List Member) (distinct : AreOneEach family) where
-  second-fault : (m : Member) (fault : Diagnostic) (other : Diagnosed family) → Contains family m → IsFront m.name m.bytes (Fault fault) → Found family m.name other → ◌≡◌ {A = Diagnosed family} (record { faults = fault ∷ []; outside = nothing }) other
+  second-fault : (m : Member) (fault : Diagnostic) (other : Diagnosed) → Contains family m → IsFront m.name m.bytes (Fault fault) → Found family m.name other → ◌≡◌ {A = Diagnosed} (record { faults = fault ∷ []; outside = nothing }) other
   second-fault m fault other there front (of_fault m' fault' there' named' front' is) =
       let same : m' ≡ m = distinct m' m there' there named' in
       let f : fault ≡ fault' = fault-same (one m.name m.bytes (Fault fault) (Fault fault') front (subst (λ (x : Member). IsFront x.name x.bytes (Fault fault')) same front')) in
@@ -97,7 +97,7 @@ module _ (one : HasNoOther) (order : OneOrder) (family : List Member) (distinct 
       let same : m' ≡ m = distinct m' m there' there named' in
       absurd (tree-no-fault (one m.name m.bytes (Tree units) (Fault fault) (subst (λ (x : Member). IsFront x.name x.bytes (Tree units)) same front') front))
 
-  second-tree : (m : Member) (units : ModuleUnits) (other : Diagnosed family) → Contains family m → IsFront m.name m.bytes (Tree units) → Found family m.name other → IsCheckedOf family m units other
+  second-tree : (m : Member) (units : ModuleUnits) (other : Diagnosed) → Contains family m → IsFront m.name m.bytes (Tree units) → Found family m.name other → IsCheckedOf family m units other
   second-tree m units other there front (of_fault m' fault' there' named' front' is) =
       let same : m' ≡ m = distinct m' m there' there named' in
       absurd (tree-no-fault (one m.name m.bytes (Tree units) (Fault fault') front (subst (λ (x : Member). IsFront x.name x.bytes (Fault fault')) same front')))
@@ -119,13 +119,13 @@ module _ (one : HasNoOther) (order : OneOrder) (family : List Member) (distinct 
     given-one (refused t n d e) (unknown g) = absurd (not-there g t)
     given-one (refused t n d e) (cyclic u c) = absurd (n c)
     given-one (refused t n d e) (refused u k b f) = refl
-    given-one (refused t n d e) (accepted u k b f) = absurd (e (ap (λ (v : Diagnosed family). v.faults) (found-one d (found-of b)) ∙ f))
+    given-one (refused t n d e) (accepted u k b f) = absurd (e (ap (λ (v : Diagnosed). v.faults) (found-one d (found-of b)) ∙ f))
     given-one (accepted t n d e) (unknown g) = absurd (not-there g t)
     given-one (accepted t n d e) (cyclic u c) = absurd (n c)
-    given-one (accepted t n d e) (refused u k b f) = absurd (f (ap (λ (v : Diagnosed family). v.faults) (sym (found-one d (found-of b))) ∙ e))
-    given-one (accepted t n d e) (accepted u k b f) = ap (λ (v : Diagnosed family). Accepted v.outside) (found-one d (found-of b))
+    given-one (accepted t n d e) (refused u k b f) = absurd (f (ap (λ (v : Diagnosed). v.faults) (sym (found-one d (found-of b))) ∙ e))
+    given-one (accepted t n d e) (accepted u k b f) = ap (λ (v : Diagnosed). Accepted v.outside) (found-one d (found-of b))
 
-    found-one : {name : List ℕ} {found other : Diagnosed family} → IsDiagnosed family name found → Found family name other → found ≡ other
+    found-one : {name : List ℕ} {found other : Diagnosed} → IsDiagnosed family name found → Found family name other → found ≡ other
     found-one {other = other} (front_fault {member = m} {fault = fault} there front) h = second-fault m fault other there front h
     found-one {other = other} (checked {member = m} {found = units} {given = given} {faults = list} there front gives others ordered) h =
         let k : IsCheckedOf family m units other = second-tree m units other there front h in
@@ -135,7 +135,7 @@ module _ (one : HasNoOther) (order : OneOrder) (family : List Member) (distinct 
         ] in
         checked-same order family m.bytes units given k.given list k.list (λ i. λ need. at need i) ordered k.ordered ∙ sym k.is
 
-  pub one-verdict : (name : List ℕ) (found other : Diagnosed family) → IsDiagnosed family name found → IsDiagnosed family name other → found ≡ other
+  pub one-verdict : (name : List ℕ) (found other : Diagnosed) → IsDiagnosed family name found → IsDiagnosed family name other → found ≡ other
   one-verdict name found other d e = found-one d (found-of e)
 
   -- what a module is to one that needs it is one thing

@@ -32,6 +32,11 @@ over files built_in = files ++ filter (λ m. not (is_there files m.name)) built_
 abbrev pub AreMembersDistinct : List Member → Type 0
 AreMembersDistinct family = (i j : ℕ) (a b : Member) → slice_get family i ≡ Some a → slice_get family j ≡ Some b → a.name ≡ b.name → i ≡ j
 
+-- all that is found of a module: its faults, and what it is to others where it has none
+pub record Diagnosed : Type 0 where
+  pub faults : List Diagnostic
+  pub outside : Outside
+
 module _ (family : List Member) where
   -- what a module needs; one with a front fault needs nothing
   pub record Needs (name need : List ℕ) : Type 0 where
@@ -49,11 +54,6 @@ module _ (family : List Member) where
   -- an import of a module is cyclic where it is that module or reaches it
   abbrev pub IsCyclic : List ℕ → List ℕ → Type 0
   IsCyclic name need = (need ≡ name) ⊎ Reaches need name
-
-  -- all that is found of a module: its faults, and what it is to others where it has none
-  pub record Diagnosed : Type 0 where
-    pub faults : List Diagnostic
-    pub outside : Outside
 
   mutual
     -- what one module is to another that needs it

@@ -1,0 +1,9 @@
+pub mod Lists
+pub mod Members
+pub mod FrontLaws
+pub mod OneVerdict
+pub mod Once
+pub mod Steps
+pub mod SomeVerdict
+pub mod Values
+pub mod Saying

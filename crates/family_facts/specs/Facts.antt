@@ -1,0 +1,86 @@
+-- What is found of each module of some texts, as a function.
+use Rattle.std.specs.Prelude.{ℕ, List, [], ◌∷◌, Option, Some, None, Bool, false, if◌then◌else◌, map}
+use Rattle.std.specs.FinMap.{from_entries, get}
+use Rattle.std.specs.List.{list_any}
+use Rattle.std.specs.Str.{bytes_eq}
+use Rattle.tla_model.specs.declared.Diagnostic.{Diagnostic}
+use Rattle.module_model.specs.Exports.{Outside, nothing}
+use Rattle.tla_model.specs.Lexemes.{spelled}
+use Rattle.tla_model.specs.ModuleNames.{holds_instance}
+use Rattle.module_model.specs.Resolution.{outside_in}
+use Rattle.module_graph.specs.Imports.{imports_of}
+use Rattle.tla_front.specs.Fronts.{Front, Tree, Fault}
+use Rattle.module_facts.specs.Checks.{Given, Unknown, Cyclic, Refused, Accepted, all_faults, files_given}
+use Rattle.module_facts.specs.Ordered.{in_order}
+use Rattle.fact_values.specs.Names.{Texts}
+use Rattle.fact_values.specs.States.{State, no_text, cyclic, broken, fact}
+use Rattle.fact_values.specs.Values as values
+use Rattle.family_facts.specs.Family.{Diagnosed, Member}
+use Rattle.family_facts.specs.Fronts.{front_of}
+
+-- a text with its front
+pub record Own : Type 0 where
+  pub bytes : List ℕ
+  pub front : Front
+
+abbrev pub own_of : List ℕ → List ℕ → Own
+own_of name bytes = record { bytes = bytes; front = front_of name bytes }
+
+-- the modules that a front needs; one with a front fault is broken
+abbrev pub needs_by : List ℕ → Front → Option (List (List ℕ))
+needs_by bytes (Tree found) = Some (map (spelled bytes) (imports_of bytes found))
+needs_by bytes (Fault fault) = None
+
+abbrev pub needs_of : Own → Option (List (List ℕ))
+needs_of own = needs_by own.bytes own.front
+
+-- a module with faults is refused
+abbrev pub given_by_faults : List Diagnostic → Outside → Given
+given_by_faults [] outside = Accepted outside
+given_by_faults (fault ∷ faults) outside = Refused
+
+-- what a module with this state is to one that needs it
+abbrev pub given_by_state : State Diagnosed → Given
+given_by_state no_text = Unknown
+given_by_state cyclic = Cyclic
+given_by_state broken = Refused
+given_by_state (fact found) = given_by_faults found.faults found.outside
+
+-- what the needs of a module are to it, under their names
+abbrev pub given_by_states : List (List ℕ × State Diagnosed) → List ℕ → Given
+given_by_states [] name = Unknown
+given_by_states (need ∷ needs) name = if bytes_eq name need.0 then given_by_state need.1 else given_by_states needs name
+
+-- the one front fault, or what is found of the names by what the needs are
+abbrev pub diagnosed_by : List ℕ → Front → (List ℕ → Given) → Diagnosed
+diagnosed_by bytes (Tree found) given = record { faults = in_order (all_faults given bytes found); outside = outside_in (files_given given) bytes found }
+diagnosed_by bytes (Fault fault) given = record { faults = fault ∷ []; outside = nothing }
+
+abbrev pub fact_of : List ℕ → Own → List (List ℕ × State Diagnosed) → Diagnosed
+fact_of name own given = diagnosed_by own.bytes own.front (given_by_states given)
+
+-- the state of each name, by the states of its needs
+abbrev pub state_of : Texts → List ℕ → State Diagnosed
+state_of texts = values.value own_of needs_of fact_of texts
+
+abbrev pub diagnosed_text : Texts → List ℕ → Option (List ℕ) → Diagnosed
+diagnosed_text texts name None = record { faults = []; outside = nothing }
+diagnosed_text texts name (Some bytes) = fact_of name (own_of name bytes) (values.given_in own_of needs_of fact_of texts name)
+
+-- what is found of the text of a name
+abbrev pub diagnosed : Texts → List ℕ → Diagnosed
+diagnosed texts name = diagnosed_text texts name (get texts name)
+
+-- ---- families
+
+-- the texts of a family, by their names
+abbrev pub texts_of : List Member → Texts
+texts_of family = from_entries (map (λ (m : Member). (m.name, m.bytes)) family)
+
+-- the word INSTANCE stands in a module without front fault
+abbrev pub front_holds : Front → Bool
+front_holds (Tree found) = holds_instance found
+front_holds (Fault fault) = false
+
+abbrev pub some_instance : List Member → Bool
+some_instance family = list_any (λ (m : Member). front_holds (front_of m.name m.bytes)) family

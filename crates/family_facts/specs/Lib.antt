@@ -1,0 +1,4 @@
+pub mod Family
+pub mod Fronts
+pub mod Facts
+pub mod Verdicts

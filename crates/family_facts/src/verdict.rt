@@ -1,0 +1,20 @@
+// Files of modules, and what is found of them.
+use tla_model::Diagnostic;
+use tla_text::Text;
+use tool_list::{Chars, List};
+
+/// A module file, by the name of its module.
+#[derive(Drop)]
+pub struct File {
+    pub name: Chars,
+    pub bytes: List<u8>,
+}
+
+/// What was found of a module. It is accepted exactly where there are no faults.
+#[derive(Drop)]
+pub struct Verdict {
+    pub name: Chars,
+    /// The longest front of the file that is a text; the faults stand in it.
+    pub text: Text,
+    pub faults: List<Diagnostic>,
+}
