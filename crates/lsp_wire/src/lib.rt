@@ -1,7 +1,8 @@
 //! Messages between an editor and the server, as LSP 3.17 has them over JSON-RPC 2.0: a frame's
 //! content as a request, a notification or a refusal, and frames for replies, errors and notices.
 //!
-//! JSON is `serde_json`'s. Knows no module, no document and no order of messages.
+//! JSON is read by `serde_json`, and written as it writes it. Knows no module, no document and no
+//! order of messages.
 #![tactic(auto)]
 
 mod errors;
@@ -9,11 +10,11 @@ mod frame;
 mod method;
 mod notes;
 mod params;
+mod pieces;
 mod read;
 mod reply;
 mod symbols;
 mod types;
-mod value;
 mod write;
 
 pub use errors::{

@@ -1,17 +1,16 @@
 //! Replies, errors and notices, each in a frame. Members stand in byte order of their names.
 
-ghost use Rattle.std.specs.Prelude.{◌≡◌, ◌++◌, IfOk, OnOk, OnErr, codes, flat_map};
+ghost use Rattle.std.specs.Prelude.{◌≡◌, ◌++◌, IfOk, OnOk, OnErr, codes, string_bytes};
 ghost use Rattle.std.specs.Fmt.{signed_decimal};
 ghost use Rattle.serde_json.specs.Written.{compact_text};
 ghost use Rattle.rpc_frame.specs.Frames.{frame_of};
 ghost use Rattle.lsp_wire.specs.Replies.{reply_content};
-ghost use Rattle.lsp_wire.specs.Written.{id_data, error_data, notes_data, error_content, notes_content};
+ghost use Rattle.lsp_wire.specs.Written.{id_data, error_content, notes_content};
 
 use crate::frame::append_frame;
+use crate::pieces::{error_text, notes_text, quoted_text};
 use crate::reply::result_text;
 use crate::types::{Id, Note, Reply, Uri};
-use crate::value;
-use serde_json::Value;
 use std::alloc::{AllocError, Global};
 use tool_list::{List, Memory};
 
@@ -21,31 +20,22 @@ pub fn write_reply(alloc: Global, id: &Id, reply: &Reply, out: &mut List<u8>) ->
     ensures err { OnErr result (out.new ≡ out.old) }
 {
     let text = reply_content(alloc, id, reply)?;
-    append_frame(alloc, &text, out)
+    append_frame(alloc, text.as_bytes(), out)
 }
 
-fn reply_content(alloc: Global, id: &Id, reply: &Reply) -> Result<Vec<u8>, AllocError>
-    ensures { IfOk result (λ text. text.items ≡ reply_content id.now reply.now) }
+fn reply_content(alloc: Global, id: &Id, reply: &Reply) -> Result<String, AllocError>
+    ensures { IfOk result (λ text. string_bytes text ≡ reply_content id.now reply.now) }
 {
     let id = id_text(alloc, id)?;
     let answer = result_text(alloc, reply)?;
-    let text = reply_around(alloc, &id, &answer)?;
-    Ok(text)
+    reply_around(alloc, id.as_str(), answer.as_str())
 }
 
-fn reply_around(alloc: Global, id: &[u8], answer: &[u8]) -> Result<Vec<u8>, AllocError>
-    ensures { IfOk result (λ text. text.items ≡ codes "{\"id\":" ++ (id.now
+fn reply_around(alloc: Global, id: &str, answer: &str) -> Result<String, AllocError>
+    ensures { IfOk result (λ text. string_bytes text ≡ codes "{\"id\":" ++ (id.now
         ++ (codes ",\"jsonrpc\":\"2.0\",\"result\":" ++ (answer.now ++ codes "}")))) }
 {
-    let parts = [
-        b"{\"id\":".as_slice(),
-        id,
-        b",\"jsonrpc\":\"2.0\",\"result\":",
-        answer,
-        b"}",
-    ];
-    let text = joined(alloc, &parts)?;
-    Ok(text)
+    format!(in alloc; "{{\"id\":{id},\"jsonrpc\":\"2.0\",\"result\":{answer}}}")
 }
 
 /// Appends the frame of an error that answers the request. After `Memory` the bytes are as before.
@@ -54,38 +44,22 @@ pub fn write_error(alloc: Global, id: &Id, code: i32, out: &mut List<u8>) -> Res
     ensures err { OnErr result (out.new ≡ out.old) }
 {
     let text = error_content(alloc, id, code)?;
-    append_frame(alloc, &text, out)
+    append_frame(alloc, text.as_bytes(), out)
 }
 
-fn error_content(alloc: Global, id: &Id, code: i32) -> Result<Vec<u8>, AllocError>
-    ensures { IfOk result (λ text. text.items ≡ error_content id.now code) }
+fn error_content(alloc: Global, id: &Id, code: i32) -> Result<String, AllocError>
+    ensures { IfOk result (λ text. string_bytes text ≡ error_content id.now code) }
 {
     let error = error_text(alloc, code)?;
     let id = id_text(alloc, id)?;
-    let text = error_around(alloc, &error, &id)?;
-    Ok(text)
+    error_around(alloc, error.as_str(), id.as_str())
 }
 
-fn error_text(alloc: Global, code: i32) -> Result<Vec<u8>, AllocError>
-    ensures { IfOk result (λ text. text.items ≡ compact_text (error_data code)) }
-{
-    let text = value::error_value(alloc, code)?.to_vec(alloc)?;
-    Ok(text)
-}
-
-fn error_around(alloc: Global, error: &[u8], id: &[u8]) -> Result<Vec<u8>, AllocError>
-    ensures { IfOk result (λ text. text.items ≡ codes "{\"error\":" ++ (error.now
+fn error_around(alloc: Global, error: &str, id: &str) -> Result<String, AllocError>
+    ensures { IfOk result (λ text. string_bytes text ≡ codes "{\"error\":" ++ (error.now
         ++ (codes ",\"id\":" ++ (id.now ++ codes ",\"jsonrpc\":\"2.0\"}")))) }
 {
-    let parts = [
-        b"{\"error\":".as_slice(),
-        error,
-        b",\"id\":",
-        id,
-        b",\"jsonrpc\":\"2.0\"}",
-    ];
-    let text = joined(alloc, &parts)?;
-    Ok(text)
+    format!(in alloc; "{{\"error\":{error},\"id\":{id},\"jsonrpc\":\"2.0\"}}")
 }
 
 /// Appends the frame of a notice of a document's diagnostics. After `Memory` the bytes are as
@@ -100,58 +74,39 @@ pub fn write_notes(
     ensures err { OnErr result (out.new ≡ out.old) }
 {
     let text = notes_content(alloc, uri.as_str(), notes.as_slice())?;
-    append_frame(alloc, &text, out)
+    append_frame(alloc, text.as_bytes(), out)
 }
 
-fn notes_content(alloc: Global, uri: &str, notes: &[Note]) -> Result<Vec<u8>, AllocError>
-    ensures { IfOk result (λ text. text.items ≡ notes_content uri.now notes.now) }
+fn notes_content(alloc: Global, uri: &str, notes: &[Note]) -> Result<String, AllocError>
+    ensures { IfOk result (λ text. string_bytes text ≡ notes_content uri.now notes.now) }
 {
     let params = notes_text(alloc, uri, notes)?;
-    let text = notice_around(alloc, &params)?;
-    Ok(text)
+    notice_around(alloc, params.as_str())
 }
 
-fn notes_text(alloc: Global, uri: &str, notes: &[Note]) -> Result<Vec<u8>, AllocError>
-    ensures { IfOk result (λ text. text.items ≡ compact_text (notes_data uri.now notes.now)) }
-{
-    let text = value::notes_value(alloc, uri, notes)?.to_vec(alloc)?;
-    Ok(text)
-}
-
-fn notice_around(alloc: Global, params: &[u8]) -> Result<Vec<u8>, AllocError>
-    ensures { IfOk result (λ text. text.items
+fn notice_around(alloc: Global, params: &str) -> Result<String, AllocError>
+    ensures { IfOk result (λ text. string_bytes text
         ≡ codes "{\"jsonrpc\":\"2.0\",\"method\":\"textDocument/publishDiagnostics\",\"params\":"
         ++ (params.now ++ codes "}")) }
 {
-    let head = b"{\"jsonrpc\":\"2.0\",\"method\":\"textDocument/publishDiagnostics\",\"params\":";
-    let text = joined(alloc, &[head.as_slice(), params, b"}"])?;
-    Ok(text)
+    format!(in alloc;
+        "{{\"jsonrpc\":\"2.0\",\"method\":\"textDocument/publishDiagnostics\",\"params\":{params}}}"
+    )
 }
 
 /// The JSON of what names a request.
-fn id_text(alloc: Global, id: &Id) -> Result<Vec<u8>, AllocError>
-    ensures { IfOk result (λ text. text.items ≡ compact_text (id_data id.now)) }
+fn id_text(alloc: Global, id: &Id) -> Result<String, AllocError>
+    ensures { IfOk result (λ text. string_bytes text ≡ compact_text (id_data id.now)) }
 {
     match id {
         Id::Int(number) => integer_text(alloc, *number),
-        Id::Text(text) => Value::try_from_str(alloc, text.as_str())?.to_vec(alloc),
-        Id::Null => Value::Null.to_vec(alloc),
+        Id::Text(text) => quoted_text(alloc, text.as_str()),
+        Id::Null => String::from_str(alloc, "null"),
     }
 }
 
-fn integer_text(alloc: Global, number: i128) -> Result<Vec<u8>, AllocError>
-    ensures { IfOk result (λ text. text.items ≡ signed_decimal number) }
+fn integer_text(alloc: Global, number: i128) -> Result<String, AllocError>
+    ensures { IfOk result (λ text. string_bytes text ≡ signed_decimal number) }
 {
-    let text = format!(in alloc; "{number}")?;
-    Vec::from_slice(alloc, text.as_bytes())
-}
-
-fn joined(alloc: Global, parts: &[&[u8]]) -> Result<Vec<u8>, AllocError>
-    ensures { IfOk result (λ text. text.items ≡ flat_map (λ part. part.now) parts.now) }
-{
-    let mut text = Vec::new(alloc);
-    'parts: for part in parts {
-        text.extend_from_slice(part)?;
-    }
-    Ok(text)
+    format!(in alloc; "{number}")
 }

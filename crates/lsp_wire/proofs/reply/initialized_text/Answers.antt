@@ -5,4 +5,4 @@ use Rattle.lsp_wire.proofs.reply.initialized_text.Goals as goal
 
 pub returns : goal.returns
 unfolding initialized_text serde_json_on_literals digits
-returns c = c.in_ok-text.ensures.items
+returns c = c.in_ok-text.ensures.ok
