@@ -1,8 +1,7 @@
 -- What stays right where one slot gets another fact.
-use Rattle.std.proofs.Common.{◌≡◌, ◌≢◌, ℕ, zero, suc, ◌+◌, ◌<◌, ◌≤◌, Bool, true, false, List, [], ◌∷◌, Option, Some, None, refl, sym, ap, ◌∙◌, subst, cond, inl, inr, map, length, get_or, nat_eq, arith}
+use Rattle.std.proofs.Common.{◌≡◌, ◌≢◌, ℕ, zero, suc, ◌+◌, ◌<◌, ◌≤◌, Bool, true, false, List, [], ◌∷◌, Option, Some, None, refl, sym, ap, ◌∙◌, subst, cond, inl, inr, map, length, get_or, arith}
 use Rattle.std.specs.Prelude.{◌⊎◌, slice_get, slice_set, count_by, not, is_some, IsSome}
 use Rattle.std.specs.FinMap.{from_entries}
-use Rattle.std.proofs.lemmas.Bool.{eq-eqb}
 use Rattle.std.proofs.lemmas.List.Sums.{sum_by-set}
 use Rattle.std.proofs.lemmas.Option.{slice_get_within, get_or_from_slice_get}
 use Rattle.list_laws.proofs.Tests.{same-or-other}
@@ -11,8 +10,7 @@ use Rattle.fact_values.specs.States.{State, same_given}
 use Rattle.fact_values.specs.Values.{given_in, ComesFromTexts}
 use Rattle.fact_store.specs.Slots.{named_texts, texts_of, AreDistinct, IsSound, AreSound, is_settled, owed}
 use Rattle.fact_store.specs.Right.{outline, outlines, IsRight, is_fresh}
-use Rattle.fact_values.proofs.NameLemmas.{true_or_false}
-use Rattle.fact_store.proofs.Marks.{is_marked-set_other, same_place}
+use Rattle.fact_store.proofs.Marks.{is_marked-set_other}
 use Rattle.fact_store.proofs.Gifts.{is_fresh-settled}
 use Rattle.fact_store.proofs.Pairs.{same_given-refl}
 use Rattle.fact_store.proofs.SlotLemmas.{text_of-slot}

@@ -8,6 +8,7 @@ pub mod GaveLemmas
 pub mod Pairs
 pub mod KeepLemmas
 pub mod Orders
+pub mod Bringing
 pub mod TextLemmas
 pub mod Keeping
 pub mod Lookups

@@ -40,6 +40,12 @@ is_marked-set_other (m ∷ marks) zero (suc i) b n = refl
 is_marked-set_other (m ∷ marks) (suc p) zero b n = refl
 is_marked-set_other (m ∷ marks) (suc p) (suc i) b n = is_marked-set_other marks p i b (λ e. n (ap suc e))
 
+pub is_marked-unset : (marks : List Bool) (i : ℕ) → is_marked (marks ++ false ∷ []) i ≡ is_marked marks i
+is_marked-unset [] zero = refl
+is_marked-unset [] (suc i) = refl
+is_marked-unset (m ∷ marks) zero = refl
+is_marked-unset (m ∷ marks) (suc i) = is_marked-unset marks i
+
 pub is_marked-get_or : (marks : List Bool) (p : ℕ) (d : Bool) → p < length marks → is_marked marks p ≡ get_or marks p d
 is_marked-get_or [] p d l = absurd (omega arith)
 is_marked-get_or (m ∷ marks) zero d l = refl

@@ -6,7 +6,7 @@ use Rattle.std.specs.FinMap as map
 use Rattle.fact_store.specs.declared.slot.Slot.{Slot}
 use Rattle.fact_values.specs.States.{State}
 use Rattle.fact_values.specs.Values.{dirty}
-use Rattle.fact_store.specs.Slots.{texts_of, HasNoSlot, IsPlaceOf, AreSound, owed}
+use Rattle.fact_store.specs.Slots.{texts_of, HasNoSlot, IsPlaceOf, AreSound, owed, new_slot}
 use Rattle.fact_store.proofs.TextLemmas.{texts_of-set, texts_of-push, texts_of-remove}
 use Rattle.fact_store.proofs.PutLemmas.{retexted, retexted-kept, IsSound-retexted, AreSound-retext, AreSound-push, AreSound-remove, IsSound-new}
 use Rattle.fact_store.proofs.Dirt.{owed-retext, owed-push, owed-remove}
@@ -42,6 +42,14 @@ module _ {Own F : Type 0} (own_of : List ℕ → List ℕ → Own) (needs_of : O
 
       gone : HasNoSlot slots called
       gone = subst (HasNoSlot slots) (sym ec) h
+
+  pub slot_over : (slots new : List (Slot Own F)) (place : ℕ) (name bytes : List ℕ) (slot : Slot Own F) → AreSound own_of needs_of fact_of slots → (p : IsPlaceOf slots name place) → slot ≡ new_slot own_of needs_of name bytes → new ≡ slice_set slots place (retexted p.0 slot.bytes slot.own slot.needs) → IsPut slots new name bytes
+  slot_over slots new place name bytes slot s p q e =
+      put_over slots new place name bytes bytes (own_of name bytes) (needs_of (own_of name bytes)) s p refl refl refl (e ∙ ap (λ (z : Slot Own F). slice_set slots place (retexted p.0 z.bytes z.own z.needs)) q)
+
+  pub slot_new : (slots new : List (Slot Own F)) (name bytes : List ℕ) (slot : Slot Own F) → AreSound own_of needs_of fact_of slots → HasNoSlot slots name → slot ≡ new_slot own_of needs_of name bytes → new ≡ slots ++ slot ∷ [] → IsPut slots new name bytes
+  slot_new slots new name bytes slot s h q e =
+      put_new slots new name bytes name bytes (own_of name bytes) (needs_of (own_of name bytes)) s h refl refl refl refl (e ∙ ap (λ (z : Slot Own F). slots ++ z ∷ []) q)
 
   pub record IsTakenOut (old new : List (Slot Own F)) (name : List ℕ) : Type 0 where
     pub sound : AreSound own_of needs_of fact_of new

@@ -1,5 +1,5 @@
 -- A store's parts, before and after facts were brought up.
-use Rattle.std.proofs.Common.{◌≡◌, ℕ, ◌+◌, ◌<◌, ◌≤◌, Bool, List, [], Option, Some, sym, ap, ◌∙◌, subst, length, arith}
+use Rattle.std.proofs.Common.{◌≡◌, ℕ, ◌+◌, ◌<◌, ◌≤◌, Bool, List, [], Option, None, Some, sym, ap, ◌∙◌, subst, length, arith}
 use Rattle.std.proofs.lemmas.Option.{slice_get_within}
 use Rattle.fact_store.specs.declared.slot.Slot.{Slot}
 use Rattle.fact_store.specs.declared.plan.Plan.{Plan}
@@ -7,10 +7,11 @@ use Rattle.fact_values.specs.States.{State, no_text}
 use Rattle.fact_values.specs.Names.{Texts}
 use Rattle.fact_values.specs.Values.{value, dirty}
 use Rattle.fact_store.specs.Slots.{texts_of, HasNoSlot, IsPlaceOf, AreSound, owed}
+use Rattle.fact_store.specs.Plans.{is_marked}
 use Rattle.fact_store.specs.Right.{outlines, HoldsPlan, IsStore}
 use Rattle.fact_store.proofs.Gifts.{value-none}
 use Rattle.fact_store.proofs.KeepLemmas.{outline_at}
-use Rattle.fact_store.proofs.Orders.{length-outlines}
+use Rattle.fact_store.proofs.Orders.{IsPlan-same, length-outlines}
 use Rattle.fact_store.proofs.Rows.{slot_at}
 
 module _ {Own F : Type 0} where
@@ -22,6 +23,10 @@ module _ {Own F : Type 0} where
       let w = outline_at new old place z.0 e z.1 in
       let k : ◌≡◌ {A = Option (Slot Own F)} (Some w.0) (Some p.0) = sym w.1 ∙ p.1 in let s : w.0 ≡ p.0 = cc in
       (z.0, z.1, sym (ap (λ (o : List ℕ × List ℕ × Own × Option (List (List ℕ))). o.0) w.2) ∙ ap (λ (x : Slot Own F). x.name) s ∙ p.2)
+
+  pub HoldsPlan-same : (new old : List (Slot Own F)) (plan : Option Plan) → outlines new ≡ outlines old → HoldsPlan old plan → HoldsPlan new plan
+  HoldsPlan-same new old None e h = tt
+  HoldsPlan-same new old (Some plan) e h = IsPlan-same new old plan e h
 
   module _ (own_of : List ℕ → List ℕ → Own) (needs_of : Own → Option (List (List ℕ))) (fact_of : List ℕ → Own → List (List ℕ × State F) → F) (same : F → F → Bool) where
     pub no_text-value : (slots : List (Slot Own F)) (texts : Texts) (name : List ℕ) → AreSound own_of needs_of fact_of slots → HasNoSlot slots name → texts_of slots ≡ texts → no_text ≡ value own_of needs_of fact_of texts name
@@ -35,6 +40,14 @@ module _ {Own F : Type 0} where
           planned = p;
           marks = omega arith;
         })
+
+    -- marks that are not set may come, and another plan
+    pub IsStore-cover : (slots : List (Slot Own F)) (before plan : Option Plan) (old new : List Bool) → IsStore own_of needs_of fact_of same slots before old → HoldsPlan slots plan → ((i : ℕ) → is_marked new i ≡ is_marked old i) → length new ≤ length slots → IsStore own_of needs_of fact_of same slots plan new
+    IsStore-cover slots before plan old new s p m l = record {
+      right = record { sound = s.right.sound; settled = λ i slot at h. s.right.settled i slot at (sym (m i) ∙ h) };
+      planned = p;
+      marks = l;
+    }
 
     pub owed-at : (old : List (Slot Own F)) (texts : Texts) (owes : ℕ) (new : List (Slot Own F)) → texts_of old ≡ texts → owed own_of needs_of fact_of same old ≡ owes → owed own_of needs_of fact_of same new ≤ owed own_of needs_of fact_of same old + dirty own_of needs_of fact_of same (texts_of old) (texts_of new) → owed own_of needs_of fact_of same new ≤ owes + dirty own_of needs_of fact_of same texts (texts_of new)
     owed-at old texts owes new et eo h =

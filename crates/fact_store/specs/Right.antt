@@ -62,6 +62,14 @@ module _ {Own F : Type 0} where
       pub planned : HoldsPlan slots plan
       pub marks : length current ≤ length slots
 
+    -- bringing facts up keeps the outlines, what is right, and the marks that are set
+    pub record Brings (old new : List (Slot Own F)) (before after : List Bool) (first last : ℕ) : Type 0 where
+      pub outline_kept : outlines new ≡ outlines old
+      pub right : IsRight new after
+      pub marks : length after ≡ length before
+      pub kept : (i : ℕ) → is_marked before i ≡ true → is_marked after i ≡ true
+      pub rises : first ≤ last
+
     -- of the slots one was brought up to what its needs give: its fact is fresh then, and all else stays
     pub record Keeps (old new : List (Slot Own F)) (place : ℕ) (slot : Slot Own F) (given : List (List ℕ × State F)) : Type 0 where
       pub after : Slot Own F

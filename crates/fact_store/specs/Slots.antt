@@ -59,6 +59,10 @@ module _ {Own F : Type 0} where
       abbrev pub owed : List (Slot Own F) → ℕ
       owed slots = count_by (λ slot. not (is_settled (texts_of slots) slot)) slots
 
+-- the slot of a text of which nothing was made
+abbrev pub new_slot : {Own F : Type 0} → (List ℕ → List ℕ → Own) → (Own → Option (List (List ℕ))) → List ℕ → List ℕ → Slot Own F
+new_slot own_of needs_of name bytes = record { name = name; bytes = bytes; own = own_of name bytes; needs = needs_of (own_of name bytes); kept = None }
+
 -- where a fact was made from, once its text has these bytes
 abbrev pub source_after : Option (List ℕ) → List ℕ → List ℕ → Option (List ℕ)
 source_after from before bytes = if name_eq (unwrap_or from before) bytes then None else Some (unwrap_or from before)

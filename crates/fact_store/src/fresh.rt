@@ -7,8 +7,7 @@ ghost use Rattle.fact_values.specs.States.{same_state, same_given};
 ghost use Rattle.fact_store.specs.Given.{gave_state, states};
 ghost use Rattle.fact_values.specs.Values.{needs_or_none, gives, value, given_in, ComesFromTexts};
 ghost use Rattle.fact_store.specs.Slots.{texts_of, IsSound, owed};
-ghost use Rattle.fact_store.specs.Right.{outlines, IsPlan, IsDone, IsReady, IsRight, Keeps};
-ghost use Rattle.fact_store.specs.Plans.{is_marked};
+ghost use Rattle.fact_store.specs.Right.{IsPlan, IsDone, IsReady, IsRight, Keeps, Brings};
 ghost use Rattle.fact_store.specs.Right as rules;
 ghost use Rattle.fact_store.specs.declared.slot.Slot.{Slot as SlotOf};
 
@@ -185,12 +184,8 @@ pub fn bring<D: Derive, L>(
     requires ready { IsReady slots.old plan.now.ranks.items current.old.items place }
     requires place { place < length slots.old }
     requires marks { vec_len current.old ≡ length slots.old }
-    ensures outlines { outlines slots.new ≡ outlines slots.old }
-    ensures right { IsRight D.own_of D.needs_of D.fact_of D.same slots.new current.new.items }
-    ensures marks { vec_len current.new ≡ vec_len current.old }
-    ensures kept { (i : ℕ) → is_marked current.old.items i ≡ true → is_marked current.new.items i ≡ true }
+    ensures brings { Brings D.own_of D.needs_of D.fact_of D.same slots.old slots.new current.old.items current.new.items steps.old steps.new }
     ensures done { OnOk result ((slot : SlotOf D.Own D.Fact) → slice_get slots.new place ≡ Some slot → IsDone current.new.items place slot) }
-    ensures rises { steps.old ≤ steps.new }
     ensures counted { OnOk result (steps.new + owed D.own_of D.needs_of D.fact_of D.same slots.new ≤ steps.old + owed D.own_of D.needs_of D.fact_of D.same slots.old) }
 {
     if current[place] || slots.at(place).needs.is_none() {

@@ -1,5 +1,5 @@
 // Which places lead where, by lists of the places that each needs.
-ghost use Rattle.std.specs.Prelude.{◌≡◌, ℕ, ◌+◌, ◌<◌, ◌≤◌, Bool, true, false, not, Option, Some, List, ◌++◌, IfOk, All, count_by, length, slice_get, vec_len};
+ghost use Rattle.std.specs.Prelude.{◌≡◌, ℕ, ◌+◌, ◌<◌, ◌≤◌, Bool, true, false, not, Option, Some, List, ◌++◌, IfOk, OnOk, All, count_by, length, slice_get, vec_len};
 ghost use Rattle.std.specs.List.{list_any};
 ghost use Rattle.fact_store.specs.Plans.{among, is_marked, Edges, AreReached, MarksRow, HasPlaces};
 
@@ -30,11 +30,22 @@ fn unmarked(alloc: Global, len: usize) -> Result<Vec<bool>, Memory>
     ensures long { IfOk result (λ marks. vec_len marks ≡ len) }
     ensures none { IfOk result (λ marks. (i : ℕ) → is_marked marks.items i ≡ false) }
 {
-    let mut marks = Vec::with_capacity(alloc, len)?;
-    for _ in 0..len {
+    let mut marks = Vec::new(alloc);
+    cover(&mut marks, len)?;
+    Ok(marks)
+}
+
+/// A mark for each place, where what was marked stays so.
+pub fn cover(marks: &mut Vec<bool>, len: usize) -> Result<(), Memory>
+    requires { vec_len marks.old ≤ len }
+    ensures marks { (i : ℕ) → is_marked marks.new.items i ≡ is_marked marks.old.items i }
+    ensures most { vec_len marks.new ≤ len }
+    ensures ok { OnOk result (vec_len marks.new ≡ len) }
+{
+    for _ in marks.len()..len {
         marks.push(false)?;
     }
-    Ok(marks)
+    Ok(())
 }
 
 /// Marks the places of a row, and queues those that were not marked.

@@ -1,8 +1,8 @@
 // In which order facts are brought up to the present texts.
 ghost use Rattle.std.specs.Prelude.{◌≡◌, ℕ, ◌+◌, ◌<◌, ◌≤◌, true, Some, All, IfOk, OnOk, length, vec_len, map, slice_get, slice_index};
 ghost use Rattle.fact_store.specs.Slots.{owed};
-ghost use Rattle.fact_store.specs.Plans.{is_marked, IsOrder};
-ghost use Rattle.fact_store.specs.Right.{outlines, IsPlan, IsDone, IsRight};
+ghost use Rattle.fact_store.specs.Plans.{IsOrder};
+ghost use Rattle.fact_store.specs.Right.{IsPlan, IsDone, IsRight, Brings};
 ghost use Rattle.fact_store.specs.declared.slot.Slot.{Slot as SlotOf};
 
 use crate::derive::Derive;
@@ -51,11 +51,8 @@ pub fn bring_all<D: Derive, L>(
     requires plan { IsPlan slots.old plan.now }
     requires place { place < length slots.old }
     requires marks { vec_len current.old ≡ length slots.old }
-    ensures outlines { outlines slots.new ≡ outlines slots.old }
-    ensures right { IsRight D.own_of D.needs_of D.fact_of D.same slots.new current.new.items }
-    ensures marks { vec_len current.new ≡ vec_len current.old }
+    ensures brings { Brings D.own_of D.needs_of D.fact_of D.same slots.old slots.new current.old.items current.new.items steps.old steps.new }
     ensures done { OnOk result ((slot : SlotOf D.Own D.Fact) → slice_get slots.new place ≡ Some slot → IsDone current.new.items place slot) }
-    ensures rises { steps.old ≤ steps.new }
     ensures counted { OnOk result (steps.new + owed D.own_of D.needs_of D.fact_of D.same slots.new ≤ steps.old + owed D.own_of D.needs_of D.fact_of D.same slots.old) }
 {
     let places = reached(alloc, &plan.grounds, place)?;

@@ -1,15 +1,15 @@
-ghost use Rattle.std.specs.Prelude.{◌≡◌, ℕ, ◌+◌, ◌<◌, ◌≤◌, true, Option, Some, None, IfOk, OnOk, OnErr, length, vec_len, slice_get, option_copied};
+ghost use Rattle.std.specs.Prelude.{◌≡◌, ℕ, ◌+◌, ◌<◌, ◌≤◌, true, Option, Some, None, IfOk, OnOk, OnErr, IsSome, length, vec_len, slice_get, option_copied};
 ghost use Rattle.std.specs.FinMap as map;
 ghost use Rattle.fact_values.specs.Values.{value, dirty};
 ghost use Rattle.fact_store.specs.Given.{answer_state};
-ghost use Rattle.fact_store.specs.Slots.{texts_of, owed};
-ghost use Rattle.fact_store.specs.Plans.{is_marked};
+ghost use Rattle.fact_store.specs.Slots.{texts_of, owed, AreDistinct};
 ghost use Rattle.fact_store.specs.Right.{outlines, IsDone, HoldsPlan, IsRight, IsStore};
 ghost use Rattle.fact_store.specs.Holding.{with_text};
 ghost use Rattle.fact_store.specs.declared.slot.Slot.{Slot as SlotOf};
 
 use crate::derive::Derive;
 use crate::given::Answer;
+use crate::graph::cover;
 use crate::order::bring_all;
 use crate::plan::{Plan, plan_of};
 use crate::shelf::Shelf;
@@ -43,16 +43,22 @@ impl<D: Derive> Model for FactStore<D> {
     ghost invariant = { λ s. IsStore D.own_of D.needs_of D.fact_of D.same s.slots s.plan s.current.items };
 }
 
-/// A mark for each slot, where what was marked stays so.
-fn cover(current: &mut Vec<bool>, len: usize) -> Result<(), Memory>
-    requires { vec_len current.old ≤ len }
-    ensures marks { (i : ℕ) → is_marked current.new.items i ≡ is_marked current.old.items i }
-    ensures most { vec_len current.new ≤ len }
-    ensures ok { OnOk result (vec_len current.new ≡ len) }
+/// A plan of these slots, where there is none yet.
+fn make_plan<O: Drop, F: Drop>(
+    alloc: Global,
+    slots: &Shelf<O, F>,
+    plan: &mut Option<Plan>,
+) -> Result<(), Memory>
+    requires distinct { AreDistinct slots.now }
+    requires plan { HoldsPlan slots.now plan.old }
+    ensures plan { HoldsPlan slots.now plan.new }
+    ensures made { OnOk result (IsSome plan.new) }
 {
-    for _ in current.len()..len {
-        current.push(false)?;
+    if plan.is_some() {
+        return Ok(());
     }
+    let made = plan_of(alloc, slots)?;
+    *plan = Some(made);
     Ok(())
 }
 
@@ -75,13 +81,11 @@ fn bring_up<D: Derive, L>(
     ensures counted { OnOk result (steps.new + owed D.own_of D.needs_of D.fact_of D.same slots.new ≤ steps.old + owed D.own_of D.needs_of D.fact_of D.same slots.old) }
 {
     cover(current, slots.len())?;
-    let made = match plan.take() {
-        Some(made) => made,
-        None => plan_of(alloc, slots)?,
+    make_plan(alloc, slots, plan)?;
+    let Some(made) = &*plan else {
+        unreachable!();
     };
-    let outcome = bring_all(alloc, slots, &made, current, place, d, steps);
-    *plan = Some(made);
-    outcome
+    bring_all(alloc, slots, made, current, place, d, steps)
 }
 
 /// The fact at a place, where it stands.

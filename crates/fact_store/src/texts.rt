@@ -25,24 +25,50 @@ fn same_names(a: &Option<List<Chars>>, b: &Option<List<Chars>>) -> bool
     }
 }
 
-/// Gives the slot at a place another text with its parts. The plan stays where the needs do.
+/// Gives the slot at a place the text of another, with its parts. The plan stays where the needs do.
 fn replace<O: Drop, F: Drop>(
     slots: &mut Shelf<O, F>,
     plan: &mut Option<Plan>,
     place: usize,
-    bytes: List<u8>,
-    own: O,
-    needs: Option<List<Chars>>,
+    slot: Slot<O, F>,
 )
     requires place { place < length slots.old }
     requires plan { HoldsPlan slots.old plan.old }
-    ensures slots { (slot : SlotOf O F) → slice_get slots.old place ≡ Some slot → slots.new ≡ slice_set slots.old place (record { name = slot.name; bytes = bytes; own = own; needs = needs; kept = slots_of.kept_after slot.kept slot.bytes bytes }) }
+    ensures slots { (before : SlotOf O F) → slice_get slots.old place ≡ Some before → slots.new ≡ slice_set slots.old place (record { name = before.name; bytes = slot.bytes; own = slot.own; needs = slot.needs; kept = slots_of.kept_after before.kept before.bytes slot.bytes }) }
     ensures plan { HoldsPlan slots.new plan.new }
 {
+    let Slot {
+        bytes,
+        own,
+        needs,
+        ..
+    } = slot;
     if !same_names(&slots.at(place).needs, &needs) {
         *plan = None;
     }
     slots.retext(place, bytes, own, needs);
+}
+
+/// The slot of a text, with the parts that this text has.
+fn slot_of<D: Derive>(
+    alloc: Global,
+    name: &str,
+    bytes: &[u8],
+    d: &mut D,
+) -> Result<Slot<D::Own, D::Fact>, Memory>
+    ensures { IfOk result (λ slot. slot ≡ slots_of.new_slot D.own_of D.needs_of name.now bytes.now) }
+{
+    let text = List::from_vec(Vec::from_slice(alloc, bytes)?);
+    let called = Chars::from_str(alloc, name)?;
+    let own = d.own(alloc, name, bytes)?;
+    let needs = d.needs(alloc, &own)?;
+    Ok(Slot {
+        name: called,
+        bytes: text,
+        own,
+        needs,
+        kept: None,
+    })
 }
 
 /// Gives a name a text, with the parts that this text has.
@@ -62,23 +88,13 @@ pub fn put<D: Derive>(
     ensures owed { OnOk result (owed D.own_of D.needs_of D.fact_of D.same slots.new ≤ owed D.own_of D.needs_of D.fact_of D.same slots.old + dirty D.own_of D.needs_of D.fact_of D.same (texts_of slots.old) (texts_of slots.new)) }
     ensures err { OnErr result (slots.new ≡ slots.old) }
 {
-    let own = d.own(alloc, name, bytes)?;
-    let needs = d.needs(alloc, &own)?;
-    let text = List::from_vec(Vec::from_slice(alloc, bytes)?);
-    if let Some(place) = slots.place_of(name) {
-        replace(slots, plan, place, text, own, needs);
+    let slot = slot_of(alloc, name, bytes, d)?;
+    let Some(place) = slots.place_of(name) else {
+        slots.push(alloc, slot)?;
+        *plan = None;
         return Ok(());
-    }
-    let name = Chars::from_str(alloc, name)?;
-    let slot = Slot {
-        name,
-        bytes: text,
-        own,
-        needs,
-        kept: None,
     };
-    slots.push(alloc, slot)?;
-    *plan = None;
+    replace(slots, plan, place, slot);
     Ok(())
 }
 

@@ -1,9 +1,15 @@
-use Rattle.std.proofs.Common.{ℕ, List, refl, subst}
+use Rattle.std.proofs.Common.{ℕ, ◌<◌, List, length, get_or, refl, sym, ap, subst, arith}
 use Rattle.std.specs.Prelude.{slice_index}
 use Rattle.std.proofs.lemmas.Option.{slice_get_read}
 use Rattle.fact_store.specs.Plans.{IsGround}
 use Rattle.fact_store.proofs.Rows.{AreGroundsUpto-more}
 use Rattle.fact_store.proofs.plan.grounds_of.Goals as goal
+
+pub ground_of-requires : goal.ground_of-requires
+ground_of-requires c =
+    let edges = c.args.edges.now in let place = c.loop-place.place in let row = c.index-edges-place.result in
+    let e = slice_get_read edges _ place row refl c.loop-place-test.true c.index-edges-place.is in
+    λ k d h. omega (arith, subst (λ (xs : List ℕ). get_or xs k d < length edges) (sym c.deref.ensures.value) (c.requires.places place row e k d (omega (arith, ap length c.deref.ensures.value))), c.requires.long)
 
 pub loop-place-preserved : goal.loop-place-preserved
 loop-place-preserved c =
