@@ -27,11 +27,12 @@ use Rattle.expr_parse.specs.declared.goal.Step.{Step}
 use Rattle.expr_parse.specs.declared.machine.ExprMachine.{ExprMachine}
 use Rattle.expr_parse.specs.declared.machine.Stage.TheVariants as Stage
 use Rattle.tree_parts.specs.declared.part.Part.{Part}
-use Rattle.expr_parse.specs.declared.stack.Stack.{Stack}
-use Rattle.expr_parse.specs.declared.stack.Turn.TheVariants as Turn
+use Rattle.expr_stack.specs.declared.stack.Stack.{Stack}
+use Rattle.expr_parse.specs.declared.turn.Turn.TheVariants as Turn
 use Rattle.tree_parts.specs.Parts.{parts_of, IsPart, Grows}
 use Rattle.expr_parse.specs.Goals.{stops, may_end, DerivesGoal, BeginsGoal, IsWhole, IsSame}
-use Rattle.expr_parse.specs.Standing.{Stands, IsTurn, Turns, IsReady, Made}
+use Rattle.expr_stack.specs.Standing.{Stands, Made}
+use Rattle.expr_parse.specs.Standing.{IsTurn, Turns, IsReady}
 use Rattle.expr_parse.specs.Ending.{Outermost, on_outermost, closing, ending_of, takes_whole, is_whole, IsLeft, Closes, IsOf, IsGoal}
 use Rattle.expr_parse.specs.Reading.{start_of, StandsAt, HasRead, IsAnswer, IsDone, IsStepTo, HasStepped}
 use Rattle.tree_parts.proofs.Growing.{grows-same, grows-on}

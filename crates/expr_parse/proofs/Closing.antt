@@ -16,12 +16,13 @@ use Rattle.expr_grammar.specs.Machine as Machine
 use Rattle.expr_grammar.specs.Machine.{State, At, Have, node, node_with}
 use Rattle.expr_grammar.specs.Counting.{made_close, made_last, made_finish}
 use Rattle.expr_parse.specs.declared.goal.Goal.{Goal}
-use Rattle.expr_parse.specs.declared.stack.Frame.{Frame}
+use Rattle.expr_stack.specs.declared.stack.Frame.{Frame}
 use Rattle.tree_parts.specs.declared.part.Part.{Part}
-use Rattle.expr_parse.specs.declared.stack.Stack.{Stack}
-use Rattle.expr_parse.specs.declared.stack.Turn.TheVariants as Turn
+use Rattle.expr_stack.specs.declared.stack.Stack.{Stack}
+use Rattle.expr_parse.specs.declared.turn.Turn.TheVariants as Turn
 use Rattle.tree_parts.specs.Parts.{IsPart}
-use Rattle.expr_parse.specs.Standing.{AreFrames, Stands, IsWait, IsTurn, IsTop, IsReady, Opens, Made}
+use Rattle.expr_stack.specs.Standing.{AreFrames, Stands, IsWait, IsTop, Opens, Made}
+use Rattle.expr_parse.specs.Standing.{IsTurn, IsReady}
 use Rattle.expr_parse.specs.Ending.{on_outermost, closing, ending, ending_of, takes_whole, is_whole, rough, on_ending, all_end, IsLeft, Closes}
 use Rattle.tree_parts.proofs.Growing.{grows-same, grows-on}
 use Rattle.expr_parse.proofs.Going.{Goes, AtTop, close-goes}

@@ -9,15 +9,16 @@ use Rattle.tla_tree.specs.Syntax.{Tree}
 use Rattle.expr_grammar.specs.Tables.{shape}
 use Rattle.expr_grammar.specs.Machine as Machine
 use Rattle.expr_grammar.specs.Machine.{State, node_with}
-use Rattle.expr_parse.specs.declared.stack.Frame.{Frame}
-use Rattle.expr_parse.specs.declared.stack.Opening.{Opening}
+use Rattle.expr_stack.specs.declared.stack.Frame.{Frame}
+use Rattle.expr_stack.specs.declared.stack.Opening.{Opening}
 use Rattle.tree_parts.specs.declared.part.Part.{Part}
-use Rattle.expr_parse.specs.declared.stack.Stack.{Stack}
-use Rattle.expr_parse.specs.declared.stack.Turn.TheVariants as Turn
+use Rattle.expr_stack.specs.declared.stack.Stack.{Stack}
+use Rattle.expr_parse.specs.declared.turn.Turn.TheVariants as Turn
 use Rattle.tree_parts.specs.Parts.{joined, IsPart, Grows, IsThere}
-use Rattle.expr_parse.specs.Standing.{Stands, Opens, IsTop, IsTurn, Turns, Made, IsBeside, CanTake, IsOpen}
+use Rattle.expr_stack.specs.Standing.{Stands, Opens, IsTop, Made, IsOpen}
+use Rattle.expr_parse.specs.Standing.{IsTurn, Turns, IsBeside, CanTake}
 use Rattle.tree_parts.proofs.Growing.{grows-same, grows-on}
-use Rattle.expr_parse.proofs.Stacking.{opens-read}
+use Rattle.expr_stack.proofs.Stacking.{opens-read}
 
 -- the lexeme after a part
 pub opens-then : (nodes : List Arena.Node) (stack : Stack) (opening more : Opening) (t : Lexeme) (ps : List Tree) (a b : List Lexeme) (below : List Machine.Frame) → more ≡ record { first = opening.first; place = joined opening.place (Some t.span) } → Opens nodes stack opening ps (a ++ b) below → Opens nodes stack more ps (a ++ (b ++ t ∷ [])) below

@@ -13,11 +13,12 @@ use Rattle.expr_grammar.specs.Tables.{shape, is_expression, list_of, goes_on, fi
 use Rattle.expr_grammar.specs.Machine as Machine
 use Rattle.expr_grammar.specs.Machine.{State, At, frame, inner, node_with, on_bullet, on_form, leave, within}
 use Rattle.expr_grammar.specs.Counting.{made_leave, made_within, made_bullet, made_ending}
-use Rattle.expr_parse.specs.declared.stack.Frame.{Frame}
+use Rattle.expr_stack.specs.declared.stack.Frame.{Frame}
 use Rattle.tree_parts.specs.declared.part.Part.{Part}
-use Rattle.expr_parse.specs.declared.stack.Stack.{Stack}
-use Rattle.expr_parse.specs.declared.stack.Turn.TheVariants as Turn
-use Rattle.expr_parse.specs.Standing.{Turns, IsTurn, Made, continues, continues_by}
+use Rattle.expr_stack.specs.declared.stack.Stack.{Stack}
+use Rattle.expr_parse.specs.declared.turn.Turn.TheVariants as Turn
+use Rattle.expr_stack.specs.Standing.{Made}
+use Rattle.expr_parse.specs.Standing.{Turns, IsTurn, continues, continues_by}
 use Rattle.tree_parts.proofs.Growing.{grows-on}
 use Rattle.expr_parse.proofs.Going.{Step, Count, Goes, AtTop, end-turn, end-refused, close-goes}
 use Rattle.expr_parse.proofs.Operating.{finishing}

@@ -1,5 +1,3 @@
-pub mod Growing
-pub mod Stacking
 pub mod Turning
 pub mod Renaming
 pub mod Going

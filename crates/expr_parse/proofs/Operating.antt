@@ -16,11 +16,12 @@ use Rattle.expr_grammar.specs.Tables.{shape, is_expression, takes, role, choice,
 use Rattle.expr_grammar.specs.Machine as Machine
 use Rattle.expr_grammar.specs.Machine.{State, At, frame, led, node_with, operator_step, part_step, is_operator, inner, within, leave, have}
 use Rattle.expr_grammar.specs.Counting.{made_operator, made_led, made_part, made_within, made_leave, made_have}
-use Rattle.expr_parse.specs.declared.stack.Frame.{Frame}
+use Rattle.expr_stack.specs.declared.stack.Frame.{Frame}
 use Rattle.tree_parts.specs.declared.part.Part.{Part}
-use Rattle.expr_parse.specs.declared.stack.Stack.{Stack}
-use Rattle.expr_parse.specs.declared.stack.Turn.TheVariants as Turn
-use Rattle.expr_parse.specs.Standing.{Turns, Made}
+use Rattle.expr_stack.specs.declared.stack.Stack.{Stack}
+use Rattle.expr_parse.specs.declared.turn.Turn.TheVariants as Turn
+use Rattle.expr_stack.specs.Standing.{Made}
+use Rattle.expr_parse.specs.Standing.{Turns}
 use Rattle.expr_parse.proofs.Going.{Step, Count, Goes, AtTop, end-turn, end-refused, close-goes}
 
 abbrev pub operating : Lexeme → Step

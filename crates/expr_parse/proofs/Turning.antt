@@ -14,13 +14,14 @@ use Rattle.expr_grammar.specs.Tables.{Child, absorbs, mode, endable, at_mark, be
 use Rattle.expr_grammar.specs.Counting.{made_ended, made_have, made_mark, made_begun, made_due}
 use Rattle.expr_grammar.specs.Machine as Machine
 use Rattle.expr_grammar.specs.Machine.{State, frame, with_child, complete, inner, node, have, ended, marked, begun, due}
-use Rattle.expr_parse.specs.declared.stack.Frame.{Frame}
-use Rattle.expr_parse.specs.declared.stack.Opening.{Opening}
+use Rattle.expr_stack.specs.declared.stack.Frame.{Frame}
+use Rattle.expr_stack.specs.declared.stack.Opening.{Opening}
 use Rattle.tree_parts.specs.declared.part.Part.{Part}
-use Rattle.expr_parse.specs.declared.stack.Stack.{Stack}
-use Rattle.expr_parse.specs.declared.stack.Turn.TheVariants as Turn
+use Rattle.expr_stack.specs.declared.stack.Stack.{Stack}
+use Rattle.expr_parse.specs.declared.turn.Turn.TheVariants as Turn
 use Rattle.tree_parts.specs.Parts.{IsPart, Grows}
-use Rattle.expr_parse.specs.Standing.{Stands, Opens, IsTop, IsWait, IsOpen, IsTurn, Turns, Made}
+use Rattle.expr_stack.specs.Standing.{Stands, Opens, IsTop, IsWait, IsOpen, Made}
+use Rattle.expr_parse.specs.Standing.{IsTurn, Turns}
 use Rattle.tree_parts.proofs.Growing.{grows-same, grows-on}
 
 pub goes-child : (nodes : List Node) (stack : Stack) (part : Wait) (fs : List Machine.Frame) (child : Option Child) → Some part ≡ option_map (λ c. c.wait) child → ((c : Child) → child ≡ Some c → Stands nodes stack (frame part [] c.read ∷ fs)) → IsTurn nodes stack Turn.Due (Some (with_child child fs))

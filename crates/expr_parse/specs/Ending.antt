@@ -13,10 +13,10 @@ use Rattle.expr_grammar.specs.Tables.{shape, shape_by, is_expression, finishes, 
 use Rattle.expr_grammar.specs.Machine as Machine
 use Rattle.expr_grammar.specs.Machine.{State, At, Have, node, node_with}
 use Rattle.expr_parse.specs.declared.goal.Goal.{Goal}
-use Rattle.expr_parse.specs.declared.stack.Frame.{Frame}
+use Rattle.expr_stack.specs.declared.stack.Frame.{Frame}
 use Rattle.tree_parts.specs.declared.part.Part.{Part}
-use Rattle.expr_parse.specs.declared.stack.Stack.{Stack}
-use Rattle.expr_parse.specs.Standing.{Stands}
+use Rattle.expr_stack.specs.declared.stack.Stack.{Stack}
+use Rattle.expr_stack.specs.Standing.{Stands}
 
 -- the outermost frame, with a part beside it
 pub record Outermost : Type 0 where

@@ -10,11 +10,12 @@ use Rattle.expr_parse.specs.declared.goal.Goal.{Goal}
 use Rattle.expr_parse.specs.declared.goal.Step.{Step}
 use Rattle.expr_parse.specs.declared.machine.Stage.{Stage}
 use Rattle.expr_parse.specs.declared.machine.ExprMachine.{ExprMachine}
-use Rattle.expr_parse.specs.declared.stack.Turn.TheVariants as Turn
+use Rattle.expr_parse.specs.declared.turn.Turn.TheVariants as Turn
 use Rattle.expr_parse.specs.Goals.{DerivesGoal, BeginsGoal, IsWhole, IsSame}
 use Rattle.expr_parse.specs.Ending.{Outermost, IsOf}
 use Rattle.tree_parts.specs.Parts.{Grows}
-use Rattle.expr_parse.specs.Standing.{Stands, IsTurn}
+use Rattle.expr_stack.specs.Standing.{Stands}
+use Rattle.expr_parse.specs.Standing.{IsTurn}
 
 abbrev pub start_of : Goal → State
 start_of Goal.Expression = start

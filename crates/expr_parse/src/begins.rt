@@ -8,13 +8,15 @@ ghost use Rattle.expr_grammar.specs.Machine as machine;
 ghost use Rattle.expr_grammar.specs.Counting as counting;
 ghost use Rattle.expr_grammar.specs.declared.wait.MarkMove.TheVariants as MarkMove;
 ghost use Rattle.tree_parts.specs.Parts.{IsPart, IsThere, place_of};
-ghost use Rattle.expr_parse.specs.Standing.{IsOpen, IsDue, Stands, Opens, IsTurn, Turns};
+ghost use Rattle.expr_stack.specs.Standing.{IsOpen, Stands, Opens};
+ghost use Rattle.expr_parse.specs.Standing.{IsDue, IsTurn, Turns};
 
 use crate::parts::have;
-use crate::stack::{Frame, Opening, Stack, Turn};
+use crate::turn::Turn;
 use expr_grammar::{MarkMove, Start, Wait};
 use expr_kinds::{absorbs, child, mode};
 use expr_moves::at_mark;
+use expr_stack::{Frame, Opening, Stack};
 use expr_starts::{begins, endable};
 use tla_symbols::{Lexeme, Span};
 use tla_tree::{Form, Tree};

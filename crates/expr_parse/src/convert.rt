@@ -11,11 +11,12 @@ ghost use Rattle.expr_grammar.specs.Machine as machine;
 ghost use Rattle.expr_grammar.specs.Counting as counting;
 ghost use Rattle.expr_grammar.specs.declared.wait.Conversion.TheVariants as Conversion;
 ghost use Rattle.tree_parts.specs.Parts.{parts_of, IsPart, IsThere, place_of};
-ghost use Rattle.expr_parse.specs.Standing.{IsOpen, Opens, Becomes, Converts, Renamed, AreNames, AreOperands, AreTwo};
+ghost use Rattle.expr_stack.specs.Standing.{IsOpen, Opens};
+ghost use Rattle.expr_parse.specs.Standing.{Becomes, Converts, Renamed, AreNames, AreOperands, AreTwo};
 
-use crate::stack::{Opening, Stack};
 use expr_grammar::{Conversion, Shape};
 use expr_parts::shape;
+use expr_stack::{Opening, Stack};
 use std::alloc::Global;
 use tla_symbols::{Lexeme, Span};
 use tla_tree::{Form, Tree};

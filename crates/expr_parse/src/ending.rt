@@ -8,13 +8,15 @@ ghost use Rattle.expr_grammar.specs.Counting as counting;
 ghost use Rattle.expr_parse.specs.Ending as ends;
 ghost use Rattle.expr_parse.specs.Ending.{Closes, IsGoal};
 ghost use Rattle.tree_parts.specs.Parts.{IsPart};
-ghost use Rattle.expr_parse.specs.Standing.{IsDue, IsReady, IsTurn, IsTurnReady, Stands};
+ghost use Rattle.expr_stack.specs.Standing.{Stands};
+ghost use Rattle.expr_parse.specs.Standing.{IsDue, IsReady, IsTurn, IsTurnReady};
 
 use crate::goal::Goal;
-use crate::stack::{Frame, Stack, Turn};
+use crate::turn::Turn;
 use expr_grammar::{Shape, Wait};
 use expr_kinds::{finishes, is_expression};
 use expr_parts::shape;
+use expr_stack::{Frame, Stack};
 use expr_starts::endable;
 use tla_tree::{Form, Tree, helps};
 use tool_list::Memory;

@@ -11,7 +11,7 @@ mod ending;
 mod goal;
 mod machine;
 mod parts;
-mod stack;
+mod turn;
 
 pub use goal::{Goal, Step};
 pub use machine::ExprMachine;

@@ -13,10 +13,11 @@ ghost use Rattle.expr_parse.specs.Standing.{IsReady, CanTake, Follows, FollowsFr
 
 use crate::begins::{complete, goes_on as frame_goes_on};
 use crate::convert::{convert, name_of};
-use crate::stack::{Frame, Stack, Turn};
+use crate::turn::Turn;
 use expr_grammar::{Binding, Conversion, Handed, Lead, PartMove, Role, Shape, Wait};
 use expr_kinds::{finishes, is_expression, list_of};
 use expr_parts::{at_part, shape};
+use expr_stack::{Frame, Stack};
 use expr_starts::{choice, goes_on, lead, role, takes};
 use precedence::Choice;
 use tla_symbols::Lexeme;

@@ -1,7 +1,7 @@
 use Rattle.std.proofs.Common.{[], ◌∷◌, refl}
 use Rattle.expr_grammar.specs.declared.wait.Start.TheVariants as Start
-use Rattle.expr_parse.specs.declared.stack.Turn.TheVariants as Turn
-use Rattle.expr_parse.proofs.Growing.{stands-grow}
+use Rattle.expr_parse.specs.declared.turn.Turn.TheVariants as Turn
+use Rattle.expr_stack.proofs.Growing.{stands-grow}
 use Rattle.expr_parse.proofs.Turning.{turns-still, turns-one, begin-by}
 use Rattle.expr_parse.proofs.begins.begin.Goals as goal
 

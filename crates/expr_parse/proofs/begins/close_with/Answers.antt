@@ -1,5 +1,5 @@
 use Rattle.std.proofs.Common.{[], ◌∷◌, ◌++◌, refl, arith}
-use Rattle.expr_parse.proofs.Stacking.{opens-read}
+use Rattle.expr_stack.proofs.Stacking.{opens-read}
 use Rattle.expr_parse.proofs.begins.close_with.Goals as goal
 
 pub node-requires : goal.node-requires

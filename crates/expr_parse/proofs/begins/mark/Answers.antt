@@ -1,6 +1,6 @@
 use Rattle.std.proofs.Common.{[], ◌∷◌, ◌++◌, refl}
 use Rattle.expr_grammar.specs.declared.wait.MarkMove.TheVariants as MarkMove
-use Rattle.expr_parse.proofs.Stacking.{opens-read}
+use Rattle.expr_stack.proofs.Stacking.{opens-read}
 use Rattle.expr_parse.proofs.Turning.{turns-still, put-back, mark-by}
 use Rattle.expr_parse.proofs.begins.mark.Goals as goal
 

@@ -1,5 +1,5 @@
 use Rattle.std.proofs.Common.{[], ◌∷◌, refl}
-use Rattle.expr_parse.proofs.Growing.{opens-grow}
+use Rattle.expr_stack.proofs.Growing.{opens-grow}
 use Rattle.expr_parse.proofs.Turning.{turns-one}
 use Rattle.expr_parse.proofs.begins.take_leaf.Goals as goal
 

@@ -1,9 +1,9 @@
 use Rattle.std.proofs.Common.{◌++◌, sym, subst, append-nil, arith}
 use Rattle.expr_grammar.specs.declared.wait.Conversion.TheVariants as Conversion
-use Rattle.expr_parse.specs.Standing.{Opens}
+use Rattle.expr_stack.specs.Standing.{Opens}
 use Rattle.tree_parts.proofs.Growing.{grows-same}
-use Rattle.expr_parse.proofs.Growing.{opens-grow}
-use Rattle.expr_parse.proofs.Stacking.{opens-read}
+use Rattle.expr_stack.proofs.Growing.{opens-grow}
+use Rattle.expr_stack.proofs.Stacking.{opens-read}
 use Rattle.expr_parse.proofs.Renaming.{converts-by}
 use Rattle.expr_parse.proofs.convert.convert.Goals as goal
 

@@ -1,5 +1,5 @@
 use Rattle.std.proofs.Common.{[], Some, refl, subst, sym}
-use Rattle.expr_parse.specs.declared.stack.Turn.TheVariants as Turn
+use Rattle.expr_parse.specs.declared.turn.Turn.TheVariants as Turn
 use Rattle.expr_parse.specs.Standing.{IsTurn}
 use Rattle.expr_parse.specs.Reading.{start_of}
 use Rattle.expr_parse.proofs.machine.open.Goals as goal

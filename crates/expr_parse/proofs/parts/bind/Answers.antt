@@ -1,6 +1,6 @@
 use Rattle.std.proofs.Common.{[], ◌∷◌, ◌++◌, refl}
 use Rattle.expr_grammar.specs.Tables as tables
-use Rattle.expr_parse.proofs.Growing.{opens-grow}
+use Rattle.expr_stack.proofs.Growing.{opens-grow}
 use Rattle.expr_parse.proofs.Going.{opens-then}
 use Rattle.expr_parse.proofs.parts.bind.Goals as goal
 

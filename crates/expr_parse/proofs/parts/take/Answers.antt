@@ -1,5 +1,5 @@
 use Rattle.std.proofs.Common.{[], ◌∷◌, ◌++◌}
-use Rattle.expr_parse.specs.declared.stack.Turn.TheVariants as Turn
+use Rattle.expr_parse.specs.declared.turn.Turn.TheVariants as Turn
 use Rattle.expr_parse.proofs.Turning.{turns-still}
 use Rattle.expr_parse.proofs.Going.{opens-then}
 use Rattle.expr_parse.proofs.parts.take.Goals as goal

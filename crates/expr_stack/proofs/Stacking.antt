@@ -1,25 +1,25 @@
 -- Frames and parts as they come and go.
-use Rattle.std.proofs.Common.{◌≡◌, ℕ, ◌+◌, ◌<◌, ◌≤◌, List, [], ◌∷◌, ◌++◌, length, take, drop, refl, ap, sym, subst, ◌∙◌, length-append, arith, Option}
+use Rattle.std.proofs.Common.{◌≡◌, ℕ, List, [], ◌∷◌, ◌++◌, length, take, drop, ap, sym, ◌∙◌, length-append, arith, Option}
 use Rattle.std.specs.Prelude.{map, reverse}
 use Rattle.std.proofs.lemmas.List.{take-append-le, drop-append-le, reverse-append}
 use Rattle.tla_symbols.specs.declared.lexeme.Lexeme.{Lexeme}
 use Rattle.tla_symbols.specs.declared.lexeme.Span.{Span}
 use Rattle.tla_tree.specs.declared.form.Form.{Form}
-use Rattle.tla_tree.specs.Arena.{Node, AreThere, tree_at}
+use Rattle.tla_tree.specs.Arena.{Node, tree_at}
 use Rattle.tla_tree.specs.Lexemes.{built}
 use Rattle.tla_tree.specs.Syntax.{Tree, Nil, trees}
 use Rattle.expr_grammar.specs.declared.wait.Wait.{Wait}
 use Rattle.expr_grammar.specs.Machine as Machine
 use Rattle.expr_grammar.specs.Machine.{inside, inner}
-use Rattle.expr_parse.specs.declared.stack.Frame.{Frame}
-use Rattle.expr_parse.specs.declared.stack.Opening.{Opening}
+use Rattle.expr_stack.specs.declared.stack.Frame.{Frame}
+use Rattle.expr_stack.specs.declared.stack.Opening.{Opening}
 use Rattle.tree_parts.specs.declared.part.Part.{Part}
-use Rattle.expr_parse.specs.declared.stack.Stack.{Stack}
-use Rattle.tree_parts.specs.Parts.{place_of, joined, covered, IsPart, Adds}
-use Rattle.expr_parse.specs.Standing.{IsOf, Stands, Opens, Made}
+use Rattle.expr_stack.specs.declared.stack.Stack.{Stack}
+use Rattle.tree_parts.specs.Parts.{place_of, joined, covered, IsPart}
+use Rattle.expr_stack.specs.Standing.{IsOf, Stands, Opens, Made}
 use Rattle.tree_parts.proofs.Places.{place-append, covered-place}
 use Rattle.tree_parts.proofs.Growing.{grows-one, new-node, there-append, map-append}
-use Rattle.expr_parse.proofs.Growing.{frames-grow}
+use Rattle.expr_stack.proofs.Growing.{frames-grow}
 
 -- one part more
 pub of-more : (nodes : List Node) (ks : List ℕ) (span : Option Span) (ps : List Tree) (a : List Lexeme) (part : Part) (e : Tree) (b : List Lexeme) → IsOf nodes ks span ps a → IsPart nodes part e b → IsOf nodes (ks ++ part.node ∷ []) (joined span part.place) (ps ++ e ∷ []) (a ++ b)

@@ -1,6 +1,6 @@
 use Rattle.std.proofs.Common.{refl, ap, drop, ◌∙◌}
-use Rattle.expr_parse.proofs.Stacking.{made-is}
-use Rattle.expr_parse.proofs.stack.Stack.node.Goals as goal
+use Rattle.expr_stack.proofs.Stacking.{made-is}
+use Rattle.expr_stack.proofs.stack.Stack.node.Goals as goal
 
 pub returns-clause-made : goal.returns-clause-made
 returns-clause-made c parts read below opens =

@@ -1,15 +1,15 @@
 -- What stacks stand for stays as nodes are added.
-use Rattle.std.proofs.Common.{◌≡◌, ℕ, ◌<◌, ◌≤◌, List, [], ◌∷◌, ◌∙◌}
+use Rattle.std.proofs.Common.{ℕ, List, [], ◌∷◌, ◌∙◌}
 use Rattle.tla_symbols.specs.declared.lexeme.Lexeme.{Lexeme}
 use Rattle.tla_tree.specs.Arena.{Node}
 use Rattle.tla_tree.specs.Syntax.{Tree}
 use Rattle.expr_grammar.specs.Machine as Machine
 use Rattle.tree_parts.specs.Parts.{Grows}
 use Rattle.tree_parts.proofs.Growing.{grows-length, there-longer, map-grows}
-use Rattle.expr_parse.specs.declared.stack.Frame.{Frame}
-use Rattle.expr_parse.specs.declared.stack.Opening.{Opening}
-use Rattle.expr_parse.specs.declared.stack.Stack.{Stack}
-use Rattle.expr_parse.specs.Standing.{IsOf, AreFrames, Stands, Opens}
+use Rattle.expr_stack.specs.declared.stack.Frame.{Frame}
+use Rattle.expr_stack.specs.declared.stack.Opening.{Opening}
+use Rattle.expr_stack.specs.declared.stack.Stack.{Stack}
+use Rattle.expr_stack.specs.Standing.{IsOf, AreFrames, Stands, Opens}
 
 pub of-grows : (nodes more : List Node) (numbers : List ℕ) (span : _) (ps : List Tree) (a : List Lexeme) → Grows nodes more → IsOf nodes numbers span ps a → IsOf more numbers span ps a
 of-grows nodes more numbers span ps a g o = record {

@@ -1,5 +1,5 @@
 use Rattle.std.proofs.Common.{[], ◌∷◌, ◌++◌}
-use Rattle.expr_parse.proofs.stack.Stack.close.Goals as goal
+use Rattle.expr_stack.proofs.stack.Stack.close.Goals as goal
 
 pub node-requires : goal.node-requires
 node-requires c =

@@ -8,7 +8,7 @@ ghost use Rattle.tla_tree.specs.Lexemes.{built};
 ghost use Rattle.expr_grammar.specs.Machine as machine;
 ghost use Rattle.tree_parts.specs.Parts as places;
 ghost use Rattle.tree_parts.specs.Parts.{IsPart, IsThere};
-ghost use Rattle.expr_parse.specs.Standing.{IsOpen, AreFrames, Stands, Opens, IsTop, IsWait, Made};
+ghost use Rattle.expr_stack.specs.Standing.{IsOpen, AreFrames, Stands, Opens, IsTop, IsWait, Made};
 
 use expr_grammar::Wait;
 use expr_kinds::list_of;
@@ -21,34 +21,23 @@ use tree_parts::{Part, add, covered, joined};
 /// What a frame has read: where its parts begin on the stack of parts, and the place of its
 /// lexemes, if there are any.
 #[derive(Clone, Copy)]
-pub(crate) struct Opening {
+pub struct Opening {
     first: usize,
     place: Option<Span>,
 }
 
 /// A frame of the stack.
 #[derive(Clone, Copy)]
-pub(crate) struct Frame {
-    pub(crate) wait: Wait,
-    pub(crate) opening: Opening,
+pub struct Frame {
+    pub wait: Wait,
+    pub opening: Opening,
     /// The column from which lexemes stand inside all aligned lists up to this frame.
     inner: u64,
 }
 
-/// What a lexeme led to.
-#[derive(Clone, Copy)]
-pub(crate) enum Turn {
-    /// It does not fit.
-    Refused,
-    /// The next part or lexeme of the innermost frame is due.
-    Due,
-    /// A part was read.
-    Read(Part),
-}
-
 /// Frames, the innermost last, and the numbers of the nodes of all their parts.
 #[derive(Drop)]
-pub(crate) struct Stack {
+pub struct Stack {
     alloc: Global,
     frames: Vec<Frame>,
     parts: Vec<u32>,
@@ -66,7 +55,7 @@ fn inside(wait: Wait, inner: u64) -> u64
 
 impl Opening {
     /// The frame reads the lexemes of one more place.
-    pub(crate) fn reads(self, place: Option<Span>) -> Opening
+    pub fn reads(self, place: Option<Span>) -> Opening
         ensures { result ≡ record { first = self.first; place = places.joined self.place place } }
     {
         Opening {
@@ -77,7 +66,8 @@ impl Opening {
 }
 
 impl Stack {
-    pub(crate) fn new(alloc: Global) -> Stack
+    /// No frame waits.
+    pub fn new(alloc: Global) -> Stack
         ensures { (nodes : List Node) → Stands nodes result [] }
     {
         Stack {
@@ -87,19 +77,20 @@ impl Stack {
         }
     }
 
-    pub(crate) fn alloc(&self) -> Global {
+    /// Where its memory is from.
+    pub fn alloc(&self) -> Global {
         self.alloc
     }
 
     /// The frames, the innermost last.
-    pub(crate) fn frames(&self) -> &[Frame]
+    pub fn frames(&self) -> &[Frame]
         ensures { result.now ≡ self.now.frames.items }
     {
         self.frames.as_slice()
     }
 
     /// The column from which lexemes stand inside all aligned lists.
-    pub(crate) fn inner(&self) -> u64
+    pub fn inner(&self) -> u64
         ensures { (nodes : List Node) → (numbers : List ℕ) → (frames : List machine.Frame) → AreFrames nodes (reverse self.now.frames.items) numbers frames → result ≡ machine.inner frames }
     {
         match self.frames.last() {
@@ -109,7 +100,7 @@ impl Stack {
     }
 
     /// What the innermost frame waits for.
-    pub(crate) fn wait(&self) -> Option<Wait>
+    pub fn wait(&self) -> Option<Wait>
         ensures top { (nodes : List Node) → (frames : List machine.Frame) → Stands nodes self.now frames → IsWait result frames }
         ensures some { OnSome result (0 < length self.now.frames.items) }
     {
@@ -120,7 +111,7 @@ impl Stack {
     }
 
     /// Takes the innermost frame from the stack. Its parts stay.
-    pub(crate) fn pop(&mut self) -> Option<Frame>
+    pub fn pop(&mut self) -> Option<Frame>
         ensures top { (nodes : List Node) → (frames : List machine.Frame) → Stands nodes self.old frames → IsTop nodes self.new result frames }
         ensures fewer { OnSome result (length self.new.frames.items + 1 ≡ length self.old.frames.items) }
     {
@@ -128,7 +119,7 @@ impl Stack {
     }
 
     /// A frame that has read the lexemes of the place, and no part.
-    pub(crate) fn opening(&self, place: Option<Span>) -> Opening
+    pub fn opening(&self, place: Option<Span>) -> Opening
         ensures { (nodes : List Node) → (frames : List machine.Frame) → (read : List Lexeme) → Stands nodes self.now frames → place ≡ places.place_of read → Opens nodes self.now result [] read frames }
     {
         Opening {
@@ -138,7 +129,7 @@ impl Stack {
     }
 
     /// Puts a frame on the stack.
-    pub(crate) fn put(&mut self, wait: Wait, opening: Opening) -> Result<(), Memory>
+    pub fn put(&mut self, wait: Wait, opening: Opening) -> Result<(), Memory>
         ensures { OnOk result ((nodes : List Node) → (parts : List syntax.Tree) → (read : List Lexeme) → (below : List machine.Frame) → Opens nodes self.old opening parts read below → Stands nodes self.new (machine.frame wait parts read ∷ below)) }
     {
         let inner = inside(wait, self.inner());
@@ -151,7 +142,7 @@ impl Stack {
     }
 
     /// The frame takes a part.
-    pub(crate) fn hold(&mut self, opening: Opening, part: Part) -> Result<Opening, Memory>
+    pub fn hold(&mut self, opening: Opening, part: Part) -> Result<Opening, Memory>
         ensures same { OnOk result (self.new.frames.items ≡ self.old.frames.items) }
         ensures more { IfOk result (λ more. (nodes : List Node) → (parts : List syntax.Tree) → (read : List Lexeme) → (below : List machine.Frame) → (tree : syntax.Tree) → (spelled : List Lexeme) → Opens nodes self.old opening parts read below → IsPart nodes part tree spelled → Opens nodes self.new more (parts ++ tree ∷ []) (read ++ spelled) below) }
     {
@@ -160,12 +151,7 @@ impl Stack {
     }
 
     /// The node of a frame that ends: it is no longer on the stack.
-    pub(crate) fn node(
-        &mut self,
-        tree: &mut Tree,
-        form: Form,
-        opening: Opening,
-    ) -> Result<Part, Memory>
+    pub fn node(&mut self, tree: &mut Tree, form: Form, opening: Opening) -> Result<Part, Memory>
         requires { IsOpen tree.old self.old opening }
         ensures same { OnOk result (self.new.frames.items ≡ self.old.frames.items) }
         ensures made { IfOk result (λ part. (parts : List syntax.Tree) → (read : List Lexeme) → (below : List machine.Frame) → Opens tree.old self.old opening parts read below → Made tree.old tree.new self.new part (built form (trees parts) read) read below) }
@@ -180,7 +166,7 @@ impl Stack {
     }
 
     /// The node of a frame that ends with a last part.
-    pub(crate) fn close(
+    pub fn close(
         &mut self,
         tree: &mut Tree,
         form: Form,

@@ -1,6 +1,6 @@
 use Rattle.std.proofs.Common.{refl}
-use Rattle.expr_parse.proofs.Stacking.{put-stands}
-use Rattle.expr_parse.proofs.stack.Stack.put.Goals as goal
+use Rattle.expr_stack.proofs.Stacking.{put-stands}
+use Rattle.expr_stack.proofs.stack.Stack.put.Goals as goal
 
 pub returns : goal.returns
 returns c nodes parts read below opens =

@@ -1,6 +1,6 @@
 use Rattle.std.proofs.Common.{refl}
-use Rattle.expr_parse.proofs.Stacking.{opens-more}
-use Rattle.expr_parse.proofs.stack.Stack.hold.Goals as goal
+use Rattle.expr_stack.proofs.Stacking.{opens-more}
+use Rattle.expr_stack.proofs.stack.Stack.hold.Goals as goal
 
 pub returns-clause-more : goal.returns-clause-more
 returns-clause-more c nodes parts read below tree spelled opens part =
