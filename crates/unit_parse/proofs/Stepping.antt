@@ -63,23 +63,16 @@ begin-refused nodes more unfinished reading t Heard.Refused st q b h =
 
 -- ---- where units and frames lead
 
--- nothing was added
-pub still : {nodes : List Arena.Node} {state : Option State} {st : Option Machine.State} → IsMoved nodes state st → Moves nodes nodes state st
-still {nodes = nodes} i = record { grows = grows-same nodes; is = i }
+-- the reader enters it at once
+pub enters : (nodes more : List Arena.Node) (next : Option Next) (st : Option Machine.State) {state : Option State} → Steps.Moves nodes more next st → IsMoved more state st → Moves nodes more state st
+enters nodes more next st m i = record { grows = m.grows; is = i }
 
--- a step that leads there, and what is entered then
-pub leads-on : (nodes more most : List Arena.Node) (next : Option Next) (state : Option State) (st : Option Machine.State) → Steps.Moves nodes more next st → ((o : Option Machine.State) → Steps.IsMoved more next o → Moves more most state o) → Moves nodes most state st
-leads-on nodes more most next state st m k = let e = k st m.is in record { grows = grows-on nodes more most m.grows e.grows; is = e.is }
+-- or adds nodes as it does
+pub enters-begun : (nodes more most : List Arena.Node) (next : Option Next) (state : Option State) (st : Option Machine.State) → Steps.Moves nodes more next st → Moves more most state st → Moves nodes most state st
+enters-begun nodes more most next state st m e = record { grows = grows-on nodes more most m.grows e.grows; is = e.is }
 
-pub leads-to : (nodes : List Arena.Node) (moved : Option Next) (next leads : Next) (st : Option Machine.State) → moved ≡ Some next → next ≡ leads → Steps.IsMoved nodes moved st → Steps.IsMoved nodes (Some leads) st
-leads-to nodes moved next leads st q r i = subst (λ z. Steps.IsMoved nodes (Some z) st) r (subst (λ z. Steps.IsMoved nodes z st) q i)
-
-pub enters-none : (nodes : List Arena.Node) (next : Option Next) (st : Option Machine.State) → next ≡ None → Steps.IsMoved nodes next st → IsMoved nodes None st
-enters-none nodes next st q i = by st (subst (λ z. Steps.IsMoved nodes z st) q i)
-  where
-    by : (o : Option Machine.State) → Steps.IsMoved nodes None o → IsMoved nodes None o
-    by None k = tt
-    by (Some s) k = absurd k
+pub leads-to : (nodes : List Arena.Node) (next leads : Next) (st : Option Machine.State) → next ≡ leads → Steps.IsMoved nodes (Some next) st → Steps.IsMoved nodes (Some leads) st
+leads-to nodes next leads st r i = subst (λ z. Steps.IsMoved nodes (Some z) st) r i
 
 pub enters-point : (nodes : List Arena.Node) (point : Point) (st : Option Machine.State) → Steps.IsMoved nodes (Some (Next.At point)) st → IsMoved nodes (Some (State.At point)) st
 enters-point nodes point None k = absurd k

@@ -57,17 +57,28 @@ fn begin_expression(
     Ok(expression_begun(unfinished, reading, heard))
 }
 
-/// The reader goes where units and frames lead.
-pub(crate) fn enter(next: Option<Next>, tree: &mut Tree) -> Result<Option<State>, Memory>
-    ensures { IfOk result (λ moved. (st : Option machine.State) → steps.IsMoved tree.old next st → Moves tree.old tree.new moved st) }
+/// The reader goes where units and frames lead that do not refuse a lexeme.
+fn enter_next(next: Next, tree: &mut Tree) -> Result<Option<State>, Memory>
+    ensures { IfOk result (λ moved. (nodes : List arena.Node) → (st : Option machine.State) → steps.Moves nodes tree.old (Some next) st → Moves nodes tree.new moved st) }
 {
-    let Some(next) = next else {
-        return Ok(None);
-    };
     match next {
         Next::At(point) => Ok(Some(State::At(point))),
         Next::Awaits(unfinished) => Ok(Some(await_expression(unfinished))),
         Next::Begins(unfinished, first) => begin_expression(unfinished, tree, first),
         Next::Bounds(unfinished, frame) => Ok(Some(await_bounds(unfinished, frame))),
+    }
+}
+
+/// The reader goes where units and frames lead, or there was no room.
+pub(crate) fn enter(
+    next: Result<Option<Next>, Memory>,
+    tree: &mut Tree,
+) -> Result<Option<State>, Memory>
+    ensures { IfOk result (λ moved. (nodes : List arena.Node) → (st : Option machine.State) → IfOk next (λ led. steps.Moves nodes tree.old led st) → Moves nodes tree.new moved st) }
+{
+    match next {
+        Err(fault) => Err(fault),
+        Ok(None) => Ok(None),
+        Ok(Some(next)) => enter_next(next, tree),
     }
 }

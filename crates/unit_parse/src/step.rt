@@ -1,7 +1,6 @@
 // One step of the machine: what a lexeme does where a module is read.
 ghost use Rattle.std.specs.Prelude.{IfOk};
 ghost use Rattle.unit_machine.specs.Machine as machine;
-ghost use Rattle.unit_steps.specs.Standing.{IsPoint, IsReadyPoint};
 ghost use Rattle.unit_parse.specs.Standing.{IsState, Moves, IsReadyState};
 
 use crate::enter::enter;
@@ -10,16 +9,6 @@ use crate::state::State;
 use tla_symbols::Lexeme;
 use tla_tree::Tree;
 use tool_list::Memory;
-use unit_steps::Point;
-
-/// A lexeme where no expression is read.
-fn point_step(point: Point, tree: &mut Tree, lexeme: Lexeme) -> Result<Option<State>, Memory>
-    requires { IsReadyPoint tree.old point }
-    ensures { IfOk result (λ moved. (st : machine.State) → IsPoint tree.old point st → Moves tree.old tree.new moved (machine.step st lexeme)) }
-{
-    let next = point.step(tree, lexeme)?;
-    enter(next, tree)
-}
 
 impl State {
     /// Reads a lexeme after those that were read. `None` where no module begins so.
@@ -28,7 +17,7 @@ impl State {
         ensures { IfOk result (λ moved. (st : machine.State) → IsState tree.old self st → Moves tree.old tree.new moved (machine.step st lexeme)) }
     {
         match self {
-            State::At(point) => point_step(point, tree, lexeme),
+            State::At(point) => enter(point.step(tree, lexeme), tree),
             State::Expression(unfinished, reading) => expression_step(
                 unfinished, reading, tree, lexeme,
             ),

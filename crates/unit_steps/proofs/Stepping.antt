@@ -72,7 +72,7 @@ pub record Goes (nodes more : List Arena.Node) (below : List Frame) (held : Fram
 pub goes-first : (nodes : List Arena.Node) (below : List Frame) (held : Frame) (f : Machine.Frame) (fs : List Machine.Frame) (t : Lexeme) → IsFrame nodes held f → AreFrames nodes (reverse below) fs → Goes nodes nodes below held f fs t
 goes-first nodes below held f fs t i a = record { frame = f; frames = fs; grows = grows-same nodes; is = i; are = a; same = λ b d us. refl }
 
-pub goes-moves : {nodes more : List Arena.Node} {below : List Frame} {held : Frame} {f : Machine.Frame} {fs : List Machine.Frame} {t : Lexeme} (to : Move) → to ≡ move held.wait t → DoesNotEnd to → Goes nodes more below held f fs t → Ends nodes more below held Ended.Moves f fs t
+pub goes-moves : {nodes more : List Arena.Node} {below : List Frame} {held : Frame} {f : Machine.Frame} {fs : List Machine.Frame} {t : Lexeme} (to : Move) → to ≡ move held.wait t → DoesNotEnd to → Goes nodes more below held f fs t → Ends nodes more below held (Ended.Moves to) f fs t
 goes-moves {t = t} to q k g = record {
   grows = g.grows;
   is = record {
@@ -80,7 +80,7 @@ goes-moves {t = t} to q k g = record {
     frames = g.frames;
     is = g.is;
     below = g.are;
-    same = λ b d us. g.same b d us ∙ step-still (move g.frame.wait t) b g.frame g.frames d us t refl (subst DoesNotEnd (q ∙ ap (λ z. move z t) g.is.wait) k);
+    same = λ b d us. g.same b d us ∙ step-still to b g.frame g.frames d us t (sym (q ∙ ap (λ z. move z t) g.is.wait)) k;
   };
 }
 
@@ -148,17 +148,14 @@ ended-below nodes more below left outer taken part form f fs e a m k = record {
 pub ended-whole : (nodes : List Arena.Node) (below : List Frame) (held : Frame) (ended : Ended) (part : Part) (f : Machine.Frame) (fs : List Machine.Frame) (t : Lexeme) → ended ≡ Ended.Whole part → IsEnded nodes below held ended f fs t → EndsWhole nodes part f fs t
 ended-whole nodes below held ended part f fs t q e = subst (λ z. IsEnded nodes below held z f fs t) q e
 
-pub ended-moves : (nodes : List Arena.Node) (below : List Frame) (held : Frame) (ended : Ended) (f : Machine.Frame) (fs : List Machine.Frame) (t : Lexeme) → ended ≡ Ended.Moves → IsEnded nodes below held ended f fs t → EndsMoving nodes below held f fs t
-ended-moves nodes below held ended f fs t q e = subst (λ z. IsEnded nodes below held z f fs t) q e
+pub ended-moves : (nodes : List Arena.Node) (below : List Frame) (held : Frame) (ended : Ended) (to : Move) (f : Machine.Frame) (fs : List Machine.Frame) (t : Lexeme) → ended ≡ Ended.Moves to → IsEnded nodes below held ended f fs t → EndsMoving nodes below held to f fs t
+ended-moves nodes below held ended to f fs t q e = subst (λ z. IsEnded nodes below held z f fs t) q e
 
 pub step-whole-is : (nodes : List Arena.Node) (part : Part) (b : Machine.Begun) (f : Machine.Frame) (fs : List Machine.Frame) (d : ℕ) (us : List UnitTree) (t : Lexeme) (state : Option Next) → (w : EndsWhole nodes part f fs t) → IsMoved nodes state (finished b w.tree d us t) → Moves nodes nodes state (part_step fs b f d us t)
 step-whole-is nodes part b f fs d us t state w i = still (subst (IsMoved nodes state) (sym (w.same b d us)) i)
 
-pub step-moves-is : (nodes more : List Arena.Node) (below : List Frame) (held : Frame) (b : Machine.Begun) (f : Machine.Frame) (fs : List Machine.Frame) (d : ℕ) (us : List UnitTree) (t : Lexeme) (state : Option Next) → (w : EndsMoving nodes below held f fs t) → Moves nodes more state (moved (move w.frame.wait t) b w.frame w.frames d us t (λ form. None)) → Moves nodes more state (part_step fs b f d us t)
-step-moves-is nodes more below held b f fs d us t state w m = subst (Moves nodes more state) (sym (w.same b d us)) m
-
-pub moves-as : (nodes more : List Arena.Node) (held : Frame) (to : Move) (b : Machine.Begun) (f : Machine.Frame) (fs : List Machine.Frame) (d : ℕ) (us : List UnitTree) (t : Lexeme) (state : Option Next) → to ≡ move held.wait t → IsFrame nodes held f → Moves nodes more state (moved to b f fs d us t (λ form. None)) → Moves nodes more state (moved (move f.wait t) b f fs d us t (λ form. None))
-moves-as nodes more held to b f fs d us t state q i m = subst (λ z. Moves nodes more state (moved z b f fs d us t (λ form. None))) (q ∙ ap (λ z. move z t) i.wait) m
+pub step-moves-is : (nodes more : List Arena.Node) (below : List Frame) (held : Frame) (to : Move) (b : Machine.Begun) (f : Machine.Frame) (fs : List Machine.Frame) (d : ℕ) (us : List UnitTree) (t : Lexeme) (state : Option Next) → (w : EndsMoving nodes below held to f fs t) → Moves nodes more state (moved to b w.frame w.frames d us t (λ form. None)) → Moves nodes more state (part_step fs b f d us t)
+step-moves-is nodes more below held to b f fs d us t state w m = subst (Moves nodes more state) (sym (w.same b d us)) m
 
 -- nodes were added before
 pub moves-later : (nodes more most : List Arena.Node) (state : Option Next) (st : Option Machine.State) → Grows nodes more → Moves more most state st → Moves nodes most state st

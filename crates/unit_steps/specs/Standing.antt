@@ -8,8 +8,8 @@ use Rattle.tree_parts.specs.declared.part.Part.{Part}
 use Rattle.tree_parts.specs.Parts.{IsPart, Grows}
 use Rattle.expr_grammar.specs.Machine as Expressions
 use Rattle.expr_grammar.specs.Machine.{start, start_bounds}
+use Rattle.unit_machine.specs.declared.wait.Move.{Move}
 use Rattle.unit_grammar.specs.Units.{UnitTree}
-use Rattle.unit_machine.specs.Tables.{move}
 use Rattle.unit_machine.specs.Machine as Machine
 use Rattle.unit_machine.specs.Machine.{node, taking, part_step, moved, finished, reading}
 use Rattle.unit_frames.specs.declared.frame.Frame.{Frame}
@@ -69,18 +69,18 @@ pub record EndsWhole (nodes : List Arena.Node) (part : Part) (f : Machine.Frame)
   pub is : IsPart nodes part tree spelled
   pub same : (begun : Machine.Begun) → (depth : ℕ) → (units : List UnitTree) → part_step fs begun f depth units next ≡ finished begun tree depth units next
 
--- or one is left, which the lexeme moves
-pub record EndsMoving (nodes : List Arena.Node) (outer : List Frame) (held : Frame) (f : Machine.Frame) (fs : List Machine.Frame) (next : Lexeme) : Type 0 where
+-- or one is left, which the lexeme moves so
+pub record EndsMoving (nodes : List Arena.Node) (outer : List Frame) (held : Frame) (to : Move) (f : Machine.Frame) (fs : List Machine.Frame) (next : Lexeme) : Type 0 where
   pub frame : Machine.Frame
   pub frames : List Machine.Frame
   pub is : IsFrame nodes held frame
   pub below : AreFrames nodes (reverse outer) frames
-  pub same : (begun : Machine.Begun) → (depth : ℕ) → (units : List UnitTree) → part_step fs begun f depth units next ≡ moved (move frame.wait next) begun frame frames depth units next (λ form. None)
+  pub same : (begun : Machine.Begun) → (depth : ℕ) → (units : List UnitTree) → part_step fs begun f depth units next ≡ moved to begun frame frames depth units next (λ form. None)
 
 -- which of the two
 abbrev pub IsEnded : List Arena.Node → List Frame → Frame → Ended → Machine.Frame → List Machine.Frame → Lexeme → Type 0
 IsEnded nodes below held (Ended.Whole part) f fs next = EndsWhole nodes part f fs next
-IsEnded nodes below held Ended.Moves f fs next = EndsMoving nodes below held f fs next
+IsEnded nodes below held (Ended.Moves to) f fs next = EndsMoving nodes below held to f fs next
 
 -- and old nodes stay
 pub record Ends (nodes more : List Arena.Node) (below : List Frame) (held : Frame) (ended : Ended) (f : Machine.Frame) (fs : List Machine.Frame) (next : Lexeme) : Type 0 where

@@ -19,8 +19,8 @@ use unit_tables::{after_part, frame_move};
 pub(crate) enum Ended {
     /// The outermost one too, and this is its part.
     Whole(Part),
-    /// But for one, which the lexeme moves.
-    Moves,
+    /// But for one, which the lexeme moves so.
+    Moves(Move),
 }
 
 /// The places of an operator's declaration that were read.
@@ -34,7 +34,7 @@ fn places_of(wait: Wait) -> u32
 }
 
 /// What the lexeme does to a frame. `Memory` where no further place of an operator can be counted.
-pub(crate) fn next_move(wait: Wait, lexeme: Lexeme) -> Result<Move, Memory>
+fn next_move(wait: Wait, lexeme: Lexeme) -> Result<Move, Memory>
     ensures { IfOk result (λ next. next ≡ tables.move wait lexeme) }
 {
     if places_of(wait) == u32::MAX {
@@ -83,7 +83,7 @@ pub(crate) fn end_frames(
     'ending: loop {
         let next = next_move(frame.wait, lexeme)?;
         let Move::Ends(form) = next else {
-            return Ok(Ended::Moves);
+            return Ok(Ended::Moves(next));
         };
         if let Some(part) = end_frame(below, frame, tree, form)? {
             return Ok(Ended::Whole(part));

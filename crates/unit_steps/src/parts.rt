@@ -10,7 +10,7 @@ ghost use Rattle.unit_machine.specs.Machine as machine;
 ghost use Rattle.unit_frames.specs.Standing.{IsFrame, IsBegun, IsReached, IsUnder};
 ghost use Rattle.unit_steps.specs.Standing.{Moves, IsEnded, IsReadyEnded, IsReadyPart, IsReadyTaking, IsReadyWhole};
 
-use crate::endings::{Ended, end_frames, next_move};
+use crate::endings::{Ended, end_frames};
 use crate::moves::move_frame;
 use crate::point::Next;
 use crate::whole::finish;
@@ -20,24 +20,6 @@ use tool_list::Memory;
 use tree_parts::Part;
 use unit_frames::{Frame, Unfinished};
 use unit_tables::{after_bounds, after_expression};
-
-/// What a lexeme does to a frame that does not end before it.
-fn move_on(
-    unfinished: Unfinished,
-    frame: Frame,
-    tree: &mut Tree,
-    lexeme: Lexeme,
-) -> Result<Option<Next>, Memory>
-    requires { (f : machine.Frame) × IsFrame tree.old frame f }
-    ensures { IfOk result (λ moved. (depth : ℕ) → (us : List units.UnitTree) → (b : machine.Begun)
-        → (fs : List machine.Frame) → (f : machine.Frame)
-        → IsUnder tree.old unfinished b fs depth us → IsFrame tree.old frame f
-        → Moves tree.old tree.new moved
-        (machine.moved (tables.move f.wait lexeme) b f fs depth us lexeme (λ form. None))) }
-{
-    let to = next_move(frame.wait, lexeme)?;
-    move_frame(unfinished, frame, tree, to, lexeme)
-}
 
 /// What a lexeme does once the frames that end before it have ended.
 fn go_on(
@@ -56,7 +38,7 @@ fn go_on(
 {
     match ended {
         Ended::Whole(part) => finish(unfinished, tree, part, lexeme),
-        Ended::Moves => move_on(unfinished, frame, tree, lexeme),
+        Ended::Moves(to) => move_frame(unfinished, frame, tree, to, lexeme),
     }
 }
 

@@ -1,19 +1,12 @@
+use Rattle.std.proofs.Common.{subst}
+use Rattle.std.specs.Prelude.{IfOk}
 use Rattle.std.proofs.lemmas.Result.{IfOk-weaker}
-use Rattle.unit_parse.proofs.Stepping.{still, leads-to, enters-none, enters-point}
+use Rattle.unit_steps.specs.Standing as Steps
 use Rattle.unit_parse.proofs.enter.enter.Goals as goal
 
-pub returns-in_default : goal.returns-in_default
-returns-in_default c st i = still (enters-none _ c.args.next st c.in_default.is i)
-
-pub returns-in-At : goal.returns-in-At
-returns-in-At c st i = still (enters-point _ c.in-At.point st (leads-to _ c.args.next _ _ st c.in-Some.is c.in-At.is i))
-
-pub returns-in-Awaits : goal.returns-in-Awaits
-returns-in-Awaits c st i = still (c.await_expression.ensures _ st (leads-to _ c.args.next _ _ st c.in-Some.is c.in-Awaits.is i))
-
-pub returns-in-Begins : goal.returns-in-Begins
-returns-in-Begins c =
-    IfOk-weaker c.begin_expression.result _ _ (λ moved h st i. h st (leads-to _ c.args.next _ _ st c.in-Some.is c.in-Begins.is i)) c.begin_expression.ensures
-
-pub returns-in-Bounds : goal.returns-in-Bounds
-returns-in-Bounds c st i = still (c.await_bounds.ensures _ st (leads-to _ c.args.next _ _ st c.in-Some.is c.in-Bounds.is i))
+pub returns-in-Ok-Some : goal.returns-in-Ok-Some
+returns-in-Ok-Some c =
+    IfOk-weaker c.enter_next.result _ _
+    (λ moved h nodes st i.
+    h nodes st (subst (λ z. Steps.Moves nodes c.args.tree.now z st) c.in-Ok-Some.field-0-is (subst (λ z. IfOk z (λ led. Steps.Moves nodes c.args.tree.now led st)) c.in-Ok-Some.is i)))
+    c.enter_next.ensures

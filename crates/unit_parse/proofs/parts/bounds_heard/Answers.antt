@@ -11,16 +11,17 @@ pub returns-in-Refused : goal.returns-in-Refused
 returns-in-Refused c d us b f st read u i h =
     bounds-refused _ _ c.args.reading b f d us st read c.args.lexeme _ c.in-Refused.is (heard-still h)
 
-pub take_on-requires : goal.take_on-requires
-take_on-requires c =
+pub take_bounds-requires : goal.take_bounds-requires
+take_bounds-requires c =
     let r = c.requires in
     let h = heard-done _ _ c.args.reading Goal.Bounds r.4 r.5 c.args.lexeme _ c.in-Done.part c.in-Done.is (heard-still r.8) in
     (r.0, _, r.1, r.2, r.3, _, r.5, r.6, r.7, h.is.1)
 
 pub returns-in-Done : goal.returns-in-Done
 returns-in-Done c =
-    IfOk-weaker c.take_on.result _ _
+    IfOk-weaker c.enter.result _ _
     (λ moved m d us b f st read u i j.
     let h = heard-done _ _ c.args.reading Goal.Bounds st read c.args.lexeme _ c.in-Done.part c.in-Done.is (heard-still j) in
-    bounds-done-is _ _ _ c.args.reading c.in-Done.part b f d us st read c.args.lexeme _ h (m d us b _ f _ read u i h.is.1))
-    c.take_on.ensures
+    bounds-done-is _ _ _ c.args.reading c.in-Done.part b f d us st read c.args.lexeme _ h
+    (m _ _ (IfOk-weaker c.take_bounds.result _ _ (λ next n. n d us b _ f _ read u i h.is.1) c.take_bounds.ensures)))
+    c.enter.ensures

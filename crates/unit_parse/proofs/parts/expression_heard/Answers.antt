@@ -11,16 +11,17 @@ pub returns-in-Refused : goal.returns-in-Refused
 returns-in-Refused c d us b fs st read u h =
     expression-refused _ _ c.args.reading b fs d us st read c.args.lexeme _ c.in-Refused.is (heard-still h)
 
-pub give_on-requires : goal.give_on-requires
-give_on-requires c =
+pub give-requires : goal.give-requires
+give-requires c =
     let r = c.requires in
     let h = heard-done _ _ c.args.reading Goal.Expression r.4 r.5 c.args.lexeme _ c.in-Done.part c.in-Done.is (heard-still r.7) in
     (r.0, r.1, r.2, r.3, _, r.5, r.6, h.is.1)
 
 pub returns-in-Done : goal.returns-in-Done
 returns-in-Done c =
-    IfOk-weaker c.give_on.result _ _
+    IfOk-weaker c.enter.result _ _
     (λ moved m d us b fs st read u i.
     let h = heard-done _ _ c.args.reading Goal.Expression st read c.args.lexeme _ c.in-Done.part c.in-Done.is (heard-still i) in
-    expression-done _ _ _ c.args.reading c.in-Done.part b fs d us st read c.args.lexeme _ h (m d us b fs _ read u h.is.1))
-    c.give_on.ensures
+    expression-done _ _ _ c.args.reading c.in-Done.part b fs d us st read c.args.lexeme _ h
+    (m _ _ (IfOk-weaker c.give.result _ _ (λ next n. n d us b fs _ read u h.is.1) c.give.ensures)))
+    c.enter.ensures

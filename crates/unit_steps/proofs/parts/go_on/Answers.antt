@@ -5,9 +5,9 @@ use Rattle.unit_steps.proofs.parts.go_on.Goals as goal
 pub finish-requires : goal.finish-requires
 finish-requires c = (ended-whole _ _ c.args.frame _ c.in-Whole.part _ _ c.args.lexeme c.in-Whole.is c.requires.2).is.there
 
-pub move_on-requires : goal.move_on-requires
-move_on-requires c =
-    let w = ended-moves _ _ c.args.frame _ _ _ c.args.lexeme c.in-Moves.is c.requires.2 in
+pub move_frame-requires : goal.move_frame-requires
+move_frame-requires c =
+    let w = ended-moves _ _ c.args.frame _ c.in-Moves.to _ _ c.args.lexeme c.in-Moves.is c.requires.2 in
     (w.frame, w.is)
 
 pub returns-in-Whole : goal.returns-in-Whole
@@ -20,9 +20,9 @@ returns-in-Whole c =
 
 pub returns-in-Moves : goal.returns-in-Moves
 returns-in-Moves c =
-    IfOk-weaker c.move_on.result _ _
+    IfOk-weaker c.move_frame.result _ _
     (λ moved h d us b fs f r g e.
-    let w = ended-moves _ _ c.args.frame _ f fs c.args.lexeme c.in-Moves.is e in
-    step-moves-is _ _ _ c.args.frame b f fs d us c.args.lexeme _ w
+    let w = ended-moves _ _ c.args.frame _ c.in-Moves.to f fs c.args.lexeme c.in-Moves.is e in
+    step-moves-is _ _ _ c.args.frame c.in-Moves.to b f fs d us c.args.lexeme _ w
     (h d us b w.frames w.frame (record { reached = r; begun = g; below = w.below }) w.is))
-    c.move_on.ensures
+    c.move_frame.ensures

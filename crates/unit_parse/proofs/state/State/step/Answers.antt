@@ -2,8 +2,8 @@ use Rattle.std.proofs.lemmas.Result.{IfOk-weaker}
 use Rattle.unit_parse.proofs.Stepping.{as-point, as-expression, as-bounds, focus-moves}
 use Rattle.unit_parse.proofs.state.State.step.Goals as goal
 
-pub point_step-requires : goal.point_step-requires
-point_step-requires c = (c.requires.0, as-point _ _ c.in-At.point c.requires.0 c.in-At.is c.requires.1)
+pub step-requires : goal.step-requires
+step-requires c = (c.requires.0, as-point _ _ c.in-At.point c.requires.0 c.in-At.is c.requires.1)
 
 pub expression_step-requires : goal.expression_step-requires
 expression_step-requires c =
@@ -19,9 +19,9 @@ bounds_step-requires c =
 
 pub returns-in-At : goal.returns-in-At
 returns-in-At c =
-    IfOk-weaker c.point_step.result _ _
-    (λ moved h st i. h st (as-point _ _ c.in-At.point st c.in-At.is i))
-    c.point_step.ensures
+    IfOk-weaker c.enter.result _ _
+    (λ moved m st i. m _ _ (IfOk-weaker c.step.result _ _ (λ next n. n st (as-point _ _ c.in-At.point st c.in-At.is i)) c.step.ensures))
+    c.enter.ensures
 
 pub returns-in-Expression : goal.returns-in-Expression
 returns-in-Expression c =
