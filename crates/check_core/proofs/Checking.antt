@@ -19,10 +19,12 @@ use Rattle.module_model.specs.Parts.{Held, last}
 use Rattle.module_model.specs.Resolution.{findings, outside_in}
 use Rattle.module_graph.specs.Imports.{imports_of}
 use Rattle.unit_grammar.specs.Units.{ModuleUnits}
-use Rattle.module_facts.specs.Checks.{CheckedModule, IsChecked, files_given, given_by, given_in, import_faults, or_else, outside_by, unless_any}
+use Rattle.module_facts.proofs.Inserting.{in-order}
+use Rattle.module_facts.specs.Ordered.{in_order}
+use Rattle.module_facts.specs.Checks.{CheckedModule, IsChecked, all_faults, files_given, given_by, given_in, import_faults, or_else, outside_by, unless_any}
 use Rattle.check_core.specs.Faces.{IsFace, IsFaceOf, bare, is_among, key_in, keys_in, with_face, with_import, with_imports, with_part, with_parts}
 use Rattle.check_core.specs.Outcomes.{IsRefused, IsResolved}
-use Rattle.module_model.proofs.Ordering.{none-at-all}
+use Rattle.module_model.proofs.Ordering.{none-at-all, order-is-one}
 use Rattle.symbol_scope.specs.Given.{IsWithoutInstances}
 use Rattle.symbol_scope.proofs.Plainness.{all-behind-none, imports-none, left-none, right-none, some-none}
 
@@ -144,11 +146,16 @@ unless-these : {A : Type 0} (all : List Diagnostic) (items : List A) → (all �
 unless-these [] items some = absurd (some refl)
 unless-these (fault ∷ all) items some = refl
 
+-- faults in order are those that the function puts in order
+in-one-order : (all found : List Diagnostic) → AreInOrder all found → found ≡ in_order all
+in-one-order all found order = order-is-one all found (in_order all) order (in-order all)
+
 pub refused-checked : (imports : Imports) (source : List ℕ) (units : ModuleUnits) (all : List Diagnostic) (checked : CheckedModule) → all ≡ import_faults (given_in imports) source units → (all ≡ [] → ⊥) → IsRefused all checked → IsChecked (given_in imports) source units checked
 refused-checked imports source units all checked are some refused =
     let any : import_faults (given_in imports) source units ≡ [] → ⊥ = λ none. some (are ∙ none) in
     record {
-      faults = rw (or-these (import_faults (given_in imports) source units) (faults (findings (files_given (given_in imports)) source units)) any) (subst (λ z. AreInOrder z checked.faults) are refused.faults);
+      faults = in-one-order (all_faults (given_in imports) source units) checked.faults
+          (rw (or-these (import_faults (given_in imports) source units) (faults (findings (files_given (given_in imports)) source units)) any) (subst (λ z. AreInOrder z checked.faults) are refused.faults));
       uses = refused.uses ∙ sym (unless-these (import_faults (given_in imports) source units) _ any);
       decls = refused.decls ∙ sym (unless-these (import_faults (given_in imports) source units) _ any);
       outside = λ none. absurd (some (none-at-all all (subst (λ z. AreInOrder all z) none refused.faults)));
@@ -159,7 +166,8 @@ pub resolved-checked : (imports : Imports) (source : List ℕ) (units : ModuleUn
 resolved-checked imports source units checked without none names =
     let files = files-given imports in
     record {
-      faults = subst (λ z. AreInOrder (or_else z (faults (findings (files_given (given_in imports)) source units))) checked.faults) none (subst (λ f. AreInOrder (faults (findings f source units)) checked.faults) files names.faults);
+      faults = in-one-order (all_faults (given_in imports) source units) checked.faults
+          (subst (λ z. AreInOrder (or_else z (faults (findings (files_given (given_in imports)) source units))) checked.faults) none (subst (λ f. AreInOrder (faults (findings f source units)) checked.faults) files names.faults));
       uses = names.uses ∙ ap (λ f. map (λ r. r.«use») (resolved (findings f source units))) files ∙ ap (λ z. unless_any z (map (λ r. r.«use») (resolved (findings (files_given (given_in imports)) source units)))) none;
       decls = names.decls ∙ ap (λ z. unless_any z (decls (text_of source units) (declaring units.units))) none;
       outside = λ accepted. face-outside imports source units checked.parts without (subst (λ z. IsFaceOf imports source units z checked.parts) accepted names.face) ∙ ap (λ f. outside_in f source units) files;

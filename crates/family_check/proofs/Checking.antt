@@ -17,6 +17,8 @@ use Rattle.tla_front.specs.Fronts.{Tree, Fault, IsFront}
 use Rattle.unit_grammar.specs.Units.{ModuleUnits}
 use Rattle.unit_grammar.specs.UnitNodes.{module_of}
 use Rattle.tool_list.specs.declared.Memory.{Memory}
+use Rattle.module_facts.proofs.Inserting.{in-order}
+use Rattle.module_facts.specs.Ordered.{in_order}
 use Rattle.module_facts.specs.Checks.{Given, CheckedModule, IsChecked, all_faults, files_given, given_in}
 use Rattle.list_laws.proofs.Lists.{contains-map}
 use Rattle.list_laws.proofs.Texts.{same-text, text-itself}
@@ -54,7 +56,8 @@ tree-outcome family name tree needs imports ch (Ok o) h imported k says =
     let outside : Outside = outside_in (files_given given) m.bytes units in
     let found : Diagnosed = record { faults = ch.faults; outside = outside } in
     let front : IsFront m.name m.bytes (Tree units) = subst (λ n. IsFront n m.bytes (Tree units)) (sym h.named) h.is.front in
-    let order : AreInOrder (all_faults given m.bytes units) ch.faults = subst (λ s. AreInOrder (all_faults given s units) ch.faults) h.is.source k.faults in
+    let listed : ch.faults ≡ in_order (all_faults given m.bytes units) = k.faults ∙ ap (λ s. in_order (all_faults given s units)) h.is.source in
+    let order : AreInOrder (all_faults given m.bytes units) ch.faults = subst (λ fs. AreInOrder (all_faults given m.bytes units) fs) (sym listed) (in-order (all_faults given m.bytes units)) in
     let gives : (need : List ℕ) → families.Needs family m.name need → IsGiven family m.name need (given need) =
     (λ need n. subst (λ x. IsGiven family x need (given need)) (sym h.named) (imported.given need (h.all need (subst (λ x. families.Needs family x need) h.named n)))) in
     let diagnosed : IsDiagnosed family m.name found = checked h.there front gives (λ need n. imported.others need (λ c. n (subst (λ x. families.Needs family x need) (sym h.named) (h.own need c)))) order in

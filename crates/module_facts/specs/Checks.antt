@@ -5,7 +5,7 @@ use Rattle.tla_model.specs.declared.Diagnostic.{Diagnostic}
 use Rattle.tla_model.specs.declared.entity.Decl.{Decl}
 use Rattle.tla_model.specs.declared.entity.Use.{Use}
 use Rattle.module_model.specs.declared.imported.Import.{Import}
-use Rattle.module_model.specs.Bindings.{AreInOrder, at, decls, faults, resolved}
+use Rattle.module_model.specs.Bindings.{at, decls, faults, resolved}
 use Rattle.tla_model.specs.Entities.{declaring}
 use Rattle.module_model.specs.Exports.{Outside, face_outside, nothing}
 use Rattle.module_model.specs.Imports.{Imports, import_of}
@@ -16,6 +16,7 @@ use Rattle.module_model.specs.Resolution.{findings, outside_in}
 use Rattle.module_graph.specs.Imports.{enclosing_of, imports_of}
 use Rattle.unit_grammar.specs.Units.{ModuleUnits}
 use Rattle.std.specs.Arc.{arc_value}
+use Rattle.module_facts.specs.Ordered.{in_order}
 
 -- what a module is to one that names it
 pub data Given : Type 0 where
@@ -93,7 +94,7 @@ pub record CheckedModule : Type 0 where
 
 -- a module that was checked, by what the modules are that it names; it is something to others where it is accepted
 pub record IsChecked (given : List ℕ → Given) (source : List ℕ) (units : ModuleUnits) (checked : CheckedModule) : Type 0 where
-  pub faults : AreInOrder (all_faults given source units) checked.faults
+  pub faults : checked.faults ≡ in_order (all_faults given source units)
   pub uses : checked.uses ≡ all_uses given source units
   pub decls : checked.decls ≡ all_decls given source units
   pub outside : checked.faults ≡ [] → face_outside checked.parts ≡ outside_in (files_given given) source units
