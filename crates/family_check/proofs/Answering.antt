@@ -12,7 +12,7 @@ use Rattle.tla_symbols.specs.declared.lexeme.Lexeme.{Lexeme}
 use Rattle.tla_model.specs.declared.Diagnostic.{Diagnostic}
 use Rattle.module_model.specs.Exports.{Outside}
 use Rattle.tla_model.specs.Lexemes.{LexemesLie, module_lexemes}
-use Rattle.tla_front.specs.Fronts.{Front, Tree, Fault, IsFront, read}
+use Rattle.front_laws.specs.Fronts.{Front, Tree, Fault, IsFront, read}
 use Rattle.unit_grammar.specs.Units.{ModuleUnits}
 use Rattle.unit_grammar.specs.UnitNodes.{module_of}
 use Rattle.tla_model.specs.ModuleNames.{holds_instance}

@@ -2,7 +2,7 @@
 use Rattle.std.proofs.Common.{◌≡◌, ℕ, List, sym, ◌∙◌, map, true, inl, inr, subst}
 use Rattle.std.specs.Prelude.{◌⊎◌, Contains}
 use Rattle.tla_model.specs.Lexemes.{spelled}
-use Rattle.tla_front.specs.Fronts.{Tree, Fault, IsFront}
+use Rattle.front_laws.specs.Fronts.{Tree, Fault, IsFront}
 use Rattle.module_graph.specs.Imports.{imports_of}
 use Rattle.unit_grammar.specs.Units.{ModuleUnits}
 use Rattle.unit_grammar.specs.UnitNodes.{module_of}

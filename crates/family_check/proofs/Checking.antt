@@ -13,7 +13,7 @@ use Rattle.module_model.specs.Exports.{Outside, face_outside, nothing}
 use Rattle.module_model.specs.Imports.{Imports}
 use Rattle.module_model.specs.Resolution.{outside_in}
 use Rattle.tla_tree.specs.declared.unit.ModuleTree.{ModuleTree}
-use Rattle.tla_front.specs.Fronts.{Tree, Fault, IsFront}
+use Rattle.front_laws.specs.Fronts.{Tree, Fault, IsFront}
 use Rattle.unit_grammar.specs.Units.{ModuleUnits}
 use Rattle.unit_grammar.specs.UnitNodes.{module_of}
 use Rattle.tool_list.specs.declared.Memory.{Memory}

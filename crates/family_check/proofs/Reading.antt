@@ -10,7 +10,7 @@ use Rattle.tla_tree.specs.declared.unit.ModuleTree.{ModuleTree}
 use Rattle.tla_symbols.specs.declared.lexeme.Lexeme.{Lexeme}
 use Rattle.tla_model.specs.Entities.{declaring}
 use Rattle.tla_model.specs.Lexemes.{LexemesLie, spelled}
-use Rattle.tla_front.specs.Fronts.{Tree, IsFront, IsFrontOfLexemes, IsTree, whole, read}
+use Rattle.front_laws.specs.Fronts.{Tree, IsFront, IsFrontOfLexemes, IsTree, whole, read}
 use Rattle.unit_grammar.specs.Units.{ModuleUnits}
 use Rattle.unit_grammar.specs.UnitNodes.{module_of}
 use Rattle.std_modules.specs.StdTexts.{std_text}

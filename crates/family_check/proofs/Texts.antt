@@ -3,7 +3,7 @@ use Rattle.std.proofs.Common.{◌≡◌, ℕ, List, take, sym, ap, ◌∙◌}
 use Rattle.std.proofs.Math.Seq.{take-length}
 use Rattle.std.specs.Str.{IsUtf8}
 use Rattle.tla_text.specs.Places.{IsLongestUtf8}
-use Rattle.tla_front.proofs.Reading.{readable_len-longest, readable_len-text}
+use Rattle.front_laws.proofs.Readable.{readable_len-longest, readable_len-text}
 use Rattle.family_facts.specs.Verdicts.{text_of}
 
 -- the text of bytes that are one

@@ -4,7 +4,7 @@ use Rattle.std.specs.List.{AllZip}
 use Rattle.tla_lexeme.specs.Spans.{IsPlaced}
 use Rattle.tla_tree.specs.declared.unit.ModuleTree.{ModuleTree}
 use Rattle.tla_model.specs.Lexemes.{spelled}
-use Rattle.tla_front.specs.Fronts.{IsFront, Tree, Fault}
+use Rattle.front_laws.specs.Fronts.{IsFront, Tree, Fault}
 use Rattle.unit_grammar.specs.UnitNodes.{module_of}
 use Rattle.symbol_scope.specs.Given.{IsReadable}
 use Rattle.tla_model.specs.ModuleNames.{holds_instance}

@@ -58,7 +58,7 @@ fn verdicts_on<L>(
     ensures placed { IfOk result (All IsVerdictPlaced) }
     ensures steps { IfOk result (λ _. steps.new ≡ after_checks (checks_of files.now) steps.old) }
 {
-    tla_front::one_front();
+    front_laws::one_front();
     faults_stand_at_lexemes();
     verdicts_are();
     // The proof needs that a count is below 2^64.
@@ -82,7 +82,7 @@ pub fn check_family<L>(
     ensures placed { IfOk result (λ found. IfSome found (All IsVerdictPlaced)) }
     ensures steps { IfOk result (λ found. IfSome found (λ _. steps.new ≡ after_checks (checks_of files.now) steps.old)) }
 {
-    tla_front::one_front();
+    front_laws::one_front();
     let modules = read_family(alloc, files)?;
     if some_instance(alloc, &modules)? {
         return Ok(None);

@@ -123,7 +123,7 @@ pub fn check_all<L>(
     ensures outcomes { (family : ListOf Member) → modules_of.AreModules family modules.now → IfOk result (outcomes_of.AreOutcomes family) }
     ensures steps { IfOk result (λ _. steps.new ≡ outcomes_of.after_ticks (outcomes_of.trees_in modules.now) steps.old) }
 {
-    tla_front::one_front();
+    front_laws::one_front();
     let mut outcomes = Table::new(alloc);
     for name in plan.order.as_slice() {
         let name = name.as_str();

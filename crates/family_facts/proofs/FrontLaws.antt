@@ -2,8 +2,8 @@
 use Rattle.std.proofs.Common.{ℕ, List}
 use Rattle.tla_lexeme.proofs.ReadsLemmas.{reads_longest}
 use Rattle.unit_laws.proofs.Ending.{derivable-or-bad}
-use Rattle.tla_front.specs.Fronts.{IsFront}
-use Rattle.tla_front.proofs.OneFront.{some-front}
+use Rattle.front_laws.specs.Fronts.{IsFront}
+use Rattle.front_laws.proofs.OneFront.{some-front}
 use Rattle.family_facts.specs.Fronts.{front_of}
 
 pub front-is : (name bytes : List ℕ) → IsFront name bytes (front_of name bytes)

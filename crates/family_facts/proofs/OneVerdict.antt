@@ -7,7 +7,7 @@ use Rattle.module_model.specs.Exports.{nothing}
 use Rattle.tla_model.specs.Lexemes.{spelled}
 use Rattle.module_model.specs.Resolution.{outside_in}
 use Rattle.module_graph.specs.Imports.{imports_of}
-use Rattle.tla_front.specs.Fronts.{Front, IsFront, Tree, Fault}
+use Rattle.front_laws.specs.Fronts.{Front, IsFront, Tree, Fault}
 use Rattle.unit_grammar.specs.Units.{ModuleUnits}
 use Rattle.module_facts.specs.Checks.{Given, Unknown, Accepted, all_faults, files_given}
 use Rattle.family_facts.specs.Family.{Member, Needs, Diagnosed, IsGiven, unknown, cyclic, refused, accepted, IsDiagnosed, front_fault, checked}

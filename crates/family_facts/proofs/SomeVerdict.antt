@@ -8,7 +8,7 @@ use Rattle.list_laws.proofs.Texts.{same-text, text-itself}
 use Rattle.module_model.specs.Exports.{nothing}
 use Rattle.module_model.specs.Resolution.{outside_in}
 use Rattle.module_graph.specs.Family.{last, more}
-use Rattle.tla_front.specs.Fronts.{Front, IsFront, Tree, Fault}
+use Rattle.front_laws.specs.Fronts.{Front, IsFront, Tree, Fault}
 use Rattle.module_facts.proofs.Inserting.{in-order}
 use Rattle.module_facts.specs.Ordered.{in_order}
 use Rattle.module_facts.specs.Checks.{Given, Unknown, Cyclic, Refused, Accepted, all_faults, files_given}

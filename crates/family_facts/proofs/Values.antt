@@ -14,7 +14,7 @@ use Rattle.module_model.specs.Resolution.{outside_in}
 use Rattle.unit_grammar.specs.Units.{ModuleUnits}
 use Rattle.module_graph.specs.Family.{last, more}
 use Rattle.module_graph.specs.Imports.{imports_of}
-use Rattle.tla_front.specs.Fronts.{Front, IsFront, Tree, Fault}
+use Rattle.front_laws.specs.Fronts.{Front, IsFront, Tree, Fault}
 use Rattle.module_facts.specs.Checks.{Given, Unknown, Refused, Accepted, all_faults, files_given}
 use Rattle.module_facts.specs.Ordered.{in_order}
 use Rattle.fact_values.specs.Names.{Texts, has, name_cmp, name_eq}

@@ -9,7 +9,7 @@ use Rattle.tla_model.specs.Lexemes.{spelled}
 use Rattle.tla_model.specs.ModuleNames.{holds_instance}
 use Rattle.module_model.specs.Resolution.{outside_in}
 use Rattle.module_graph.specs.Imports.{imports_of}
-use Rattle.tla_front.specs.Fronts.{Front, Tree, Fault}
+use Rattle.front_laws.specs.Fronts.{Front, Tree, Fault}
 use Rattle.module_facts.specs.Checks.{Given, Unknown, Cyclic, Refused, Accepted, all_faults, files_given}
 use Rattle.module_facts.specs.Ordered.{in_order}
 use Rattle.fact_values.specs.Names.{Texts}

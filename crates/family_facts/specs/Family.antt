@@ -9,7 +9,7 @@ use Rattle.tla_model.specs.Lexemes.{spelled}
 use Rattle.module_model.specs.Resolution.{outside_in}
 use Rattle.module_graph.specs.Family.{Leads}
 use Rattle.module_graph.specs.Imports.{imports_of}
-use Rattle.tla_front.specs.Fronts.{IsFront, Tree, Fault}
+use Rattle.front_laws.specs.Fronts.{IsFront, Tree, Fault}
 use Rattle.unit_grammar.specs.Units.{ModuleUnits}
 use Rattle.module_facts.specs.Checks.{Given, Unknown, Cyclic, Refused, Accepted, all_faults, files_given}
 

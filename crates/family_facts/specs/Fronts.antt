@@ -2,8 +2,8 @@
 use Rattle.std.specs.Prelude.{ℕ, List}
 use Rattle.tla_lexeme.proofs.ReadsLemmas.{reads_longest}
 use Rattle.unit_laws.proofs.Ending.{derivable-or-bad}
-use Rattle.tla_front.specs.Fronts.{Front}
-use Rattle.tla_front.proofs.OneFront.{some-front}
+use Rattle.front_laws.specs.Fronts.{Front}
+use Rattle.front_laws.proofs.OneFront.{some-front}
 
 -- the one front of some bytes, for a file of this name
 unfoldable pub front_of : List ℕ → List ℕ → Front

@@ -2,7 +2,7 @@
 use Rattle.std.specs.Prelude.{◌≡◌, ◌+◌, ◌-◌, ◌^◌, min, ℕ, List, [], ◌∷◌, Option, Some, None, if◌then◌else◌, map, slice_get, take, sum_by, codes}
 use Rattle.std.specs.List.{All, AllZip}
 use Rattle.tla_lexeme.specs.Spans.{IsPlaced}
-use Rattle.tla_front.specs.Fronts.{Front, Tree, Fault, readable_len}
+use Rattle.front_laws.specs.Fronts.{Front, Tree, Fault, readable_len}
 use Rattle.fact_values.specs.Names.{Texts}
 use Rattle.std_modules.specs.StdTexts.{std_text}
 use Rattle.family_facts.specs.Facts.{diagnosed, some_instance, texts_of}

@@ -1,6 +1,6 @@
 // Laws of the definitions: of functions that do nothing the contracts state them.
 ghost use Rattle.std.specs.Prelude.{◌≡◌, ℕ, true, List};
-ghost use Rattle.tla_front.specs.Fronts.{Front, IsFront};
+ghost use Rattle.front_laws.specs.Fronts.{Front, IsFront};
 ghost use Rattle.family_facts.specs.Facts.{diagnosed, texts_of};
 ghost use Rattle.family_facts.specs.Family.{Member, Diagnosed, IsDiagnosed, AreMembersDistinct, is_there};
 ghost use Rattle.family_facts.specs.Fronts.{front_of};
@@ -15,7 +15,7 @@ pub fn one_front_of()
     ensures is { (name bytes : List ℕ) → IsFront name bytes (front_of name bytes) }
     ensures no_other { (name bytes : List ℕ) → (front : Front) → IsFront name bytes front → front ≡ front_of name bytes }
 {
-    tla_front::one_front();
+    front_laws::one_front();
 }
 
 /// No two modules of the files over the built-in ones have one name, where no two files do.
@@ -27,7 +27,7 @@ pub fn names_differ()
 pub fn one_verdict()
     ensures { (family : List Member) → AreMembersDistinct family → (name : List ℕ) → (found other : Diagnosed) → IsDiagnosed family name found → IsDiagnosed family name other → found ≡ other }
 {
-    tla_front::one_front();
+    front_laws::one_front();
     one_order();
 }
 
@@ -36,7 +36,7 @@ pub fn diagnosed_is()
     ensures is { (family : List Member) → AreMembersDistinct family → (name : List ℕ) → is_there family name ≡ true → IsDiagnosed family name (diagnosed (texts_of family) name) }
     ensures no_other { (family : List Member) → AreMembersDistinct family → (name : List ℕ) → (found : Diagnosed) → IsDiagnosed family name found → found ≡ diagnosed (texts_of family) name }
 {
-    tla_front::one_front();
+    front_laws::one_front();
     in_order();
 }
 
@@ -45,6 +45,6 @@ pub fn verdicts_are()
     ensures are { (files : List File) → AreDistinct files → AreVerdicts files (verdicts_on files) }
     ensures no_other { (files : List File) → AreDistinct files → (verdicts : List Verdict) → AreVerdicts files verdicts → verdicts ≡ verdicts_on files }
 {
-    tla_front::one_front();
+    front_laws::one_front();
     in_order();
 }

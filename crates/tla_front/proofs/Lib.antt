@@ -1,9 +1,1 @@
-pub mod TextEnds
-pub mod TextGrows
-pub mod OneFront
 pub mod Reading
-pub mod TextLies
-pub mod Held
-pub mod HeldTrees
-pub mod FewNames
-pub mod HeldUnits

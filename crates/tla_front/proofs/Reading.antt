@@ -1,13 +1,12 @@
 -- The front of bytes and of lexemes, as the code comes to it.
-use Rattle.std.proofs.Common.{◌≡◌, ◌≢◌, ℕ, suc, zero, ◌+◌, ◌≤◌, ◌<◌, ◌∷◌, ◌++◌, [], List, length, take, drop, get_or, Bool, true, false, refl, sym, ap, ◌∙◌, arith, subst, ⊎_elim, Some, None}
+use Rattle.std.proofs.Common.{◌≡◌, ◌≢◌, ℕ, suc, ◌+◌, ◌≤◌, ◌<◌, ◌∷◌, ◌++◌, [], List, length, take, drop, get_or, refl, sym, ap, ◌∙◌, arith, subst, ⊎_elim, Some, None}
 use Rattle.std.proofs.Math.Nat.{eq-or-lt_of_le}
 use Rattle.std.proofs.Math.Seq.{take-length}
 use Rattle.std.specs.Prelude.{IfOk, IfErr, Result, Ok, Err}
 use Rattle.std.proofs.lemmas.List.{drop_more, take-append-drop, length-take-le}
-use Rattle.std.proofs.lemmas.Bool.{cases_Bool, cases_lt}
-use Rattle.std.proofs.lemmas.Str.{IsUtf8-from_is_utf8, is_utf8-from_IsUtf8, IsCharBoundary-end, IsCharBoundary-start}
+use Rattle.std.proofs.lemmas.Str.{IsCharBoundary-end, IsCharBoundary-start}
 use Rattle.std.specs.List.{All}
-use Rattle.std.specs.Str.{IsValidUpTo, IsUtf8, is_utf8, IsCharBoundary}
+use Rattle.std.specs.Str.{IsUtf8, IsCharBoundary}
 use Rattle.tla_text.specs.Places.{IsLongestUtf8}
 use Rattle.tla_symbols.specs.declared.lexeme.Lexeme.{Lexeme}
 use Rattle.tla_lexeme.specs.ModulePart.{module_part}
@@ -18,47 +17,13 @@ use Rattle.tla_tree.specs.declared.unit.ModuleTree.{ModuleTree}
 use Rattle.unit_grammar.specs.Units.{ModuleUnits}
 use Rattle.unit_grammar.specs.Derivation.{BeginsModule, alone, extending, DerivesModule, outermost}
 use Rattle.unit_grammar.specs.FirstBad.{IsFirstBad}
-use Rattle.tla_front.specs.Fronts.{Front, Fault, Tree, fault_at, fault_of, greatest, readable_len, syntax_code, MOST_TEXT, IsFrontOfLexemes, bad, high, misnamed, whole, IsFront, not_utf8, too_large, no_header, read, IsTree}
+use Rattle.front_laws.proofs.Readable.{readable_len-longest, readable_len-text}
+use Rattle.front_laws.specs.Fronts.{Front, Fault, Tree, fault_at, fault_of, readable_len, syntax_code, MOST_TEXT, IsFrontOfLexemes, bad, high, misnamed, whole, IsFront, not_utf8, too_large, no_header, read, IsTree, IsReadFront}
 use Rattle.tla_front.specs.declared.module.FrontError.{FrontError}
 use Rattle.unit_heights.specs.TooHigh.{MOST_HEIGHT, IsFirstHigh, IsRead, IsHigh}
-use Rattle.tla_front.specs.Faults.{IsFaultBehind, IsFrontFault, IsFaultOfLexemes, IsReadFront}
+use Rattle.tla_front.specs.Faults.{IsFaultBehind, IsFrontFault, IsFaultOfLexemes}
 
 -- ---- bytes
-
--- the greatest number that passes is the one above which none does
-greatest-is : (p : ℕ → Bool) (m n : ℕ) → p m ≡ true → m ≤ n → ((k : ℕ) → m < k → k ≤ n → p k ≡ false) → greatest p n ≡ m
-greatest-is p m zero hit le above = omega arith
-greatest-is p m (suc n) hit le above =
-    ⊎_elim
-    (λ (e : m ≡ suc n). rw (subst (λ k. p k ≡ true) e hit) (sym e))
-    (λ (l : m < suc n). rw (above (suc n) l (omega arith)) (greatest-is p m n hit (omega arith) (λ k lt le'. above k lt (omega arith))))
-    (eq-or-lt_of_le le)
-
-no_longer : (bytes : List ℕ) (at k : ℕ) → IsLongestUtf8 bytes at → at < k → k ≤ length bytes → is_utf8 (take k bytes) ≡ false
-no_longer bytes at k longest lt le =
-    ⊎_elim
-    (λ (hit : is_utf8 (take k bytes) ≡ true). absurd (omega (arith, longest.longest k le (IsUtf8-from_is_utf8 (take k bytes) hit))))
-    (λ (miss : is_utf8 (take k bytes) ≡ false). miss)
-    (cases_Bool (is_utf8 (take k bytes)))
-
--- from what `from_utf8` says of a refusal
-pub longest-from : (bytes : List ℕ) (at n : ℕ) → at ≡ n → IsValidUpTo bytes n → IsLongestUtf8 bytes at
-longest-from bytes at n e h =
-    let longest : IsLongestUtf8 bytes n = record {
-      fits = omega (arith, h.short);
-      front = h.front;
-      longest = λ m l u. ⊎_elim (λ (lt : n < m). absurd (h.longest m lt u)) (λ (le : m ≤ n). le) (cases_lt n m);
-    } in
-    subst (λ k. IsLongestUtf8 bytes k) (sym e) longest
-
-pub readable_len-longest : (bytes : List ℕ) (at : ℕ) → IsLongestUtf8 bytes at → readable_len bytes ≡ at
-readable_len-longest bytes at longest =
-    greatest-is (λ n. is_utf8 (take n bytes)) at (length bytes) (is_utf8-from_IsUtf8 (take at bytes) longest.front) longest.fits (λ k lt le. no_longer bytes at k longest lt le)
-
--- a text is read whole
-pub readable_len-text : (bytes : List ℕ) → IsUtf8 bytes → readable_len bytes ≡ length bytes
-readable_len-text bytes text =
-    greatest-is (λ n. is_utf8 (take n bytes)) (length bytes) (length bytes) (is_utf8-from_IsUtf8 (take (length bytes) bytes) (subst IsUtf8 (sym (take-length bytes)) text)) (omega arith) (λ k lt le. absurd (omega arith))
 
 short : (bytes : List ℕ) (at : ℕ) → IsLongestUtf8 bytes at → ¬ (IsUtf8 bytes) → at < length bytes
 short bytes at longest no_text =

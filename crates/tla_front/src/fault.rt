@@ -1,6 +1,6 @@
 // Faults and their codes.
 ghost use Rattle.std.specs.Prelude.{◌≡◌};
-ghost use Rattle.tla_front.specs.Fronts as fronts;
+ghost use Rattle.front_laws.specs.Fronts as fronts;
 
 use tla_model::Diagnostic;
 use tla_symbols::{LexKind, Lexeme, Span};

@@ -8,4 +8,4 @@ mod fault;
 mod module;
 mod name;
 
-pub use module::{FrontError, front, one_front};
+pub use module::{FrontError, front};

@@ -10,9 +10,9 @@ ghost use Rattle.tla_model.specs.Entities.{declaring};
 ghost use Rattle.tla_model.specs.Lexemes.{LexemesLie, LiesIn};
 ghost use Rattle.tla_lexeme.specs.Spans.{IsPlaced};
 ghost use Rattle.tla_lexeme.specs.ModulePart.{module_part};
-ghost use Rattle.tla_front.specs.Fronts as fronts;
-ghost use Rattle.tla_front.specs.Fronts.{Front, IsFront, IsFrontOfLexemes, IsTree, readable_len};
-ghost use Rattle.tla_front.specs.Faults.{IsFrontFault, IsFaultPlaced, IsFaultBehind, IsFaultOfLexemes, IsReadFront};
+ghost use Rattle.front_laws.specs.Fronts as fronts;
+ghost use Rattle.front_laws.specs.Fronts.{Front, IsFront, IsTree, IsReadFront, readable_len};
+ghost use Rattle.tla_front.specs.Faults.{IsFrontFault, IsFaultPlaced, IsFaultBehind, IsFaultOfLexemes};
 
 use crate::fault::{
     MISNAMED, NO_HEADER, NOT_UTF8, TOO_HIGH, TOO_LARGE, fault_at, fault_of, syntax_fault,
@@ -169,14 +169,4 @@ fn with_source(alloc: Global, tree: ModuleTree, source: &str) -> Result<ModuleTr
 {
     let source = Chars::from_str(alloc, source)?;
     Ok(ModuleTree { source, ..tree })
-}
-
-/// Bytes have one front, and no other.
-pub fn one_front()
-    ensures some { (name bytes : List ℕ) → length bytes < 2 ^ 31 → (front : Front) × IsFront name bytes front }
-    ensures same { (name bytes : List ℕ) → (front other : Front) → IsFront name bytes front → IsFront name bytes other → front ≡ other }
-{
-    tla_lexeme::reads_longest();
-    unit_laws::one_module();
-    unit_laws::derivable_or_bad();
 }

@@ -3,9 +3,9 @@ use Rattle.std.specs.List.{AllByRecursion}
 use Rattle.tla_model.specs.Lexemes.{LiesIn}
 use Rattle.unit_heights.specs.FirstHigh.{BeginsFurther}
 use Rattle.tla_front.proofs.Reading.{bad-front, bad-placed}
-use Rattle.tla_front.proofs.TextEnds.{text-ends}
-use Rattle.tla_front.proofs.TextGrows.{text-further, few-lexemes}
-use Rattle.tla_front.proofs.TextLies.{text-lies}
+use Rattle.front_laws.proofs.TextEnds.{text-ends}
+use Rattle.front_laws.proofs.TextGrows.{text-further, few-lexemes}
+use Rattle.front_laws.proofs.TextLies.{text-lies}
 use Rattle.tla_front.proofs.module.front_of_lexemes.Goals as goal
 
 pub parse_module-requires-clause-ends : goal.parse_module-requires-clause-ends

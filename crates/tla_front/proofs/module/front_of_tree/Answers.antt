@@ -1,6 +1,6 @@
 use Rattle.std.proofs.lemmas.Bool.{both_ways}
 use Rattle.tla_front.proofs.Reading.{high-front, high-placed, misnamed-front, misnamed-placed, whole-front}
-use Rattle.tla_front.proofs.HeldUnits.{read-lie, read-few}
+use Rattle.front_laws.proofs.HeldUnits.{read-lie, read-few}
 use Rattle.tla_front.proofs.module.front_of_tree.Goals as goal
 
 pub returns-then-tree-gt-MOST_HEIGHT-clause-fault :

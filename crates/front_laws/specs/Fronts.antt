@@ -76,3 +76,7 @@ pub record IsTree (tree : ModuleTree) (found : ModuleUnits) (text : List ℕ) : 
   pub units : AreUnits tree.tree tree.units found.units
   pub height : tree.height ≡ module_height found
   pub source : tree.source ≡ text
+
+-- the tree is the front of the lexemes
+abbrev pub IsReadFront : List ℕ → List ℕ → List Lexeme → ModuleTree → Type 0
+IsReadFront name text lexemes tree = (found : ModuleUnits) × IsFrontOfLexemes name text lexemes (Tree found) × IsTree tree found text

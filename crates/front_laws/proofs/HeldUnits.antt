@@ -10,11 +10,10 @@ use Rattle.unit_grammar.specs.UnitNodes.{module_of}
 use Rattle.unit_grammar.specs.Derivation as d
 use Rattle.tla_model.specs.Entities.{declaring}
 use Rattle.tla_model.specs.Lexemes.{lexemes, unit_lexemes, units_lexemes, module_lexemes, LiesIn, LexemesLie}
-use Rattle.tla_front.specs.Fronts.{Tree as Whole, IsFrontOfLexemes, whole, IsTree}
-use Rattle.tla_front.specs.Faults.{IsReadFront}
-use Rattle.tla_front.proofs.Held.{IsHeld, none, itself, other, next, both, before, after, last}
-use Rattle.tla_front.proofs.HeldTrees.{expression-in, definition-in, instance-in, parameters-in}
-use Rattle.tla_front.proofs.FewNames.{declaring-few}
+use Rattle.front_laws.specs.Fronts.{Tree as Whole, IsFrontOfLexemes, whole, IsTree, IsReadFront}
+use Rattle.front_laws.proofs.Held.{IsHeld, none, itself, other, next, both, before, after, last}
+use Rattle.front_laws.proofs.HeldTrees.{expression-in, definition-in, instance-in, parameters-in}
+use Rattle.front_laws.proofs.FewNames.{declaring-few}
 
 units-append : (us vs : List UnitTree) → units_lexemes (us ++ vs) ≡ units_lexemes us ++ units_lexemes vs
 units-append [] vs = refl

@@ -12,12 +12,12 @@ use Rattle.unit_grammar.specs.Units.{ModuleUnits}
 use Rattle.unit_grammar.specs.Derivation.{DerivesModule}
 use Rattle.unit_grammar.specs.FirstBad.{IsDerivable, Begins, IsFirstBad, EndsOnce}
 use Rattle.unit_grammar.specs.Heights.{module_height}
-use Rattle.tla_front.specs.Fronts.{Front, Tree, Fault, fault_at, fault_of, greatest, readable_len, syntax_code, MOST_TEXT, IsFrontOfLexemes, bad, high, misnamed, whole, IsFront, not_utf8, too_large, no_header, read}
+use Rattle.front_laws.specs.Fronts.{Front, Tree, Fault, fault_at, fault_of, greatest, readable_len, syntax_code, MOST_TEXT, IsFrontOfLexemes, bad, high, misnamed, whole, IsFront, not_utf8, too_large, no_header, read}
 use Rattle.unit_heights.specs.TooHigh.{MOST_HEIGHT, IsFirstHigh}
 use Rattle.unit_heights.specs.FirstHigh.{BeginsFurther}
 use Rattle.unit_heights.proofs.HighUnits.{some-high, high-module, one-high}
-use Rattle.tla_front.proofs.TextEnds.{text-ends}
-use Rattle.tla_front.proofs.TextGrows.{text-further}
+use Rattle.front_laws.proofs.TextEnds.{text-ends}
+use Rattle.front_laws.proofs.TextGrows.{text-further}
 
 -- what the grammar says of lists of lexemes
 abbrev OneModule : Type 0

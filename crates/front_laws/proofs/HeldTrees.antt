@@ -9,7 +9,7 @@ use Rattle.tla_tree.specs.Lexemes.{then}
 use Rattle.tla_tree.specs.Headings as h
 use Rattle.tla_tree.specs.Derivation as d
 use Rattle.tla_model.specs.Lexemes.{held, lexemes, all_lexemes}
-use Rattle.tla_front.proofs.Held.{IsHeld, none, itself, other, next, both, later, between, swapped, before, last}
+use Rattle.front_laws.proofs.Held.{IsHeld, none, itself, other, next, both, later, between, swapped, before, last}
 
 -- behind the first
 abbrev tail : List Lexeme → List Lexeme

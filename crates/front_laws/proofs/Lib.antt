@@ -1,0 +1,9 @@
+pub mod Readable
+pub mod TextEnds
+pub mod TextGrows
+pub mod TextLies
+mod Held
+mod HeldTrees
+mod FewNames
+pub mod HeldUnits
+pub mod OneFront
