@@ -9,7 +9,7 @@ use Rattle.family_facts.specs.Verdicts.{verdicts_if_built}
 use Rattle.family_facts.specs.declared.verdict.File.{File}
 use Rattle.family_facts.specs.declared.verdict.Verdict.{Verdict}
 use Rattle.sany_run.specs.declared.check.Outcome.{Outcome}
-use Rattle.sany_run.specs.Report.{report, report_status}
+use Rattle.sany_report.specs.Report.{report, report_status}
 
 -- ---- the words
 

@@ -10,9 +10,9 @@ ghost use Rattle.sany_run.specs.Program as program;
 ghost use Rattle.sany_run.specs.Reading as reading;
 
 use crate::files::{modules_of, read_files};
-use crate::report::{report_on, report_status};
 use family_check::check_family;
 use family_facts::{File, Verdict};
+use sany_report::{report_on, report_status};
 use std::alloc::Global;
 use step_count::Steps;
 use tool_io::{Folder, IoFault};

@@ -8,7 +8,6 @@ mod check;
 mod files;
 mod output;
 mod program;
-mod report;
 mod slices;
 mod words;
 

@@ -3,7 +3,7 @@ use Rattle.std.specs.Prelude.{◌≡◌, ℕ, List}
 use Rattle.std.specs.Str.{IsCharBoundary}
 use Rattle.tla_text.specs.Places.{place_at}
 use Rattle.tla_text.specs.declared.Measure.TheVariants.{Characters}
-use Rattle.sany_run.specs.declared.report.Cursor.{Cursor}
+use Rattle.sany_report.specs.declared.report.Cursor.{Cursor}
 
 -- an offset with its place
 abbrev pub cursor_at : List ℕ → ℕ → Cursor

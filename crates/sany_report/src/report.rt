@@ -2,9 +2,9 @@
 ghost use Rattle.std.specs.Prelude.{◌≡◌, ◌++◌, ◌∷◌, [], IfOk, string_bytes, true, nat_le, count_by};
 ghost use Rattle.std.specs.List.{All};
 ghost use Rattle.family_facts.specs.Verdicts.{IsVerdictPlaced};
-ghost use Rattle.sany_run.specs.Report as report;
-ghost use Rattle.sany_run.specs.Cursors.{IsCursor, cursor_at};
-ghost use Rattle.sany_run.specs.Spans.{FaultsPlaced};
+ghost use Rattle.sany_report.specs.Report as report;
+ghost use Rattle.sany_report.specs.Cursors.{IsCursor, cursor_at};
+ghost use Rattle.sany_report.specs.Spans.{FaultsPlaced};
 ghost use Rattle.std.specs.Str.{IsCharBoundary};
 ghost use Rattle.tla_lexeme.specs.Spans.{IsPlaced};
 ghost use Rattle.tla_text.specs.Places.{place_at};

@@ -1,7 +1,7 @@
 use Rattle.std.proofs.Common.{◌≡◌, ◌++◌, drop, string_bytes}
-use Rattle.sany_run.specs.Cursors.{IsCursor}
-use Rattle.sany_run.specs.Report.{fault_lines}
-use Rattle.sany_run.proofs.report.fault_lines.Given as goal
+use Rattle.sany_report.specs.Cursors.{IsCursor}
+use Rattle.sany_report.specs.Report.{fault_lines}
+use Rattle.sany_report.proofs.report.fault_lines.Given as goal
 
 abbrev pub invariant-loop-fault : goal.invariant-loop-fault
 invariant-loop-fault l = record {

@@ -1,0 +1,9 @@
+//! The report on some modules: a line for each, the faults below those that are refused, and the counts.
+//!
+//! Answers the report and the status that goes with it. Knows nothing of how verdicts are found, and of
+//! where a report is written.
+#![tactic(auto)]
+
+mod report;
+
+pub use report::{report_on, report_status};
