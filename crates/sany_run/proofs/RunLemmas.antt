@@ -1,5 +1,5 @@
 -- How a run answers.
-use Rattle.std.proofs.Common.{◌≡◌, ℕ, List, [], ◌∷◌, ◌++◌, Option, Some, None, Bool, true, false, IfSome, ap, refl, sym, ◌∙◌, subst, if◌then◌else◌}
+use Rattle.std.proofs.Common.{◌≡◌, ◌≢◌, ℕ, List, [], ◌∷◌, ◌++◌, Option, Some, None, Bool, true, false, IfSome, ap, refl, sym, ◌∙◌, subst, if◌then◌else◌}
 use Rattle.std.specs.Bool.{OnFalse}
 use Rattle.std.specs.Io.KnownBytes.{Appends}
 use Rattle.tool_io.specs.Folder.{Told}
@@ -54,6 +54,12 @@ module _ (words : List (List ℕ)) (path : List ℕ) (named : Some path ≡ fold
   pub answers-front : (holds : Option Told) (o : Outcome) (status : ℕ) (old new : Option (List ℕ)) → is_fault status ≡ true → IfSome holds (λ t. is_over_folder t path ≡ false) → IfSome holds (λ t. o ≡ outcome_of_files (files_of t path)) → AppendsFront old new o.bytes →
       IfSome holds (λ t. Answers (program words t) status old new)
   answers-front holds o status old new fault within is written = answers-outcome o status old new (wrote-front o old new status fault written) holds within is
+
+  -- there is something to write for the words where there is for the folder that they name
+  pub some-written : (holds : Option Told) (o : Outcome) → IfSome holds (λ t. is_over_folder t path ≡ false) → IfSome holds (λ t. o ≡ outcome_of_files (files_of t path)) → o.bytes ≢ [] → IfSome holds (λ t. (program words t).bytes ≢ [])
+  some-written None o within is some = tt
+  some-written (Some t) o within is some =
+      subst (λ (x : Outcome). x.bytes ≢ []) (is ∙ (sym (ap (λ b. if b then LIMIT else outcome_of_files (files_of t path)) within) ∙ ap (outcome_of_request t) named)) some
 
   over-answers : (old : Option (List ℕ)) (t : Told) → is_over_folder t path ≡ true → Answers (program words t) 7 old old
   over-answers old t over =

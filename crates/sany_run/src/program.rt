@@ -1,5 +1,5 @@
 // All that the program does.
-ghost use Rattle.std.specs.Prelude.{◌≡◌, ◌↔◌, ◌||◌, ◌==◌, IfSome, None, true, nat_le, []};
+ghost use Rattle.std.specs.Prelude.{◌≡◌, ◌≢◌, ◌↔◌, ◌||◌, ◌==◌, IfSome, None, true, nat_le, []};
 ghost use Rattle.std.specs.Io.KnownBytes.{Appends};
 ghost use Rattle.std.specs.Bool.{OnFalse, OnTrue};
 ghost use Rattle.std.specs.Option.{option_map};
@@ -38,6 +38,7 @@ fn status_of_run<F: Folder, K: Sink, L>(
     steps: &mut Steps<L>,
 ) -> u8
     ensures answers { IfSome (F.told folder.old) (λ t. Answers (program (texts words.now) t) result (K.taken output.old) (K.taken output.new)) }
+    ensures some { OnTrue (result == 5) (IfSome (F.told folder.old) (λ t. (program (texts words.now) t).bytes ≢ [])) }
     ensures status { is_status result ≡ true }
     ensures usage { (result ≡ 2) ↔ (folder_in (texts words.now) ≡ None) }
     ensures folder_fault { TellsFault 3 result (F.fault_count folder.old) (F.fault_count folder.new) }
@@ -79,6 +80,9 @@ pub fn run<F: Folder, S: Source, K: Sink, L>(
     // Whatever the status, the bytes written are from the front of the program's. Where no object
     // failed and there was room, all of them are written and the status is the program's.
     ensures answers { IfSome (F.told folder) (λ t. Answers (program (texts words.now) t) result.0 (K.taken output.old) (K.taken output.new)) }
+
+    // With 5 there was something to write.
+    ensures some { OnTrue (result.0 == 5) (IfSome (F.told folder) (λ t. (program (texts words.now) t).bytes ≢ [])) }
     ensures status { is_status result.0 ≡ true }
 
     // When each status comes that is no verdict.

@@ -1,7 +1,7 @@
 use Rattle.std.proofs.Common.{refl}
 use Rattle.sany_run.specs.Texts.{texts}
 use Rattle.sany_run.proofs.CallLemmas.{part-whole, part-words}
-use Rattle.sany_run.proofs.RunLemmas.{answers-front, answers-limit, answers-nothing, answers-usage, answers-whole}
+use Rattle.sany_run.proofs.RunLemmas.{answers-front, answers-limit, answers-nothing, answers-usage, answers-whole, some-written}
 use Rattle.sany_run.proofs.program.status_of_run.Goals as goal
 
 pub returns-in_default-clause-answers : goal.returns-in_default-clause-answers
@@ -25,6 +25,11 @@ pub returns-in-Err-Failed-write_all-clause-answers : goal.returns-in-Err-Failed-
 returns-in-Err-Failed-write_all-clause-answers g c =
     answers-front (texts c.args.words.now) c.in-Some.path.now c.in-Some.ensures (g.F.Folder.told c.args.folder.now) c.in-Ok-Some.outcome 5 (g.K.Sink.taken c.args.output.now) (g.K.Sink.taken c.write_all.new.output) refl
     (rw c.in-Ok-Some.field-0-is at c.in-Ok-Some.ensures.limit) (rw c.in-Ok-Some.field-0-is at c.in-Ok-Some.ensures.outcome) (rw c.as_slice.ensures at c.in-Err-Failed-write_all.ensures.bytes)
+
+pub returns-in-Err-Failed-write_all-clause-some : goal.returns-in-Err-Failed-write_all-clause-some
+returns-in-Err-Failed-write_all-clause-some g c =
+    some-written (texts c.args.words.now) c.in-Some.path.now c.in-Some.ensures (g.F.Folder.told c.args.folder.now) c.in-Ok-Some.outcome
+    (rw c.in-Ok-Some.field-0-is at c.in-Ok-Some.ensures.limit) (rw c.in-Ok-Some.field-0-is at c.in-Ok-Some.ensures.outcome) (rw c.as_slice.ensures at c.in-Err-Failed-write_all.ensures.some)
 
 pub returns-clause-answers : goal.returns-clause-answers
 returns-clause-answers g c =
