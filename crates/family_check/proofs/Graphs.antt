@@ -10,8 +10,8 @@ use Rattle.std.proofs.lemmas.List.Elements.{Contains-append_left, Contains-appen
 use Rattle.std.proofs.lemmas.Map.Text.{is_eq-slice_cmp}
 use Rattle.std.proofs.lemmas.Option.{slice_get-map}
 use Rattle.tool_list.specs.declared.Memory.{Memory}
-use Rattle.module_graph.specs.Family as graphs
-use Rattle.module_graph.specs.Family.{Leads, last, more, name_cmp, needs_or_none}
+use Rattle.name_graph.specs.Family as graphs
+use Rattle.name_graph.specs.Family.{Leads, last, more, name_cmp, needs_or_none}
 use Rattle.list_laws.proofs.Lists.{contains-map}
 use Rattle.list_laws.proofs.Texts.{same-text, text-itself}
 use Rattle.family_check.specs.Modules.{Entry}

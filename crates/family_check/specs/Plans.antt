@@ -1,8 +1,8 @@
 -- In which order modules are checked, and which of their needs are cyclic.
 use Rattle.std.specs.Prelude.{◌≡◌, ◌<◌, ◌↔◌, ◌⊎◌, ℕ, List, Option, Some, None, Contains, IsSome, slice_get}
 use Rattle.std.specs.FinMap.{get}
-use Rattle.module_graph.specs.Family.{Leads}
-use Rattle.module_graph.specs.Family as graphs
+use Rattle.name_graph.specs.Family.{Leads}
+use Rattle.name_graph.specs.Family as graphs
 use Rattle.family_check.specs.Modules.{Entry}
 use Rattle.family_check.specs.Tables.{names_in}
 use Rattle.family_check.specs.declared.order.Plan.{Plan}

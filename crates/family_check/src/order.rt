@@ -7,7 +7,7 @@ ghost use Rattle.family_check.specs.Plans.{AreOnce, IsCyclicIn, IsGraph, AreKept
 
 use crate::read::Module;
 use crate::table::Table;
-use module_graph::{Graph, GraphError};
+use name_graph::{Graph, GraphError};
 use std::alloc::Global;
 use tool_list::{Chars, List, Memory};
 

@@ -12,7 +12,7 @@ use Rattle.module_model.specs.Exports.{Outside, nothing}
 use Rattle.tla_model.specs.Lexemes.{spelled}
 use Rattle.module_model.specs.Resolution.{outside_in}
 use Rattle.unit_grammar.specs.Units.{ModuleUnits}
-use Rattle.module_graph.specs.Family.{last, more}
+use Rattle.name_graph.specs.Family.{last, more}
 use Rattle.module_graph.specs.Imports.{imports_of}
 use Rattle.front_laws.specs.Fronts.{Front, IsFront, Tree, Fault}
 use Rattle.module_facts.specs.Checks.{Given, Unknown, Refused, Accepted, all_faults, files_given}

@@ -7,7 +7,7 @@ use Rattle.module_model.specs.Bindings.{AreInOrder}
 use Rattle.module_model.specs.Exports.{Outside, nothing}
 use Rattle.tla_model.specs.Lexemes.{spelled}
 use Rattle.module_model.specs.Resolution.{outside_in}
-use Rattle.module_graph.specs.Family.{Leads}
+use Rattle.name_graph.specs.Family.{Leads}
 use Rattle.module_graph.specs.Imports.{imports_of}
 use Rattle.front_laws.specs.Fronts.{IsFront, Tree, Fault}
 use Rattle.unit_grammar.specs.Units.{ModuleUnits}

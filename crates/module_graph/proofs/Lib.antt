@@ -8,12 +8,3 @@ mod TreeWalk
 mod Scoping
 mod Rounding
 mod Lexemes
-mod Lists
-mod Ways
-mod Reaching
-mod Naming
-mod Walking
-mod Joining
-mod Closing
-mod Moves
-mod Ordering

@@ -1,5 +1,5 @@
 // Names that need each other.
-use module_graph::{Graph, GraphError};
+use name_graph::{Graph, GraphError};
 use std::alloc::Global;
 use std::process::Abort;
 use tool_list::{Chars, List};

@@ -1,5 +1,5 @@
 use Rattle.std.proofs.Common.{subst}
-use Rattle.module_graph.specs.Family.{HasFault}
+use Rattle.name_graph.specs.Family.{HasFault}
 use Rattle.family_check.specs.Plans.{NeedsBefore}
 use Rattle.family_check.proofs.Graphs.{no-fault, order-is}
 use Rattle.family_check.proofs.order.order_without.Goals as goal

@@ -1,0 +1,9 @@
+mod Lists
+mod Ways
+mod Reaching
+mod Naming
+mod Walking
+mod Joining
+mod Closing
+mod Moves
+mod Ordering

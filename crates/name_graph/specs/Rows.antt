@@ -1,0 +1,55 @@
+-- Names in rows with what they need, and the places where they stand.
+use Rattle.std.specs.Prelude.{◌≡◌, ℕ, Bool, true, Option, Some, None, List, [], Contains, slice_get, map, filter_map, position, string_bytes, String}
+use Rattle.std.specs.declared.alloc.Global.{Global}
+use Rattle.std.specs.FinMap.{from_entries}
+use Rattle.std.specs.Map.{keys_of}
+use Rattle.std.specs.Str.{bytes_eq}
+use Rattle.std.specs.declared.cmp.Ordering.TheVariants.{Less}
+use Rattle.name_graph.specs.Family.{Family, name_cmp}
+use Rattle.name_graph.specs.Places.{Has, Edges}
+
+-- each name with the names that it needs, in the order in which the names were put
+abbrev pub Rows : Type 0
+Rows = List (String Global × List (List ℕ))
+
+abbrev pub named : Rows → List (List ℕ × List (List ℕ))
+named rows = map (λ row. (string_bytes row.0, row.1)) rows
+
+abbrev pub family_of : Rows → Family
+family_of rows = from_entries (named rows)
+
+-- no name stands twice
+abbrev pub AreDistinct : Rows → Type 0
+AreDistinct rows = (i j : ℕ) (a b : String Global × List (List ℕ)) → slice_get rows i ≡ Some a → slice_get rows j ≡ Some b → string_bytes a.0 ≡ string_bytes b.0 → i ≡ j
+
+-- the name at a place
+abbrev pub name_of : Option (String Global × List (List ℕ)) → List ℕ
+name_of None = []
+name_of (Some row) = string_bytes row.0
+
+abbrev pub name_at : Rows → ℕ → List ℕ
+name_at rows place = name_of (slice_get rows place)
+
+-- the place among these whose name is the first in byte order
+pub record IsFirst (rows : Rows) (places : List ℕ) (place : ℕ) : Type 0 where
+  pub among : Has places place
+  pub first : (other : ℕ) → Has places other → name_cmp (name_at rows other) (name_at rows place) ≡ Less → ⊥
+
+-- where a name stands
+abbrev pub place_of : Rows → List ℕ → Option ℕ
+place_of rows name = position (λ key. bytes_eq name (string_bytes key)) (keys_of rows)
+
+-- where these names stand, those of them that do
+abbrev pub places_of : Rows → List (List ℕ) → List ℕ
+places_of rows names = filter_map (place_of rows) names
+
+abbrev pub edges_of : Rows → Edges
+edges_of rows = map (λ row. places_of rows row.1) rows
+
+-- a row that is seen needs the name
+pub record SomeNeeds (rows : Rows) (seen : List Bool) (name : List ℕ) : Type 0 where
+  pub place : ℕ
+  pub row : String Global × List (List ℕ)
+  pub marked : slice_get seen place ≡ Some true
+  pub stands : slice_get rows place ≡ Some row
+  pub needs : Contains row.1 name
