@@ -2,8 +2,8 @@
 use Rattle.std.proofs.Common.{◌≡◌, ℕ, List, Option, Some, None, IfSome, subst, if◌then◌else◌, Bool, true, false, nat_lt, length}
 use Rattle.tool_io.specs.Folder.{Told, after_call}
 use Rattle.family_facts.specs.declared.verdict.File.{File}
-use Rattle.sany_run.specs.Program.{MOST_BYTES, MOST_MODULES, byte_count, files_of, module_names}
-use Rattle.sany_run.specs.Reading.{files_within}
+use Rattle.sany_files.specs.Files.{MOST_BYTES, MOST_MODULES, byte_count, files_of, module_names}
+use Rattle.sany_files.specs.Reading.{files_within}
 
 some_within : (many large : Bool) (files found : List File) → Some found ≡ (if many then None else (if large then None else Some files)) → found ≡ files
 some_within true large files found e = absurd (cc)

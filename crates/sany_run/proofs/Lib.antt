@@ -1,6 +1,2 @@
-pub mod CallLemmas
-pub mod DistinctLemmas
-pub mod NamedLemmas
-pub mod ReadingLemmas
 pub mod RunLemmas
 pub mod FolderLemmas

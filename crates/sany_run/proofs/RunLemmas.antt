@@ -5,7 +5,9 @@ use Rattle.std.specs.Io.KnownBytes.{Appends}
 use Rattle.tool_io.specs.Folder.{Told}
 use Rattle.sany_run.specs.declared.check.Outcome.{Outcome}
 use Rattle.sany_run.specs.Answers.{Answers, AppendsFront, is_fault}
-use Rattle.sany_run.specs.Program.{LIMIT, folder_of, files_of, is_over_folder, outcome_of_files, outcome_of_request, program}
+use Rattle.sany_run.specs.Program.{LIMIT, outcome_of_files, outcome_of_request, program}
+use Rattle.sany_files.specs.Words.{folder_of}
+use Rattle.sany_files.specs.Files.{files_of, is_over_folder}
 
 on_false : (b : Bool) (P : Type 0) → P → OnFalse b P
 on_false true P p = tt

@@ -1,11 +1,9 @@
 -- How a run answers.
-use Rattle.std.specs.Prelude.{◌≡◌, ◌≢◌, ◌≤◌, ℕ, List, ◌++◌, Bool, ◌||◌, ◌==◌, Option, Some}
+use Rattle.std.specs.Prelude.{◌≡◌, ◌≢◌, ℕ, List, ◌++◌, Bool, ◌||◌, ◌==◌, Option}
 use Rattle.std.specs.Bool.{OnFalse}
 use Rattle.std.specs.Io.KnownBytes.{Appends}
 use Rattle.tool_io.specs.Causes.{Rose}
-use Rattle.tool_io.specs.Folder.{Told}
 use Rattle.sany_run.specs.declared.check.Outcome.{Outcome}
-use Rattle.sany_run.specs.Program.{after_calls}
 
 -- a fault of the folder, a fault of the output, or want of memory
 abbrev pub is_fault : ℕ → Bool
@@ -35,10 +33,3 @@ pub record Answers (outcome : Outcome) (status : ℕ) (old new : Option (List �
 pub record TellsFault (fault status before now : ℕ) : Type 0 where
   pub rose : status ≡ fault → Rose before now
   pub stays : status ≢ fault → now ≡ before
-
--- a folder is left as some number of calls leaves it, not below the least and not above the most
-pub record IsLeftAfter (least most : ℕ) (t : Told) (new : Option Told) : Type 0 where
-  pub calls : ℕ
-  pub many : least ≤ calls
-  pub few : calls ≤ most
-  pub left : new ≡ Some (after_calls calls t)

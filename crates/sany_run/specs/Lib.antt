@@ -1,5 +1,3 @@
 pub mod Answers
 pub mod Output
 pub mod Program
-pub mod Reading
-pub mod Texts

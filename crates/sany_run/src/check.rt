@@ -5,21 +5,21 @@ ghost use Rattle.std.specs.List.{All};
 ghost use Rattle.std.specs.Option.{option_map};
 ghost use Rattle.tool_io.specs.Causes.{HasCause};
 ghost use Rattle.family_facts.specs.Verdicts.{AreDistinct, IsVerdictPlaced, after_checks, checks_of};
-ghost use Rattle.sany_run.specs.Answers.{IsLeftAfter, is_done};
+ghost use Rattle.sany_files.specs.Calls.{IsLeftAfter};
+ghost use Rattle.sany_run.specs.Answers.{is_done};
 ghost use Rattle.sany_run.specs.Program as program;
-ghost use Rattle.sany_run.specs.Reading as reading;
+ghost use Rattle.sany_files.specs.Calls as calls;
+ghost use Rattle.sany_files.specs.Files as files_in;
+ghost use Rattle.sany_files.specs.Reading as reading;
 
-use crate::files::{modules_of, read_files};
 use family_check::check_family;
 use family_facts::{File, Verdict};
+use sany_files::files_of_folder;
 use sany_report::{report_on, report_status};
 use std::alloc::Global;
 use step_count::Steps;
 use tool_io::{Folder, IoFault};
 use tool_list::{List, Memory};
-
-/// The most modules of a folder.
-const MOST_MODULES: usize = 1024;
 
 /// What a run is to write, and its status.
 #[derive(Drop)]
@@ -56,7 +56,7 @@ fn outcome_of_files<L>(
     steps: &mut Steps<L>,
 ) -> Result<Outcome, Memory>
     requires distinct { AreDistinct files.now }
-    requires small { program.byte_count files.now ≤ program.MOST_BYTES }
+    requires small { files_in.byte_count files.now ≤ files_in.MOST_BYTES }
     ensures outcome { IfOk result (λ outcome. outcome ≡ program.outcome_of_files files.now) }
     ensures done { IfOk result (λ outcome. is_done outcome.status ≡ true) }
     ensures ticks { IfOk result (λ outcome. OnTrue (nat_le outcome.status 1) (steps.new ≡ after_checks (checks_of files.now) steps.old)) }
@@ -67,30 +67,6 @@ fn outcome_of_files<L>(
     }
 }
 
-// The files of a folder, by one listing and one read of each module. None where there are too many
-// modules or bytes.
-fn files_of_folder<F: Folder>(
-    alloc: Global,
-    folder: &mut F,
-    path: &str,
-) -> Result<Option<List<File>>, IoFault>
-    ensures files { IfOk result (λ found. IfSome (F.told folder.old) (λ t. found ≡ reading.files_within t path.now)) }
-    ensures distinct { IfOk result (λ found. IfSome found AreDistinct) }
-    ensures small { IfOk result (λ found. IfSome found (λ files. program.byte_count files ≤ program.MOST_BYTES)) }
-    ensures told { IfOk result (λ found. F.told folder.new ≡ option_map (reading.after_folder path.now) (F.told folder.old)) }
-    ensures part { OnErr result (IfSome (F.told folder.old) (λ t. IsLeftAfter 1 (program.calls_of_folder t path.now) t (F.told folder.new))) }
-    ensures cause { HasCause (F.fault_count folder.old) (F.fault_count folder.new) result }
-{
-    let listed = folder.names(alloc, path)?;
-    let Ok(names) = modules_of(alloc, listed.as_slice()) else {
-        return Err(IoFault::Memory);
-    };
-    if names.len() > MOST_MODULES {
-        return Ok(None);
-    }
-    read_files(alloc, folder, path, names.as_slice())
-}
-
 /// The outcome for a folder. None where a limit is passed.
 pub fn outcome_of_folder<F: Folder, L>(
     alloc: Global,
@@ -98,12 +74,12 @@ pub fn outcome_of_folder<F: Folder, L>(
     path: &str,
     steps: &mut Steps<L>,
 ) -> Result<Option<Outcome>, IoFault>
-    ensures outcome { IfOk result (λ outcome. IfSome outcome (λ o. IfSome (F.told folder.old) (λ t. o ≡ program.outcome_of_files (program.files_of t path.now)))) }
-    ensures limit { IfOk result (λ outcome. IfSome (F.told folder.old) (λ t. program.is_over_folder t path.now ≡ is_none outcome)) }
+    ensures outcome { IfOk result (λ outcome. IfSome outcome (λ o. IfSome (F.told folder.old) (λ t. o ≡ program.outcome_of_files (files_in.files_of t path.now)))) }
+    ensures limit { IfOk result (λ outcome. IfSome (F.told folder.old) (λ t. files_in.is_over_folder t path.now ≡ is_none outcome)) }
     ensures done { IfOk result (λ outcome. IfSome outcome (λ o. is_done o.status ≡ true)) }
-    ensures ticks { IfOk result (λ outcome. IfSome outcome (λ o. IfSome (F.told folder.old) (λ t. OnTrue (nat_le o.status 1) (steps.new ≡ after_checks (checks_of (program.files_of t path.now)) steps.old)))) }
+    ensures ticks { IfOk result (λ outcome. IfSome outcome (λ o. IfSome (F.told folder.old) (λ t. OnTrue (nat_le o.status 1) (steps.new ≡ after_checks (checks_of (files_in.files_of t path.now)) steps.old)))) }
     ensures told { IfOk result (λ outcome. F.told folder.new ≡ option_map (reading.after_folder path.now) (F.told folder.old)) }
-    ensures part { OnErr result (IfSome (F.told folder.old) (λ t. IsLeftAfter 1 (program.calls_of_folder t path.now) t (F.told folder.new))) }
+    ensures part { OnErr result (IfSome (F.told folder.old) (λ t. IsLeftAfter 1 (calls.calls_of_folder t path.now) t (F.told folder.new))) }
     ensures cause { HasCause (F.fault_count folder.old) (F.fault_count folder.new) result }
 {
     let Some(files) = files_of_folder(alloc, folder, path)? else {

@@ -3,12 +3,9 @@
 //! Knows nothing of std's files and streams, and leaves to `family_check` what a module's text means.
 #![tactic(auto)]
 
-mod bytes;
 mod check;
-mod files;
 mod output;
 mod program;
 mod slices;
-mod words;
 
 pub use program::run;

@@ -1,7 +1,7 @@
 use Rattle.std.proofs.Common.{◌≡◌, nat_le}
 use Rattle.std.specs.Bool.{OnTrue}
 use Rattle.family_facts.specs.Verdicts.{after_checks, checks_of}
-use Rattle.sany_run.proofs.CallLemmas.{part-whole}
+use Rattle.sany_files.proofs.CallLemmas.{part-whole}
 use Rattle.sany_run.proofs.FolderLemmas.{of_folder}
 use Rattle.sany_run.proofs.check.outcome_of_folder.Goals as goal
 

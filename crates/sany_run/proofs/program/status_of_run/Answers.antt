@@ -1,6 +1,6 @@
 use Rattle.std.proofs.Common.{refl}
-use Rattle.sany_run.specs.Texts.{texts}
-use Rattle.sany_run.proofs.CallLemmas.{part-whole, part-words}
+use Rattle.sany_files.specs.Texts.{texts}
+use Rattle.sany_files.proofs.CallLemmas.{part-whole, part-words}
 use Rattle.sany_run.proofs.RunLemmas.{answers-front, answers-limit, answers-nothing, answers-usage, answers-whole, some-written}
 use Rattle.sany_run.proofs.program.status_of_run.Goals as goal
 

@@ -2,24 +2,25 @@
 ghost use Rattle.std.specs.Prelude.{◌≡◌};
 ghost use Rattle.std.specs.List.{list_all, list_any};
 ghost use Rattle.std.specs.Char.{is_ascii_alphabetic};
-ghost use Rattle.sany_run.specs.Program as program;
+ghost use Rattle.sany_files.specs.Files as names_of;
+ghost use Rattle.sany_files.specs.Words as words_of;
 
 fn is_word_byte(c: u8) -> bool
-    ensures { result ≡ program.is_word_byte c }
+    ensures { result ≡ names_of.is_word_byte c }
 {
     c.is_ascii_alphanumeric() || c == b'_'
 }
 
 /// Whether a folder's path may begin with a byte.
 pub fn begins_path(c: u8) -> bool
-    ensures { result ≡ program.begins_path c }
+    ensures { result ≡ words_of.begins_path c }
 {
     c.is_ascii_alphanumeric() || c == b'.' || c == b'/' || c == b'_'
 }
 
 /// Whether all bytes are letters, digits or `_`.
 pub fn all_word_bytes(run: &[u8]) -> bool
-    ensures { result ≡ list_all program.is_word_byte run.now }
+    ensures { result ≡ list_all names_of.is_word_byte run.now }
 {
     run.iter().all(|c| is_word_byte(*c))
 }
@@ -32,7 +33,7 @@ pub fn has_letter(run: &[u8]) -> bool
 
 /// Whether a run is `WF_` or `SF_`, or goes on with it.
 pub fn is_fair(run: &[u8]) -> bool
-    ensures { result ≡ program.is_fair run.now }
+    ensures { result ≡ names_of.is_fair run.now }
 {
     run.starts_with(b"WF_") || run.starts_with(b"SF_")
 }

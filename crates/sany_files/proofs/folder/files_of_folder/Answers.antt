@@ -1,9 +1,9 @@
 use Rattle.std.proofs.Common.{length, ap, arith, sym, subst, ◌∙◌}
-use Rattle.sany_run.specs.Program.{modules_of_listing}
-use Rattle.sany_run.specs.Reading.{AreNamesDistinct}
-use Rattle.sany_run.proofs.CallLemmas.{on-err-map, part-few}
-use Rattle.sany_run.proofs.NamedLemmas.{modules-distinct}
-use Rattle.sany_run.proofs.check.files_of_folder.Goals as goal
+use Rattle.sany_files.specs.Files.{modules_of_listing}
+use Rattle.sany_files.specs.Reading.{AreNamesDistinct}
+use Rattle.sany_files.proofs.CallLemmas.{on-err-map, part-few}
+use Rattle.sany_files.proofs.NamedLemmas.{modules-distinct}
+use Rattle.sany_files.proofs.folder.files_of_folder.Goals as goal
 
 pub read_files-requires : goal.read_files-requires
 read_files-requires g c =

@@ -1,9 +1,9 @@
 use Rattle.std.proofs.Common.{◌≡◌, ◌∙◌, ◌+◌, ◌-◌, ◌^◌, ◌++◌, [], min, ap, arith, sym}
-use Rattle.sany_run.specs.Program.{with_read}
-use Rattle.sany_run.proofs.CallLemmas.{on-err, part-call, part-read, told-all, told-over}
-use Rattle.sany_run.proofs.NamedLemmas.{named-more, distinct-more}
-use Rattle.sany_run.proofs.ReadingLemmas.{reads-more, reads-over, told-more, count-more}
-use Rattle.sany_run.proofs.files.read_files.Goals as goal
+use Rattle.sany_files.specs.Files.{with_read}
+use Rattle.sany_files.proofs.CallLemmas.{on-err, part-call, part-read, told-all, told-over}
+use Rattle.sany_files.proofs.NamedLemmas.{named-more, distinct-more}
+use Rattle.sany_files.proofs.ReadingLemmas.{reads-more, reads-over, told-more, count-more}
+use Rattle.sany_files.proofs.files.read_files.Goals as goal
 
 pub returns-then-total-gt-MOST_BYTES-clause-files : goal.returns-then-total-gt-MOST_BYTES-clause-files
 returns-then-total-gt-MOST_BYTES-clause-files g c =

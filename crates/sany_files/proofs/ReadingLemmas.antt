@@ -7,8 +7,9 @@ use Rattle.std.proofs.lemmas.List.Sums.{sum_by-append}
 use Rattle.std.proofs.lemmas.Bool.{lt-ltb}
 use Rattle.tool_io.specs.Folder.{Told, after_call, read_at}
 use Rattle.family_facts.specs.declared.verdict.File.{File}
-use Rattle.sany_run.specs.Program.{after_calls, byte_count, file_of, module_of_file, modules_of_listing, read_len, reads, with_read, MOST, MOST_BYTES}
-use Rattle.sany_run.specs.Reading.{modules_of_file, within}
+use Rattle.sany_files.specs.Calls.{after_calls, read_len}
+use Rattle.sany_files.specs.Files.{byte_count, file_of, module_of_file, modules_of_listing, reads, with_read, MOST, MOST_BYTES}
+use Rattle.sany_files.specs.Reading.{modules_of_file, within}
 
 -- one more file of a listing
 pub modules-more : (names : List (List ℕ)) (i : ℕ) (d name : List ℕ) (found found' : List (List ℕ)) → i < length names → name ≡ get_or names i d →

@@ -6,10 +6,12 @@ use Rattle.std.proofs.lemmas.List.Sums.{sum_by-append}
 use Rattle.std.proofs.lemmas.Bool.{le-ltb, lt-ltb}
 use Rattle.tool_io.specs.Folder.{Told, after_call, names_at, read_at}
 use Rattle.family_facts.specs.declared.verdict.File.{File}
-use Rattle.sany_run.specs.Answers.{IsLeftAfter}
-use Rattle.sany_run.specs.Program.{after_calls, byte_count, calls_made, calls_of_folder, calls_of_request, file_of, folder_of, module_names, modules_of_listing, next_len, read_len, reads, reads_made, reads_of_listing, with_read, MOST, MOST_BYTES, MOST_MODULES}
-use Rattle.sany_run.specs.Reading.{after_folder, after_reads}
-use Rattle.sany_run.proofs.ReadingLemmas.{count-read, reads-more, told-more, with_read-append}
+use Rattle.sany_files.specs.Calls.{IsLeftAfter}
+use Rattle.sany_files.specs.Calls.{after_calls, calls_made, calls_of_folder, calls_of_request, next_len, read_len, reads_made, reads_of_listing}
+use Rattle.sany_files.specs.Files.{byte_count, file_of, module_names, modules_of_listing, reads, with_read, MOST, MOST_BYTES, MOST_MODULES}
+use Rattle.sany_files.specs.Words.{folder_of}
+use Rattle.sany_files.specs.Reading.{after_folder, after_reads}
+use Rattle.sany_files.proofs.ReadingLemmas.{count-read, reads-more, told-more, with_read-append}
 
 pub on-err : {T E : Type 0} (r : Result T E) (P : Type 0) → P → OnErr r P
 on-err (Ok x) P p = tt

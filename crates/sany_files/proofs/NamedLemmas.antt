@@ -8,9 +8,9 @@ use Rattle.std.proofs.lemmas.Option.{slice_get-get_or}
 use Rattle.family_facts.specs.Verdicts.{AreDistinct}
 use Rattle.family_facts.specs.declared.verdict.File.{File}
 use Rattle.list_laws.proofs.Lists.{pushed-cases}
-use Rattle.sany_run.specs.Program.{is_identifier, module_of_file, modules_of_listing, with_read}
-use Rattle.sany_run.specs.Reading.{AreNamed, AreNamesDistinct}
-use Rattle.sany_run.proofs.DistinctLemmas.{file-name, filter_map-apart, sorted-apart}
+use Rattle.sany_files.specs.Files.{is_identifier, module_of_file, modules_of_listing, with_read}
+use Rattle.sany_files.specs.Reading.{AreNamed, AreNamesDistinct}
+use Rattle.sany_files.proofs.DistinctLemmas.{file-name, filter_map-apart, sorted-apart}
 
 -- two files of one module are one
 one-file : (a b name : List ℕ) → module_of_file a ≡ Some name → module_of_file b ≡ Some name → a ≡ b

@@ -1,9 +1,10 @@
 use Rattle.std.proofs.Common.{◌≡◌, ◌≤◌, take, IfSome}
 use Rattle.std.specs.Option.{option_map}
 use Rattle.family_facts.specs.Verdicts.{AreDistinct}
-use Rattle.sany_run.specs.Program.{after_calls, byte_count, reads, MOST_BYTES}
-use Rattle.sany_run.specs.Reading.{AreNamed}
-use Rattle.sany_run.proofs.files.read_files.Given as goal
+use Rattle.sany_files.specs.Calls.{after_calls}
+use Rattle.sany_files.specs.Files.{byte_count, reads, MOST_BYTES}
+use Rattle.sany_files.specs.Reading.{AreNamed}
+use Rattle.sany_files.proofs.files.read_files.Given as goal
 
 abbrev pub invariant-loop-name : goal.invariant-loop-name
 invariant-loop-name g l = record {

@@ -1,13 +1,13 @@
 // The words of the command line.
 ghost use Rattle.std.specs.Prelude.{◌≡◌};
 ghost use Rattle.std.specs.Option.{option_copied};
-ghost use Rattle.sany_run.specs.Program as program;
-ghost use Rattle.sany_run.specs.Texts.{texts};
+ghost use Rattle.sany_files.specs.Words as words_of;
+ghost use Rattle.sany_files.specs.Texts.{texts};
 
 use crate::bytes::begins_path;
 
 fn is_path(text: &[u8]) -> bool
-    ensures { result ≡ program.is_path text.now }
+    ensures { result ≡ words_of.is_path text.now }
 {
     match text {
         [] => false,
@@ -17,7 +17,7 @@ fn is_path(text: &[u8]) -> bool
 
 /// The folder that the words ask to check.
 pub fn folder_of(words: &[String]) -> Option<&str>
-    ensures { option_copied result ≡ program.folder_of (texts words.now) }
+    ensures { option_copied result ≡ words_of.folder_of (texts words.now) }
 {
     match words {
         [command, folder] => {

@@ -4,9 +4,10 @@ ghost use Rattle.std.specs.Option.{option_copied, option_map};
 ghost use Rattle.tool_io.specs.Causes.{HasCause};
 ghost use Rattle.tool_io.specs.Folder.{after_call, read_at};
 ghost use Rattle.family_facts.specs.Verdicts.{AreDistinct};
-ghost use Rattle.sany_run.specs.Answers.{IsLeftAfter};
-ghost use Rattle.sany_run.specs.Program as program;
-ghost use Rattle.sany_run.specs.Reading as reading;
+ghost use Rattle.sany_files.specs.Calls.{IsLeftAfter};
+ghost use Rattle.sany_files.specs.Calls as calls;
+ghost use Rattle.sany_files.specs.Files as files_in;
+ghost use Rattle.sany_files.specs.Reading as reading;
 
 use crate::bytes::{all_word_bytes, has_letter, is_fair};
 use family_facts::File;
@@ -21,9 +22,9 @@ const MOST: u64 = (1 << 25) + 1;
 /// The most bytes of all files of a folder.
 const MOST_BYTES: u64 = 1 << 25;
 
-#[tactic(auto, unfolding(crate::specs::Program::is_identifier))]
+#[tactic(auto, unfolding(crate::specs::Files::is_identifier))]
 fn is_identifier(name: &[u8]) -> bool
-    ensures { result ≡ program.is_identifier name.now }
+    ensures { result ≡ files_in.is_identifier name.now }
 {
     all_word_bytes(name)
         && has_letter(name)
@@ -34,7 +35,7 @@ fn is_identifier(name: &[u8]) -> bool
 
 /// The module that a file stands for, by its name.
 fn module_of_file(file: &str) -> Option<&str>
-    ensures { option_copied result ≡ program.module_of_file file.now }
+    ensures { option_copied result ≡ files_in.module_of_file file.now }
 {
     let stem = file.strip_suffix(".tla")?;
     if is_identifier(stem.as_bytes()) {
@@ -56,7 +57,7 @@ fn add_module(alloc: Global, found: &mut List<Chars>, file: &str) -> Result<(), 
 
 /// The modules of a listing, in order.
 pub fn modules_of(alloc: Global, names: &[Chars]) -> Result<List<Chars>, Memory>
-    ensures { IfOk result (λ found. found ≡ program.modules_of_listing names.now) }
+    ensures { IfOk result (λ found. found ≡ files_in.modules_of_listing names.now) }
 {
     let mut found = List::new(alloc);
     for name in names {
@@ -74,7 +75,7 @@ fn read_module<F: Folder>(
 ) -> Result<Option<List<u8>>, IoFault>
     ensures goes { OnOk result (F.told folder.new ≡ option_map after_call (F.told folder.old)) }
     ensures part { OnErr result (IfSome (F.told folder.old) (λ t. IsLeftAfter 0 1 t (F.told folder.new))) }
-    ensures bytes { IfOk result (λ bytes. IfSome (F.told folder.new) (λ t. bytes ≡ read_at t path.now (program.file_of name.now) program.MOST)) }
+    ensures bytes { IfOk result (λ bytes. IfSome (F.told folder.new) (λ t. bytes ≡ read_at t path.now (files_in.file_of name.now) files_in.MOST)) }
     ensures cause { HasCause (F.fault_count folder.old) (F.fault_count folder.new) result }
 {
     let Ok(file) = format!(in alloc; "{name}.tla") else {
@@ -84,7 +85,7 @@ fn read_module<F: Folder>(
 }
 
 fn read_len(bytes: &Option<List<u8>>) -> u64
-    ensures { result ≡ program.read_len bytes.now }
+    ensures { result ≡ calls.read_len bytes.now }
 {
     match bytes {
         Some(bytes) => bytes.len() as u64,
@@ -99,7 +100,7 @@ fn add_file(
     name: &str,
     bytes: Option<List<u8>>,
 ) -> Result<(), IoFault>
-    ensures files { OnOk result (files.new ≡ files.old ++ program.with_read name.now bytes []) }
+    ensures files { OnOk result (files.new ≡ files.old ++ files_in.with_read name.now bytes []) }
     ensures memory { reading.OnlyMemory result }
 {
     let Some(bytes) = bytes else {
@@ -122,11 +123,11 @@ pub fn read_files<F: Folder>(
     names: &[Chars],
 ) -> Result<Option<List<File>>, IoFault>
     requires { reading.AreNamesDistinct names.now }
-    ensures files { IfOk result (λ found. IfSome (F.told folder.old) (λ t. found ≡ reading.within (program.reads t path.now names.now))) }
+    ensures files { IfOk result (λ found. IfSome (F.told folder.old) (λ t. found ≡ reading.within (files_in.reads t path.now names.now))) }
     ensures distinct { IfOk result (λ found. IfSome found AreDistinct) }
-    ensures small { IfOk result (λ found. IfSome found (λ files. program.byte_count files ≤ program.MOST_BYTES)) }
+    ensures small { IfOk result (λ found. IfSome found (λ files. files_in.byte_count files ≤ files_in.MOST_BYTES)) }
     ensures told { IfOk result (λ found. F.told folder.new ≡ option_map (reading.after_reads path.now names.now) (F.told folder.old)) }
-    ensures part { OnErr result (IfSome (F.told folder.old) (λ t. IsLeftAfter 0 (program.reads_made 0 t path.now names.now) t (F.told folder.new))) }
+    ensures part { OnErr result (IfSome (F.told folder.old) (λ t. IsLeftAfter 0 (calls.reads_made 0 t path.now names.now) t (F.told folder.new))) }
     ensures cause { HasCause (F.fault_count folder.old) (F.fault_count folder.new) result }
 {
     let mut files = List::new(alloc);

@@ -1,0 +1,4 @@
+pub mod CallLemmas
+pub mod DistinctLemmas
+pub mod NamedLemmas
+pub mod ReadingLemmas

@@ -1,0 +1,84 @@
+-- The module files of a folder, and those that the words ask to check.
+use Rattle.std.specs.Prelude.{ℕ, ◌+◌, ◌-◌, ◌^◌, List, [], ◌∷◌, ◌++◌, length, Bool, false, ◌||◌, ◌&&◌, not, ◌==◌, nat_lt, nat_eq, Option, Some, None, if◌then◌else◌, codes, take, is_none, sum_by}
+use Rattle.std.specs.List.{list_all, list_any, filter_map, ends_with, starts_with}
+use Rattle.std.specs.Char.{is_ascii_alphanumeric, is_ascii_alphabetic}
+use Rattle.tool_io.specs.Folder.{Told, after_call, names_at, read_at}
+use Rattle.tla_spelling.specs.Spellings.{word_of, op_of}
+use Rattle.family_facts.specs.declared.verdict.File.{File}
+use Rattle.sany_files.specs.Words.{folder_of}
+
+-- a letter, a digit or _
+abbrev pub is_word_byte : ℕ → Bool
+is_word_byte c = is_ascii_alphanumeric c || c == 95
+
+-- WF_ and SF_, and whatever goes on with them
+abbrev pub is_fair : List ℕ → Bool
+is_fair run = starts_with nat_eq run (codes "WF_") || starts_with nat_eq run (codes "SF_")
+
+-- an identifier: letters, digits and _ with a letter among them, and no reserved word
+unfoldable pub is_identifier : List ℕ → Bool
+is_identifier name = list_all is_word_byte name && list_any is_ascii_alphabetic name && not (is_fair name) && is_none (word_of name) && is_none (op_of name)
+
+-- the module that a file stands for, by its name
+abbrev pub module_of_file : List ℕ → Option (List ℕ)
+module_of_file file =
+    if ends_with nat_eq file (codes ".tla") && is_identifier (take (length file - 4) file) then Some (take (length file - 4) file) else None
+
+-- the modules of a listing, in order
+abbrev pub modules_of_listing : List (List ℕ) → List (List ℕ)
+modules_of_listing names = filter_map module_of_file names
+
+abbrev pub module_names : Told → List ℕ → List (List ℕ)
+module_names t folder = modules_of_listing (names_at t folder)
+
+abbrev pub file_of : List ℕ → List ℕ
+file_of name = name ++ codes ".tla"
+
+-- the most bytes that are read of a file
+abbrev pub MOST : ℕ
+MOST = 2 ^ 25 + 1
+
+-- a file that is gone is no module
+abbrev pub with_read : List ℕ → Option (List ℕ) → List File → List File
+with_read name None files = files
+with_read name (Some bytes) files = record { name = name; bytes = bytes } ∷ files
+
+-- the files that one read of each module gives, in order
+abbrev pub reads : Told → List ℕ → List (List ℕ) → List File
+reads t folder [] = []
+reads t folder (name ∷ names) = with_read name (read_at (after_call t) folder (file_of name) MOST) (reads (after_call t) folder names)
+
+-- the files of a folder: one listing, and one read of each module
+abbrev pub files_of : Told → List ℕ → List File
+files_of t folder = reads (after_call t) folder (module_names (after_call t) folder)
+
+abbrev pub files_of_request : Told → Option (List ℕ) → List File
+files_of_request t None = []
+files_of_request t (Some folder) = files_of t folder
+
+-- the files that the words ask to check
+abbrev pub files_in : List (List ℕ) → Told → List File
+files_in words t = files_of_request t (folder_of words)
+
+-- ---- limits
+
+-- the most modules of a folder, and the most bytes of them all
+abbrev pub MOST_MODULES : ℕ
+MOST_MODULES = 1024
+
+abbrev pub MOST_BYTES : ℕ
+MOST_BYTES = 2 ^ 25
+
+abbrev pub byte_count : List File → ℕ
+byte_count files = sum_by (λ f. length f.bytes) files
+
+abbrev pub is_over_folder : Told → List ℕ → Bool
+is_over_folder t folder = nat_lt MOST_MODULES (length (module_names (after_call t) folder)) || nat_lt MOST_BYTES (byte_count (files_of t folder))
+
+abbrev pub is_over_request : Told → Option (List ℕ) → Bool
+is_over_request t None = false
+is_over_request t (Some folder) = is_over_folder t folder
+
+-- a limit is passed
+abbrev pub is_over : List (List ℕ) → Told → Bool
+is_over words t = is_over_request t (folder_of words)

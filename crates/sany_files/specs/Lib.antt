@@ -1,0 +1,5 @@
+pub mod Words
+pub mod Files
+pub mod Calls
+pub mod Reading
+pub mod Texts
