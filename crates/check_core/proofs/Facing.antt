@@ -10,7 +10,7 @@ use Rattle.module_model.specs.Resolution.{exports_in}
 use Rattle.tla_model.specs.Tables.{Table}
 use Rattle.unit_grammar.specs.Units.{ModuleUnits}
 use Rattle.symbol_scope.specs.Exporting.{AreExported}
-use Rattle.check_core.specs.Faces.{IsFaceBy, IsFaceOf, IsOwn}
+use Rattle.module_faces.specs.Faces.{IsFaceBy, IsFaceOf, IsOwn}
 
 pub face-of : (imports : Imports) (source : List ℕ) (units : ModuleUnits) (faults : List Diagnostic) (exports : Option (Table Meaning)) (parts : List Held) → AreExported faults (exports_in (files_of imports) source units) exports →
     IsFaceBy imports source units exports parts → IsFaceOf imports source units faults parts

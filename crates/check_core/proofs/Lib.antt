@@ -1,4 +1,2 @@
-mod Lying
-mod Holding
 mod Checking
 mod Facing

@@ -1,4 +1,1 @@
-pub mod Codes
-pub mod Faces
 pub mod Outcomes
-pub mod Parts

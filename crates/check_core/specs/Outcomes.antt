@@ -8,7 +8,7 @@ use Rattle.module_model.specs.Imports.{Imports}
 use Rattle.module_model.specs.Modules.{text_of}
 use Rattle.module_model.specs.Resolution.{findings}
 use Rattle.module_facts.specs.Checks.{CheckedModule}
-use Rattle.check_core.specs.Faces.{IsFaceOf}
+use Rattle.module_faces.specs.Faces.{IsFaceOf}
 use Rattle.unit_grammar.specs.Units.{ModuleUnits}
 
 -- with these faults of imports

@@ -2,24 +2,23 @@
 ghost use Rattle.std.specs.Prelude.{◌≡◌, [], ◌+◌, ◌-◌, ◌^◌, min, IfOk};
 ghost use Rattle.unit_grammar.specs.UnitNodes.{module_of};
 ghost use Rattle.tla_model.specs.Lexemes.{spelled};
-ghost use Rattle.symbol_scope.specs.Given.{IsReadable, IsWithoutInstances};
+ghost use Rattle.module_model.specs.Given.{IsReadable, IsWithoutInstances};
 ghost use Rattle.module_model.specs.Exports.{parts_behind};
 ghost use Rattle.module_graph.specs.Imports.{imports_of};
 ghost use Rattle.module_facts.specs.Checks.{IsChecked, given_in};
-ghost use Rattle.check_core.specs.Faces.{IsFaceBy, IsFaceOf};
+ghost use Rattle.module_faces.specs.Faces.{IsFaceOf};
 ghost use Rattle.check_core.specs.Outcomes.{IsRefused, IsResolved};
 ghost use Rattle.std.specs.Arc.{arc_value};
 
-use crate::face::face;
-use crate::imports::import_faults;
+use module_faces::{import_faults, no_face, shared_face};
 use module_graph::{imports, lexemes_lie_names};
-use module_model::{Bound, Face, Imported, Parts, in_order};
+use module_model::{Bound, Face, Imported, in_order};
 use std::alloc::Global;
 use std::marker::Model;
 use std::sync::Arc;
 use step_count::Steps;
 use symbol_scope::{Resolved, resolve};
-use tla_model::{Decl, Diagnostic, NameTable, Use};
+use tla_model::{Decl, Diagnostic, Use};
 use tla_symbols::Lexeme;
 use tla_tree::ModuleTree;
 use tool_list::{List, Memory};
@@ -88,60 +87,12 @@ fn without_names(alloc: Global, faults: List<Diagnostic>, face: Arc<Face>) -> Ch
     }
 }
 
-// A face of no parts.
-fn no_face(alloc: Global) -> Face
-    ensures { result.parts ≡ [] }
-{
-    Face {
-        parts: Parts::new(alloc),
-    }
-}
-
 // A module with faults of imports.
 fn refused(alloc: Global, faults: List<Diagnostic>) -> Result<Checked, Memory>
     ensures { IfOk result (λ checked. IsRefused faults checked) }
 {
     let face = Arc::new(alloc, no_face(alloc))?;
     Ok(without_names(alloc, faults, face))
-}
-
-// The face of a module by the table of what it exports, and the names of the modules that it needs.
-fn face_by(
-    alloc: Global,
-    name: &str,
-    tree: &ModuleTree,
-    imported: &Imported,
-    needed: &[Lexeme],
-    exports: Option<NameTable>,
-) -> Result<Face, Memory>
-    requires readable { IsReadable tree.now }
-    requires name { spelled tree.now.source tree.now.name ≡ name.now }
-    requires needed { needed.now ≡ imports_of tree.now.source (module_of tree.now) }
-    ensures { IfOk result (λ face. IsFaceBy imported.now tree.now.source (module_of tree.now) exports face.parts) }
-{
-    match exports {
-        Some(table) => face(alloc, name, tree, imported, needed, table),
-        None => Ok(no_face(alloc)),
-    }
-}
-
-// The same face, to be shared.
-fn shared_face(
-    alloc: Global,
-    name: &str,
-    tree: &ModuleTree,
-    imported: &Imported,
-    needed: &[Lexeme],
-    exports: Option<NameTable>,
-) -> Result<Arc<Face>, Memory>
-    requires readable { IsReadable tree.now }
-    requires name { spelled tree.now.source tree.now.name ≡ name.now }
-    requires needed { needed.now ≡ imports_of tree.now.source (module_of tree.now) }
-    ensures { IfOk result (λ face. IsFaceBy imported.now tree.now.source (module_of tree.now) exports (arc_value face).parts) }
-{
-    let face = face_by(alloc, name, tree, imported, needed, exports)?;
-    let shared = Arc::new(alloc, face)?;
-    Ok(shared)
 }
 
 // A module with what its names stand for, and its face.

@@ -5,8 +5,5 @@
 #![tactic(auto)]
 
 mod checked;
-mod face;
-mod imports;
-mod parts;
 
 pub use checked::{Checked, check_module};

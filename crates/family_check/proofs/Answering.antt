@@ -1,11 +1,10 @@
 -- What is answered on the files of a family.
-use Rattle.std.proofs.Common.{◌≡◌, ◌<◌, ◌≤◌, ◌^◌, ◌-◌, min, ℕ, zero, suc, ◌+◌, List, [], ◌∷◌, Some, Result, Ok, Err, IfOk, refl, sym, ap, ◌∙◌, map, filter, not, take, get_or, arith, true, false, Bool, ◌||◌, subst}
-use Rattle.std.specs.Prelude.{Contains, slice_get, sum_by}
+use Rattle.std.proofs.Common.{◌≡◌, ◌<◌, ◌≤◌, ◌^◌, ◌-◌, min, ℕ, zero, suc, ◌+◌, List, [], ◌∷◌, Some, Result, Ok, Err, IfOk, refl, sym, ap, ◌∙◌, map, take, arith, true, false, Bool, ◌||◌, subst}
+use Rattle.std.specs.Prelude.{Contains, sum_by}
 use Rattle.std.specs.List.{All, AllZip, list_any}
 use Rattle.std.proofs.Math.Seq.{take-length}
 use Rattle.std.proofs.lemmas.Bool.{both_ways}
 use Rattle.std.proofs.lemmas.List.Sums.{sum_by-cons}
-use Rattle.std.proofs.lemmas.Option.{slice_get-get_or}
 use Rattle.tool_list.specs.declared.Memory.{Memory}
 use Rattle.tla_lexeme.specs.Spans.{IsPlaced}
 use Rattle.tla_symbols.specs.declared.lexeme.Lexeme.{Lexeme}
@@ -15,32 +14,26 @@ use Rattle.tla_model.specs.Lexemes.{LexemesLie, module_lexemes}
 use Rattle.front_laws.specs.Fronts.{Front, Tree, Fault, IsFront, read}
 use Rattle.unit_grammar.specs.Units.{ModuleUnits}
 use Rattle.unit_grammar.specs.UnitNodes.{module_of}
-use Rattle.tla_model.specs.ModuleNames.{holds_instance}
 use Rattle.module_facts.specs.Checks.{Given, all_faults}
-use Rattle.family_facts.specs.Family.{Member, Diagnosed, is_there}
-use Rattle.family_check.specs.Modules.{Entry, IsEntry, IsReading, AreModules, tree_count, reading_holds_instance}
-use Rattle.family_check.specs.Outcomes.{AreOutcomes, AreWithoutInstances, IsSaid, IsSomeModule, Says, after_ticks, faults_of, trees_in}
+use Rattle.family_facts.specs.Family.{Member, Diagnosed}
+use Rattle.family_tables.specs.Modules.{Entry, IsEntry, IsReading, AreModules, tree_count, reading_holds_instance}
+use Rattle.family_tables.specs.Outcomes.{AreOutcomes, AreWithoutInstances, IsSaid, IsSomeModule, Says, after_ticks, faults_of, trees_in}
 use Rattle.family_facts.specs.Facts.{front_holds, some_instance}
 use Rattle.family_facts.specs.Fronts.{front_of}
 use Rattle.family_facts.specs.Verdicts.{AreVerdicts, IsVerdict, IsVerdictPlaced, after_checks, check_count, checks_of, family_of, member_of, text_of, verdicts_on}
-use Rattle.family_check.specs.declared.outcomes.Outcome.{Outcome}
-use Rattle.family_check.specs.declared.outcomes.Outcome.TheVariants as outcome
-use Rattle.family_check.specs.declared.read.Reading.TheVariants as reading
+use Rattle.family_tables.specs.declared.outcome.Outcome.{Outcome}
+use Rattle.family_tables.specs.declared.outcome.Outcome.TheVariants as outcome
+use Rattle.family_tables.specs.declared.reading.Reading.TheVariants as reading
 use Rattle.family_facts.specs.declared.verdict.File.{File}
 use Rattle.family_facts.specs.declared.verdict.Verdict.{Verdict}
-use Rattle.family_facts.proofs.Lists.{at-contains, behind, contains-at, here, zip-left, zip-right}
+use Rattle.family_facts.proofs.Lists.{behind, contains-at, here, zip-left, zip-right}
 use Rattle.family_facts.proofs.FrontLaws.{front-is}
 use Rattle.family_facts.proofs.Members.{AreOneEach, member-there}
 use Rattle.family_facts.proofs.Saying.{file-there}
 use Rattle.family_facts.proofs.OneVerdict.{HasNoOther, IsCheckedOf, Found, of_fault, of_tree, found-of, fault-same, tree-same, tree-no-fault}
-use Rattle.family_check.proofs.Checking.{ticks-within}
-use Rattle.family_check.proofs.Lying.{span-placed}
-
-all-by : {A : Type 0} (P : A → Type 0) (xs : List A) → ((x : A) → Contains xs x → P x) → All P xs
-all-by P xs f = λ k d l. f (get_or xs k d) (at-contains xs k (get_or xs k d) (slice_get-get_or xs k d l))
-
-all-at : {A : Type 0} (P : A → Type 0) (xs : List A) (x : A) → All P xs → Contains xs x → P x
-all-at P xs x all h = subst P h.2 (all h.0 x h.1)
+use Rattle.family_outcomes.proofs.Checking.{ticks-within}
+use Rattle.family_tables.proofs.Lying.{span-placed}
+use Rattle.family_tables.proofs.Holding.{all-by, any-here}
 
 pub modules-some : (family : List Member) (entries : List Entry) → AreModules family entries → All (λ (entry : Entry). IsSomeModule entry.0 entry.1) entries
 modules-some family entries are = all-by (λ (entry : Entry). IsSomeModule entry.0 entry.1) entries (λ e h. let m = zip-right IsEntry family entries e are h in (m.0.bytes, (m.2).is))
@@ -96,7 +89,7 @@ module _ (one : HasNoOther) (law : FaultsAtLexemes) (family : List Member) (m : 
   tree-placed units d front lie k fault h =
       let listed : Contains k.list fault = subst (λ (x : Diagnosed). Contains x.faults fault) k.is h in
       let all : Contains (all_faults k.given m.bytes units) fault = (k.ordered.same fault).0 listed in
-      subst (λ t. IsPlaced t fault.span) (sym (tree-text front)) (span-placed m.bytes units fault.span lie (all-at (λ (f : Diagnostic). Contains (map (λ (x : Lexeme). x.span) (module_lexemes units)) f.span) (all_faults k.given m.bytes units) fault (law k.given m.bytes units) all))
+      subst (λ t. IsPlaced t fault.span) (sym (tree-text front)) (span-placed m.bytes units fault.span lie (subst (λ (f : Diagnostic). Contains (map (λ (x : Lexeme). x.span) (module_lexemes units)) f.span) all.2 (law k.given m.bytes units all.0 fault all.1)))
 
 module _ (one : HasNoOther) (law : FaultsAtLexemes) (family : List Member) (distinct : AreOneEach family) (entries : List Entry) (are : AreModules family entries) where
   found-placed : (m : Member) (d : Diagnosed) → Contains family m → Found family m.name d → (fault : Diagnostic) → Contains d.faults fault → IsPlaced (text_of m.bytes) fault.span
@@ -162,29 +155,6 @@ steps-are one files entries old new are few ticks =
 
 -- ---- INSTANCE
 
-pub any-here : (entries : List Entry) (i : ℕ) (e : Entry) → slice_get entries i ≡ Some e → reading_holds_instance e.1.reading ≡ true → list_any (λ (x : Entry). reading_holds_instance x.1.reading) entries ≡ true
-any-here [] zero e h t = cc
-any-here [] (suc i) e h t = cc
-any-here (x ∷ xs) zero e h t = let s : x ≡ e = cc in ap (λ b. b || list_any (λ (z : Entry). reading_holds_instance z.1.reading) xs) (ap (λ (z : Entry). reading_holds_instance z.1.reading) s ∙ t)
-any-here (x ∷ xs) (suc i) e h t = or-second (reading_holds_instance x.1.reading) (list_any (λ (z : Entry). reading_holds_instance z.1.reading) xs) (any-here xs i e h t)
-  where
-    or-second : (a b : Bool) → b ≡ true → (a || b) ≡ true
-    or-second true b e = refl
-    or-second false b e = e
-
-none-more : (entries : List Entry) (i : ℕ) (e : Entry) → slice_get entries i ≡ Some e → list_any (λ (x : Entry). reading_holds_instance x.1.reading) (take i entries) ≡ false → reading_holds_instance e.1.reading ≡ false → list_any (λ (x : Entry). reading_holds_instance x.1.reading) (take (suc i) entries) ≡ false
-none-more [] zero e h n f = cc
-none-more [] (suc i) e h n f = cc
-none-more (x ∷ xs) zero e h n f = let s : x ≡ e = cc in ap (λ b. b || false) (ap (λ (z : Entry). reading_holds_instance z.1.reading) s ∙ f)
-none-more (x ∷ xs) (suc i) e h n f = or-none (reading_holds_instance x.1.reading) (list_any (λ (z : Entry). reading_holds_instance z.1.reading) (take i xs)) (list_any (λ (z : Entry). reading_holds_instance z.1.reading) (take (suc i) xs)) n (λ m. none-more xs i e h m f)
-  where
-    or-none : (a b d : Bool) → (a || b) ≡ false → (b ≡ false → d ≡ false) → (a || d) ≡ false
-    or-none true b d e k = cc
-    or-none false b d e k = k e
-
-pub none-further : (entries : List Entry) (i : ℕ) (e : Entry) → slice_get entries i ≡ Some e → list_any (λ (x : Entry). reading_holds_instance x.1.reading) (take i entries) ≡ false → reading_holds_instance e.1.reading ≡ false → list_any (λ (x : Entry). reading_holds_instance x.1.reading) (take (i + 1) entries) ≡ false
-none-further entries i e h n f = let k : i + 1 ≡ suc i = omega arith in ap (λ j. list_any (λ (x : Entry). reading_holds_instance x.1.reading) (take j entries)) k ∙ none-more entries i e h n f
-
 holds-in : (r : reading.the_data) → reading_holds_instance r ≡ front_holds (front_in r)
 unfolding front_in
 holds-in (reading.Tree tree) = refl
@@ -222,6 +192,3 @@ placed-answer one law files entries outcomes (Err e) distinct modules are said =
 pub steps-answer : HasNoOther → (files : List File) (entries : List Entry) (old new count : ℕ) (r : Result (List Verdict) Memory) → AreModules (family_of files) entries → count < 2 ^ 64 → count ≡ old → new ≡ after_ticks (trees_in entries) old → IfOk r (λ _. new ≡ after_checks (checks_of files) old)
 steps-answer one files entries old new count (Ok verdicts) are few is ticks = steps-are one files entries old new are (subst (λ n. n < 2 ^ 64) is few) ticks
 steps-answer one files entries old new count (Err e) are few is ticks = tt
-
-pub some-at : (entries : List Entry) (i : ℕ) (e : Entry) → slice_get entries i ≡ Some e → All (λ (entry : Entry). IsSomeModule entry.0 entry.1) entries → IsSomeModule e.0 e.1
-some-at entries i e h all = all-at (λ (entry : Entry). IsSomeModule entry.0 entry.1) entries e all (at-contains entries i e h)

@@ -1,12 +1,2 @@
-pub mod Graphs
-pub mod Tabling
-pub mod Lying
-pub mod Reading
-pub mod BuiltIn
-pub mod Texts
-pub mod Bridging
-pub mod Importing
-pub mod Sums
-pub mod Checking
-pub mod Once
-pub mod Answering
+mod Once
+mod Answering

@@ -6,9 +6,9 @@ use Rattle.family_facts.specs.Family.{Member}
 use Rattle.family_facts.specs.Verdicts.{AreDistinct, family_of}
 use Rattle.family_facts.specs.declared.verdict.File.{File}
 use Rattle.family_facts.proofs.Once.{family-placed}
-use Rattle.family_check.specs.Modules.{Entry, AreModules}
-use Rattle.family_check.specs.Plans.{AreOnce}
-use Rattle.family_check.specs.Tables.{names_in}
+use Rattle.family_tables.specs.Modules.{Entry, AreModules}
+use Rattle.family_tables.specs.Plans.{AreOnce}
+use Rattle.family_tables.specs.Tables.{names_in}
 
 names-same : (family : List Member) (entries : List Entry) → AreModules family entries → names_in entries ≡ map (λ (m : Member). m.name) family
 names-same [] [] h = refl

@@ -1,47 +1,19 @@
 // A family of modules, each checked behind what it needs.
-ghost use Rattle.std.specs.Prelude.{◌≡◌, ◌<◌, ◌^◌, ℕ, List as ListOf, IfOk, IfSome, sum_by, length};
-ghost use Rattle.std.specs.List.{All, list_any};
-ghost use Rattle.family_check.specs.Modules.{AreModules, IsModule, reading_holds_instance};
-ghost use Rattle.family_check.specs.Outcomes.{AreWithoutInstances, IsSomeModule};
+ghost use Rattle.std.specs.Prelude.{◌≡◌, ◌<◌, ◌^◌, IfOk, IfSome, sum_by, length};
+ghost use Rattle.std.specs.List.{All};
+ghost use Rattle.family_tables.specs.Modules.{AreModules};
+ghost use Rattle.family_tables.specs.Outcomes.{AreWithoutInstances};
 ghost use Rattle.family_facts.specs.Verdicts as facts;
 ghost use Rattle.family_facts.specs.Verdicts.{AreDistinct, IsVerdictPlaced, after_checks, checks_of, family_of, verdicts_if_built};
 
-use crate::order::plan_of;
-use crate::outcomes::check_all;
-use crate::read::{Module, Reading, read_family};
-use crate::table::Table;
-use crate::verdict::verdicts_of;
 use family_facts::{File, Verdict, verdicts_are};
+use family_outcomes::check_all;
+use family_read::read_family;
+use family_tables::{Module, Table, plan_of, some_instance, verdicts_of};
 use module_facts::faults_stand_at_lexemes;
-use module_graph::holds_instance;
 use std::alloc::Global;
 use step_count::Steps;
 use tool_list::{List, Memory};
-
-// Whether the word INSTANCE stands in a module.
-fn module_holds_instance(alloc: Global, module: &Module) -> Result<bool, Memory>
-    requires { (name bytes : ListOf ℕ) × IsModule name bytes module.now }
-    ensures { IfOk result (λ holds. holds ≡ reading_holds_instance module.now.reading) }
-{
-    match &module.reading {
-        Reading::Tree(tree) => holds_instance(alloc, tree),
-        Reading::Fault(_) => Ok(false),
-    }
-}
-
-// Whether the word INSTANCE stands in one of these modules.
-fn some_instance(alloc: Global, modules: &Table<Module>) -> Result<bool, Memory>
-    requires { All (λ entry. IsSomeModule entry.0 entry.1) modules.now }
-    ensures { IfOk result (λ some. some ≡ list_any (λ entry. reading_holds_instance entry.1.reading) modules.now) }
-{
-    for place in 0..modules.len() {
-        let (_, module) = modules.at(place);
-        if module_holds_instance(alloc, module)? {
-            return Ok(true);
-        }
-    }
-    Ok(false)
-}
 
 // The verdicts on files whose family has these modules, all without INSTANCE.
 fn verdicts_on<L>(

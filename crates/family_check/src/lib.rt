@@ -5,11 +5,5 @@
 #![tactic(auto)]
 
 mod family;
-mod imports;
-mod order;
-mod outcomes;
-mod read;
-mod table;
-mod verdict;
 
 pub use family::check_family;

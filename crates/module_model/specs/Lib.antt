@@ -6,3 +6,4 @@ pub mod Instances
 pub mod Resolution
 pub mod Substitutions
 pub mod Bindings
+pub mod Given

@@ -22,7 +22,7 @@ use Rattle.module_model.specs.Resolution.{Around, Position}
 use Rattle.tla_model.specs.Scopes.{all_refused, behind, binders, found, has_set, inside, itself, prefixed, reserved, scope, symbol}
 use Rattle.tla_model.specs.declared.ids.DeclId.{DeclId}
 use Rattle.tla_model.specs.Tables.{lookup}
-use Rattle.symbol_scope.specs.Given.{IsWithoutInstances}
+use Rattle.module_model.specs.Given.{IsWithoutInstances}
 use Rattle.name_exports.specs.Brought as in_brought
 use Rattle.symbol_scope.specs.WithoutInstances as plain
 use Rattle.tree_scope.specs.TreeFindings as in_trees

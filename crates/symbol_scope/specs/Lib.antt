@@ -1,4 +1,3 @@
-pub mod Given
 pub mod Readings
 pub mod Modules
 pub mod Rounds

@@ -12,7 +12,7 @@ ghost use Rattle.module_model.specs.Resolution.{exports_in};
 ghost use Rattle.module_model.specs.Exports as imports;
 ghost use Rattle.unit_grammar.specs.UnitNodes.{HasNodes, module_of};
 ghost use Rattle.symbol_scope.specs.Exporting.{AreExported};
-ghost use Rattle.symbol_scope.specs.Given.{IsReadable, IsWithoutInstances};
+ghost use Rattle.module_model.specs.Given.{IsReadable, IsWithoutInstances};
 ghost use Rattle.symbol_scope.specs.Modules.{reading_of};
 ghost use Rattle.symbol_scope.specs.Rounds.{IsUnread};
 ghost use Rattle.sorted_findings.specs.Sorting.{IsNothing, IsSorted};

@@ -1,7 +1,7 @@
 use Rattle.std.proofs.Common.{◌∙◌, subst, sym}
 use Rattle.module_model.specs.Bindings.{AreInOrder}
 use Rattle.unit_grammar.specs.UnitNodes.{module_of}
-use Rattle.check_core.specs.Faces.{IsFaceOf}
+use Rattle.module_faces.specs.Faces.{IsFaceOf}
 use Rattle.check_core.proofs.Facing.{face-of}
 use Rattle.check_core.proofs.checked.resolved.Goals as goal
 

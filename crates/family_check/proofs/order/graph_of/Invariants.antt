@@ -1,7 +1,0 @@
-use Rattle.std.proofs.Common.{take}
-use Rattle.family_check.specs.Plans.{IsGraph, Needs}
-use Rattle.family_check.specs.Tables.{names_in}
-use Rattle.family_check.proofs.order.graph_of.Given as goal
-
-abbrev pub invariant-loop-place : goal.invariant-loop-place
-invariant-loop-place l = IsGraph (names_in (take l.place l.modules)) (Needs l.modules) l.graph

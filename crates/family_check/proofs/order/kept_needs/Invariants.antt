@@ -1,6 +1,0 @@
-use Rattle.std.proofs.Common.{take}
-use Rattle.family_check.specs.Plans.{AreKept}
-use Rattle.family_check.proofs.order.kept_needs.Given as goal
-
-abbrev pub invariant-loop-need : goal.invariant-loop-need
-invariant-loop-need l = AreKept l.graph l.name (take l.need-index l.needs) l.kept

@@ -1,7 +1,0 @@
-use Rattle.std.proofs.Common.{ap, ◌∙◌}
-use Rattle.family_check.specs.Tables.{entry_of}
-use Rattle.family_check.proofs.Tabling.{lookup-named}
-use Rattle.family_check.proofs.table.Table.get.Goals as goal
-
-pub returns : goal.returns
-returns g c = c.get.ensures.value ∙ lookup-named c.self.inside.rows.entries c.args.name.now ∙ ap (λ entries. entry_of entries c.args.name.now) c.self.view_is

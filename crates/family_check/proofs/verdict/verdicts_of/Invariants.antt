@@ -1,7 +1,0 @@
-use Rattle.std.proofs.Common.{take}
-use Rattle.std.specs.List.{AllZip}
-use Rattle.family_check.specs.Outcomes.{IsSaid}
-use Rattle.family_check.proofs.verdict.verdicts_of.Given as goal
-
-abbrev pub invariant-loop-file : goal.invariant-loop-file
-invariant-loop-file l = AllZip (IsSaid l.outcomes) (take l.file-index l.files) l.verdicts

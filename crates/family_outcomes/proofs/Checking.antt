@@ -1,0 +1,223 @@
+-- What is found of modules, one after another.
+use Rattle.std.proofs.Common.{◌≡◌, ◌<◌, ◌≤◌, ℕ, zero, suc, ◌+◌, ◌-◌, ◌^◌, min, List, [], ◌∷◌, ◌++◌, Option, Some, None, Result, Ok, Err, IfOk, refl, sym, ap, ◌∙◌, cond, take, length, get_or, arith, true, false, Bool, ⊎_elim, subst}
+use Rattle.std.specs.Prelude.{Contains, IsSome, is_some, slice_get, sum_by}
+use Rattle.std.specs.List.{All}
+use Rattle.std.specs.Str.{bytes_eq}
+use Rattle.std.proofs.lemmas.Bool.{cases_Bool}
+use Rattle.std.proofs.lemmas.List.{take_more, map-append}
+use Rattle.std.proofs.lemmas.List.Sums.{sum_by_more}
+use Rattle.std.proofs.lemmas.Option.{slice_get-get_or}
+use Rattle.tla_model.specs.declared.Diagnostic.{Diagnostic}
+use Rattle.module_model.specs.Bindings.{AreInOrder}
+use Rattle.module_model.specs.Exports.{Outside, face_outside, nothing}
+use Rattle.module_model.specs.Imports.{Imports}
+use Rattle.module_model.specs.Resolution.{outside_in}
+use Rattle.tla_tree.specs.declared.unit.ModuleTree.{ModuleTree}
+use Rattle.front_laws.specs.Fronts.{Tree, Fault, IsFront}
+use Rattle.unit_grammar.specs.Units.{ModuleUnits}
+use Rattle.unit_grammar.specs.UnitNodes.{module_of}
+use Rattle.tool_list.specs.declared.Memory.{Memory}
+use Rattle.module_facts.proofs.Inserting.{in-order}
+use Rattle.module_facts.specs.Ordered.{in_order}
+use Rattle.module_facts.specs.Checks.{Given, CheckedModule, IsChecked, all_faults, files_given, given_in}
+use Rattle.list_laws.proofs.Lists.{contains-map}
+use Rattle.list_laws.proofs.Texts.{same-text, text-itself}
+use Rattle.family_facts.specs.Family as families
+use Rattle.family_facts.specs.Family.{Member, Diagnosed, IsDiagnosed, IsGiven, front_fault, checked, is_there}
+use Rattle.family_tables.specs.Modules.{Entry, IsEntry, AreModules, reading_holds_instance, tree_count}
+use Rattle.family_tables.specs.Plans as plans
+use Rattle.family_tables.specs.Plans.{AreOnce, IsPlan}
+use Rattle.family_tables.specs.Outcomes.{AreBare, AreImports, AreOutcomes, AreWithoutInstances, IsBare, IsMember, IsOutcome, IsReady, IsSomeModule, Says, after_ticks, trees_in, trees_of}
+use Rattle.family_tables.specs.Tables.{entry_of, names_in}
+use Rattle.family_tables.specs.declared.order.Plan.{Plan}
+use Rattle.family_tables.specs.declared.outcome.Outcome.{Outcome}
+use Rattle.family_tables.specs.declared.outcome.Outcome.TheVariants as outcome
+use Rattle.family_tables.specs.declared.reading.Module.{Module}
+use Rattle.family_tables.specs.declared.reading.Reading.TheVariants as reading
+use Rattle.family_facts.proofs.Lists.{at-contains, contains-at, zip-right}
+use Rattle.family_facts.proofs.Members.{there-member}
+use Rattle.family_facts.proofs.OneVerdict.{HasNoOther}
+use Rattle.family_tables.proofs.Tabling.{entry-found, entry-none, entry-some}
+use Rattle.family_tables.proofs.Places.{at-taken, at-take, named-member}
+use Rattle.family_tables.proofs.Bridging.{own-needs, all-needs, cyclic-map}
+use Rattle.family_tables.proofs.Graphs.{same-entry}
+use Rattle.family_outcomes.proofs.Sums.{sum-map, sum-members}
+
+-- ---- one module
+
+-- what is said of a module that was checked is found of it
+pub tree-outcome : (family : List Member) (name : List ℕ) (tree : ModuleTree) (needs : List (List ℕ)) (imports : Imports) (ch : CheckedModule) (r : Result outcome.the_data Memory) → IsMember family name (reading.Tree tree) needs → AreImports family name needs imports → IsChecked (given_in imports) tree.source (module_of tree) ch →
+    ((outside : Outside) → (ch.faults ≡ [] → face_outside ch.parts ≡ outside) → IfOk r (Says ch.faults outside)) → IfOk r (IsOutcome family name)
+tree-outcome family name tree needs imports ch (Err e) h imported k says = tt
+tree-outcome family name tree needs imports ch (Ok o) h imported k says =
+    let m : Member = h.member in
+    let units : ModuleUnits = module_of tree in
+    let given : List ℕ → Given = given_in imports in
+    let outside : Outside = outside_in (files_given given) m.bytes units in
+    let found : Diagnosed = record { faults = ch.faults; outside = outside } in
+    let front : IsFront m.name m.bytes (Tree units) = subst (λ n. IsFront n m.bytes (Tree units)) (sym h.named) h.is.front in
+    let listed : ch.faults ≡ in_order (all_faults given m.bytes units) = k.faults ∙ ap (λ s. in_order (all_faults given s units)) h.is.source in
+    let order : AreInOrder (all_faults given m.bytes units) ch.faults = subst (λ fs. AreInOrder (all_faults given m.bytes units) fs) (sym listed) (in-order (all_faults given m.bytes units)) in
+    let gives : (need : List ℕ) → families.Needs family m.name need → IsGiven family m.name need (given need) =
+    (λ need n. subst (λ x. IsGiven family x need (given need)) (sym h.named) (imported.given need (h.all need (subst (λ x. families.Needs family x need) h.named n)))) in
+    let diagnosed : IsDiagnosed family m.name found = checked h.there front gives (λ need n. imported.others need (λ c. n (subst (λ x. families.Needs family x need) (sym h.named) (h.own need c)))) order in
+    record {
+      found = found;
+      diagnosed = subst (λ x. IsDiagnosed family x found) h.named diagnosed;
+      says = says outside (λ e. k.outside e ∙ ap (λ s. outside_in (files_given given) s units) h.is.source);
+    }
+
+pub fault-outcome : (family : List Member) (name : List ℕ) (fault : Diagnostic) (needs : List (List ℕ)) (faults : List Diagnostic) → IsMember family name (reading.Fault fault) needs → faults ≡ fault ∷ [] → IsOutcome family name (outcome.Refused faults)
+fault-outcome family name fault needs faults h e =
+    let m : Member = h.member in
+    let found : Diagnosed = record { faults = fault ∷ []; outside = nothing } in
+    let diagnosed : IsDiagnosed family m.name found = front_fault h.there (subst (λ n. IsFront n m.bytes (Fault fault)) (sym h.named) h.is.0) in
+    record { found = found; diagnosed = subst (λ x. IsDiagnosed family x found) h.named diagnosed; says = (e, λ k. cc) }
+
+-- ---- the modules so far
+
+entry-append : (outcomes : List (List ℕ × Outcome)) (name item : List ℕ) (o : Outcome) → entry_of outcomes item ≡ None → entry_of (outcomes ++ (item, o) ∷ []) name ≡ cond (bytes_eq name item) (Some o) (entry_of outcomes name)
+entry-append [] name item o none = refl
+entry-append (entry ∷ outcomes) name item o none = ⊎_elim
+    (λ (t : bytes_eq item entry.0 ≡ true). let k : Some entry.1 ≡ None = sym (ap (λ b. cond b (Some entry.1) (entry_of outcomes item)) t) ∙ none in cc)
+    (λ (f : bytes_eq item entry.0 ≡ false).
+    let rest : entry_of outcomes item ≡ None = sym (ap (λ b. cond b (Some entry.1) (entry_of outcomes item)) f) ∙ none in
+    ap (λ x. cond (bytes_eq name entry.0) (Some entry.1) x) (entry-append outcomes name item o rest)
+    ∙ apart (bytes_eq name entry.0) (bytes_eq name item) (λ a b. let k : true ≡ false = sym (text-itself item entry.0 (sym (same-text name item b) ∙ same-text name entry.0 a)) ∙ f in cc) (Some entry.1) (Some o) (entry_of outcomes name))
+    (cases_Bool (bytes_eq item entry.0))
+  where
+    apart : (a b : Bool) → (a ≡ true → b ≡ true → ⊥) → (x y z : Option Outcome) → cond a x (cond b y z) ≡ cond b y (cond a x z)
+    apart true true n x y z = absurd (n refl refl)
+    apart true false n x y z = refl
+    apart false b n x y z = refl
+
+-- a module that a plan orders
+module _ (modules : List Entry) (plan : Plan) (planned : IsPlan modules plan) (i : ℕ) (d name : List ℕ) (l : i < length plan.order) (is : name ≡ get_or plan.order i d) where
+  ordered-at : slice_get plan.order i ≡ Some name
+  ordered-at = slice_get-get_or plan.order i d l ∙ ap (λ x. Some x) (sym is)
+
+  pub ordered-there : entry_of modules name ≡ None → ⊥
+  ordered-there none =
+      let s = entry-some modules name ((planned.order.all name).0 (at-contains plan.order i name ordered-at)) in
+      let k : None ≡ Some s.0 = sym none ∙ s.1 in
+      cc
+
+  pub ordered-fresh : (outcomes : List (List ℕ × Outcome)) → names_in outcomes ≡ take i plan.order → entry_of outcomes name ≡ None
+  ordered-fresh outcomes names = entry-none outcomes name (λ c.
+      let k = contains-at (take i plan.order) name (subst (λ ns. Contains ns name) names c) in
+      let at = at-taken i plan.order k.0 name k.1 in
+      let place : k.0 ≡ i = planned.order.once k.0 i name at.0 ordered-at in
+      let less : k.0 < i = at.1 in
+      absurd (omega (arith, place, less)))
+
+  pub ordered-names : (outcomes outcomes' : List (List ℕ × Outcome)) (o : Outcome) → names_in outcomes ≡ take i plan.order → outcomes' ≡ outcomes ++ (name, o) ∷ [] → names_in outcomes' ≡ take (i + 1) plan.order
+  ordered-names outcomes outcomes' o names e =
+      ap names_in e ∙ (map-append (λ (x : List ℕ × Outcome). x.0) outcomes ((name, o) ∷ []) ∙ (ap (λ ns. ns ++ name ∷ []) names ∙ (ap (λ x. take i plan.order ++ x ∷ []) is ∙ sym (take_more plan.order i d l))))
+
+  module _ (one : HasNoOther) (family : List Member) (are : AreModules family modules) (outcomes : List (List ℕ × Outcome)) (names : names_in outcomes ≡ take i plan.order) where
+    before-here : (need : List ℕ) → families.Needs family name need → (families.IsCyclic family name need → ⊥) → is_there family need ≡ true → IsSome (entry_of outcomes need)
+    before-here need n not there =
+        let m = there-member family need there in
+        let known : Contains (names_in modules) need = subst (λ x. Contains (names_in modules) x) m.2 (named-member family modules m.0 are m.1) in
+        let j = contains-at plan.order need ((planned.order.all need).1 known) in
+        let less : j.0 < i = planned.order.behind i j.0 name need ordered-at j.1 (all-needs one family modules are name need n, λ c. not (cyclic-map (plans.Needs modules) (families.Needs family) name need (own-needs one family modules are) c)) in
+        let s = entry-some outcomes need (subst (λ ns. Contains ns need) (sym names) (at-contains (take i plan.order) j.0 need (at-take i plan.order j.0 need less j.1))) in
+        ap is_some s.1
+
+    pub ready-here : ((other : List ℕ) (o : Outcome) → entry_of outcomes other ≡ Some o → IsOutcome family other o) → IsReady family plan outcomes name
+    ready-here found = record { entries = modules; planned = planned; own = own-needs one family modules are; all = all-needs one family modules are; found = found; before = before-here }
+
+pub found-more : (family : List Member) (outcomes outcomes' : List (List ℕ × Outcome)) (name : List ℕ) (o : Outcome) → entry_of outcomes name ≡ None → outcomes' ≡ outcomes ++ (name, o) ∷ [] → IsOutcome family name o →
+    ((other : List ℕ) (p : Outcome) → entry_of outcomes other ≡ Some p → IsOutcome family other p) → (other : List ℕ) (p : Outcome) → entry_of outcomes' other ≡ Some p → IsOutcome family other p
+found-more family outcomes outcomes' name o none e new found other p h =
+    let value : entry_of outcomes' other ≡ cond (bytes_eq other name) (Some o) (entry_of outcomes other) = ap (λ z. entry_of z other) e ∙ entry-append outcomes other name o none in
+    ⊎_elim
+    (λ (t : bytes_eq other name ≡ true).
+    let s : ◌≡◌ {A = Option Outcome} (Some o) (Some p) = sym (ap (λ b. cond b (Some o) (entry_of outcomes other)) t) ∙ (sym value ∙ h) in
+    let same : o ≡ p = some-same o p s in
+    subst (λ x. IsOutcome family x p) (sym (same-text other name t)) (subst (λ x. IsOutcome family name x) same new))
+    (λ (f : bytes_eq other name ≡ false). found other p (sym (ap (λ b. cond b (Some o) (entry_of outcomes other)) f) ∙ (sym value ∙ h)))
+    (cases_Bool (bytes_eq other name))
+  where
+    some-same : (x y : Outcome) → ◌≡◌ {A = Option Outcome} (Some x) (Some y) → x ≡ y
+    some-same x y s = cc
+
+-- no outcome brings an instance
+pub bare-more : (outcomes outcomes' : List (List ℕ × Outcome)) (name : List ℕ) (o : Outcome) → entry_of outcomes name ≡ None → outcomes' ≡ outcomes ++ (name, o) ∷ [] → IsBare o → AreBare outcomes → AreBare outcomes'
+bare-more outcomes outcomes' name o none e new bare other p h =
+    let value : entry_of outcomes' other ≡ cond (bytes_eq other name) (Some o) (entry_of outcomes other) = ap (λ z. entry_of z other) e ∙ entry-append outcomes other name o none in
+    by (bytes_eq other name) (sym value ∙ h)
+  where
+    by : (b : Bool) → cond b (Some o) (entry_of outcomes other) ≡ Some p → IsBare p
+    by true s = subst IsBare (same s) new
+      where
+        same : ◌≡◌ {A = Option Outcome} (Some o) (Some p) → o ≡ p
+        same s = cc
+    by false s = bare other p s
+
+pub none-bare : AreBare []
+none-bare name o h = absurd (none-some h)
+  where
+    none-some : ◌≡◌ {A = Option Outcome} None (Some o) → ⊥
+    none-some h = cc
+
+-- the module under a name holds no INSTANCE
+pub without-here : (modules : List Entry) (name : List ℕ) (m : Module) → AreWithoutInstances modules → entry_of modules name ≡ Some m → reading_holds_instance m.reading ≡ false
+without-here modules name m all e =
+    let h = entry-found modules name m e in
+    subst (λ (x : Entry). reading_holds_instance x.1.reading ≡ false) h.2 (all h.0 (name, m) h.1)
+
+-- the module under a name is the member of that name
+pub member-here : (one : HasNoOther) (family : List Member) (modules : List Entry) (name : List ℕ) (m : Module) → AreOnce (names_in modules) → AreModules family modules → entry_of modules name ≡ Some m → IsMember family name m.reading m.needs
+member-here one family modules name m once are e =
+    let there : Contains modules (name, m) = entry-found modules name m e in
+    let z = zip-right IsEntry family modules (name, m) are there in
+    record {
+      member = z.0;
+      there = z.1;
+      named = sym (z.2).named;
+      is = (z.2).is.reading;
+      own = λ need c. own-needs one family modules are name need (record { entry = (name, m); there = there; named = refl; needs = c });
+      all = λ need n. let k = all-needs one family modules are name need n in subst (λ (x : Entry). Contains x.1.needs need) (same-entry modules k.entry (name, m) once k.there there k.named) k.needs;
+    }
+
+pub module-here : (modules : List Entry) (name : List ℕ) (m : Module) → All (λ (entry : Entry). IsSomeModule entry.0 entry.1) modules → entry_of modules name ≡ Some m → IsSomeModule name m
+module-here modules name m all e =
+    let h = entry-found modules name m e in
+    subst (λ (x : Entry). IsSomeModule x.0 x.1) h.2 (all h.0 (name, m) h.1)
+
+-- ---- all modules
+
+pub outcomes-all : (family : List Member) (modules : List Entry) (plan : Plan) (outcomes : List (List ℕ × Outcome)) → AreModules family modules → IsPlan modules plan → names_in outcomes ≡ plan.order → ((other : List ℕ) (o : Outcome) → entry_of outcomes other ≡ Some o → IsOutcome family other o) → AreOutcomes family outcomes
+outcomes-all family modules plan outcomes are planned names found name there =
+    let m = there-member family name there in
+    let known : Contains (names_in modules) name = subst (λ x. Contains (names_in modules) x) m.2 (named-member family modules m.0 are m.1) in
+    let s = entry-some outcomes name (subst (λ ns. Contains ns name) (sym names) ((planned.order.all name).1 known)) in
+    (s.0, s.1, found name s.0 s.1)
+
+pub ticks-more : (n : ℕ) (r : reading.the_data) (before old new : ℕ) → old ≡ after_ticks n before → new ≡ after_ticks (tree_count r) old → new ≡ after_ticks (n + tree_count r) before
+ticks-more n (reading.Tree tree) before old new is tick = let e : n + 1 ≡ suc n = omega arith in tick ∙ (ap (λ s. min (s + 1) (2 ^ 64 - 1)) is ∙ ap (λ k. after_ticks k before) (sym e))
+ticks-more n (reading.Fault fault) before old new is tick = let e : n + 0 ≡ n = omega arith in tick ∙ (is ∙ ap (λ k. after_ticks k before) (sym e))
+
+-- the modules that a plan orders are all modules
+pub trees-all : (modules : List Entry) (plan : Plan) → AreOnce (names_in modules) → IsPlan modules plan → sum_by (λ name. trees_of (entry_of modules name)) plan.order ≡ trees_in modules
+trees-all modules plan once planned =
+    let count : List ℕ → ℕ = λ name. trees_of (entry_of modules name) in
+    sum-members count plan.order (names_in modules) planned.order.once once (λ x c. (planned.order.all x).0 c) (λ x c. (planned.order.all x).1 c)
+    ∙ sum-map count (λ (e : Entry). e.0) (λ (e : Entry). tree_count e.1.reading) modules (λ e c.
+    let s = entry-some modules e.0 (contains-map (λ (x : Entry). x.0) modules e c) in
+    let same : (e.0, s.0) ≡ e = same-entry modules (e.0, s.0) e once (entry-found modules e.0 s.0 s.1) c refl in
+    ap trees_of s.1 ∙ ap (λ (x : Entry). tree_count x.1.reading) same)
+
+-- so many ticks
+pub ticks-within : (n steps : ℕ) → steps ≤ 2 ^ 64 - 1 → after_ticks n steps ≡ min (steps + n) (2 ^ 64 - 1)
+ticks-within zero steps l = omega (arith, l)
+ticks-within (suc n) steps l = let e = ticks-within n steps l in omega (arith, e, l)
+
+pub steps-more : (modules : List Entry) (order : List (List ℕ)) (i : ℕ) (d name : List ℕ) (m : Module) (before old new : ℕ) → i < length order → name ≡ get_or order i d → entry_of modules name ≡ Some m → old ≡ after_ticks (sum_by (λ n. trees_of (entry_of modules n)) (take i order)) before → new ≡ after_ticks (tree_count m.reading) old →
+    new ≡ after_ticks (sum_by (λ n. trees_of (entry_of modules n)) (take (i + 1) order)) before
+steps-more modules order i d name m before old new l is e h tick =
+    let count : List ℕ → ℕ = λ n. trees_of (entry_of modules n) in
+    let here : count (get_or order i d) ≡ tree_count m.reading = ap count (sym is) ∙ ap trees_of e in
+    let whole : sum_by count (take (i + 1) order) ≡ sum_by count (take i order) + tree_count m.reading = sum_by_more count order i d l ∙ ap (λ k. sum_by count (take i order) + k) here in
+    ticks-more (sum_by count (take i order)) m.reading before old new h tick ∙ ap (λ k. after_ticks k before) (sym whole)

@@ -1,0 +1,69 @@
+use Rattle.std.proofs.Common.{◌<◌, ◌≤◌, ◌∙◌, ap, subst, sym, length, get_or}
+use Rattle.std.proofs.lemmas.List.{take_all}
+use Rattle.family_tables.specs.Outcomes.{after_ticks, trees_of}
+use Rattle.family_outcomes.proofs.Checking.{bare-more, found-more, member-here, module-here, ordered-fresh, ordered-names, ordered-there, outcomes-all, ready-here, steps-more, trees-all, without-here}
+use Rattle.family_tables.specs.Tables.{entry_of}
+use Rattle.std.specs.Prelude.{sum_by}
+use Rattle.family_outcomes.proofs.outcomes.check_all.Goals as goal
+
+pub unreachable-requires : goal.unreachable-requires
+unreachable-requires g c =
+    let i = c.loop-name.name-index in
+    let order = c.args.plan.now.order in
+    let within : i < length order = subst (λ ns. i < length ns) c.as_slice-name-items.ensures c.loop-name-test.true in
+    let is = c.as_str-name.ensures ∙ (c.name-item.is ∙ ap (λ ns. get_or ns i c.name-item.result) c.as_slice-name-items.ensures) in
+    ordered-there c.args.modules.now c.args.plan.now c.requires.plan i c.name-item.result c.as_str-name.result.now within is (sym c.in_default.ensures)
+
+pub check_one-requires-clause-some : goal.check_one-requires-clause-some
+check_one-requires-clause-some g c = module-here c.args.modules.now c.as_str-name.result.now c.in-Some.«module».now c.requires.read (sym c.in-Some.ensures)
+
+pub check_one-requires-clause-without : goal.check_one-requires-clause-without
+check_one-requires-clause-without g c = without-here c.args.modules.now c.as_str-name.result.now c.in-Some.«module».now c.requires.without (sym c.in-Some.ensures)
+
+pub add-requires : goal.add-requires
+add-requires g c =
+    let i = c.loop-name.name-index in
+    let order = c.args.plan.now.order in
+    let within : i < length order = subst (λ ns. i < length ns) c.as_slice-name-items.ensures c.loop-name-test.true in
+    let is = c.as_str-name.ensures ∙ (c.name-item.is ∙ ap (λ ns. get_or ns i c.name-item.result) c.as_slice-name-items.ensures) in
+    ordered-fresh c.args.modules.now c.args.plan.now c.requires.plan i c.name-item.result c.as_str-name.result.now within is c.loop-name.outcomes c.loop-name.invariant.names
+
+pub loop-name-preserved : goal.loop-name-preserved
+loop-name-preserved g c =
+    let i = c.loop-name.name-index in
+    let d = c.name-item.result in
+    let name = c.as_str-name.result.now in
+    let modules = c.args.modules.now in
+    let plan = c.args.plan.now in
+    let within : i < length plan.order = subst (λ ns. i < length ns) c.as_slice-name-items.ensures c.loop-name-test.true in
+    let is = c.as_str-name.ensures ∙ (c.name-item.is ∙ ap (λ ns. get_or ns i d) c.as_slice-name-items.ensures) in
+    let inv = c.loop-name.invariant in
+    let found = c.in-Some.«module».now in
+    let there = sym c.in-Some.ensures in
+    record {
+      names = ordered-names modules plan c.requires.plan i d name within is c.loop-name.outcomes c.add.new.self c.in_ok-outcome.outcome inv.names c.in_ok-add.ensures;
+      found = λ family are.
+          found-more family c.loop-name.outcomes c.add.new.self name c.in_ok-outcome.outcome
+          (ordered-fresh modules plan c.requires.plan i d name within is c.loop-name.outcomes inv.names) c.in_ok-add.ensures
+          (c.in_ok-outcome.ensures.outcome family
+          (ready-here modules plan c.requires.plan i d name within is c.one_front.ensures.same family are c.loop-name.outcomes inv.names (inv.found family are))
+          (member-here c.one_front.ensures.same family modules name found c.requires.once are there))
+          (inv.found family are);
+      bare = bare-more c.loop-name.outcomes c.add.new.self name c.in_ok-outcome.outcome (ordered-fresh modules plan c.requires.plan i d name within is c.loop-name.outcomes inv.names) c.in_ok-add.ensures c.in_ok-outcome.ensures.bare inv.bare;
+      steps = steps-more modules plan.order i d name found c.args.steps.now c.loop-name.steps c.check_one.new.steps within is there inv.steps c.in_ok-outcome.ensures.steps;
+    }
+
+pub returns-clause-outcomes : goal.returns-clause-outcomes
+returns-clause-outcomes g c family are =
+    let order = c.args.plan.now.order in
+    let whole = take_all c.loop-name.name-index order (subst (λ ns. length ns ≤ c.loop-name.name-index) c.as_slice-name-items.ensures c.loop-name-test.false) in
+    outcomes-all family c.args.modules.now c.args.plan.now c.loop-name.outcomes are c.requires.plan (c.loop-name.invariant.names ∙ whole) (c.loop-name.invariant.found family are)
+
+pub returns-clause-steps : goal.returns-clause-steps
+returns-clause-steps g c =
+    let order = c.args.plan.now.order in
+    let modules = c.args.modules.now in
+    let whole = take_all c.loop-name.name-index order (subst (λ ns. length ns ≤ c.loop-name.name-index) c.as_slice-name-items.ensures c.loop-name-test.false) in
+    c.loop-name.invariant.steps
+    ∙ (ap (λ ns. after_ticks (sum_by (λ name. trees_of (entry_of modules name)) ns) c.args.steps.now) whole
+    ∙ ap (λ n. after_ticks n c.args.steps.now) (trees-all modules c.args.plan.now c.requires.once c.requires.plan))

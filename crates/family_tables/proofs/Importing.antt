@@ -1,0 +1,152 @@
+-- What the modules are that a module needs, and the imports of them.
+use Rattle.std.proofs.Common.{◌≡◌, ◌<◌, ℕ, ◌+◌, List, [], ◌∷◌, ◌++◌, Option, Some, None, refl, sym, ap, ◌∙◌, cond, take, length, get_or, true, false, Bool, ⊎_elim, inl, inr, not, subst, Bor}
+use Rattle.std.specs.Prelude.{◌↔◌, Contains, IsTrue, is_some, is_none, option_copied}
+use Rattle.std.specs.Arc.{arc_value}
+use Rattle.std.specs.Str.{bytes_eq}
+use Rattle.std.proofs.lemmas.Bool.{cases_Bool, both_ways}
+use Rattle.std.proofs.lemmas.List.{take_more}
+use Rattle.std.proofs.lemmas.Option.{slice_get-get_or}
+use Rattle.std.proofs.lemmas.List.Elements.{Contains-append_left, Contains-append_right}
+use Rattle.module_model.specs.declared.imported.Import.{Import}
+use Rattle.module_model.specs.Exports.{face_outside, import_behind}
+use Rattle.module_model.specs.Imports.{Imports, import_of}
+use Rattle.module_facts.specs.Checks.{Given, Unknown, Cyclic, Refused, Accepted, given_by, given_in}
+use Rattle.list_laws.proofs.Texts.{same-text, text-itself}
+use Rattle.family_facts.specs.Family as families
+use Rattle.family_facts.specs.Family.{Member, IsGiven, unknown, cyclic, refused, accepted, is_there}
+use Rattle.family_tables.specs.Modules.{Entry}
+use Rattle.family_tables.specs.Plans as plans
+use Rattle.family_tables.specs.Plans.{IsPlan}
+use Rattle.family_tables.specs.Tables.{entry_of}
+use Rattle.family_tables.specs.Outcomes.{AreBareImports, IsBareImport, IsImport, IsOutcome, IsReady}
+use Rattle.family_tables.specs.declared.order.Plan.{Plan}
+use Rattle.family_tables.specs.declared.outcome.Outcome.{Outcome}
+use Rattle.family_tables.specs.declared.outcome.Outcome.TheVariants as outcome
+use Rattle.family_facts.proofs.Lists.{among-or-not, at-contains, contains-pushed, here}
+use Rattle.family_tables.proofs.Bridging.{cyclic-map, cyclic-there, diagnosed-there}
+
+-- ---- one import
+
+-- what a module is by its outcome
+abbrev pub IsGivenBy : outcome.the_data → Given → Type 0
+IsGivenBy (outcome.Refused faults) given = given ≡ Refused
+IsGivenBy (outcome.Accepted face) given = given ≡ Accepted (face_outside (arc_value face).parts)
+
+-- what is asked of a plan of the modules
+abbrev pub SaysCyclic : Plan → List ℕ → List ℕ → Bool → Type 0
+SaysCyclic plan name need answer = (entries : List Entry) → IsPlan entries plan → plans.Needs entries name need → IsTrue answer ↔ plans.IsCyclic entries name need
+
+module _ (family : List Member) (plan : Plan) (outcomes : List (List ℕ × Outcome)) (name need : List ℕ) (answer : Bool) (says : SaysCyclic plan name need answer) (ready : IsReady family plan outcomes name) (n : families.Needs family name need) where
+  cyclic-here : answer ≡ true → families.IsCyclic family name need
+  cyclic-here t = cyclic-map (plans.Needs ready.entries) (families.Needs family) name need ready.own ((says ready.entries ready.planned (ready.all name need n)).0 t)
+
+  not-cyclic : answer ≡ false → families.IsCyclic family name need → ⊥
+  not-cyclic f c = both_ways answer f ((says ready.entries ready.planned (ready.all name need n)).1 (cyclic-map (families.Needs family) (plans.Needs ready.entries) name need ready.all c))
+
+  pub import-cyclic : answer ≡ true → IsGiven family name need Cyclic
+  import-cyclic t = cyclic (cyclic-there family name need n (cyclic-here t)) (cyclic-here t)
+
+  pub import-unknown : answer ≡ false → entry_of outcomes need ≡ None → IsGiven family name need Unknown
+  import-unknown f none = ⊎_elim
+      (λ (t : is_there family need ≡ true). let s : is_some (entry_of outcomes need) ≡ true = ready.before need n (not-cyclic f) t in absurd (both_ways (is_some (entry_of outcomes need)) (ap is_some none) s))
+      (λ (g : is_there family need ≡ false). unknown g)
+      (cases_Bool (is_there family need))
+
+  pub import-found : answer ≡ false → (o : outcome.the_data) (given : Given) → entry_of outcomes need ≡ Some o → IsGivenBy o given → IsGiven family name need given
+  import-found f (outcome.Refused faults) given e is =
+      let o : IsOutcome family need (outcome.Refused faults) = ready.found need (outcome.Refused faults) e in
+      subst (λ g. IsGiven family name need g) (sym is) (refused (diagnosed-there family need o.found o.diagnosed) (not-cyclic f) o.diagnosed o.says.1)
+  import-found f (outcome.Accepted face) given e is =
+      let o : IsOutcome family need (outcome.Accepted face) = ready.found need (outcome.Accepted face) e in
+      subst (λ g. IsGiven family name need g) (ap Accepted (sym o.says.1) ∙ sym is) (accepted (diagnosed-there family need o.found o.diagnosed) (not-cyclic f) o.diagnosed o.says.0)
+
+-- ---- imports that grow
+
+import-append : (imports : Imports) (name item : List ℕ) (import : Import) → import_of imports item ≡ None → import_of (imports ++ (item, import) ∷ []) name ≡ cond (bytes_eq name item) (Some import) (import_of imports name)
+import-append [] name item import none = refl
+import-append (entry ∷ imports) name item import none = ⊎_elim
+    (λ (t : bytes_eq item entry.0 ≡ true). let k : Some entry.1 ≡ None = sym (ap (λ b. cond b (Some entry.1) (import_of imports item)) t) ∙ none in cc)
+    (λ (f : bytes_eq item entry.0 ≡ false).
+    let rest : import_of imports item ≡ None = sym (ap (λ b. cond b (Some entry.1) (import_of imports item)) f) ∙ none in
+    ap (λ o. cond (bytes_eq name entry.0) (Some entry.1) o) (import-append imports name item import rest)
+    ∙ apart (bytes_eq name entry.0) (bytes_eq name item) (λ a b. let k : true ≡ false = sym (text-itself item entry.0 (sym (same-text name item b) ∙ same-text name entry.0 a)) ∙ f in cc) (Some entry.1) (Some import) (import_of imports name))
+    (cases_Bool (bytes_eq item entry.0))
+  where
+    apart : (a b : Bool) → (a ≡ true → b ≡ true → ⊥) → (x y z : Option Import) → cond a x (cond b y z) ≡ cond b y (cond a x z)
+    apart true true n x y z = absurd (n refl refl)
+    apart true false n x y z = refl
+    apart false b n x y z = refl
+
+-- no import brings an instance
+pub bare-more : (imports : Imports) (item : List ℕ) (import : Import) (imports' : Imports) → import_of imports item ≡ None → imports' ≡ imports ++ (item, import) ∷ [] → IsBareImport import → AreBareImports imports → AreBareImports imports'
+bare-more imports item import imports' none e new bare name =
+    let value : import_of imports' name ≡ cond (bytes_eq name item) (Some import) (import_of imports name) = ap (λ z. import_of z name) e ∙ import-append imports name item import none in
+    ap import_behind value ∙ by (bytes_eq name item)
+  where
+    by : (b : Bool) → import_behind (cond b (Some import) (import_of imports name)) ≡ []
+    by true = new
+    by false = bare name
+
+-- whether there is an import
+pub none-from : {T : Type 0} (o : Option (Bor T)) (b : Bool) (x : Option T) → is_some o ≡ not b → b ≡ true → option_copied o ≡ x → x ≡ None
+none-from None b x e t s = sym s
+none-from (Some y) b x e t s = let k : true ≡ false = e ∙ ap not t in cc
+
+pub some-from : {T : Type 0} (o : Option (Bor T)) (b : Bool) (x : Option T) → is_some o ≡ not b → b ≡ false → option_copied o ≡ x → is_none x ≡ false
+some-from None b x e f s = let k : false ≡ true = e ∙ ap not f in cc
+some-from (Some y) b x e f s = ap is_none (sym s)
+
+-- what is given of some names
+abbrev pub AreGiven : List Member → List ℕ → List (List ℕ) → Imports → Type 0
+AreGiven family name needs imports = (need : List ℕ) → Contains needs need → IsGiven family name need (given_in imports need)
+
+-- nothing else is imported
+abbrev pub AreOthers : List (List ℕ) → Imports → Type 0
+AreOthers needs imports = (need : List ℕ) → (Contains needs need → ⊥) → import_of imports need ≡ None
+
+module _ (needs : List (List ℕ)) (i : ℕ) (d item : List ℕ) (l : i < length needs) (is : item ≡ get_or needs i d) (imports : Imports) where
+  taken : take i needs ++ item ∷ [] ≡ take (i + 1) needs
+  taken = ap (λ x. take i needs ++ x ∷ []) is ∙ sym (take_more needs i d l)
+
+  pub item-needed : Contains needs item
+  item-needed = at-contains needs i item (slice_get-get_or needs i d l ∙ ap (λ x. Some x) (sym is))
+
+  -- one more import
+  pub given-more : (family : List Member) (name : List ℕ) (import : Import) (imports' : Imports) → import_of imports item ≡ None → imports' ≡ imports ++ (item, import) ∷ [] → IsImport family name item import → AreGiven family name (take i needs) imports → AreGiven family name (take (i + 1) needs) imports'
+  given-more family name import imports' none e new given need c =
+      let value : import_of imports' need ≡ cond (bytes_eq need item) (Some import) (import_of imports need) = ap (λ z. import_of z need) e ∙ import-append imports need item import none in
+      ⊎_elim
+      (λ (t : bytes_eq need item ≡ true).
+      let v : import_of imports' need ≡ Some import = value ∙ ap (λ b. cond b (Some import) (import_of imports need)) t in
+      subst (λ g. IsGiven family name need g) (ap given_by (sym v)) (subst (λ x. IsGiven family name x (given_by (Some import))) (sym (same-text need item t)) new))
+      (λ (f : bytes_eq need item ≡ false).
+      let v : import_of imports' need ≡ import_of imports need = value ∙ ap (λ b. cond b (Some import) (import_of imports need)) f in
+      let before : Contains (take i needs) need = elim (contains-pushed (take i needs) item need (subst (λ ns. Contains ns need) (sym taken) c)) as (λ _. Contains (take i needs) need) [
+        | inl b ↦ b
+        | inr s ↦ let k : true ≡ false = sym (text-itself need item (sym s)) ∙ f in cc
+      ] in
+      subst (λ g. IsGiven family name need g) (ap given_by (sym v)) (given need before))
+      (cases_Bool (bytes_eq need item))
+
+  pub others-more : (import : Import) (imports' : Imports) → import_of imports item ≡ None → imports' ≡ imports ++ (item, import) ∷ [] → AreOthers (take i needs) imports → AreOthers (take (i + 1) needs) imports'
+  others-more import imports' none e others need n =
+      let value : import_of imports' need ≡ cond (bytes_eq need item) (Some import) (import_of imports need) = ap (λ z. import_of z need) e ∙ import-append imports need item import none in
+      ⊎_elim
+      (λ (t : bytes_eq need item ≡ true).
+      absurd (n (subst (λ ns. Contains ns need) taken (subst (λ x. Contains (take i needs ++ item ∷ []) x) (sym (same-text need item t)) (Contains-append_right (take i needs) (item ∷ []) item (here item []))))))
+      (λ (f : bytes_eq need item ≡ false).
+      value ∙ (ap (λ b. cond b (Some import) (import_of imports need)) f ∙ others need (λ c. n (subst (λ ns. Contains ns need) taken (Contains-append_left (take i needs) (item ∷ []) need c)))))
+      (cases_Bool (bytes_eq need item))
+
+  -- one that is there already
+  pub given-again : (family : List Member) (name : List ℕ) → is_none (import_of imports item) ≡ false → AreOthers (take i needs) imports → AreGiven family name (take i needs) imports → AreGiven family name (take (i + 1) needs) imports
+  given-again family name some others given need c = elim (contains-pushed (take i needs) item need (subst (λ ns. Contains ns need) (sym taken) c)) as (λ _. IsGiven family name need (given_in imports need)) [
+    | inl b ↦ given need b
+    | inr s ↦ elim (among-or-not (take i needs) need) as (λ _. IsGiven family name need (given_in imports need)) [
+      | inl b ↦ given need b
+      | inr n ↦ let none : import_of imports item ≡ None = ap (import_of imports) s ∙ others need n in absurd (both_ways (is_none (import_of imports item)) some (ap is_none none))
+    ]
+  ]
+
+  pub others-again : AreOthers (take i needs) imports → AreOthers (take (i + 1) needs) imports
+  others-again others need n = others need (λ c. n (subst (λ ns. Contains ns need) taken (Contains-append_left (take i needs) (item ∷ []) need c)))

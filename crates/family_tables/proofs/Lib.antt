@@ -1,0 +1,8 @@
+pub mod Graphs
+pub mod Tabling
+pub mod Lying
+pub mod Places
+pub mod Holding
+pub mod Texts
+pub mod Bridging
+pub mod Importing

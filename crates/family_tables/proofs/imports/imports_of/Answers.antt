@@ -1,0 +1,46 @@
+use Rattle.std.proofs.Common.{◌+◌, ◌∙◌, ap, subst, sym, take}
+use Rattle.std.proofs.lemmas.List.{take_all}
+use Rattle.module_facts.specs.Checks.{given_by}
+use Rattle.family_tables.specs.Outcomes.{AreBareImports}
+use Rattle.module_model.specs.Imports.{import_of}
+use Rattle.family_tables.proofs.Importing.{AreGiven, AreOthers, bare-more, given-again, given-more, item-needed, none-from, others-again, others-more, some-from}
+use Rattle.family_tables.proofs.imports.imports_of.Goals.{then-is_none+in_ok-import_of+in_ok-add, else-is_none}
+use Rattle.family_tables.proofs.imports.imports_of.Goals as goal
+
+pub loop-need-preserved : goal.loop-need-preserved
+loop-need-preserved c =
+    let needs = c.args.needs.now in
+    let i = c.loop-need.need-index in
+    let item = c.as_str-need.result.now in
+    let imports = c.loop-need.imported in
+    let is = c.as_str-need.ensures ∙ c.need-item.is in
+    elim c.if-is_none.branch [
+      | then-is_none+in_ok-import_of+in_ok-add w ↦
+          let none = none-from c.get.result c.is_none.result (import_of imports item) c.is_none.ensures w.if-is_none.true c.get.ensures in
+          let e = w.imported-is ∙ w.in_ok-add.ensures.ok in
+          record {
+            given = λ family ready all.
+                given-more needs i c.need-item.result item c.loop-need-test.true is imports family c.args.name.now w.in_ok-import_of.field-0 c.if-is_none.imported none e
+                (w.in_ok-import_of.ensures.given family ready (all item (item-needed needs i c.need-item.result item c.loop-need-test.true is imports))) (c.loop-need.invariant.given family ready all);
+            bare = bare-more imports item w.in_ok-import_of.field-0 c.if-is_none.imported none e w.in_ok-import_of.ensures.bare c.loop-need.invariant.bare;
+            others = others-more needs i c.need-item.result item c.loop-need-test.true is imports w.in_ok-import_of.field-0 c.if-is_none.imported none e c.loop-need.invariant.others;
+          }
+      | else-is_none w ↦
+          let some = some-from c.get.result c.is_none.result (import_of imports item) c.is_none.ensures w.if-is_none.false c.get.ensures in
+          record {
+            given = λ family ready all.
+                subst (λ z. AreGiven family c.args.name.now (take (i + 1) needs) z) (sym w.imported-is)
+                (given-again needs i c.need-item.result item c.loop-need-test.true is imports family c.args.name.now some c.loop-need.invariant.others (c.loop-need.invariant.given family ready all));
+            bare = subst (λ z. AreBareImports z) (sym w.imported-is) c.loop-need.invariant.bare;
+            others = subst (λ z. AreOthers (take (i + 1) needs) z) (sym w.imported-is) (others-again needs i c.need-item.result item c.loop-need-test.true is imports c.loop-need.invariant.others);
+          }
+    ]
+
+pub returns-clause-given : goal.returns-clause-given
+returns-clause-given c family ready all =
+    let needs = c.args.needs.now in
+    let whole = take_all c.loop-need.need-index needs c.loop-need-test.false in
+    record {
+      given = subst (λ ns. AreGiven family c.args.name.now ns c.loop-need.imported) whole (c.loop-need.invariant.given family ready all);
+      others = λ need n. ap given_by (subst (λ ns. AreOthers ns c.loop-need.imported) whole c.loop-need.invariant.others need n);
+    }

@@ -1,0 +1,119 @@
+-- What is found of the modules of a family, one after another.
+use Rattle.std.specs.Prelude.{◌≡◌, ◌≢◌, ⊤, false, ◌+◌, ◌-◌, ◌^◌, min, ℕ, zero, suc, List, [], Option, Some, None, Contains, IsSome, true, sum_by}
+use Rattle.std.specs.List.{All}
+use Rattle.std.specs.Arc.{arc_value}
+use Rattle.tla_model.specs.declared.Diagnostic.{Diagnostic}
+use Rattle.module_model.specs.declared.imported.Import.{Import}
+use Rattle.module_model.specs.Exports.{Outside, face_outside, import_behind, parts_behind}
+use Rattle.module_model.specs.Imports.{Imports, import_of}
+use Rattle.module_facts.specs.Checks.{Unknown, given_by, given_in}
+use Rattle.family_facts.specs.Family as families
+use Rattle.family_facts.specs.Family.{Member, Diagnosed, IsDiagnosed, IsGiven, is_there}
+use Rattle.family_tables.specs.Modules.{Entry, IsModule, IsReading, reading_holds_instance, tree_count}
+use Rattle.family_tables.specs.Plans as plans
+use Rattle.family_tables.specs.Plans.{IsPlan}
+use Rattle.family_facts.specs.Verdicts.{text_of}
+use Rattle.family_tables.specs.Tables.{entry_of}
+use Rattle.family_tables.specs.declared.reading.Module.{Module}
+use Rattle.family_tables.specs.declared.reading.Reading.{Reading}
+use Rattle.family_tables.specs.declared.order.Plan.{Plan}
+use Rattle.family_tables.specs.declared.outcome.Outcome.{Outcome}
+use Rattle.family_facts.specs.declared.verdict.File.{File}
+use Rattle.family_facts.specs.declared.verdict.Verdict.{Verdict}
+
+-- an outcome says these faults, and what the module is to others where there are none
+abbrev pub Says : List Diagnostic → Outside → Outcome → Type 0
+Says faults outside (Outcome.Refused found) = (found ≡ faults) × (faults ≢ [])
+Says faults outside (Outcome.Accepted face) = (faults ≡ []) × (face_outside (arc_value face).parts ≡ outside)
+
+-- an outcome says what is found of the member of a name
+pub record IsOutcome (family : List Member) (name : List ℕ) (outcome : Outcome) : Type 0 where
+  pub found : Diagnosed
+  pub diagnosed : IsDiagnosed family name found
+  pub says : Says found.faults found.outside outcome
+
+-- ---- modules without INSTANCE
+
+-- an outcome brings no instance
+abbrev pub IsBare : Outcome → Type 0
+IsBare (Outcome.Refused found) = ⊤
+IsBare (Outcome.Accepted face) = parts_behind (arc_value face).parts (arc_value face).parts ≡ []
+
+abbrev pub AreBare : List (List ℕ × Outcome) → Type 0
+AreBare outcomes = (name : List ℕ) (outcome : Outcome) → entry_of outcomes name ≡ Some outcome → IsBare outcome
+
+-- nor does an import
+abbrev pub IsBareImport : Import → Type 0
+IsBareImport import = import_behind (Some import) ≡ []
+
+abbrev pub AreBareImports : Imports → Type 0
+AreBareImports imports = (name : List ℕ) → import_behind (import_of imports name) ≡ []
+
+-- the word INSTANCE stands in none of these modules
+abbrev pub AreWithoutInstances : List Entry → Type 0
+AreWithoutInstances entries = All (λ entry. reading_holds_instance entry.1.reading ≡ false) entries
+
+-- ---- imports
+
+-- all that is known where a module is checked
+pub record IsReady (family : List Member) (plan : Plan) (outcomes : List (List ℕ × Outcome)) (name : List ℕ) : Type 0 where
+  pub entries : List Entry
+  pub planned : IsPlan entries plan
+  pub own : (other need : List ℕ) → plans.Needs entries other need → families.Needs family other need
+  pub all : (other need : List ℕ) → families.Needs family other need → plans.Needs entries other need
+  pub found : (other : List ℕ) (outcome : Outcome) → entry_of outcomes other ≡ Some outcome → IsOutcome family other outcome
+  pub before : (need : List ℕ) → families.Needs family name need → (families.IsCyclic family name need → ⊥) → is_there family need ≡ true → IsSome (entry_of outcomes need)
+
+-- an import is what a module is to one that needs it
+abbrev pub IsImport : List Member → List ℕ → List ℕ → Import → Type 0
+IsImport family name need import = IsGiven family name need (given_by (Some import))
+
+-- each need is imported, and nothing else
+pub record AreImports (family : List Member) (name : List ℕ) (needs : List (List ℕ)) (imports : Imports) : Type 0 where
+  pub given : (need : List ℕ) → Contains needs need → IsGiven family name need (given_in imports need)
+  pub others : (need : List ℕ) → (Contains needs need → ⊥) → given_in imports need ≡ Unknown
+
+-- ---- outcomes
+
+-- a module that was read is the member of a name, and its needs are those of the name
+pub record IsMember (family : List Member) (name : List ℕ) (reading : Reading) (needs : List (List ℕ)) : Type 0 where
+  pub member : Member
+  pub there : Contains family member
+  pub named : member.name ≡ name
+  pub is : IsReading name member.bytes reading
+  pub own : (need : List ℕ) → Contains needs need → families.Needs family name need
+  pub all : (need : List ℕ) → families.Needs family name need → Contains needs need
+
+-- a name has some module
+abbrev pub IsSomeModule : List ℕ → Module → Type 0
+IsSomeModule name «module» = (bytes : List ℕ) × IsModule name bytes «module»
+
+-- each member of a family has its outcome
+abbrev pub AreOutcomes : List Member → List (List ℕ × Outcome) → Type 0
+AreOutcomes family outcomes = (name : List ℕ) → is_there family name ≡ true → (outcome : Outcome) × (entry_of outcomes name ≡ Some outcome) × IsOutcome family name outcome
+
+-- a count after so many ticks
+abbrev pub after_ticks : ℕ → ℕ → ℕ
+after_ticks zero steps = steps
+after_ticks (suc n) steps = min (after_ticks n steps + 1) (2 ^ 64 - 1)
+
+-- how many of these modules have a tree
+abbrev pub trees_in : List Entry → ℕ
+trees_in entries = sum_by (λ entry. tree_count entry.1.reading) entries
+
+-- how many of the modules of a name have a tree, as far as it has a module
+abbrev pub trees_of : Option Module → ℕ
+trees_of None = 0
+trees_of (Some «module») = tree_count «module».reading
+
+-- ---- verdicts
+
+abbrev pub faults_of : Option Outcome → List Diagnostic
+faults_of (Some (Outcome.Refused faults)) = faults
+faults_of _ = []
+
+-- what is said of a file by its outcome
+pub record IsSaid (outcomes : List (List ℕ × Outcome)) (file : File) (verdict : Verdict) : Type 0 where
+  pub name : verdict.name ≡ file.name
+  pub text : verdict.text ≡ text_of file.bytes
+  pub faults : verdict.faults ≡ faults_of (entry_of outcomes file.name)

@@ -1,0 +1,3 @@
+mod Lying
+mod Holding
+pub mod Bare
