@@ -133,11 +133,14 @@ impl Stack {
         ensures { OnOk result ((nodes : List Node) → (parts : List syntax.Tree) → (read : List Lexeme) → (below : List machine.Frame) → Opens nodes self.old opening parts read below → Stands nodes self.new (machine.frame wait parts read ∷ below)) }
     {
         let inner = inside(wait, self.inner());
-        self.frames.push(Frame {
+        let frame = Frame {
             wait,
             opening,
             inner,
-        })?;
+        };
+        let Ok(()) = self.frames.push(frame) else {
+            return Err(Memory);
+        };
         Ok(())
     }
 
