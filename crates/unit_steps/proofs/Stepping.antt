@@ -1,5 +1,5 @@
 -- What a lexeme does to frames is what the machine makes of it.
-use Rattle.std.proofs.Common.{◌≡◌, ℕ, List, [], ◌∷◌, ◌++◌, length, refl, ap, sym, subst, ◌∙◌, Option, Some, None}
+use Rattle.std.proofs.Common.{◌≡◌, ℕ, List, [], ◌∷◌, ◌++◌, refl, ap, sym, subst, ◌∙◌, Option, Some, None, Bool, true, false, ◌+◌, ◌<◌, lit<}
 use Rattle.std.specs.Prelude.{reverse}
 use Rattle.tla_symbols.specs.declared.lexeme.Lexeme.{Lexeme}
 use Rattle.tla_tree.specs.declared.form.Form.{Form}
@@ -11,7 +11,9 @@ use Rattle.tree_parts.specs.Parts.{Grows, IsPart}
 use Rattle.tree_parts.proofs.Growing.{grows-same, grows-on}
 use Rattle.unit_machine.specs.declared.wait.Due.{Due}
 use Rattle.unit_machine.specs.declared.wait.Move.{Move}
-use Rattle.unit_machine.specs.Tables.{move, after_part, after_expression, after_bounds}
+use Rattle.expr_grammar.specs.Kinds.{is_underscore}
+use Rattle.unit_machine.specs.declared.wait.Wait.{Wait}
+use Rattle.unit_machine.specs.Tables.{if_move, places_of, move, after_part, after_expression, after_bounds}
 use Rattle.unit_grammar.specs.Units.{UnitTree}
 use Rattle.unit_machine.specs.Machine as Machine
 use Rattle.unit_machine.specs.Machine.{part_step, moved, finished, given}
@@ -20,9 +22,8 @@ use Rattle.unit_frames.specs.declared.reached.Reached.{Reached}
 use Rattle.unit_frames.specs.declared.unfinished.Unfinished.{Unfinished}
 use Rattle.unit_steps.specs.declared.point.Point.{Point}
 use Rattle.unit_steps.specs.declared.point.Next.{Next}
-use Rattle.unit_steps.specs.declared.endings.Ended.{Ended}
 use Rattle.unit_frames.specs.Standing.{AreParts, IsReached, IsFrame, AreFrames, IsUnder, Makes, Takes}
-use Rattle.unit_steps.specs.Standing.{IsFocus, IsPoint, IsMoved, Moves, EndsWhole, EndsMoving, IsEnded, Ends, TakesBelow, EndsFrame}
+use Rattle.unit_steps.specs.Standing.{IsFocus, IsPoint, IsMoved, Moves, EndsWhole, EndsMoving, IsEnded, Ends, TakesBelow, EndsFrame, form_of_end}
 use Rattle.unit_frames.proofs.Growing.{frame-grows, frames-grow, under-grows}
 
 -- nothing was added
@@ -60,6 +61,29 @@ step-whole form b f d us t q = ap (λ z. moved z b f [] d us t (λ x. finished b
 step-ends : (form : Form) (b : Machine.Begun) (f g : Machine.Frame) (gs : List Machine.Frame) (d : ℕ) (us : List UnitTree) (t : Lexeme) → move f.wait t ≡ Move.Ends form → part_step (g ∷ gs) b f d us t ≡ part_step gs b (Machine.taking g (Machine.node form f) f.read) d us t
 step-ends form b f g gs d us t q = ap (λ z. moved z b f (g ∷ gs) d us t (λ x. part_step gs b (Machine.taking g (Machine.node x f) f.read) d us t)) q
 
+not-ending : (to : Move) → form_of_end to ≡ None → DoesNotEnd to
+not-ending to q form e = let k : Some form ≡ None = sym (ap form_of_end e) ∙ q in cc
+
+pub ending-is : (to : Move) (form : Form) (found : Option Form) → found ≡ form_of_end to → found ≡ Some form → Move.Ends form ≡ to
+ending-is (Move.Ends g) form found q e = let k : Some form ≡ Some g = sym e ∙ q in let i : form ≡ g = cc in ap Move.Ends i
+ending-is _ form found q e = let k : Some form ≡ None = sym e ∙ q in cc
+
+pub not-ended : (to found : Move) → found ≡ to → DoesNotEnd found → None ≡ form_of_end to
+not-ended to found q k = subst (λ z. None ≡ form_of_end z) q (by found k)
+  where
+    by : (m : Move) → DoesNotEnd m → None ≡ form_of_end m
+    by (Move.Ends form) k = absurd (k form refl)
+    by _ k = refl
+
+-- a frame that has read too many places does not end
+pub places-stay : (wait : Wait) (t : Lexeme) → (places_of wait < 4294967295 → ⊥) → None ≡ form_of_end (move wait t)
+places-stay (Wait.Places n places) t e = by (is_underscore t.kind)
+  where
+    by : (b : Bool) → None ≡ form_of_end (if_move b (Move.Shift (Wait.PlacesRead n (places + 1))))
+    by true = refl
+    by false = refl
+places-stay _ t e = absurd (e (lit< tt))
+
 -- what is left of the step is the step
 pub record Goes (nodes more : List Arena.Node) (below : List Frame) (held : Frame) (f : Machine.Frame) (fs : List Machine.Frame) (t : Lexeme) : Type 0 where
   pub frame : Machine.Frame
@@ -72,15 +96,15 @@ pub record Goes (nodes more : List Arena.Node) (below : List Frame) (held : Fram
 pub goes-first : (nodes : List Arena.Node) (below : List Frame) (held : Frame) (f : Machine.Frame) (fs : List Machine.Frame) (t : Lexeme) → IsFrame nodes held f → AreFrames nodes (reverse below) fs → Goes nodes nodes below held f fs t
 goes-first nodes below held f fs t i a = record { frame = f; frames = fs; grows = grows-same nodes; is = i; are = a; same = λ b d us. refl }
 
-pub goes-moves : {nodes more : List Arena.Node} {below : List Frame} {held : Frame} {f : Machine.Frame} {fs : List Machine.Frame} {t : Lexeme} (to : Move) → to ≡ move held.wait t → DoesNotEnd to → Goes nodes more below held f fs t → Ends nodes more below held (Ended.Moves to) f fs t
-goes-moves {t = t} to q k g = record {
+pub goes-moves : {nodes more : List Arena.Node} {below : List Frame} {held : Frame} {f : Machine.Frame} {fs : List Machine.Frame} {t : Lexeme} → None ≡ form_of_end (move held.wait t) → Goes nodes more below held f fs t → Ends nodes more below held None f fs t
+goes-moves {held = held} {t = t} q g = record {
   grows = g.grows;
   is = record {
     frame = g.frame;
     frames = g.frames;
     is = g.is;
     below = g.are;
-    same = λ b d us. g.same b d us ∙ step-still to b g.frame g.frames d us t (sym (q ∙ ap (λ z. move z t) g.is.wait)) k;
+    same = λ b d us. g.same b d us ∙ step-still (move held.wait t) b g.frame g.frames d us t (sym (ap (λ z. move z t) g.is.wait)) (not-ending (move held.wait t) (sym q));
   };
 }
 
@@ -89,7 +113,7 @@ not-some None k = refl
 not-some (Some part) k = absurd (k part refl)
 
 -- no frame is left below the one that ends
-pub goes-whole : {nodes more : List Arena.Node} {below : List Frame} {held : Frame} {f : Machine.Frame} {fs : List Machine.Frame} {t : Lexeme} (most : List Arena.Node) (left : List Frame) (last : Frame) (part : Part) (form : Form) (ended : Option Part) → Move.Ends form ≡ move held.wait t → ended ≡ Some part → (g : Goes nodes more below held f fs t) → EndsFrame more most left last form g.frame g.frames ended → Ends nodes most left last (Ended.Whole part) f fs t
+pub goes-whole : {nodes more : List Arena.Node} {below : List Frame} {held : Frame} {f : Machine.Frame} {fs : List Machine.Frame} {t : Lexeme} (most : List Arena.Node) (left : List Frame) (last : Frame) (part : Part) (form : Form) (ended : Option Part) → Move.Ends form ≡ move held.wait t → ended ≡ Some part → (g : Goes nodes more below held f fs t) → EndsFrame more most left last form g.frame g.frames ended → Ends nodes most left last (Some part) f fs t
 goes-whole {nodes = nodes} {more = more} {t = t} most left last part form ended q s g n =
     let e : EndsFrame more most left last form g.frame g.frames (Some part) = subst (EndsFrame more most left last form g.frame g.frames) s n in
     record {
@@ -145,17 +169,17 @@ ended-below nodes more below left outer taken part form f fs e a m k = record {
 
 -- ---- the step, once the frames have ended
 
-pub ended-whole : (nodes : List Arena.Node) (below : List Frame) (held : Frame) (ended : Ended) (part : Part) (f : Machine.Frame) (fs : List Machine.Frame) (t : Lexeme) → ended ≡ Ended.Whole part → IsEnded nodes below held ended f fs t → EndsWhole nodes part f fs t
-ended-whole nodes below held ended part f fs t q e = subst (λ z. IsEnded nodes below held z f fs t) q e
+pub ended-whole : (nodes : List Arena.Node) (below : List Frame) (held : Frame) (whole : Option Part) (part : Part) (f : Machine.Frame) (fs : List Machine.Frame) (t : Lexeme) → whole ≡ Some part → IsEnded nodes below held whole f fs t → EndsWhole nodes part f fs t
+ended-whole nodes below held whole part f fs t q e = subst (λ z. IsEnded nodes below held z f fs t) q e
 
-pub ended-moves : (nodes : List Arena.Node) (below : List Frame) (held : Frame) (ended : Ended) (to : Move) (f : Machine.Frame) (fs : List Machine.Frame) (t : Lexeme) → ended ≡ Ended.Moves to → IsEnded nodes below held ended f fs t → EndsMoving nodes below held to f fs t
-ended-moves nodes below held ended to f fs t q e = subst (λ z. IsEnded nodes below held z f fs t) q e
+pub ended-moves : (nodes : List Arena.Node) (below : List Frame) (held : Frame) (whole : Option Part) (f : Machine.Frame) (fs : List Machine.Frame) (t : Lexeme) → whole ≡ None → IsEnded nodes below held whole f fs t → EndsMoving nodes below held f fs t
+ended-moves nodes below held whole f fs t q e = subst (λ z. IsEnded nodes below held z f fs t) q e
 
 pub step-whole-is : (nodes : List Arena.Node) (part : Part) (b : Machine.Begun) (f : Machine.Frame) (fs : List Machine.Frame) (d : ℕ) (us : List UnitTree) (t : Lexeme) (state : Option Next) → (w : EndsWhole nodes part f fs t) → IsMoved nodes state (finished b w.tree d us t) → Moves nodes nodes state (part_step fs b f d us t)
 step-whole-is nodes part b f fs d us t state w i = still (subst (IsMoved nodes state) (sym (w.same b d us)) i)
 
-pub step-moves-is : (nodes more : List Arena.Node) (below : List Frame) (held : Frame) (to : Move) (b : Machine.Begun) (f : Machine.Frame) (fs : List Machine.Frame) (d : ℕ) (us : List UnitTree) (t : Lexeme) (state : Option Next) → (w : EndsMoving nodes below held to f fs t) → Moves nodes more state (moved to b w.frame w.frames d us t (λ form. None)) → Moves nodes more state (part_step fs b f d us t)
-step-moves-is nodes more below held to b f fs d us t state w m = subst (Moves nodes more state) (sym (w.same b d us)) m
+pub step-moves-is : (nodes more : List Arena.Node) (below : List Frame) (held : Frame) (to : Move) (b : Machine.Begun) (f : Machine.Frame) (fs : List Machine.Frame) (d : ℕ) (us : List UnitTree) (t : Lexeme) (state : Option Next) → to ≡ move held.wait t → (w : EndsMoving nodes below held f fs t) → Moves nodes more state (moved to b w.frame w.frames d us t (λ form. None)) → Moves nodes more state (part_step fs b f d us t)
+step-moves-is nodes more below held to b f fs d us t state q w m = subst (Moves nodes more state) (sym (w.same b d us)) (subst (λ z. Moves nodes more state (moved z b w.frame w.frames d us t (λ form. None))) q m)
 
 -- nodes were added before
 pub moves-later : (nodes more most : List Arena.Node) (state : Option Next) (st : Option Machine.State) → Grows nodes more → Moves more most state st → Moves nodes most state st

@@ -9,6 +9,7 @@ use Rattle.tree_parts.specs.Parts.{IsPart, Grows}
 use Rattle.expr_grammar.specs.Machine as Expressions
 use Rattle.expr_grammar.specs.Machine.{start, start_bounds}
 use Rattle.unit_machine.specs.declared.wait.Move.{Move}
+use Rattle.unit_machine.specs.Tables.{move}
 use Rattle.unit_grammar.specs.Units.{UnitTree}
 use Rattle.unit_machine.specs.Machine as Machine
 use Rattle.unit_machine.specs.Machine.{node, taking, part_step, moved, finished, reading}
@@ -17,7 +18,6 @@ use Rattle.unit_frames.specs.declared.unfinished.Unfinished.{Unfinished}
 use Rattle.unit_frames.specs.Standing.{AreParts, IsFrame, AreFrames, IsReached, IsUnder}
 use Rattle.unit_steps.specs.declared.point.Point.{Point}
 use Rattle.unit_steps.specs.declared.point.Next.{Next}
-use Rattle.unit_steps.specs.declared.endings.Ended.{Ended}
 
 -- what is read now, while that is no expression
 abbrev pub IsFocus : List Arena.Node → Point → Machine.Focus → ℕ → List UnitTree → Type 0
@@ -62,6 +62,11 @@ pub record Moves (nodes more : List Arena.Node) (next : Option Next) (st : Optio
   pub grows : Grows nodes more
   pub is : IsMoved more next st
 
+-- the form of the node that a frame becomes, where the lexeme moves it so
+abbrev pub form_of_end : Move → Option Form
+form_of_end (Move.Ends form) = Some form
+form_of_end _ = None
+
 -- the frames that end before the lexeme have ended: the step is to take what is left
 pub record EndsWhole (nodes : List Arena.Node) (part : Part) (f : Machine.Frame) (fs : List Machine.Frame) (next : Lexeme) : Type 0 where
   pub tree : Tree
@@ -69,23 +74,23 @@ pub record EndsWhole (nodes : List Arena.Node) (part : Part) (f : Machine.Frame)
   pub is : IsPart nodes part tree spelled
   pub same : (begun : Machine.Begun) → (depth : ℕ) → (units : List UnitTree) → part_step fs begun f depth units next ≡ finished begun tree depth units next
 
--- or one is left, which the lexeme moves so
-pub record EndsMoving (nodes : List Arena.Node) (outer : List Frame) (held : Frame) (to : Move) (f : Machine.Frame) (fs : List Machine.Frame) (next : Lexeme) : Type 0 where
+-- or one is left, which the lexeme moves
+pub record EndsMoving (nodes : List Arena.Node) (outer : List Frame) (held : Frame) (f : Machine.Frame) (fs : List Machine.Frame) (next : Lexeme) : Type 0 where
   pub frame : Machine.Frame
   pub frames : List Machine.Frame
   pub is : IsFrame nodes held frame
   pub below : AreFrames nodes (reverse outer) frames
-  pub same : (begun : Machine.Begun) → (depth : ℕ) → (units : List UnitTree) → part_step fs begun f depth units next ≡ moved to begun frame frames depth units next (λ form. None)
+  pub same : (begun : Machine.Begun) → (depth : ℕ) → (units : List UnitTree) → part_step fs begun f depth units next ≡ moved (move held.wait next) begun frame frames depth units next (λ form. None)
 
 -- which of the two
-abbrev pub IsEnded : List Arena.Node → List Frame → Frame → Ended → Machine.Frame → List Machine.Frame → Lexeme → Type 0
-IsEnded nodes below held (Ended.Whole part) f fs next = EndsWhole nodes part f fs next
-IsEnded nodes below held (Ended.Moves to) f fs next = EndsMoving nodes below held to f fs next
+abbrev pub IsEnded : List Arena.Node → List Frame → Frame → Option Part → Machine.Frame → List Machine.Frame → Lexeme → Type 0
+IsEnded nodes below held (Some part) f fs next = EndsWhole nodes part f fs next
+IsEnded nodes below held None f fs next = EndsMoving nodes below held f fs next
 
 -- and old nodes stay
-pub record Ends (nodes more : List Arena.Node) (below : List Frame) (held : Frame) (ended : Ended) (f : Machine.Frame) (fs : List Machine.Frame) (next : Lexeme) : Type 0 where
+pub record Ends (nodes more : List Arena.Node) (below : List Frame) (held : Frame) (whole : Option Part) (f : Machine.Frame) (fs : List Machine.Frame) (next : Lexeme) : Type 0 where
   pub grows : Grows nodes more
-  pub is : IsEnded more below held ended f fs next
+  pub is : IsEnded more below held whole f fs next
 
 -- the frame below has taken the part of the one that ended
 pub record TakesBelow (nodes : List Arena.Node) (left : List Frame) (held : Frame) (form : Form) (f : Machine.Frame) (fs : List Machine.Frame) : Type 0 where
@@ -110,8 +115,8 @@ abbrev pub IsReadyPart : List Arena.Node → Unfinished → Frame → Type 0
 IsReadyPart nodes unfinished frame = (b : Machine.Begun) × (fs : List Machine.Frame) × (depth : ℕ) × (units : List UnitTree) × (f : Machine.Frame) × IsUnder nodes unfinished b fs depth units × IsFrame nodes frame f
 
 -- so do the frames once they have ended
-abbrev pub IsReadyEnded : List Arena.Node → Unfinished → Frame → Ended → Lexeme → Type 0
-IsReadyEnded nodes unfinished frame ended next = (fs : List Machine.Frame) × (f : Machine.Frame) × IsEnded nodes unfinished.below.items frame ended f fs next
+abbrev pub IsReadyEnded : List Arena.Node → Unfinished → Frame → Option Part → Lexeme → Type 0
+IsReadyEnded nodes unfinished frame whole next = (fs : List Machine.Frame) × (f : Machine.Frame) × IsEnded nodes unfinished.below.items frame whole f fs next
 
 -- a frame, and a part for it
 abbrev pub IsReadyTaking : List Arena.Node → Unfinished → Frame → Part → Type 0

@@ -26,7 +26,9 @@ fn end_module(reached: Reached, lexeme: Lexeme) -> Result<Option<Next>, Memory>
         return Ok(None);
     }
     let alloc = reached.alloc;
-    let reached = reached.closes().with(Unit::ModuleEnd(lexeme))?;
+    let Ok(reached) = reached.closes().with(Unit::ModuleEnd(lexeme)) else {
+        return Err(Memory);
+    };
     Ok(Some(Next::At(Point::Stands(reached, Due::Unit, List::new(alloc)))))
 }
 
@@ -117,7 +119,9 @@ pub(crate) fn after_unit(
 ) -> Result<Option<Next>, Memory>
     ensures { IfOk result (λ moved. (nodes : List arena.Node) → (depth : ℕ) → (us : List units.UnitTree) → (last : units.UnitTree) → IsReached nodes reached depth us → AreUnits nodes (unit ∷ []) (last ∷ []) → IsMoved nodes moved (machine.unit_due None depth (us ++ last ∷ []) lexeme)) }
 {
-    let reached = reached.with(unit)?;
+    let Ok(reached) = reached.with(unit) else {
+        return Err(Memory);
+    };
     unit_due(reached, None, lexeme)
 }
 
@@ -130,7 +134,9 @@ fn begin_module(
 ) -> Result<Option<Next>, Memory>
     ensures { IfOk result (λ moved. (nodes : List arena.Node) → (depth : ℕ) → (us : List units.UnitTree) → IsReached nodes reached depth us → IsMoved nodes moved (machine.unit_due None (suc depth) (us ++ units.ModuleBegin name extends ∷ []) lexeme)) }
 {
-    let reached = reached.opens()?;
+    let Ok(reached) = reached.opens() else {
+        return Err(Memory);
+    };
     after_unit(reached, Unit::ModuleBegin { name, extends }, lexeme)
 }
 
@@ -155,7 +161,9 @@ pub(crate) fn move_due(
     match to {
         DueMove::Goes(due) => Ok(Some(Next::At(Point::Stands(reached, due, names)))),
         DueMove::Named(due) => {
-            let names = name_more(names, lexeme)?;
+            let Ok(names) = name_more(names, lexeme) else {
+                return Err(Memory);
+            };
             Ok(Some(Next::At(Point::Stands(reached, due, names))))
         }
         DueMove::Begun(name) => begin_module(reached, name, names, lexeme),

@@ -1,10 +1,10 @@
 // Which frames end before a lexeme.
-ghost use Rattle.std.specs.Prelude.{◌≡◌, ◌<◌, List, reverse, None, IfOk, length};
+ghost use Rattle.std.specs.Prelude.{◌≡◌, ◌↔◌, ◌-◌, ◌^◌, ◌<◌, List, reverse, None, IsTrue, IfOk, length};
 ghost use Rattle.tla_tree.specs.Arena.{AreThere};
 ghost use Rattle.unit_machine.specs.Tables as tables;
 ghost use Rattle.unit_machine.specs.Machine as machine;
 ghost use Rattle.unit_frames.specs.Standing.{AreFrames, IsFrame};
-ghost use Rattle.unit_steps.specs.Standing.{EndsFrame, Ends};
+ghost use Rattle.unit_steps.specs.Standing.{EndsFrame, Ends, form_of_end};
 
 use tla_symbols::Lexeme;
 use tla_tree::{Form, Tree};
@@ -14,33 +14,27 @@ use unit_frames::Frame;
 use unit_machine::{Move, Wait};
 use unit_tables::{after_part, frame_move};
 
-/// The frames that end before a lexeme have ended.
-#[derive(Clone, Copy)]
-pub(crate) enum Ended {
-    /// The outermost one too, and this is its part.
-    Whole(Part),
-    /// But for one, which the lexeme moves so.
-    Moves(Move),
-}
-
-/// The places of an operator's declaration that were read.
-fn places_of(wait: Wait) -> u32
-    ensures { result ≡ tables.places_of wait }
+/// Whether there is room to count one place more of an operator's declaration.
+pub(crate) fn counts(wait: Wait) -> bool
+    ensures { IsTrue result ↔ (tables.places_of wait < 2 ^ 32 - 1) }
 {
     match wait {
-        Wait::Places(_, places) => places,
-        _ => 0,
+        Wait::Places(_, places) => places < u32::MAX,
+        _ => true,
     }
 }
 
-/// What the lexeme does to a frame. `Memory` where no further place of an operator can be counted.
-fn next_move(wait: Wait, lexeme: Lexeme) -> Result<Move, Memory>
-    ensures { IfOk result (λ next. next ≡ tables.move wait lexeme) }
+/// The form of the node that a frame becomes, if it ends before the lexeme.
+fn form_ended(wait: Wait, lexeme: Lexeme) -> Option<Form>
+    ensures { result ≡ form_of_end (tables.move wait lexeme) }
 {
-    if places_of(wait) == u32::MAX {
-        return Err(Memory);
+    if !counts(wait) {
+        return None;
     }
-    Ok(frame_move(wait, lexeme))
+    match frame_move(wait, lexeme) {
+        Move::Ends(form) => Some(form),
+        _ => None,
+    }
 }
 
 /// Ends a frame: the one below takes its part and its place. The part, where there is none below.
@@ -67,26 +61,26 @@ fn end_frame(
     Ok(None)
 }
 
-/// Ends the frames that end before the lexeme.
+/// Ends the frames that end before the lexeme. Where the outermost one is among them, the part that it
+/// became; else the frame is the one that is left, which the lexeme moves.
 pub(crate) fn end_frames(
     below: &mut Vec<Frame>,
     frame: &mut Frame,
     tree: &mut Tree,
     lexeme: Lexeme,
-) -> Result<Ended, Memory>
+) -> Result<Option<Part>, Memory>
     requires { (f : machine.Frame) × (fs : List machine.Frame)
         × IsFrame tree.old frame.old f × AreFrames tree.old (reverse below.old.items) fs }
-    ensures { IfOk result (λ ended. (f : machine.Frame) → (fs : List machine.Frame)
+    ensures { IfOk result (λ whole. (f : machine.Frame) → (fs : List machine.Frame)
         → IsFrame tree.old frame.old f → AreFrames tree.old (reverse below.old.items) fs
-        → Ends tree.old tree.new below.new.items frame.new ended f fs lexeme) }
+        → Ends tree.old tree.new below.new.items frame.new whole f fs lexeme) }
 {
     'ending: loop {
-        let next = next_move(frame.wait, lexeme)?;
-        let Move::Ends(form) = next else {
-            return Ok(Ended::Moves(next));
+        let Some(form) = form_ended(frame.wait, lexeme) else {
+            return Ok(None);
         };
         if let Some(part) = end_frame(below, frame, tree, form)? {
-            return Ok(Ended::Whole(part));
+            return Ok(Some(part));
         }
     }
 }

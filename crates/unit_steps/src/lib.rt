@@ -2,6 +2,8 @@
 //!
 //! Answers where the machine of `unit_grammar` goes, and where an expression or bounds begin. Knows nothing of how
 //! these are read.
+//!
+//! Where an answer's type is deep, a failed call is passed on by `let .. else`: what is proved of `?` repeats that type.
 #![tactic(auto)]
 
 mod due;

@@ -28,7 +28,9 @@ fn begin_expression(
     ensures { IfOk result (λ moved. (nodes : List arena.Node) → (depth : ℕ) → (us : List units.UnitTree) → (b : machine.Begun) → (fs : List machine.Frame) → (f : machine.Frame) → IsUnder nodes unfinished b fs depth us → IsFrame nodes frame f → IsMoved nodes moved (machine.reading (expressions.step expressions.start lexeme) b (f ∷ fs) (lexeme ∷ []) depth us)) }
 {
     let mut unfinished = unfinished;
-    unfinished.under(frame)?;
+    let Ok(()) = unfinished.under(frame) else {
+        return Err(Memory);
+    };
     Ok(Some(Next::Begins(unfinished, lexeme)))
 }
 
@@ -48,7 +50,9 @@ fn begin_part(
         (Some (machine.state depth us (machine.Part b (machine.frame wait Nil read) (f ∷ fs))))) }
 {
     let mut unfinished = unfinished;
-    unfinished.under(frame)?;
+    let Ok(()) = unfinished.under(frame) else {
+        return Err(Memory);
+    };
     let frame = Frame::new(unfinished.reached.alloc, wait, place);
     Ok(Some(Next::At(Point::Part(unfinished, frame))))
 }
@@ -66,7 +70,9 @@ fn take_leaf(
     ensures { IfOk result (λ moved. (depth : ℕ) → (us : List units.UnitTree) → (b : machine.Begun) → (fs : List machine.Frame) → (f : machine.Frame) → IsUnder tree.old unfinished b fs depth us → IsFrame tree.old frame f → Moves tree.old tree.new moved (machine.moved (Move.LeafOf form name wait) b f fs depth us lexeme (λ x. None))) }
 {
     let mut frame = frame;
-    frame.takes_leaf(tree, form, name, wait, lexeme)?;
+    let Ok(()) = frame.takes_leaf(tree, form, name, wait, lexeme) else {
+        return Err(Memory);
+    };
     Ok(Some(Next::At(Point::Part(unfinished, frame))))
 }
 
@@ -81,7 +87,9 @@ fn close(
     requires { (f : machine.Frame) × IsFrame tree.old frame f }
     ensures { IfOk result (λ moved. (depth : ℕ) → (us : List units.UnitTree) → (b : machine.Begun) → (fs : List machine.Frame) → (f : machine.Frame) → IsUnder tree.old unfinished b fs depth us → IsFrame tree.old frame f → Moves tree.old tree.new moved (machine.moved (Move.Close form) b f fs depth us lexeme (λ x. None))) }
 {
-    let part = frame.closed(tree, form, lexeme)?;
+    let Ok(part) = frame.closed(tree, form, lexeme) else {
+        return Err(Memory);
+    };
     shut(unfinished, part)
 }
 

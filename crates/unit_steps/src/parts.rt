@@ -10,7 +10,7 @@ ghost use Rattle.unit_machine.specs.Machine as machine;
 ghost use Rattle.unit_frames.specs.Standing.{IsFrame, IsBegun, IsReached, IsUnder};
 ghost use Rattle.unit_steps.specs.Standing.{Moves, IsEnded, IsReadyEnded, IsReadyPart, IsReadyTaking, IsReadyWhole};
 
-use crate::endings::{Ended, end_frames};
+use crate::endings::{counts, end_frames};
 use crate::moves::move_frame;
 use crate::point::Next;
 use crate::whole::finish;
@@ -19,27 +19,32 @@ use tla_tree::Tree;
 use tool_list::Memory;
 use tree_parts::Part;
 use unit_frames::{Frame, Unfinished};
-use unit_tables::{after_bounds, after_expression};
+use unit_tables::{after_bounds, after_expression, frame_move};
 
-/// What a lexeme does once the frames that end before it have ended.
+/// What a lexeme does once the frames that end before it have ended. `Memory` also where no further
+/// place of an operator can be counted.
 fn go_on(
     unfinished: Unfinished,
     frame: Frame,
-    ended: Ended,
+    whole: Option<Part>,
     tree: &mut Tree,
     lexeme: Lexeme,
 ) -> Result<Option<Next>, Memory>
-    requires { IsReadyEnded tree.old unfinished frame ended lexeme }
+    requires { IsReadyEnded tree.old unfinished frame whole lexeme }
     ensures { IfOk result (λ moved. (depth : ℕ) → (us : List units.UnitTree) → (b : machine.Begun)
         → (fs : List machine.Frame) → (f : machine.Frame)
         → IsReached tree.old unfinished.reached depth us → IsBegun tree.old unfinished.begun b
-        → IsEnded tree.old unfinished.below.items frame ended f fs lexeme
+        → IsEnded tree.old unfinished.below.items frame whole f fs lexeme
         → Moves tree.old tree.new moved (machine.part_step fs b f depth us lexeme)) }
 {
-    match ended {
-        Ended::Whole(part) => finish(unfinished, tree, part, lexeme),
-        Ended::Moves(to) => move_frame(unfinished, frame, tree, to, lexeme),
+    if let Some(part) = whole {
+        return finish(unfinished, tree, part, lexeme);
     }
+    if !counts(frame.wait) {
+        return Err(Memory);
+    }
+    let to = frame_move(frame.wait, lexeme);
+    move_frame(unfinished, frame, tree, to, lexeme)
 }
 
 /// A lexeme where a frame waits for one.
@@ -54,8 +59,10 @@ pub(crate) fn part_step(
 {
     let mut unfinished = unfinished;
     let mut frame = frame;
-    let ended = end_frames(&mut unfinished.below, &mut frame, tree, lexeme)?;
-    go_on(unfinished, frame, ended, tree, lexeme)
+    let Ok(whole) = end_frames(&mut unfinished.below, &mut frame, tree, lexeme) else {
+        return Err(Memory);
+    };
+    go_on(unfinished, frame, whole, tree, lexeme)
 }
 
 /// A frame takes an expression that is whole before the lexeme.
@@ -77,7 +84,9 @@ fn give_to(
 {
     let mut frame = frame;
     let wait = after_expression(frame.wait);
-    frame.takes(wait, part)?;
+    let Ok(()) = frame.takes(wait, part) else {
+        return Err(Memory);
+    };
     part_step(unfinished, frame, tree, lexeme)
 }
 
@@ -117,6 +126,8 @@ pub fn take_bounds(
 {
     let mut frame = frame;
     let wait = after_bounds(frame.wait);
-    frame.takes_bounds(unfinished.reached.alloc, tree, wait, part)?;
+    let Ok(()) = frame.takes_bounds(unfinished.reached.alloc, tree, wait, part) else {
+        return Err(Memory);
+    };
     part_step(unfinished, frame, tree, lexeme)
 }

@@ -46,7 +46,9 @@ fn declare(
         → AreParts nodes declarations xs → part.node ≡ node → IsPart nodes part x spelled
         → IsMoved nodes moved (machine.after_declared (lexemes.then xs x) depth us lexeme)) }
 {
-    let declarations = then(declarations, node)?;
+    let Ok(declarations) = then(declarations, node) else {
+        return Err(Memory);
+    };
     after_declared(reached, declarations, lexeme)
 }
 
@@ -120,7 +122,9 @@ fn conclude(reached: Reached, begun: Begun, node: u32) -> Result<Option<Next>, M
 {
     match begun {
         Begun::Constants(declarations) => {
-            let declarations = then(declarations, node)?;
+            let Ok(declarations) = then(declarations, node) else {
+                return Err(Memory);
+            };
             Ok(Some(Next::At(Point::Declared(reached, declarations))))
         }
         _ => Ok(None),
@@ -136,6 +140,8 @@ pub(crate) fn shut(unfinished: Unfinished, part: Part) -> Result<Option<Next>, M
         return conclude(unfinished.reached, unfinished.begun, part.node);
     };
     let wait = after_part(frame.wait);
-    frame.takes(wait, part)?;
+    let Ok(()) = frame.takes(wait, part) else {
+        return Err(Memory);
+    };
     Ok(Some(Next::At(Point::Part(unfinished, frame))))
 }

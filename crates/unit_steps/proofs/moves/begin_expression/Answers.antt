@@ -2,4 +2,4 @@ use Rattle.std.proofs.Common.{◌∷◌, refl}
 use Rattle.unit_steps.proofs.moves.begin_expression.Goals as goal
 
 pub returns : goal.returns
-returns c nodes d us b fs f u i = record { begun = b; frames = f ∷ fs; depth = d; units = us; under = c.in_ok-under.ensures nodes d us b fs f u i; same = refl }
+returns c nodes d us b fs f u i = record { begun = b; frames = f ∷ fs; depth = d; units = us; under = c.in-Ok.ensures nodes d us b fs f u i; same = refl }

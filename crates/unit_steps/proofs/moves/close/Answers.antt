@@ -8,5 +8,5 @@ closed-requires c = c.requires
 pub returns : goal.returns
 returns c =
     IfOk-weaker c.shut.result _ _
-    (λ moved h d us b fs f u i. made-moves _ _ c.args.unfinished c.in_ok-part.part b fs d us _ _ _ _ u (c.in_ok-part.ensures f i) (λ v p. h _ d us b fs _ _ v p))
+    (λ moved h d us b fs f u i. made-moves _ _ c.args.unfinished c.in-Ok.part b fs d us _ _ _ _ u (c.in-Ok.ensures f i) (λ v p. h _ d us b fs _ _ v p))
     c.shut.ensures

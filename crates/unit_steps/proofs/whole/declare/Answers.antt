@@ -4,5 +4,5 @@ use Rattle.unit_steps.proofs.whole.declare.Goals as goal
 pub returns : goal.returns
 returns c =
     IfOk-weaker c.after_declared.result _ _
-    (λ moved h nodes d us xs x spelled part r a n p. h nodes d us _ r (c.in_ok-declarations.ensures nodes xs x spelled part a n p))
+    (λ moved h nodes d us xs x spelled part r a n p. h nodes d us _ r (c.in-Ok.ensures nodes xs x spelled part a n p))
     c.after_declared.ensures

@@ -16,4 +16,4 @@ pub returns : goal.returns
 returns c nodes d us b fs x spelled u p =
     let after : Unfinished = record { reached = c.args.unfinished.reached; begun = c.args.unfinished.begun; below = c.pop.new.self } in
     shut-frame nodes c.args.unfinished after c.in-Some.frame c.takes.new.self _ b fs x spelled d us refl refl (popped c.args.unfinished.below.items c.pop.new.self.items c.in-Some.frame c.in-Some.ensures.items) c.after_part-wait.ensures u
-    (λ g i. c.in_ok-takes.ensures nodes g x spelled i p)
+    (λ g i. c.in-Ok.ensures nodes g x spelled i p)
