@@ -34,7 +34,7 @@ use Rattle.expr_parse.specs.Goals.{stops, may_end, DerivesGoal, BeginsGoal, IsWh
 use Rattle.expr_stack.specs.Standing.{Stands, Made}
 use Rattle.expr_parse.specs.Standing.{IsTurn, Turns, IsReady}
 use Rattle.expr_parse.specs.Ending.{Outermost, on_outermost, closing, ending_of, takes_whole, is_whole, IsLeft, Closes, IsOf, IsGoal}
-use Rattle.expr_parse.specs.Reading.{start_of, StandsAt, HasRead, IsAnswer, IsDone, IsStepTo, HasStepped}
+use Rattle.expr_parse.specs.Reading.{start_of, StandsAt, HasRead, IsRefusing, IsAnswer, IsDone, IsStepTo, HasStepped}
 use Rattle.tree_parts.proofs.Growing.{grows-same, grows-on}
 
 abbrev on_last : {X : Type 0} → Option Outermost → (Outermost → Option X) → Option X
@@ -159,12 +159,12 @@ whole-derives Goal.Bounds lexemes next last tree m e w is =
     )
 
 -- the answer of a step that ends what is read
-pub done-answer : (nodes more : List Arena.Node) (machine machine' : ExprMachine) (before : ℕ) (lexemes : List Lexeme) (next : Lexeme) (step : Step) (last : Outermost) (made : ℕ) → machine'.goal ≡ machine.goal → may_end machine.goal next.kind ≡ true → ending_of (run (Some (start_of machine.goal)) lexemes) ≡ Some last → takes_whole machine.goal last.frame.wait (shape last.tree) ≡ true → IsDone nodes more machine.goal step last made → IsAnswer more machine' before lexemes next step
-done-answer nodes more machine machine' before lexemes next (Step.Done number) last made g m e w d =
+pub done-answer : (nodes more : List Arena.Node) (machine machine' : ExprMachine) (before : ℕ) (lexemes : List Lexeme) (next : Lexeme) (step : Step) (last : Outermost) (made : ℕ) → machine'.goal ≡ machine.goal → IsRefusing machine' → may_end machine.goal next.kind ≡ true → ending_of (run (Some (start_of machine.goal)) lexemes) ≡ Some last → takes_whole machine.goal last.frame.wait (shape last.tree) ≡ true → IsDone nodes more machine.goal step last made → IsAnswer more machine' before lexemes next step
+done-answer nodes more machine machine' before lexemes next (Step.Done number) last made g r m e w d =
     let k = whole-derives machine.goal lexemes next last (tree_at more number) m e w d.done.1 in
-    rw g (d.done.0, (m, (tree_at more number, k.0)), k.0, k.1)
-done-answer nodes more machine machine' before lexemes next Step.Going last made g m e w d = absurd d.done
-done-answer nodes more machine machine' before lexemes next Step.Refused last made g m e w d = absurd d.done
+    rw g (d.done.0, (m, (tree_at more number, k.0)), k.0, k.1, r)
+done-answer nodes more machine machine' before lexemes next Step.Going last made g r m e w d = absurd d.done
+done-answer nodes more machine machine' before lexemes next Step.Refused last made g r m e w d = absurd d.done
 
 pub begins-of : (goal : Goal) (lexemes : List Lexeme) (st : State) → run (Some (start_of goal)) lexemes ≡ Some st → BeginsGoal goal lexemes
 begins-of Goal.Expression lexemes st e =
@@ -310,12 +310,12 @@ to-read nodes stack part (Some (At fs)) t = absurd t
 to-read nodes stack part (Some (Have fs e b)) t = tt
 
 -- the step that ends, by what the code saw
-pub done-by : (nodes more : List Arena.Node) (machine machine' : ExprMachine) (before : ℕ) (lexemes : List Lexeme) (next : Lexeme) (step : Step) (ends : Bool) (stack : Stack) (turn : Turn.the_data) (goal : Goal) → goal ≡ machine.goal → machine'.goal ≡ goal → IsTurn nodes stack turn (run (Some (start_of machine.goal)) lexemes) → ends ≡ cond (may_end goal next.kind) (is_whole goal (ending_of (run (Some (start_of machine.goal)) lexemes))) false → ends ≡ true → ((state : Option State) → (last : Outermost) → IsTurn nodes stack turn state → ending_of state ≡ Some last → IsDone nodes more goal step last (made_finish state)) → HasRead nodes machine before lexemes → IsAnswer more machine' before lexemes next step × (length more ≤ before + 8 * (length lexemes + 1))
-done-by nodes more machine machine' before lexemes next step ends stack turn goal g g' t q k d h =
+pub done-by : (nodes more : List Arena.Node) (machine machine' : ExprMachine) (before : ℕ) (lexemes : List Lexeme) (next : Lexeme) (step : Step) (ends : Bool) (stack : Stack) (turn : Turn.the_data) (goal : Goal) → goal ≡ machine.goal → machine'.goal ≡ goal → IsRefusing machine' → IsTurn nodes stack turn (run (Some (start_of machine.goal)) lexemes) → ends ≡ cond (may_end goal next.kind) (is_whole goal (ending_of (run (Some (start_of machine.goal)) lexemes))) false → ends ≡ true → ((state : Option State) → (last : Outermost) → IsTurn nodes stack turn state → ending_of state ≡ Some last → IsDone nodes more goal step last (made_finish state)) → HasRead nodes machine before lexemes → IsAnswer more machine' before lexemes next step × (length more ≤ before + 8 * (length lexemes + 1))
+done-by nodes more machine machine' before lexemes next step ends stack turn goal g g' r t q k d h =
     let b = both-true (may_end machine.goal next.kind) (is_whole machine.goal (ending_of (run (Some (start_of machine.goal)) lexemes))) (ap (λ z. cond (may_end z next.kind) (is_whole z (ending_of (run (Some (start_of machine.goal)) lexemes))) false) (sym g) ∙ (sym q ∙ k)) in
     let l = last-of machine.goal (ending_of (run (Some (start_of machine.goal)) lexemes)) b.1 in
     let i : IsDone nodes more machine.goal step l.0 (made_finish (run (Some (start_of machine.goal)) lexemes)) = subst (λ z. IsDone nodes more z step l.0 (made_finish (run (Some (start_of machine.goal)) lexemes))) g (d (run (Some (start_of machine.goal)) lexemes) l.0 t l.1) in
-    (done-answer nodes more machine machine' before lexemes next step l.0 _ (g' ∙ g) b.0 l.1 l.2 i, done-few nodes more machine before lexemes step l.0 h i)
+    (done-answer nodes more machine machine' before lexemes next step l.0 _ (g' ∙ g) r b.0 l.1 l.2 i, done-few nodes more machine before lexemes step l.0 h i)
 
 -- and the one that reads
 pub read-by : (nodes more : List Arena.Node) (machine machine' : ExprMachine) (before : ℕ) (lexemes : List Lexeme) (next : Lexeme) (step : Step) (ends : Bool) (goal : Goal) → goal ≡ machine.goal → machine'.goal ≡ goal → ends ≡ cond (may_end goal next.kind) (is_whole goal (ending_of (run (Some (start_of machine.goal)) lexemes))) false → ends ≡ false → HasStepped nodes more machine' step (run (Some (start_of machine.goal)) lexemes) next → HasRead nodes machine before lexemes → IsAnswer more machine' before lexemes next step × (length more ≤ before + 8 * (length lexemes + 1))

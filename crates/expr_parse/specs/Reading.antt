@@ -39,7 +39,7 @@ IsReady nodes machine = (state : Option State) × StandsAt nodes machine machine
 abbrev pub IsRefusing : ExprMachine → Type 0
 IsRefusing machine = machine.stage ≡ Stage.Goes Turn.Refused
 
--- what a step answers at a lexeme, after lexemes that were read
+-- what a step answers at a lexeme, after lexemes that were read; once it is done it refuses whatever comes
 abbrev pub IsAnswer : List Arena.Node → ExprMachine → ℕ → List Lexeme → Lexeme → Step → Type 0
 IsAnswer nodes machine before lexemes next Step.Going =
     HasRead nodes machine before (lexemes ++ next ∷ []) × BeginsGoal machine.goal (lexemes ++ next ∷ []) × (IsWhole machine.goal lexemes next → ⊥)
@@ -48,6 +48,7 @@ IsAnswer nodes machine before lexemes next (Step.Done node) =
     × IsWhole machine.goal lexemes next
     × DerivesGoal machine.goal (tree_at nodes node) lexemes next
     × ((other : Tree) → DerivesGoal machine.goal other lexemes next → IsSame machine.goal other (tree_at nodes node))
+    × IsRefusing machine
 IsAnswer nodes machine before lexemes next Step.Refused =
     HasRead nodes machine before (lexemes ++ next ∷ []) × (BeginsGoal machine.goal (lexemes ++ next ∷ []) → ⊥) × (IsWhole machine.goal lexemes next → ⊥)
 

@@ -82,9 +82,9 @@ impl ExprMachine {
     /// `Done` comes exactly where the lexemes before this one are whole and this one may follow: for
     /// an expression a comma, `]`, `-.`, a name, a word that begins a unit, a run of dashes or of
     /// `=`, or the run that closes the module; for bounds `]`. `Refused` comes exactly where it is not
-    /// `Done` and nothing that is derivable begins with the lexemes so far; the machine then answers so
-    /// for good. All its steps together add at most eight nodes for each, and leave the nodes that were
-    /// there. After `Memory` it refuses whatever comes.
+    /// `Done` and nothing that is derivable begins with the lexemes so far. After either, and after
+    /// `Memory`, it refuses whatever comes. All its steps together add at most eight nodes for each,
+    /// and leave the nodes that were there.
     pub fn step(&mut self, lexeme: &Lexeme, _next: &Lexeme, tree: &mut Tree) -> Result<Step, Memory>
         requires { IsReady tree.old self.old }
         ensures answer { IfOk result (λ step. (before : ℕ) → (lexemes : List Lexeme) → HasRead tree.old self.old before lexemes → IsAnswer tree.new self.new before lexemes lexeme.now step) }

@@ -7,12 +7,12 @@ use Rattle.expr_parse.proofs.machine.ExprMachine.answer.Goals as goal
 pub returns-then-ends-clause-answer : goal.returns-then-ends-clause-answer
 returns-then-ends-clause-answer c before lexemes h =
     let t = c.in_ok-turn.ensures.turn _ (run (Some (start_of c.args.self.now.goal)) lexemes) h.stands in
-    (done-by _ _ c.args.self.now c.finish.new.self before lexemes c.args.lexeme _ c.ends.result c.begun.new.self.stack c.in_ok-turn.turn c.begun.new.self.goal c.in_ok-turn.ensures.goal c.in_ok-step.ensures.goal t (c.ends.ensures _ t) c.if-ends.true c.in_ok-step.ensures.done h).0
+    (done-by _ _ c.args.self.now c.finish.new.self before lexemes c.args.lexeme _ c.ends.result c.begun.new.self.stack c.in_ok-turn.turn c.begun.new.self.goal c.in_ok-turn.ensures.goal c.in_ok-step.ensures.goal c.in_ok-step.ensures.refused t (c.ends.ensures _ t) c.if-ends.true c.in_ok-step.ensures.done h).0
 
 pub returns-then-ends-clause-few : goal.returns-then-ends-clause-few
 returns-then-ends-clause-few c before lexemes h =
     let t = c.in_ok-turn.ensures.turn _ (run (Some (start_of c.args.self.now.goal)) lexemes) h.stands in
-    (done-by _ _ c.args.self.now c.finish.new.self before lexemes c.args.lexeme _ c.ends.result c.begun.new.self.stack c.in_ok-turn.turn c.begun.new.self.goal c.in_ok-turn.ensures.goal c.in_ok-step.ensures.goal t (c.ends.ensures _ t) c.if-ends.true c.in_ok-step.ensures.done h).1
+    (done-by _ _ c.args.self.now c.finish.new.self before lexemes c.args.lexeme _ c.ends.result c.begun.new.self.stack c.in_ok-turn.turn c.begun.new.self.goal c.in_ok-turn.ensures.goal c.in_ok-step.ensures.goal c.in_ok-step.ensures.refused t (c.ends.ensures _ t) c.if-ends.true c.in_ok-step.ensures.done h).1
 
 pub returns-clause-answer : goal.returns-clause-answer
 returns-clause-answer c before lexemes h =
