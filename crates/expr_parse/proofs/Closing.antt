@@ -23,7 +23,7 @@ use Rattle.expr_parse.specs.declared.turn.Turn.TheVariants as Turn
 use Rattle.tree_parts.specs.Parts.{IsPart}
 use Rattle.expr_stack.specs.Standing.{AreFrames, Stands, IsWait, IsTop, Opens, Made}
 use Rattle.expr_parse.specs.Standing.{IsTurn, IsReady}
-use Rattle.expr_parse.specs.Ending.{on_outermost, closing, ending, ending_of, takes_whole, is_whole, rough, on_ending, all_end, IsLeft, Closes}
+use Rattle.expr_parse.specs.Ending.{on_outermost, closing, ending, ending_of, takes_whole, is_whole, shape_of_form, on_ending, all_end, IsLeft, Closes}
 use Rattle.tree_parts.proofs.Growing.{grows-same, grows-on}
 use Rattle.expr_parse.proofs.Going.{Goes, AtTop, close-goes}
 use Rattle.expr_parse.proofs.Operating.{finishing}
@@ -68,17 +68,17 @@ infix-expression : (t : Lexeme) (ps : Trees) → is_expression (infix_shape t ps
 infix-expression t (Cons x (Cons y Nil)) = member-expression _
 infix-expression t _ = refl
 
-pub rough-alike : (goal : Goal) (f : Form) (s : _) (ps : Trees) → Alike goal (rough f) (shape (Node f s ps))
-rough-alike goal Form.Identifier s ps = expression-alike goal (plain_shape ps) (plain-expression ps)
-rough-alike goal (Form.Infix t) s ps = expression-alike goal (infix_shape t ps) (infix-expression t ps)
-rough-alike goal _ s ps = same-alike goal _
+pub shape_of_form-alike : (goal : Goal) (f : Form) (s : _) (ps : Trees) → Alike goal (shape_of_form f) (shape (Node f s ps))
+shape_of_form-alike goal Form.Identifier s ps = expression-alike goal (plain_shape ps) (plain-expression ps)
+shape_of_form-alike goal (Form.Infix t) s ps = expression-alike goal (infix_shape t ps) (infix-expression t ps)
+shape_of_form-alike goal _ s ps = same-alike goal _
 
 pub all-alike : (goal : Goal) (hs : List Frame) (sh sh' : Shape) → Alike goal sh sh' → all_end goal hs sh ≡ all_end goal hs sh'
 all-alike goal [] sh sh' a = refl
 all-alike goal (h ∷ []) sh sh' a = a.whole h.wait
-all-alike goal (h ∷ g ∷ hs) sh sh' a = ap (λ z. on_ending z (λ form. all_end goal (g ∷ hs) (rough form))) (a.ends h.wait)
+all-alike goal (h ∷ g ∷ hs) sh sh' a = ap (λ z. on_ending z (λ form. all_end goal (g ∷ hs) (shape_of_form form))) (a.ends h.wait)
 
-all-cons : (goal : Goal) (h : Frame) (hs : List Frame) (sh : Shape) → 0 < length hs → all_end goal (h ∷ hs) sh ≡ on_ending (finishes h.wait sh) (λ form. all_end goal hs (rough form))
+all-cons : (goal : Goal) (h : Frame) (hs : List Frame) (sh : Shape) → 0 < length hs → all_end goal (h ∷ hs) sh ≡ on_ending (finishes h.wait sh) (λ form. all_end goal hs (shape_of_form form))
 all-cons goal h [] sh l = absurd (omega (arith, l))
 all-cons goal h (g ∷ hs) sh l = refl
 
@@ -91,15 +91,15 @@ all-closing goal nodes (h ∷ []) numbers (f ∷ []) e b s = ap (λ w. takes_who
 all-closing goal nodes (h ∷ []) numbers (f ∷ g ∷ fs) e b s = absurd s.4
 all-closing goal nodes (h ∷ k ∷ hs) numbers (f ∷ []) e b s = absurd s.4
 all-closing goal nodes (h ∷ k ∷ hs) numbers (f ∷ g ∷ fs) e b s =
-    ap (λ w. on_ending (finishes w (shape e)) (λ form. all_end goal (k ∷ hs) (rough form))) s.0
+    ap (λ w. on_ending (finishes w (shape e)) (λ form. all_end goal (k ∷ hs) (shape_of_form form))) s.0
     ∙ by-form (λ x c. all-closing goal nodes (k ∷ hs) _ (g ∷ fs) x c s.4) (finishes f.wait (shape e))
   where
-    by-form : ((x : Tree) → (c : List Lexeme) → all_end goal (k ∷ hs) (shape x) ≡ is_whole goal (closing (g ∷ fs) x c)) → (o : Option Form) → on_ending o (λ form. all_end goal (k ∷ hs) (rough form)) ≡ is_whole goal (on_outermost o (λ form. closing (g ∷ fs) (node_with form f e b) (f.read ++ b)))
+    by-form : ((x : Tree) → (c : List Lexeme) → all_end goal (k ∷ hs) (shape x) ≡ is_whole goal (closing (g ∷ fs) x c)) → (o : Option Form) → on_ending o (λ form. all_end goal (k ∷ hs) (shape_of_form form)) ≡ is_whole goal (on_outermost o (λ form. closing (g ∷ fs) (node_with form f e b) (f.read ++ b)))
     by-form rest None = refl
-    by-form rest (Some form) = all-alike goal (k ∷ hs) (rough form) (shape (node_with form f e b)) (rough-alike goal form _ _) ∙ rest (node_with form f e b) (f.read ++ b)
+    by-form rest (Some form) = all-alike goal (k ∷ hs) (shape_of_form form) (shape (node_with form f e b)) (shape_of_form-alike goal form _ _) ∙ rest (node_with form f e b) (f.read ++ b)
 
 -- one frame less
-pub open-next : (goal : Goal) (frames : List Frame) (i : ℕ) (d : Frame) (sh : Shape) → 0 < i → i < length frames → all_end goal (reverse (take (i + 1) frames)) sh ≡ on_ending (finishes (slice_index_or frames i d).wait sh) (λ form. all_end goal (reverse (take i frames)) (rough form))
+pub open-next : (goal : Goal) (frames : List Frame) (i : ℕ) (d : Frame) (sh : Shape) → 0 < i → i < length frames → all_end goal (reverse (take (i + 1) frames)) sh ≡ on_ending (finishes (slice_index_or frames i d).wait sh) (λ form. all_end goal (reverse (take i frames)) (shape_of_form form))
 open-next goal frames i d sh p l =
     let e : reverse (take (i + 1) frames) ≡ slice_index_or frames i d ∷ reverse (take i frames) =
     ap reverse (take-next frames i d l) ∙ reverse-append (take i frames) (slice_index_or frames i d ∷ [])
@@ -111,11 +111,11 @@ open-next goal frames i d sh p l =
     length-taken (x ∷ fs) zero l = refl
     length-taken (x ∷ fs) (suc n) l = let q : length (take n fs) ≡ n = length-taken fs n (omega (arith, l)) in omega arith
 
-pub open-ends : (goal : Goal) (frames : List Frame) (i : ℕ) (d : Frame) (sh : Shape) (form : Form) → 0 < i → i < length frames → Some form ≡ finishes (slice_index_or frames i d).wait sh → all_end goal (reverse (take (i + 1) frames)) sh ≡ all_end goal (reverse (take i frames)) (rough form)
-open-ends goal frames i d sh form p l q = open-next goal frames i d sh p l ∙ ap (λ z. on_ending z (λ form. all_end goal (reverse (take i frames)) (rough form))) (sym q)
+pub open-ends : (goal : Goal) (frames : List Frame) (i : ℕ) (d : Frame) (sh : Shape) (form : Form) → 0 < i → i < length frames → Some form ≡ finishes (slice_index_or frames i d).wait sh → all_end goal (reverse (take (i + 1) frames)) sh ≡ all_end goal (reverse (take i frames)) (shape_of_form form)
+open-ends goal frames i d sh form p l q = open-next goal frames i d sh p l ∙ ap (λ z. on_ending z (λ form. all_end goal (reverse (take i frames)) (shape_of_form form))) (sym q)
 
 pub open-stays : (goal : Goal) (frames : List Frame) (i : ℕ) (d : Frame) (sh : Shape) → 0 < i → i < length frames → None ≡ finishes (slice_index_or frames i d).wait sh → all_end goal (reverse (take (i + 1) frames)) sh ≡ false
-open-stays goal frames i d sh p l q = open-next goal frames i d sh p l ∙ ap (λ z. on_ending z (λ form. all_end goal (reverse (take i frames)) (rough form))) (sym q)
+open-stays goal frames i d sh p l q = open-next goal frames i d sh p l ∙ ap (λ z. on_ending z (λ form. all_end goal (reverse (take i frames)) (shape_of_form form))) (sym q)
 
 pub open-one : (goal : Goal) (frames : List Frame) (d : Frame) (sh : Shape) → 0 < length frames → all_end goal (reverse (take 1 frames)) sh ≡ takes_whole goal (slice_index_or frames 0 d).wait sh
 open-one goal [] d sh l = absurd (omega (arith, l))
@@ -136,13 +136,13 @@ outer-below frames last below q =
     let t : take (length (reverse below)) (reverse below ++ last ∷ []) ≡ reverse below = take-append-le (length (reverse below)) (reverse below) (last ∷ []) (omega arith) ∙ take-length (reverse below) in
     ap (λ z. reverse (take z frames)) n ∙ (ap (λ z. reverse (take (length (reverse below)) z)) r ∙ (ap reverse t ∙ reverse-reverse below))
 
-pub due-whole : (goal : Goal) (nodes : List Arena.Node) (hs outer : List Frame) (numbers : List ℕ) (frames : List Machine.Frame) (form : Form) (wait : Wait) (x : Bool) → IsWait (Some wait) frames → AreFrames nodes hs numbers frames → ((last : Frame) → (below : List Frame) → hs ≡ last ∷ below → outer ≡ below) → Some form ≡ endable wait None → x ≡ all_end goal outer (rough form) → x ≡ is_whole goal (ending (At frames))
+pub due-whole : (goal : Goal) (nodes : List Arena.Node) (hs outer : List Frame) (numbers : List ℕ) (frames : List Machine.Frame) (form : Form) (wait : Wait) (x : Bool) → IsWait (Some wait) frames → AreFrames nodes hs numbers frames → ((last : Frame) → (below : List Frame) → hs ≡ last ∷ below → outer ≡ below) → Some form ≡ endable wait None → x ≡ all_end goal outer (shape_of_form form) → x ≡ is_whole goal (ending (At frames))
 due-whole goal nodes hs outer numbers [] form wait x w s o q k = absurd w
 due-whole goal nodes [] outer numbers (f ∷ fs) form wait x w s o q k = absurd s
 due-whole goal nodes (h ∷ hs) outer numbers (f ∷ fs) form wait x w s o q k =
     let r : endable f.wait None ≡ Some form = ap (λ z. endable z None) (sym w) ∙ sym q in
-    k ∙ (ap (λ z. all_end goal z (rough form)) (o h hs refl)
-    ∙ (all-alike goal hs (rough form) (shape (node form f)) (rough-alike goal form _ _)
+    k ∙ (ap (λ z. all_end goal z (shape_of_form form)) (o h hs refl)
+    ∙ (all-alike goal hs (shape_of_form form) (shape (node form f)) (shape_of_form-alike goal form _ _)
     ∙ (all-closing goal nodes hs _ fs (node form f) f.read s.4 ∙ ap (λ z. is_whole goal (on_outermost z (λ form. closing fs (node form f) f.read))) (sym r))))
 
 pub due-stays : (goal : Goal) (frames : List Machine.Frame) (wait : Wait) → IsWait (Some wait) frames → None ≡ endable wait None → false ≡ is_whole goal (ending (At frames))

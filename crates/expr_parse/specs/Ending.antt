@@ -54,16 +54,16 @@ is_whole goal None = false
 is_whole goal (Some last) = takes_whole goal last.frame.wait (shape last.tree)
 
 -- what the form of a part says of its shape
-abbrev pub rough : Form → Shape
-rough Form.Names = Shape.Names
-rough Form.TupleNames = Shape.Names
-rough Form.Bound = Shape.Bound
-rough Form.TupleBound = Shape.Bound
-rough Form.Arm = Shape.Arm
-rough Form.OtherArm = Shape.OtherArm
-rough (Form.Instance m) = Shape.Instance
-rough (Form.Symbol t) = Shape.Symbol
-rough f = shape_by (helps f)
+abbrev pub shape_of_form : Form → Shape
+shape_of_form Form.Names = Shape.Names
+shape_of_form Form.TupleNames = Shape.Names
+shape_of_form Form.Bound = Shape.Bound
+shape_of_form Form.TupleBound = Shape.Bound
+shape_of_form Form.Arm = Shape.Arm
+shape_of_form Form.OtherArm = Shape.OtherArm
+shape_of_form (Form.Instance m) = Shape.Instance
+shape_of_form (Form.Symbol t) = Shape.Symbol
+shape_of_form f = shape_by (helps f)
 
 abbrev pub on_ending : Option Form → (Form → Bool) → Bool
 on_ending None go = false
@@ -73,7 +73,7 @@ on_ending (Some form) go = go form
 abbrev pub all_end : Goal → List Frame → Shape → Bool
 all_end goal [] sh = false
 all_end goal (held ∷ []) sh = takes_whole goal held.wait sh
-all_end goal (held ∷ next ∷ rest) sh = on_ending (finishes held.wait sh) (λ form. all_end goal (next ∷ rest) (rough form))
+all_end goal (held ∷ next ∷ rest) sh = on_ending (finishes held.wait sh) (λ form. all_end goal (next ∷ rest) (shape_of_form form))
 
 -- the code's stack holds what is left
 abbrev pub IsLeft : List Arena.Node → Stack → Option Part → Option Outermost → Type 0

@@ -23,8 +23,8 @@ use tool_list::Memory;
 use tree_parts::Part;
 
 /// What the form of a part says of its shape.
-fn rough(form: Form) -> Shape
-    ensures { result ≡ ends.rough form }
+fn shape_of_form(form: Form) -> Shape
+    ensures { result ≡ ends.shape_of_form form }
 {
     match form {
         Form::Names | Form::TupleNames => Shape::Names,
@@ -70,7 +70,7 @@ fn all_end(goal: Goal, frames: &[Frame], last: Shape) -> bool
         let Some(form) = finishes(frames[open].wait, shape) else {
             return false;
         };
-        shape = rough(form);
+        shape = shape_of_form(form);
     }
     open == 1 && takes_whole(goal, frames[0].wait, shape)
 }
@@ -93,7 +93,7 @@ fn is_whole_due(stack: &Stack, goal: Goal) -> bool
     let Some(form) = endable(wait, None) else {
         return false;
     };
-    all_end(goal, outer(stack.frames()), rough(form))
+    all_end(goal, outer(stack.frames()), shape_of_form(form))
 }
 
 /// Whether what is read is whole.

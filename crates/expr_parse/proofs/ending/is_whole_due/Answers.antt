@@ -11,4 +11,4 @@ pub returns : goal.returns
 returns c nodes frames stands =
     due-whole c.args.goal nodes (reverse c.args.stack.now.frames.items) (reverse c.outer.result.now) _ frames c.in-Some-endable.form c.in-Some.wait _ (c.in-Some.ensures.top nodes frames stands) stands
     (λ last below q. c.outer.ensures last below (ap reverse c.frames.ensures ∙ q)) c.in-Some-endable.ensures
-    (c.all_end.ensures ∙ ap (all_end c.args.goal (reverse c.outer.result.now)) c.rough.ensures)
+    (c.all_end.ensures ∙ ap (all_end c.args.goal (reverse c.outer.result.now)) c.shape_of_form.ensures)
