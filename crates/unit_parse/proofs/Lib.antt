@@ -1,3 +1,3 @@
-mod Hearing
+mod Feeding
 mod Stepping
 mod Parsing

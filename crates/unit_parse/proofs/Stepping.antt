@@ -26,10 +26,10 @@ use Rattle.unit_frames.proofs.Growing.{frame-grows, under-grows}
 use Rattle.unit_steps.specs.declared.point.Point.{Point}
 use Rattle.unit_steps.specs.declared.point.Next.{Next}
 use Rattle.unit_steps.specs.Standing as Steps
-use Rattle.unit_parse.specs.declared.reading.Reading.{Reading}
-use Rattle.unit_parse.specs.declared.reading.Heard.{Heard}
+use Rattle.unit_parse.specs.declared.reader.ExprReader.{ExprReader}
+use Rattle.unit_parse.specs.declared.reader.Fed.{Fed}
 use Rattle.unit_parse.specs.declared.state.State.{State}
-use Rattle.unit_parse.specs.Standing.{IsReading, IsFocus, IsState, IsMoved, Moves, IsHeard, Hears}
+use Rattle.unit_parse.specs.Standing.{IsReading, IsFocus, IsState, IsMoved, Moves, IsFed, Feeds}
 
 -- nodes were added before
 pub moves-later : (nodes more most : List Arena.Node) (state : Option State) (st : Option Machine.State) → Grows nodes more → Moves more most state st → Moves nodes most state st
@@ -43,21 +43,21 @@ start-not-done kind x q = by (stops kind) q
     by true e = cc
     by false e = cc
 
-pub begin-going : (nodes more : List Arena.Node) (unfinished : Unfinished) (reading : Reading) (t : Lexeme) (heard : Heard) (st : Option Machine.State) → heard ≡ Heard.Going → Steps.Begins nodes unfinished t st → Hears nodes more reading Goal.Expression start [] t heard → Moves nodes more (Some (State.Expression unfinished reading)) st
-begin-going nodes more unfinished reading t heard st q b h =
-    let k : Hears nodes more reading Goal.Expression start [] t Heard.Going = subst (Hears nodes more reading Goal.Expression start [] t) q h in
+pub begin-going : (nodes more : List Arena.Node) (unfinished : Unfinished) (reader : ExprReader) (t : Lexeme) (fed : Fed) (st : Option Machine.State) → fed ≡ Fed.Going → Steps.Begins nodes unfinished t st → Feeds nodes more reader Goal.Expression start [] t fed → Moves nodes more (Some (State.Expression unfinished reader)) st
+begin-going nodes more unfinished reader t fed st q b h =
+    let k : Feeds nodes more reader Goal.Expression start [] t Fed.Going = subst (Feeds nodes more reader Goal.Expression start [] t) q h in
     let e : st ≡ Some (Machine.state b.depth b.units (Machine.Expression b.begun b.frames k.is.1.state (t ∷ []))) =
     b.same ∙ ap (λ o. Machine.reading o b.begun b.frames (t ∷ []) b.depth b.units) k.is.1.steps
     in
     record {
       grows = k.grows;
-      is = subst (IsMoved more (Some (State.Expression unfinished reading))) (sym e) (under-grows nodes more unfinished b.begun b.frames b.depth b.units k.grows b.under, k.is.1.is);
+      is = subst (IsMoved more (Some (State.Expression unfinished reader))) (sym e) (under-grows nodes more unfinished b.begun b.frames b.depth b.units k.grows b.under, k.is.1.is);
     }
 
-pub begin-refused : (nodes more : List Arena.Node) (unfinished : Unfinished) (reading : Reading) (t : Lexeme) (heard : Heard) (st : Option Machine.State) → (heard ≡ Heard.Going → ⊥) → Steps.Begins nodes unfinished t st → Hears nodes more reading Goal.Expression start [] t heard → Moves nodes more None st
-begin-refused nodes more unfinished reading t Heard.Going st q b h = absurd (q refl)
-begin-refused nodes more unfinished reading t (Heard.Done part) st q b h = absurd (start-not-done t.kind (tree_at more part.node) h.is.0)
-begin-refused nodes more unfinished reading t Heard.Refused st q b h =
+pub begin-refused : (nodes more : List Arena.Node) (unfinished : Unfinished) (reader : ExprReader) (t : Lexeme) (fed : Fed) (st : Option Machine.State) → (fed ≡ Fed.Going → ⊥) → Steps.Begins nodes unfinished t st → Feeds nodes more reader Goal.Expression start [] t fed → Moves nodes more None st
+begin-refused nodes more unfinished reader t Fed.Going st q b h = absurd (q refl)
+begin-refused nodes more unfinished reader t (Fed.Done part) st q b h = absurd (start-not-done t.kind (tree_at more part.node) h.is.0)
+begin-refused nodes more unfinished reader t Fed.Refused st q b h =
     let e : st ≡ None = b.same ∙ ap (λ o. Machine.reading o b.begun b.frames (t ∷ []) b.depth b.units) h.is.1 in
     record { grows = h.grows; is = subst (IsMoved more None) (sym e) tt }
 
@@ -78,22 +78,22 @@ pub enters-point : (nodes : List Arena.Node) (point : Point) (st : Option Machin
 enters-point nodes point None k = absurd k
 enters-point nodes point (Some s) k = k
 
-pub enters-expression : (nodes : List Arena.Node) (unfinished : Unfinished) (reading : Reading) (st : Option Machine.State) → IsReading nodes reading Goal.Expression start [] → Steps.IsMoved nodes (Some (Next.Awaits unfinished)) st → IsMoved nodes (Some (State.Expression unfinished reading)) st
-enters-expression nodes unfinished reading None r k = absurd k
-enters-expression nodes unfinished reading (Some s) r k = by s.focus k
+pub enters-expression : (nodes : List Arena.Node) (unfinished : Unfinished) (reader : ExprReader) (st : Option Machine.State) → IsReading nodes reader Goal.Expression start [] → Steps.IsMoved nodes (Some (Next.Awaits unfinished)) st → IsMoved nodes (Some (State.Expression unfinished reader)) st
+enters-expression nodes unfinished reader None r k = absurd k
+enters-expression nodes unfinished reader (Some s) r k = by s.focus k
   where
-    by : (focus : Machine.Focus) → Steps.IsNextFocus nodes (Next.Awaits unfinished) focus s.depth s.units → IsFocus nodes (State.Expression unfinished reading) focus s.depth s.units
+    by : (focus : Machine.Focus) → Steps.IsNextFocus nodes (Next.Awaits unfinished) focus s.depth s.units → IsFocus nodes (State.Expression unfinished reader) focus s.depth s.units
     by (Machine.Expression b fs e a) k = (k.0, rw (k.1, k.2) r)
     by (Machine.Stands due names) k = absurd k
     by (Machine.Declared xs) k = absurd k
     by (Machine.Part b f fs) k = absurd k
     by (Machine.Bounds b f e a) k = absurd k
 
-pub enters-bounds : (nodes : List Arena.Node) (unfinished : Unfinished) (held : Frame) (reading : Reading) (st : Option Machine.State) → IsReading nodes reading Goal.Bounds start_bounds [] → Steps.IsMoved nodes (Some (Next.Bounds unfinished held)) st → IsMoved nodes (Some (State.Bounds unfinished held reading)) st
-enters-bounds nodes unfinished held reading None r k = absurd k
-enters-bounds nodes unfinished held reading (Some s) r k = by s.focus k
+pub enters-bounds : (nodes : List Arena.Node) (unfinished : Unfinished) (held : Frame) (reader : ExprReader) (st : Option Machine.State) → IsReading nodes reader Goal.Bounds start_bounds [] → Steps.IsMoved nodes (Some (Next.Bounds unfinished held)) st → IsMoved nodes (Some (State.Bounds unfinished held reader)) st
+enters-bounds nodes unfinished held reader None r k = absurd k
+enters-bounds nodes unfinished held reader (Some s) r k = by s.focus k
   where
-    by : (focus : Machine.Focus) → Steps.IsNextFocus nodes (Next.Bounds unfinished held) focus s.depth s.units → IsFocus nodes (State.Bounds unfinished held reading) focus s.depth s.units
+    by : (focus : Machine.Focus) → Steps.IsNextFocus nodes (Next.Bounds unfinished held) focus s.depth s.units → IsFocus nodes (State.Bounds unfinished held reader) focus s.depth s.units
     by (Machine.Bounds b f e a) k = (k.0, k.1, rw (k.2, k.3) r)
     by (Machine.Stands due names) k = absurd k
     by (Machine.Declared xs) k = absurd k
@@ -111,81 +111,81 @@ same-bounds st kind = ap (λ z. cond z (finish_bounds (Some st)) None) (closes k
     closes (LexKind.Mark _) = refl
     closes _ = refl
 
-pub heard-still : {nodes : List Arena.Node} {reading : Reading} {goal : Goal} {st : Expressions.State} {read : List Lexeme} {t : Lexeme} {heard : Heard} → IsHeard nodes reading goal st read t heard → Hears nodes nodes reading goal st read t heard
-heard-still {nodes = nodes} i = record { grows = grows-same nodes; is = i }
+pub fed-still : {nodes : List Arena.Node} {reader : ExprReader} {goal : Goal} {st : Expressions.State} {read : List Lexeme} {t : Lexeme} {fed : Fed} → IsFed nodes reader goal st read t fed → Feeds nodes nodes reader goal st read t fed
+fed-still {nodes = nodes} i = record { grows = grows-same nodes; is = i }
 
-pub expression-going : (nodes more : List Arena.Node) (unfinished : Unfinished) (reading : Reading) (b : Machine.Begun) (fs : List Machine.Frame) (d : ℕ) (us : List UnitTree) (st : Expressions.State) (read : List Lexeme) (t : Lexeme) (heard : Heard) → heard ≡ Heard.Going → IsUnder nodes unfinished b fs d us → Hears nodes more reading Goal.Expression st read t heard → Moves nodes more (Some (State.Expression unfinished reading)) (expression_step (done_before (Some st) t.kind) b fs st read d us t)
-expression-going nodes more unfinished reading b fs d us st read t heard q u h =
-    let k : Hears nodes more reading Goal.Expression st read t Heard.Going = subst (Hears nodes more reading Goal.Expression st read t) q h in
+pub expression-going : (nodes more : List Arena.Node) (unfinished : Unfinished) (reader : ExprReader) (b : Machine.Begun) (fs : List Machine.Frame) (d : ℕ) (us : List UnitTree) (st : Expressions.State) (read : List Lexeme) (t : Lexeme) (fed : Fed) → fed ≡ Fed.Going → IsUnder nodes unfinished b fs d us → Feeds nodes more reader Goal.Expression st read t fed → Moves nodes more (Some (State.Expression unfinished reader)) (expression_step (done_before (Some st) t.kind) b fs st read d us t)
+expression-going nodes more unfinished reader b fs d us st read t fed q u h =
+    let k : Feeds nodes more reader Goal.Expression st read t Fed.Going = subst (Feeds nodes more reader Goal.Expression st read t) q h in
     let e : expression_step (done_before (Some st) t.kind) b fs st read d us t ≡ Some (Machine.state d us (Machine.Expression b fs k.is.1.state (read ++ t ∷ []))) =
     ap (λ o. expression_step o b fs st read d us t) k.is.0 ∙ ap (λ o. Machine.reading o b fs (read ++ t ∷ []) d us) k.is.1.steps
     in
     record {
       grows = k.grows;
-      is = subst (IsMoved more (Some (State.Expression unfinished reading))) (sym e) (under-grows nodes more unfinished b fs d us k.grows u, k.is.1.is);
+      is = subst (IsMoved more (Some (State.Expression unfinished reader))) (sym e) (under-grows nodes more unfinished b fs d us k.grows u, k.is.1.is);
     }
 
-pub expression-refused : (nodes more : List Arena.Node) (reading : Reading) (b : Machine.Begun) (fs : List Machine.Frame) (d : ℕ) (us : List UnitTree) (st : Expressions.State) (read : List Lexeme) (t : Lexeme) (heard : Heard) → heard ≡ Heard.Refused → Hears nodes more reading Goal.Expression st read t heard → Moves nodes more None (expression_step (done_before (Some st) t.kind) b fs st read d us t)
-expression-refused nodes more reading b fs d us st read t heard q h =
-    let k : Hears nodes more reading Goal.Expression st read t Heard.Refused = subst (Hears nodes more reading Goal.Expression st read t) q h in
+pub expression-refused : (nodes more : List Arena.Node) (reader : ExprReader) (b : Machine.Begun) (fs : List Machine.Frame) (d : ℕ) (us : List UnitTree) (st : Expressions.State) (read : List Lexeme) (t : Lexeme) (fed : Fed) → fed ≡ Fed.Refused → Feeds nodes more reader Goal.Expression st read t fed → Moves nodes more None (expression_step (done_before (Some st) t.kind) b fs st read d us t)
+expression-refused nodes more reader b fs d us st read t fed q h =
+    let k : Feeds nodes more reader Goal.Expression st read t Fed.Refused = subst (Feeds nodes more reader Goal.Expression st read t) q h in
     let e : expression_step (done_before (Some st) t.kind) b fs st read d us t ≡ None =
     ap (λ o. expression_step o b fs st read d us t) k.is.0 ∙ ap (λ o. Machine.reading o b fs (read ++ t ∷ []) d us) k.is.1
     in
     record { grows = k.grows; is = subst (IsMoved more None) (sym e) tt }
 
-pub expression-done : (nodes more most : List Arena.Node) (reading : Reading) (part : Part) (b : Machine.Begun) (fs : List Machine.Frame) (d : ℕ) (us : List UnitTree) (st : Expressions.State) (read : List Lexeme) (t : Lexeme) (state : Option State) → Hears nodes more reading Goal.Expression st read t (Heard.Done part) → Moves more most state (given fs b (tree_at more part.node) read d us t) → Moves nodes most state (expression_step (done_before (Some st) t.kind) b fs st read d us t)
-expression-done nodes more most reading part b fs d us st read t state h m = record {
+pub expression-done : (nodes more most : List Arena.Node) (reader : ExprReader) (part : Part) (b : Machine.Begun) (fs : List Machine.Frame) (d : ℕ) (us : List UnitTree) (st : Expressions.State) (read : List Lexeme) (t : Lexeme) (state : Option State) → Feeds nodes more reader Goal.Expression st read t (Fed.Done part) → Moves more most state (given fs b (tree_at more part.node) read d us t) → Moves nodes most state (expression_step (done_before (Some st) t.kind) b fs st read d us t)
+expression-done nodes more most reader part b fs d us st read t state h m = record {
   grows = grows-on nodes more most h.grows m.grows;
   is = subst (IsMoved most state) (sym (ap (λ o. expression_step o b fs st read d us t) h.is.0)) m.is;
 }
 
-pub bounds-going : (nodes more : List Arena.Node) (unfinished : Unfinished) (held : Frame) (reading : Reading) (b : Machine.Begun) (f : Machine.Frame) (d : ℕ) (us : List UnitTree) (st : Expressions.State) (read : List Lexeme) (t : Lexeme) (heard : Heard) → heard ≡ Heard.Going → IsUnder nodes unfinished b [] d us → IsFrame nodes held f → Hears nodes more reading Goal.Bounds st read t heard → Moves nodes more (Some (State.Bounds unfinished held reading)) (bounds_step (bounds_before (Some st) t.kind) b f st read d us t)
-bounds-going nodes more unfinished held reading b f d us st read t heard q u i h =
-    let k : Hears nodes more reading Goal.Bounds st read t Heard.Going = subst (Hears nodes more reading Goal.Bounds st read t) q h in
+pub bounds-going : (nodes more : List Arena.Node) (unfinished : Unfinished) (held : Frame) (reader : ExprReader) (b : Machine.Begun) (f : Machine.Frame) (d : ℕ) (us : List UnitTree) (st : Expressions.State) (read : List Lexeme) (t : Lexeme) (fed : Fed) → fed ≡ Fed.Going → IsUnder nodes unfinished b [] d us → IsFrame nodes held f → Feeds nodes more reader Goal.Bounds st read t fed → Moves nodes more (Some (State.Bounds unfinished held reader)) (bounds_step (bounds_before (Some st) t.kind) b f st read d us t)
+bounds-going nodes more unfinished held reader b f d us st read t fed q u i h =
+    let k : Feeds nodes more reader Goal.Bounds st read t Fed.Going = subst (Feeds nodes more reader Goal.Bounds st read t) q h in
     let e : bounds_step (bounds_before (Some st) t.kind) b f st read d us t ≡ Some (Machine.state d us (Machine.Bounds b f k.is.1.state (read ++ t ∷ []))) =
     ap (λ o. bounds_step o b f st read d us t) (same-bounds st t.kind ∙ k.is.0) ∙ ap (λ o. Machine.reading_bounds o b f (read ++ t ∷ []) d us) k.is.1.steps
     in
     record {
       grows = k.grows;
-      is = subst (IsMoved more (Some (State.Bounds unfinished held reading))) (sym e) (under-grows nodes more unfinished b [] d us k.grows u, frame-grows nodes more held f k.grows i, k.is.1.is);
+      is = subst (IsMoved more (Some (State.Bounds unfinished held reader))) (sym e) (under-grows nodes more unfinished b [] d us k.grows u, frame-grows nodes more held f k.grows i, k.is.1.is);
     }
 
-pub bounds-refused : (nodes more : List Arena.Node) (reading : Reading) (b : Machine.Begun) (f : Machine.Frame) (d : ℕ) (us : List UnitTree) (st : Expressions.State) (read : List Lexeme) (t : Lexeme) (heard : Heard) → heard ≡ Heard.Refused → Hears nodes more reading Goal.Bounds st read t heard → Moves nodes more None (bounds_step (bounds_before (Some st) t.kind) b f st read d us t)
-bounds-refused nodes more reading b f d us st read t heard q h =
-    let k : Hears nodes more reading Goal.Bounds st read t Heard.Refused = subst (Hears nodes more reading Goal.Bounds st read t) q h in
+pub bounds-refused : (nodes more : List Arena.Node) (reader : ExprReader) (b : Machine.Begun) (f : Machine.Frame) (d : ℕ) (us : List UnitTree) (st : Expressions.State) (read : List Lexeme) (t : Lexeme) (fed : Fed) → fed ≡ Fed.Refused → Feeds nodes more reader Goal.Bounds st read t fed → Moves nodes more None (bounds_step (bounds_before (Some st) t.kind) b f st read d us t)
+bounds-refused nodes more reader b f d us st read t fed q h =
+    let k : Feeds nodes more reader Goal.Bounds st read t Fed.Refused = subst (Feeds nodes more reader Goal.Bounds st read t) q h in
     let e : bounds_step (bounds_before (Some st) t.kind) b f st read d us t ≡ None =
     ap (λ o. bounds_step o b f st read d us t) (same-bounds st t.kind ∙ k.is.0) ∙ ap (λ o. Machine.reading_bounds o b f (read ++ t ∷ []) d us) k.is.1
     in
     record { grows = k.grows; is = subst (IsMoved more None) (sym e) tt }
 
-pub bounds-done-is : (nodes more most : List Arena.Node) (reading : Reading) (part : Part) (b : Machine.Begun) (f : Machine.Frame) (d : ℕ) (us : List UnitTree) (st : Expressions.State) (read : List Lexeme) (t : Lexeme) (state : Option State) → Hears nodes more reading Goal.Bounds st read t (Heard.Done part) → Moves more most state (part_step [] b (Machine.frame (after_bounds f.wait) (parts_of (tree_at more part.node)) (f.read ++ read)) d us t) → Moves nodes most state (bounds_step (bounds_before (Some st) t.kind) b f st read d us t)
-bounds-done-is nodes more most reading part b f d us st read t state h m = record {
+pub bounds-done-is : (nodes more most : List Arena.Node) (reader : ExprReader) (part : Part) (b : Machine.Begun) (f : Machine.Frame) (d : ℕ) (us : List UnitTree) (st : Expressions.State) (read : List Lexeme) (t : Lexeme) (state : Option State) → Feeds nodes more reader Goal.Bounds st read t (Fed.Done part) → Moves more most state (part_step [] b (Machine.frame (after_bounds f.wait) (parts_of (tree_at more part.node)) (f.read ++ read)) d us t) → Moves nodes most state (bounds_step (bounds_before (Some st) t.kind) b f st read d us t)
+bounds-done-is nodes more most reader part b f d us st read t state h m = record {
   grows = grows-on nodes more most h.grows m.grows;
   is = subst (IsMoved most state) (sym (ap (λ o. bounds_step o b f st read d us t) (same-bounds st t.kind ∙ h.is.0))) m.is;
 }
 
-pub heard-done : (nodes more : List Arena.Node) (reading : Reading) (goal : Goal) (st : Expressions.State) (read : List Lexeme) (t : Lexeme) (heard : Heard) (part : Part) → heard ≡ Heard.Done part → Hears nodes more reading goal st read t heard → Hears nodes more reading goal st read t (Heard.Done part)
-heard-done nodes more reading goal st read t heard part q h = subst (Hears nodes more reading goal st read t) q h
+pub fed-done : (nodes more : List Arena.Node) (reader : ExprReader) (goal : Goal) (st : Expressions.State) (read : List Lexeme) (t : Lexeme) (fed : Fed) (part : Part) → fed ≡ Fed.Done part → Feeds nodes more reader goal st read t fed → Feeds nodes more reader goal st read t (Fed.Done part)
+fed-done nodes more reader goal st read t fed part q h = subst (Feeds nodes more reader goal st read t) q h
 
 -- ---- a state in code, by what it is
 
 pub as-point : (nodes : List Arena.Node) (state : State) (point : Point) (st : Machine.State) → state ≡ State.At point → IsState nodes state st → Steps.IsPoint nodes point st
 as-point nodes state point st q i = subst (λ z. IsFocus nodes z st.focus st.depth st.units) q i
 
-pub as-expression : (nodes : List Arena.Node) (state : State) (unfinished : Unfinished) (reading : Reading) (st : Machine.State) → state ≡ State.Expression unfinished reading → IsState nodes state st → (b : Machine.Begun) × (fs : List Machine.Frame) × (s : Expressions.State) × (a : List Lexeme) × (st.focus ≡ Machine.Expression b fs s a) × IsUnder nodes unfinished b fs st.depth st.units × IsReading nodes reading Goal.Expression s a
-as-expression nodes state unfinished reading st q i = by st.focus (subst (λ z. IsFocus nodes z st.focus st.depth st.units) q i)
+pub as-expression : (nodes : List Arena.Node) (state : State) (unfinished : Unfinished) (reader : ExprReader) (st : Machine.State) → state ≡ State.Expression unfinished reader → IsState nodes state st → (b : Machine.Begun) × (fs : List Machine.Frame) × (s : Expressions.State) × (a : List Lexeme) × (st.focus ≡ Machine.Expression b fs s a) × IsUnder nodes unfinished b fs st.depth st.units × IsReading nodes reader Goal.Expression s a
+as-expression nodes state unfinished reader st q i = by st.focus (subst (λ z. IsFocus nodes z st.focus st.depth st.units) q i)
   where
-    by : (focus : Machine.Focus) → IsFocus nodes (State.Expression unfinished reading) focus st.depth st.units → (b : Machine.Begun) × (fs : List Machine.Frame) × (s : Expressions.State) × (a : List Lexeme) × (focus ≡ Machine.Expression b fs s a) × IsUnder nodes unfinished b fs st.depth st.units × IsReading nodes reading Goal.Expression s a
+    by : (focus : Machine.Focus) → IsFocus nodes (State.Expression unfinished reader) focus st.depth st.units → (b : Machine.Begun) × (fs : List Machine.Frame) × (s : Expressions.State) × (a : List Lexeme) × (focus ≡ Machine.Expression b fs s a) × IsUnder nodes unfinished b fs st.depth st.units × IsReading nodes reader Goal.Expression s a
     by (Machine.Expression b fs s a) k = (b, fs, s, a, refl, k.0, k.1)
     by (Machine.Stands due names) k = absurd k
     by (Machine.Declared xs) k = absurd k
     by (Machine.Part b f fs) k = absurd k
     by (Machine.Bounds b f s a) k = absurd k
 
-pub as-bounds : (nodes : List Arena.Node) (state : State) (unfinished : Unfinished) (held : Frame) (reading : Reading) (st : Machine.State) → state ≡ State.Bounds unfinished held reading → IsState nodes state st → (b : Machine.Begun) × (f : Machine.Frame) × (s : Expressions.State) × (a : List Lexeme) × (st.focus ≡ Machine.Bounds b f s a) × IsUnder nodes unfinished b [] st.depth st.units × IsFrame nodes held f × IsReading nodes reading Goal.Bounds s a
-as-bounds nodes state unfinished held reading st q i = by st.focus (subst (λ z. IsFocus nodes z st.focus st.depth st.units) q i)
+pub as-bounds : (nodes : List Arena.Node) (state : State) (unfinished : Unfinished) (held : Frame) (reader : ExprReader) (st : Machine.State) → state ≡ State.Bounds unfinished held reader → IsState nodes state st → (b : Machine.Begun) × (f : Machine.Frame) × (s : Expressions.State) × (a : List Lexeme) × (st.focus ≡ Machine.Bounds b f s a) × IsUnder nodes unfinished b [] st.depth st.units × IsFrame nodes held f × IsReading nodes reader Goal.Bounds s a
+as-bounds nodes state unfinished held reader st q i = by st.focus (subst (λ z. IsFocus nodes z st.focus st.depth st.units) q i)
   where
-    by : (focus : Machine.Focus) → IsFocus nodes (State.Bounds unfinished held reading) focus st.depth st.units → (b : Machine.Begun) × (f : Machine.Frame) × (s : Expressions.State) × (a : List Lexeme) × (focus ≡ Machine.Bounds b f s a) × IsUnder nodes unfinished b [] st.depth st.units × IsFrame nodes held f × IsReading nodes reading Goal.Bounds s a
+    by : (focus : Machine.Focus) → IsFocus nodes (State.Bounds unfinished held reader) focus st.depth st.units → (b : Machine.Begun) × (f : Machine.Frame) × (s : Expressions.State) × (a : List Lexeme) × (focus ≡ Machine.Bounds b f s a) × IsUnder nodes unfinished b [] st.depth st.units × IsFrame nodes held f × IsReading nodes reader Goal.Bounds s a
     by (Machine.Bounds b f s a) k = (b, f, s, a, refl, k.0, k.1, k.2)
     by (Machine.Stands due names) k = absurd k
     by (Machine.Declared xs) k = absurd k

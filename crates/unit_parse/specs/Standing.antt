@@ -16,23 +16,23 @@ use Rattle.unit_frames.specs.declared.frame.Frame.{Frame}
 use Rattle.unit_frames.specs.declared.unfinished.Unfinished.{Unfinished}
 use Rattle.unit_frames.specs.Standing.{IsFrame, IsUnder}
 use Rattle.unit_steps.specs.Standing as Steps
-use Rattle.unit_parse.specs.declared.reading.Reading.{Reading}
-use Rattle.unit_parse.specs.declared.reading.Heard.{Heard}
+use Rattle.unit_parse.specs.declared.reader.ExprReader.{ExprReader}
+use Rattle.unit_parse.specs.declared.reader.Fed.{Fed}
 use Rattle.unit_parse.specs.declared.state.State.{State}
 
 -- an expression, or bounds, of which these lexemes were read
-pub record IsReading (nodes : List Arena.Node) (reading : Reading) (aim : Goal) (st : Expressions.State) (read : List Lexeme) : Type 0 where
-  pub goal : reading.machine.goal ≡ aim
+pub record IsReading (nodes : List Arena.Node) (reader : ExprReader) (aim : Goal) (st : Expressions.State) (read : List Lexeme) : Type 0 where
+  pub goal : reader.machine.goal ≡ aim
   pub before : ℕ
-  pub has : HasRead nodes reading.machine before read
+  pub has : HasRead nodes reader.machine before read
   pub runs : Expressions.run (Some (start_of aim)) read ≡ Some st
-  pub place : reading.place ≡ place_of read
+  pub place : reader.place ≡ place_of read
 
 -- what is read now
 abbrev pub IsFocus : List Arena.Node → State → Machine.Focus → ℕ → List UnitTree → Type 0
 IsFocus nodes (State.At point) focus depth units = Steps.IsFocus nodes point focus depth units
-IsFocus nodes (State.Expression unfinished reading) (Machine.Expression begun fs st read) depth units = IsUnder nodes unfinished begun fs depth units × IsReading nodes reading Goal.Expression st read
-IsFocus nodes (State.Bounds unfinished frame reading) (Machine.Bounds begun f st read) depth units = IsUnder nodes unfinished begun [] depth units × IsFrame nodes frame f × IsReading nodes reading Goal.Bounds st read
+IsFocus nodes (State.Expression unfinished reader) (Machine.Expression begun fs st read) depth units = IsUnder nodes unfinished begun fs depth units × IsReading nodes reader Goal.Expression st read
+IsFocus nodes (State.Bounds unfinished frame reader) (Machine.Bounds begun f st read) depth units = IsUnder nodes unfinished begun [] depth units × IsFrame nodes frame f × IsReading nodes reader Goal.Bounds st read
 IsFocus nodes _ _ depth units = ⊥
 
 -- the reader stands where the machine does
@@ -61,37 +61,37 @@ IsUnfinished Goal.Expression st kind = done_before (Some st) kind ≡ None
 IsUnfinished Goal.Bounds st kind = bounds_done_before (Some st) kind ≡ None
 
 -- the lexeme goes on with what is read
-pub record HearsMore (nodes : List Arena.Node) (reading : Reading) (goal : Goal) (st : Expressions.State) (read : List Lexeme) (next : Lexeme) : Type 0 where
+pub record FeedsMore (nodes : List Arena.Node) (reader : ExprReader) (goal : Goal) (st : Expressions.State) (read : List Lexeme) (next : Lexeme) : Type 0 where
   pub state : Expressions.State
   pub steps : Expressions.step st next ≡ Some state
-  pub is : IsReading nodes reading goal state (read ++ next ∷ [])
+  pub is : IsReading nodes reader goal state (read ++ next ∷ [])
 
 -- what became of a lexeme after those that were read
-abbrev pub IsHeard : List Arena.Node → Reading → Goal → Expressions.State → List Lexeme → Lexeme → Heard → Type 0
-IsHeard nodes reading goal st read next Heard.Going = IsUnfinished goal st next.kind × HearsMore nodes reading goal st read next
-IsHeard nodes reading goal st read next (Heard.Done part) = IsWholeBefore goal st next.kind (tree_at nodes part.node) × IsPart nodes part (tree_at nodes part.node) read
-IsHeard nodes reading goal st read next Heard.Refused = IsUnfinished goal st next.kind × (Expressions.step st next ≡ None)
+abbrev pub IsFed : List Arena.Node → ExprReader → Goal → Expressions.State → List Lexeme → Lexeme → Fed → Type 0
+IsFed nodes reader goal st read next Fed.Going = IsUnfinished goal st next.kind × FeedsMore nodes reader goal st read next
+IsFed nodes reader goal st read next (Fed.Done part) = IsWholeBefore goal st next.kind (tree_at nodes part.node) × IsPart nodes part (tree_at nodes part.node) read
+IsFed nodes reader goal st read next Fed.Refused = IsUnfinished goal st next.kind × (Expressions.step st next ≡ None)
 
 -- and old nodes stay
-pub record Hears (nodes more : List Arena.Node) (reading : Reading) (goal : Goal) (st : Expressions.State) (read : List Lexeme) (next : Lexeme) (heard : Heard) : Type 0 where
+pub record Feeds (nodes more : List Arena.Node) (reader : ExprReader) (goal : Goal) (st : Expressions.State) (read : List Lexeme) (next : Lexeme) (fed : Fed) : Type 0 where
   pub grows : Grows nodes more
-  pub is : IsHeard more reading goal st read next heard
+  pub is : IsFed more reader goal st read next fed
 
 -- an expression in code stands for some state of the machine
-abbrev pub IsReadyExpression : List Arena.Node → Unfinished → Reading → Type 0
-IsReadyExpression nodes unfinished reading = (b : Machine.Begun) × (fs : List Machine.Frame) × (depth : ℕ) × (units : List UnitTree) × (st : Expressions.State) × (read : List Lexeme) × IsUnder nodes unfinished b fs depth units × IsReading nodes reading Goal.Expression st read
+abbrev pub IsReadyExpression : List Arena.Node → Unfinished → ExprReader → Type 0
+IsReadyExpression nodes unfinished reader = (b : Machine.Begun) × (fs : List Machine.Frame) × (depth : ℕ) × (units : List UnitTree) × (st : Expressions.State) × (read : List Lexeme) × IsUnder nodes unfinished b fs depth units × IsReading nodes reader Goal.Expression st read
 
--- and it has heard a lexeme
-abbrev pub HasHeardExpression : List Arena.Node → Unfinished → Reading → Lexeme → Heard → Type 0
-HasHeardExpression nodes unfinished reading next heard = (b : Machine.Begun) × (fs : List Machine.Frame) × (depth : ℕ) × (units : List UnitTree) × (st : Expressions.State) × (read : List Lexeme) × IsUnder nodes unfinished b fs depth units × IsHeard nodes reading Goal.Expression st read next heard
+-- and a lexeme was fed to it
+abbrev pub HasFedExpression : List Arena.Node → Unfinished → ExprReader → Lexeme → Fed → Type 0
+HasFedExpression nodes unfinished reader next fed = (b : Machine.Begun) × (fs : List Machine.Frame) × (depth : ℕ) × (units : List UnitTree) × (st : Expressions.State) × (read : List Lexeme) × IsUnder nodes unfinished b fs depth units × IsFed nodes reader Goal.Expression st read next fed
 
--- bounds in code that have heard one
-abbrev pub HasHeardBounds : List Arena.Node → Unfinished → Frame → Reading → Lexeme → Heard → Type 0
-HasHeardBounds nodes unfinished frame reading next heard = (b : Machine.Begun) × (depth : ℕ) × (units : List UnitTree) × (f : Machine.Frame) × (st : Expressions.State) × (read : List Lexeme) × IsUnder nodes unfinished b [] depth units × IsFrame nodes frame f × IsHeard nodes reading Goal.Bounds st read next heard
+-- bounds in code to which one was fed
+abbrev pub HasFedBounds : List Arena.Node → Unfinished → Frame → ExprReader → Lexeme → Fed → Type 0
+HasFedBounds nodes unfinished frame reader next fed = (b : Machine.Begun) × (depth : ℕ) × (units : List UnitTree) × (f : Machine.Frame) × (st : Expressions.State) × (read : List Lexeme) × IsUnder nodes unfinished b [] depth units × IsFrame nodes frame f × IsFed nodes reader Goal.Bounds st read next fed
 
--- and before they hear one
-abbrev pub IsReadyBounds : List Arena.Node → Unfinished → Frame → Reading → Type 0
-IsReadyBounds nodes unfinished frame reading = (b : Machine.Begun) × (depth : ℕ) × (units : List UnitTree) × (f : Machine.Frame) × (st : Expressions.State) × (read : List Lexeme) × IsUnder nodes unfinished b [] depth units × IsFrame nodes frame f × IsReading nodes reading Goal.Bounds st read
+-- and before one is
+abbrev pub IsReadyBounds : List Arena.Node → Unfinished → Frame → ExprReader → Type 0
+IsReadyBounds nodes unfinished frame reader = (b : Machine.Begun) × (depth : ℕ) × (units : List UnitTree) × (f : Machine.Frame) × (st : Expressions.State) × (read : List Lexeme) × IsUnder nodes unfinished b [] depth units × IsFrame nodes frame f × IsReading nodes reader Goal.Bounds st read
 
 -- the reader stands where the machine may
 abbrev pub IsReadyState : List Arena.Node → State → Type 0

@@ -7,9 +7,9 @@ ghost use Rattle.expr_parse.specs.declared.goal.Goal.TheVariants as goals;
 ghost use Rattle.unit_machine.specs.Machine as machine;
 ghost use Rattle.unit_steps.specs.declared.point.Next.TheVariants as leads;
 ghost use Rattle.unit_steps.specs.Standing as steps;
-ghost use Rattle.unit_parse.specs.Standing.{IsMoved, Moves, Hears};
+ghost use Rattle.unit_parse.specs.Standing.{IsMoved, Moves, Feeds};
 
-use crate::reading::{Heard, Reading};
+use crate::reader::{ExprReader, Fed};
 use crate::state::State;
 use expr_parse::Goal;
 use tla_symbols::Lexeme;
@@ -23,7 +23,7 @@ fn await_expression(unfinished: Unfinished) -> State
     ensures { (nodes : List arena.Node) → (st : Option machine.State) → steps.IsMoved nodes (Some (leads.Awaits unfinished)) st → IsMoved nodes (Some result) st }
 {
     let alloc = unfinished.reached.alloc;
-    State::Expression(unfinished, Reading::new(alloc, Goal::Expression))
+    State::Expression(unfinished, ExprReader::new(alloc, Goal::Expression))
 }
 
 /// Bounds are due, for which the frame waits.
@@ -31,15 +31,15 @@ fn await_bounds(unfinished: Unfinished, frame: Frame) -> State
     ensures { (nodes : List arena.Node) → (st : Option machine.State) → steps.IsMoved nodes (Some (leads.Bounds unfinished frame)) st → IsMoved nodes (Some result) st }
 {
     let alloc = unfinished.reached.alloc;
-    State::Bounds(unfinished, frame, Reading::new(alloc, Goal::Bounds))
+    State::Bounds(unfinished, frame, ExprReader::new(alloc, Goal::Bounds))
 }
 
 /// What an expression makes of its first lexeme.
-fn expression_begun(unfinished: Unfinished, reading: Reading, heard: Heard) -> Option<State>
-    ensures { (nodes : List arena.Node) → (more : List arena.Node) → (first : Lexeme) → (st : Option machine.State) → steps.Begins nodes unfinished first st → Hears nodes more reading goals.Expression expressions.start [] first heard → Moves nodes more result st }
+fn expression_begun(unfinished: Unfinished, reader: ExprReader, fed: Fed) -> Option<State>
+    ensures { (nodes : List arena.Node) → (more : List arena.Node) → (first : Lexeme) → (st : Option machine.State) → steps.Begins nodes unfinished first st → Feeds nodes more reader goals.Expression expressions.start [] first fed → Moves nodes more result st }
 {
-    match heard {
-        Heard::Going => Some(State::Expression(unfinished, reading)),
+    match fed {
+        Fed::Going => Some(State::Expression(unfinished, reader)),
         _ => None,
     }
 }
@@ -52,9 +52,9 @@ fn begin_expression(
 ) -> Result<Option<State>, Memory>
     ensures { IfOk result (λ moved. (st : Option machine.State) → steps.Begins tree.old unfinished first st → Moves tree.old tree.new moved st) }
 {
-    let mut reading = Reading::new(unfinished.reached.alloc, Goal::Expression);
-    let heard = reading.hears(tree, first)?;
-    Ok(expression_begun(unfinished, reading, heard))
+    let mut reader = ExprReader::new(unfinished.reached.alloc, Goal::Expression);
+    let fed = reader.feed(tree, first)?;
+    Ok(expression_begun(unfinished, reader, fed))
 }
 
 /// The reader goes where units and frames lead that do not refuse a lexeme.

@@ -7,7 +7,7 @@
 mod enter;
 mod parse;
 mod parts;
-mod reading;
+mod reader;
 mod state;
 mod step;
 

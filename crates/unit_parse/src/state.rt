@@ -4,7 +4,7 @@ ghost use Rattle.tla_tree.specs.Arena.{Node};
 ghost use Rattle.unit_machine.specs.Machine as machine;
 ghost use Rattle.unit_parse.specs.Standing.{IsState};
 
-use crate::reading::Reading;
+use crate::reader::ExprReader;
 use std::alloc::Global;
 use unit_frames::{Frame, Unfinished};
 use unit_steps::Point;
@@ -14,9 +14,9 @@ use unit_steps::Point;
 pub(crate) enum State {
     /// No expression.
     At(Point),
-    Expression(Unfinished, Reading),
+    Expression(Unfinished, ExprReader),
     /// The bounds in the head of a function, for which the frame waits.
-    Bounds(Unfinished, Frame, Reading),
+    Bounds(Unfinished, Frame, ExprReader),
 }
 
 impl State {

@@ -18,11 +18,11 @@ impl State {
     {
         match self {
             State::At(point) => enter(point.step(tree, lexeme), tree),
-            State::Expression(unfinished, reading) => expression_step(
-                unfinished, reading, tree, lexeme,
+            State::Expression(unfinished, reader) => expression_step(
+                unfinished, reader, tree, lexeme,
             ),
-            State::Bounds(unfinished, frame, reading) => bounds_step(
-                unfinished, frame, reading, tree, lexeme,
+            State::Bounds(unfinished, frame, reader) => bounds_step(
+                unfinished, frame, reader, tree, lexeme,
             ),
         }
     }

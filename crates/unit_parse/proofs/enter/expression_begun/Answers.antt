@@ -2,7 +2,7 @@ use Rattle.unit_parse.proofs.Stepping.{begin-going, begin-refused}
 use Rattle.unit_parse.proofs.enter.expression_begun.Goals as goal
 
 pub returns-in-Going : goal.returns-in-Going
-returns-in-Going c nodes more first st b h = begin-going nodes more c.args.unfinished c.args.reading first _ st c.in-Going.is b h
+returns-in-Going c nodes more first st b h = begin-going nodes more c.args.unfinished c.args.reader first _ st c.in-Going.is b h
 
 pub returns-in_default : goal.returns-in_default
-returns-in_default c nodes more first st b h = begin-refused nodes more c.args.unfinished c.args.reading first _ st c.in_default.not-Going b h
+returns-in_default c nodes more first st b h = begin-refused nodes more c.args.unfinished c.args.reader first _ st c.in_default.not-Going b h

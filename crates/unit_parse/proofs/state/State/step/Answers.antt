@@ -8,13 +8,13 @@ step-requires c = (c.requires.0, as-point _ _ c.in-At.point c.requires.0 c.in-At
 pub expression_step-requires : goal.expression_step-requires
 expression_step-requires c =
     let st = c.requires.0 in
-    let k = as-expression _ _ c.in-Expression.unfinished c.in-Expression.reading st c.in-Expression.is c.requires.1 in
+    let k = as-expression _ _ c.in-Expression.unfinished c.in-Expression.reader st c.in-Expression.is c.requires.1 in
     (k.0, k.1, st.depth, st.units, k.2, k.3, k.5, k.6)
 
 pub bounds_step-requires : goal.bounds_step-requires
 bounds_step-requires c =
     let st = c.requires.0 in
-    let k = as-bounds _ _ c.in-Bounds.unfinished c.in-Bounds.frame c.in-Bounds.reading st c.in-Bounds.is c.requires.1 in
+    let k = as-bounds _ _ c.in-Bounds.unfinished c.in-Bounds.frame c.in-Bounds.reader st c.in-Bounds.is c.requires.1 in
     (k.0, st.depth, st.units, k.1, k.2, k.3, k.5, k.6, k.7)
 
 pub returns-in-At : goal.returns-in-At
@@ -27,7 +27,7 @@ pub returns-in-Expression : goal.returns-in-Expression
 returns-in-Expression c =
     IfOk-weaker c.expression_step.result _ _
     (λ moved h st i.
-    let k = as-expression _ _ c.in-Expression.unfinished c.in-Expression.reading st c.in-Expression.is i in
+    let k = as-expression _ _ c.in-Expression.unfinished c.in-Expression.reader st c.in-Expression.is i in
     focus-moves _ _ _ st _ c.args.lexeme k.4 (h st.depth st.units k.0 k.1 k.2 k.3 k.5 k.6))
     c.expression_step.ensures
 
@@ -35,6 +35,6 @@ pub returns-in-Bounds : goal.returns-in-Bounds
 returns-in-Bounds c =
     IfOk-weaker c.bounds_step.result _ _
     (λ moved h st i.
-    let k = as-bounds _ _ c.in-Bounds.unfinished c.in-Bounds.frame c.in-Bounds.reading st c.in-Bounds.is i in
+    let k = as-bounds _ _ c.in-Bounds.unfinished c.in-Bounds.frame c.in-Bounds.reader st c.in-Bounds.is i in
     focus-moves _ _ _ st _ c.args.lexeme k.4 (h st.depth st.units k.0 k.1 k.2 k.3 k.5 k.6 k.7))
     c.bounds_step.ensures

@@ -18,12 +18,12 @@ use Rattle.expr_parse.specs.Reading.{HasRead, IsAnswer, IsReady, start_of}
 use Rattle.tree_parts.specs.Parts.{Grows, joined, parts_of}
 use Rattle.expr_parse.proofs.Answering.{begins-of, begins-not}
 use Rattle.tree_parts.proofs.Places.{place-append}
-use Rattle.unit_parse.specs.declared.reading.Reading.{Reading}
-use Rattle.unit_parse.specs.declared.reading.Heard.{Heard}
-use Rattle.unit_parse.specs.Standing.{IsReading, IsUnfinished, IsWholeBefore, HearsMore, Hears}
+use Rattle.unit_parse.specs.declared.reader.ExprReader.{ExprReader}
+use Rattle.unit_parse.specs.declared.reader.Fed.{Fed}
+use Rattle.unit_parse.specs.Standing.{IsReading, IsUnfinished, IsWholeBefore, FeedsMore, Feeds}
 
-pub reading-ready : {nodes : List Arena.Node} {reading : Reading} {aim : Goal} {st : Expressions.State} {read : List Lexeme} → IsReading nodes reading aim st read → IsReady nodes reading.machine
-reading-ready {reading = reading} {read = read} i = (run (Some (start_of reading.machine.goal)) read, i.has.stands)
+pub reader-ready : {nodes : List Arena.Node} {reader : ExprReader} {aim : Goal} {st : Expressions.State} {read : List Lexeme} → IsReading nodes reader aim st read → IsReady nodes reader.machine
+reader-ready {reader = reader} {read = read} i = (run (Some (start_of reader.machine.goal)) read, i.has.stands)
 
 -- what is not whole is not done
 not-whole : (aim : Goal) (st : Expressions.State) (read : List Lexeme) (t : Lexeme) → run (Some (start_of aim)) read ≡ Some st → (IsWhole aim read t → ⊥) → IsUnfinished aim st t.kind
@@ -47,10 +47,10 @@ run-more : (aim : Goal) (st : Expressions.State) (read : List Lexeme) (t : Lexem
 run-more aim st read t e = run-append read (t ∷ []) (Some (start_of aim)) ∙ ap (λ z. run z (t ∷ [])) e
 
 -- a lexeme that goes on with what is read
-pub hears-going : (nodes more : List Arena.Node) (reading reading' : Reading) (aim : Goal) (st : Expressions.State) (read : List Lexeme) (t : Lexeme) → reading'.machine.goal ≡ reading.machine.goal → reading'.place ≡ joined reading.place (Some t.span) → Grows nodes more → (i : IsReading nodes reading aim st read) → (step : Step) → step ≡ Step.Going → IsAnswer more reading'.machine i.before read t step → Hears nodes more reading' aim st read t Heard.Going
-hears-going nodes more reading reading' aim st read t g p grows i step q answer =
-    let a : IsAnswer more reading'.machine i.before read t Step.Going = subst (IsAnswer more reading'.machine i.before read t) q answer in
-    let goal : reading'.machine.goal ≡ aim = g ∙ i.goal in
+pub feed-going : (nodes more : List Arena.Node) (reader reader' : ExprReader) (aim : Goal) (st : Expressions.State) (read : List Lexeme) (t : Lexeme) → reader'.machine.goal ≡ reader.machine.goal → reader'.place ≡ joined reader.place (Some t.span) → Grows nodes more → (i : IsReading nodes reader aim st read) → (step : Step) → step ≡ Step.Going → IsAnswer more reader'.machine i.before read t step → Feeds nodes more reader' aim st read t Fed.Going
+feed-going nodes more reader reader' aim st read t g p grows i step q answer =
+    let a : IsAnswer more reader'.machine i.before read t Step.Going = subst (IsAnswer more reader'.machine i.before read t) q answer in
+    let goal : reader'.machine.goal ≡ aim = g ∙ i.goal in
     let begins : BeginsGoal aim (read ++ t ∷ []) = subst (λ z. BeginsGoal z (read ++ t ∷ [])) goal a.1 in
     record {
       grows = grows;
@@ -60,7 +60,7 @@ hears-going nodes more reading reading' aim st read t g p grows i step q answer 
       );
     }
   where
-    by : (o : Option Expressions.State) → Expressions.step st t ≡ o → BeginsGoal aim (read ++ t ∷ []) → HasRead more reading'.machine i.before (read ++ t ∷ []) → HearsMore more reading' aim st read t
+    by : (o : Option Expressions.State) → Expressions.step st t ≡ o → BeginsGoal aim (read ++ t ∷ []) → HasRead more reader'.machine i.before (read ++ t ∷ []) → FeedsMore more reader' aim st read t
     by None q begins has = absurd (begins-not aim (read ++ t ∷ []) (run-more aim st read t i.runs ∙ q) begins)
     by (Some st') q begins has = record {
       state = st';
@@ -74,10 +74,10 @@ hears-going nodes more reading reading' aim st read t g p grows i step q answer 
       };
     }
 
-pub hears-refused : (nodes more : List Arena.Node) (reading reading' : Reading) (aim : Goal) (st : Expressions.State) (read : List Lexeme) (t : Lexeme) → reading'.machine.goal ≡ reading.machine.goal → Grows nodes more → (i : IsReading nodes reading aim st read) → (step : Step) → step ≡ Step.Refused → IsAnswer more reading'.machine i.before read t step → Hears nodes more reading' aim st read t Heard.Refused
-hears-refused nodes more reading reading' aim st read t g grows i step q answer =
-    let a : IsAnswer more reading'.machine i.before read t Step.Refused = subst (IsAnswer more reading'.machine i.before read t) q answer in
-    let goal : reading'.machine.goal ≡ aim = g ∙ i.goal in
+pub feed-refused : (nodes more : List Arena.Node) (reader reader' : ExprReader) (aim : Goal) (st : Expressions.State) (read : List Lexeme) (t : Lexeme) → reader'.machine.goal ≡ reader.machine.goal → Grows nodes more → (i : IsReading nodes reader aim st read) → (step : Step) → step ≡ Step.Refused → IsAnswer more reader'.machine i.before read t step → Feeds nodes more reader' aim st read t Fed.Refused
+feed-refused nodes more reader reader' aim st read t g grows i step q answer =
+    let a : IsAnswer more reader'.machine i.before read t Step.Refused = subst (IsAnswer more reader'.machine i.before read t) q answer in
+    let goal : reader'.machine.goal ≡ aim = g ∙ i.goal in
     record {
       grows = grows;
       is = (
@@ -90,10 +90,10 @@ hears-refused nodes more reading reading' aim st read t g grows i step q answer 
     by None q k = q
     by (Some st') q k = absurd (k (begins-of aim (read ++ t ∷ []) st' (run-more aim st read t i.runs ∙ q)))
 
-pub hears-done : (nodes more : List Arena.Node) (reading reading' : Reading) (node : ℕ) (aim : Goal) (st : Expressions.State) (read : List Lexeme) (t : Lexeme) → reading'.machine.goal ≡ reading.machine.goal → Grows nodes more → (i : IsReading nodes reading aim st read) → (step : Step) → step ≡ Step.Done node → IsAnswer more reading'.machine i.before read t step → Hears nodes more reading' aim st read t (Heard.Done (record { node = node; place = reading.place }))
-hears-done nodes more reading reading' node aim st read t g grows i step q answer =
-    let a : IsAnswer more reading'.machine i.before read t (Step.Done node) = subst (IsAnswer more reading'.machine i.before read t) q answer in
-    let goal : reading'.machine.goal ≡ aim = g ∙ i.goal in
+pub feed-done : (nodes more : List Arena.Node) (reader reader' : ExprReader) (node : ℕ) (aim : Goal) (st : Expressions.State) (read : List Lexeme) (t : Lexeme) → reader'.machine.goal ≡ reader.machine.goal → Grows nodes more → (i : IsReading nodes reader aim st read) → (step : Step) → step ≡ Step.Done node → IsAnswer more reader'.machine i.before read t step → Feeds nodes more reader' aim st read t (Fed.Done (record { node = node; place = reader.place }))
+feed-done nodes more reader reader' node aim st read t g grows i step q answer =
+    let a : IsAnswer more reader'.machine i.before read t (Step.Done node) = subst (IsAnswer more reader'.machine i.before read t) q answer in
+    let goal : reader'.machine.goal ≡ aim = g ∙ i.goal in
     record {
       grows = grows;
       is = (

@@ -4,7 +4,7 @@ ghost use Rattle.tla_symbols.specs.declared.lexeme.Lexeme.{Lexeme};
 ghost use Rattle.tla_tree.specs.Arena.{Node};
 ghost use Rattle.expr_grammar.specs.Machine as expressions;
 ghost use Rattle.expr_parse.specs.Reading.{IsReady, start_of};
-ghost use Rattle.unit_parse.specs.Standing.{IsReading, Hears};
+ghost use Rattle.unit_parse.specs.Standing.{IsReading, Feeds};
 
 use expr_parse::{ExprMachine, Goal, Step};
 use std::alloc::Global;
@@ -15,14 +15,14 @@ use tree_parts::{Part, joined};
 
 /// An expression, or bounds, of which some lexemes were read, and their place, if there are any.
 #[derive(Drop)]
-pub(crate) struct Reading {
+pub(crate) struct ExprReader {
     pub(crate) machine: ExprMachine,
     pub(crate) place: Option<Span>,
 }
 
 /// What a lexeme led to.
 #[derive(Clone, Copy)]
-pub(crate) enum Heard {
+pub(crate) enum Fed {
     /// It goes on with what is read.
     Going,
     /// What stands before it is whole, and it is no part of it.
@@ -30,32 +30,32 @@ pub(crate) enum Heard {
     Refused,
 }
 
-impl Reading {
+impl ExprReader {
     /// Nothing was read.
-    pub(crate) fn new(alloc: Global, goal: Goal) -> Reading
+    pub(crate) fn new(alloc: Global, goal: Goal) -> ExprReader
         ensures { (nodes : List Node) → IsReading nodes result goal (start_of goal) [] }
     {
-        Reading {
+        ExprReader {
             machine: ExprMachine::new(alloc, goal),
             place: None,
         }
     }
 
     /// Reads a lexeme after those that were read.
-    pub(crate) fn hears(&mut self, tree: &mut Tree, lexeme: Lexeme) -> Result<Heard, Memory>
+    pub(crate) fn feed(&mut self, tree: &mut Tree, lexeme: Lexeme) -> Result<Fed, Memory>
         requires { IsReady tree.old self.old.machine }
-        ensures { IfOk result (λ heard. (goal : Goal) → (state : expressions.State) → (read : List Lexeme) → IsReading tree.old self.old goal state read → Hears tree.old tree.new self.new goal state read lexeme heard) }
+        ensures { IfOk result (λ fed. (goal : Goal) → (state : expressions.State) → (read : List Lexeme) → IsReading tree.old self.old goal state read → Feeds tree.old tree.new self.new goal state read lexeme fed) }
     {
         match self.machine.step(&lexeme, &lexeme, tree)? {
             Step::Going => {
                 self.place = joined(self.place, Some(lexeme.span));
-                Ok(Heard::Going)
+                Ok(Fed::Going)
             }
-            Step::Done { node } => Ok(Heard::Done(Part {
+            Step::Done { node } => Ok(Fed::Done(Part {
                 node,
                 place: self.place,
             })),
-            Step::Refused => Ok(Heard::Refused),
+            Step::Refused => Ok(Fed::Refused),
         }
     }
 }
