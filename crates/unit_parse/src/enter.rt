@@ -53,7 +53,9 @@ fn begin_expression(
     ensures { IfOk result (λ moved. (st : Option machine.State) → steps.Begins tree.old unfinished first st → Moves tree.old tree.new moved st) }
 {
     let mut reader = ExprReader::new(unfinished.reached.alloc, Goal::Expression);
-    let fed = reader.feed(tree, first)?;
+    let Ok(fed) = reader.feed(tree, first) else {
+        return Err(Memory);
+    };
     Ok(expression_begun(unfinished, reader, fed))
 }
 

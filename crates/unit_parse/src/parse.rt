@@ -68,8 +68,7 @@ fn closed(alloc: Global, state: State, tree: Tree) -> Result<ModuleTree, Memory>
     let Point::Stands(reached, _, _) = point else {
         unreachable!();
     };
-    let module = module_of(alloc, tree, reached.units)?;
-    Ok(module)
+    module_of(alloc, tree, reached.units)
 }
 
 /// Reads the lexemes of a text. The answer is the one module that they derive, without the text
@@ -86,13 +85,18 @@ pub fn parse_module(alloc: Global, lexemes: &List<Lexeme>) -> Result<ModuleTree,
     let mut tree = Tree::new(alloc);
     let mut state = State::opening(alloc);
     for (index, lexeme) in lexemes.as_slice().iter().enumerate() {
-        let Some(next) = state.step(&mut tree, *lexeme)? else {
+        let Ok(moved) = state.step(&mut tree, *lexeme) else {
+            return Err(ParseError::Memory);
+        };
+        let Some(next) = moved else {
             return Err(ParseError::FirstBad {
                 index: index as u32,
             });
         };
         state = next;
     }
-    let module = closed(alloc, state, tree)?;
+    let Ok(module) = closed(alloc, state, tree) else {
+        return Err(ParseError::Memory);
+    };
     Ok(module)
 }

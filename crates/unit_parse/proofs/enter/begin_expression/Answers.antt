@@ -5,4 +5,4 @@ pub feed-requires : goal.feed-requires
 feed-requires c = reader-ready (c.new-reader.ensures _)
 
 pub returns : goal.returns
-returns c st b = c.expression_begun.ensures _ _ c.args.first st b (c.in_ok-fed.ensures _ _ _ (c.new-reader.ensures _))
+returns c st b = c.expression_begun.ensures _ _ c.args.first st b (c.in-Ok.ensures _ _ _ (c.new-reader.ensures _))

@@ -7,15 +7,15 @@ use Rattle.unit_parse.proofs.parse.parse_module.Goals as goal
 pub loop-index-init : goal.loop-index-init
 loop-index-init c = record { read = record { st = opening; runs = refl; is = c.opening-state.ensures _ } }
 
-pub returns-in_default-clause-err : goal.returns-in_default-clause-err
-returns-in_default-clause-err c =
+pub returns-in_default-moved-clause-err : goal.returns-in_default-moved-clause-err
+returns-in_default-moved-clause-err c =
     let h = c.loop-index.invariant.read in
-    refuses-next _ _ c.loop-index.state c.in_ok-next.field-0 _ c.args.lexemes.now c.loop-index.index _ c.as_slice-lexeme-items.ensures (grind (arith, nat_tests, c.loop-index-test.true)) h c.in_default.is (c.in_ok-next.ensures h.st h.is)
+    refuses-next _ _ c.loop-index.state c.in-Ok.moved _ c.args.lexemes.now c.loop-index.index _ c.as_slice-lexeme-items.ensures (grind (arith, nat_tests, c.loop-index-test.true)) h c.in_default-moved.is (c.in-Ok.ensures h.st h.is)
 
 pub loop-index-preserved : goal.loop-index-preserved
 loop-index-preserved c =
     let h = c.loop-index.invariant.read in
-    record { read = reads-next _ _ c.loop-index.state c.in-Some.next c.in_ok-next.field-0 _ c.args.lexemes.now c.loop-index.index _ c.as_slice-lexeme-items.ensures (grind (arith, nat_tests, c.loop-index-test.true)) h c.in-Some.is (c.in_ok-next.ensures h.st h.is) }
+    record { read = reads-next _ _ c.loop-index.state c.in-Some.next c.in-Ok.moved _ c.args.lexemes.now c.loop-index.index _ c.as_slice-lexeme-items.ensures (grind (arith, nat_tests, c.loop-index-test.true)) h c.in-Some.is (c.in-Ok.ensures h.st h.is) }
 
 pub closed-requires : goal.closed-requires
 closed-requires c =
@@ -27,4 +27,4 @@ pub returns-clause-ok : goal.returns-clause-ok
 returns-clause-ok c =
     let h = read-all _ c.loop-index.state _ c.loop-index.index (grind (arith, nat_tests, c.loop-index-test.false)) c.loop-index.invariant.read in
     let k = read-whole _ _ _ c.requires.ends h in
-    (k.0, k.2, c.in_ok-module.ensures h.st k.0 h.is k.1)
+    (k.0, k.2, c.in-Ok-closed.ensures h.st k.0 h.is k.1)

@@ -10,13 +10,13 @@ feed-requires c = reader-ready c.requires.8
 pub bounds_fed-requires : goal.bounds_fed-requires
 bounds_fed-requires c =
     let r = c.requires in
-    let h = c.in_ok-fed.ensures _ r.4 r.5 r.8 in
+    let h = c.in-Ok.ensures _ r.4 r.5 r.8 in
     (r.0, r.1, r.2, r.3, r.4, r.5, under-grows _ _ c.args.unfinished r.0 _ r.1 r.2 h.grows r.6, frame-grows _ _ c.args.frame r.3 h.grows r.7, h.is)
 
 pub returns : goal.returns
 returns c =
     IfOk-weaker c.bounds_fed.result _ _
     (λ moved m d us b f st read u i j.
-    let h = c.in_ok-fed.ensures _ st read j in
+    let h = c.in-Ok.ensures _ st read j in
     moves-later _ _ _ moved _ h.grows (m d us b f st read (under-grows _ _ c.args.unfinished b _ d us h.grows u) (frame-grows _ _ c.args.frame f h.grows i) h.is))
     c.bounds_fed.ensures

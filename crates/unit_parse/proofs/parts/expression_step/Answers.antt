@@ -10,13 +10,13 @@ feed-requires c = reader-ready c.requires.7
 pub expression_fed-requires : goal.expression_fed-requires
 expression_fed-requires c =
     let r = c.requires in
-    let h = c.in_ok-fed.ensures _ r.4 r.5 r.7 in
+    let h = c.in-Ok.ensures _ r.4 r.5 r.7 in
     (r.0, r.1, r.2, r.3, r.4, r.5, under-grows _ _ c.args.unfinished r.0 r.1 r.2 r.3 h.grows r.6, h.is)
 
 pub returns : goal.returns
 returns c =
     IfOk-weaker c.expression_fed.result _ _
     (λ moved m d us b fs st read u i.
-    let h = c.in_ok-fed.ensures _ st read i in
+    let h = c.in-Ok.ensures _ st read i in
     moves-later _ _ _ moved _ h.grows (m d us b fs st read (under-grows _ _ c.args.unfinished b fs d us h.grows u) h.is))
     c.expression_fed.ensures
