@@ -11,7 +11,7 @@ ghost use Rattle.check_core.specs.Outcomes.{IsRefused, IsResolved};
 ghost use Rattle.std.specs.Arc.{arc_value};
 
 use module_faces::{import_faults, no_face, shared_face};
-use module_graph::{imports, lexemes_lie_names};
+use module_graph::{lexemes_lie_names, named_modules};
 use module_model::{Bound, Face, Imported, in_order};
 use std::alloc::Global;
 use std::marker::Model;
@@ -150,10 +150,10 @@ pub fn check_module<L>(
 {
     steps.tick();
     lexemes_lie_names();
-    let needed = imports(alloc, tree)?;
-    let faults = import_faults(alloc, tree, imported, needed.as_slice())?;
+    let named = named_modules(alloc, tree)?;
+    let faults = import_faults(alloc, tree, imported, &named)?;
     if !faults.is_empty() {
         return refused(alloc, faults);
     }
-    resolved(alloc, name, tree, imported, needed.as_slice())
+    resolved(alloc, name, tree, imported, named.needed.as_slice())
 }

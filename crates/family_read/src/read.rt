@@ -18,7 +18,7 @@ ghost use Rattle.family_tables.specs.Modules.{IsTreeOf, IsModule, AreModules, ad
 
 use family_facts::File;
 use family_tables::{Module, Reading, Table};
-use module_graph::{imports, imports_are_lexemes, lexemes_lie_names};
+use module_graph::{imports_are_lexemes, lexemes_lie_names, named_modules};
 use std::alloc::Global;
 use std_modules::std_text;
 use tla_front::{FrontError, front};
@@ -70,8 +70,8 @@ fn needs_of(alloc: Global, tree: &ModuleTree) -> Result<List<Chars>, Memory>
 {
     lexemes_lie_names();
     imports_are_lexemes();
-    let needed = imports(alloc, tree)?;
-    spellings(alloc, tree.source.as_str(), needed.as_slice())
+    let named = named_modules(alloc, tree)?;
+    spellings(alloc, tree.source.as_str(), named.needed.as_slice())
 }
 
 fn module_of_tree(alloc: Global, tree: ModuleTree) -> Result<Module, Memory>

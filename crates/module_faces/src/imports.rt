@@ -4,13 +4,13 @@ ghost use Rattle.std.specs.List.{AllByRecursion};
 ghost use Rattle.tla_symbols.specs.declared.lexeme.Lexeme.{Lexeme as Name};
 ghost use Rattle.tla_model.specs.Lexemes.{LiesIn};
 ghost use Rattle.unit_grammar.specs.UnitNodes.{module_of};
-ghost use Rattle.module_graph.specs.Imports.{imports_of};
+ghost use Rattle.module_graph.specs.Named.{AreNamed};
 ghost use Rattle.module_model.specs.Given.{IsReadable};
 ghost use Rattle.module_facts.specs.Checks.{cyclic_at, faults_of_imports, given_by, given_in, import_fault};
 ghost use Rattle.module_facts.specs.Checks as faults_of;
 ghost use Rattle.module_faces.specs.Codes.{coded};
 
-use module_graph::{enclosing, imports_are_lexemes, lexemes_lie_names};
+use module_graph::{NamedModules, imports_are_lexemes};
 use module_model::{Import, Imported};
 use std::alloc::Global;
 use tla_model::{Diagnostic, spelled};
@@ -64,24 +64,27 @@ fn push_cyclic(faults: &mut List<Diagnostic>, names: &[Lexeme]) -> Result<(), Me
     Ok(())
 }
 
-/// The faults of the imports of a module, by the names of the modules that it needs: at the names of
-/// those that are not accepted, and then at names of nested modules round them. `Memory` comes where
+/// The faults of the imports of a module, by its module names: at the names of needed ones
+/// that are not accepted, and then at names of nested modules round them. `Memory` comes where
 /// there was no room.
 pub fn import_faults(
     alloc: Global,
     tree: &ModuleTree,
     imported: &Imported,
-    needed: &[Lexeme],
+    named: &NamedModules,
 ) -> Result<List<Diagnostic>, Memory>
     requires readable { IsReadable tree.now }
-    requires needed { needed.now ≡ imports_of tree.now.source (module_of tree.now) }
+    requires named { AreNamed tree.now.source (module_of tree.now) named.now }
     ensures { IfOk result (λ faults. faults ≡ faults_of.import_faults (given_in imported.now) tree.now.source (module_of tree.now)) }
 {
-    lexemes_lie_names();
     imports_are_lexemes();
     let mut faults = List::new(alloc);
-    push_faults(&mut faults, imported, tree.source.as_str(), needed)?;
-    let cyclic = enclosing(alloc, tree)?;
-    push_cyclic(&mut faults, cyclic.as_slice())?;
+    push_faults(
+        &mut faults,
+        imported,
+        tree.source.as_str(),
+        named.needed.as_slice(),
+    )?;
+    push_cyclic(&mut faults, named.enclosing.as_slice())?;
     Ok(faults)
 }

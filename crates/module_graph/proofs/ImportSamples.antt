@@ -1,5 +1,5 @@
 -- Sample modules with what they need. Names are letters of one text; a place in it is a lexeme.
-use Rattle.std.proofs.Common.{◌≡◌, ℕ, zero, suc, ◌+◌, ◌<◌, ◌≤◌, List, [], ◌∷◌, ◌++◌, length, refl, slice_index, lit<, arith}
+use Rattle.std.proofs.Common.{◌≡◌, ℕ, ◌+◌, List, [], ◌∷◌, refl}
 use Rattle.std.specs.Prelude.{None, codes}
 use Rattle.tla_symbols.specs.declared.lexeme.LexKind.{LexKind}
 use Rattle.tla_symbols.specs.declared.lexeme.Lexeme.{Lexeme}
@@ -7,12 +7,7 @@ use Rattle.tla_tree.specs.declared.form.Form.TheVariants as Form
 use Rattle.tla_tree.specs.Syntax.{Tree, Nil}
 use Rattle.tla_tree.specs.Lexemes.{built, one, two}
 use Rattle.unit_grammar.specs.Units.{UnitTree, OperatorDefinition, ModuleDefinition, Instance, ModuleBegin, ModuleEnd}
-use Rattle.std.specs.Str.{IsCharBoundary}
-use Rattle.tla_tree.specs.Arena as Arena
-use Rattle.tla_tree.specs.Arena.{tree_at, grown}
-use Rattle.tla_tree.specs.declared.unit.Unit.TheVariants as unit
-use Rattle.unit_grammar.specs.UnitNodes.{HasNodes, module_of}
-use Rattle.module_graph.specs.Imports.{imports_of, LiesIn, AreNamesPlaced}
+use Rattle.module_graph.specs.Imports.{imports_of}
 
 -- A, B, C and N at 0 to 3, and once more at 4 to 7
 abbrev pub text : List ℕ

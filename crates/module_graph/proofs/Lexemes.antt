@@ -1,6 +1,6 @@
 -- The module names of a module are among its names and symbols.
 use Rattle.std.proofs.Common.{ℕ, Bool, true, false, List, [], ◌∷◌}
-use Rattle.std.specs.Prelude.{filter, cond}
+use Rattle.std.specs.Prelude.{⊤, filter, cond}
 use Rattle.std.specs.List.{All, AllByRecursion, Contains}
 use Rattle.std.proofs.lemmas.List.Elements.{All-contains_itself, All-from_recursion, recursion_from_All}
 use Rattle.tla_symbols.specs.declared.lexeme.Lexeme.{Lexeme}
@@ -10,8 +10,9 @@ use Rattle.tla_model.specs.Lexemes.{LexemesLie, held, lexemes, all_lexemes, unit
 use Rattle.unit_grammar.specs.Units.{UnitTree, Variables, Constants, OperatorDefinition, FunctionDefinition, ModuleDefinition, Instance, Assumption, Theorem, Line, ModuleBegin, ModuleEnd, ModuleUnits}
 use Rattle.tla_model.specs.ModuleNames.{instantiated, instances, instances_in, module_names}
 use Rattle.list_laws.proofs.Lists.{all-both, all-left, all-right}
-use Rattle.module_graph.specs.Imports.{Scope, LiesIn, AreNamesPlaced, compared, is_needed, scope_at, imports_from, imports_of, outside, round_at, enclosing_from, enclosing_of, spelled}
-use Rattle.module_graph.specs.Rounds.{is_enclosed}
+use Rattle.module_scope.specs.Environments.{Scope, first}
+use Rattle.module_scope.specs.Imports.{enclosing_from, enclosing_of, imports_from, imports_of, is_enclosing, is_needed, scope_at}
+use Rattle.module_graph.specs.Imports.{LiesIn, AreNamesPlaced, compared, spelled}
 use Rattle.module_graph.proofs.Needs.{names-compared}
 
 module _ (P : Lexeme → Type 0) where
@@ -58,29 +59,29 @@ module _ (P : Lexeme → Type 0) where
       by true rest = (all.0, rest)
       by false rest = rest
 
-  from-needed : (text outermost : List ℕ) (scope : Scope) (units : List UnitTree) → AllByRecursion P (units_lexemes units) → AllByRecursion P (imports_from text outermost scope units)
+  from-needed : (text outermost : List ℕ) (scope : Scope ⊤) (units : List UnitTree) → AllByRecursion P (units_lexemes units) → AllByRecursion P (imports_from text outermost scope units)
   from-needed text outermost scope [] all = tt
   from-needed text outermost scope (unit ∷ units) all =
-      let inner : Scope = scope_at text outermost scope unit in
-      all-both P (filter (is_needed text inner.taken) (module_names unit)) (imports_from text outermost inner units)
-      (kept (is_needed text inner.taken) (module_names unit) (unit-named unit (all-left P (unit_lexemes unit) (units_lexemes units) all)))
+      let inner : Scope ⊤ = scope_at text scope unit in
+      all-both P (filter (is_needed text outermost inner) (module_names unit)) (imports_from text outermost inner units)
+      (kept (is_needed text outermost inner) (module_names unit) (unit-named unit (all-left P (unit_lexemes unit) (units_lexemes units) all)))
       (from-needed text outermost inner units (all-right P (unit_lexemes unit) (units_lexemes units) all))
 
-  from-enclosed : (text : List ℕ) (round : List (List ℕ)) (units : List UnitTree) → AllByRecursion P (units_lexemes units) → AllByRecursion P (enclosing_from text round units)
-  from-enclosed text round [] all = tt
-  from-enclosed text round (unit ∷ units) all =
-      let inner : List (List ℕ) = round_at text round unit in
-      all-both P (filter (is_enclosed text inner) (module_names unit)) (enclosing_from text inner units)
-      (kept (is_enclosed text inner) (module_names unit) (unit-named unit (all-left P (unit_lexemes unit) (units_lexemes units) all)))
+  from-enclosed : (text : List ℕ) (scope : Scope ⊤) (units : List UnitTree) → AllByRecursion P (units_lexemes units) → AllByRecursion P (enclosing_from text scope units)
+  from-enclosed text scope [] all = tt
+  from-enclosed text scope (unit ∷ units) all =
+      let inner : Scope ⊤ = scope_at text scope unit in
+      all-both P (filter (is_enclosing text inner) (module_names unit)) (enclosing_from text inner units)
+      (kept (is_enclosing text inner) (module_names unit) (unit-named unit (all-left P (unit_lexemes unit) (units_lexemes units) all)))
       (from-enclosed text inner units (all-right P (unit_lexemes unit) (units_lexemes units) all))
 
   needed-named : (source : List ℕ) (units : ModuleUnits) → AllByRecursion P (module_lexemes units) → AllByRecursion P (imports_of source units)
   needed-named source units all =
-      all-both P units.extends (imports_from source (spelled source units.name) outside units.units) (all-left P units.extends (units_lexemes units.units) all.1)
-      (from-needed source (spelled source units.name) outside units.units (all-right P units.extends (units_lexemes units.units) all.1))
+      all-both P units.extends (imports_from source (spelled source units.name) (first (spelled source units.name)) units.units) (all-left P units.extends (units_lexemes units.units) all.1)
+      (from-needed source (spelled source units.name) (first (spelled source units.name)) units.units (all-right P units.extends (units_lexemes units.units) all.1))
 
   enclosed-named : (source : List ℕ) (units : ModuleUnits) → AllByRecursion P (module_lexemes units) → AllByRecursion P (enclosing_of source units)
-  enclosed-named source units all = from-enclosed source [] units.units (all-right P units.extends (units_lexemes units.units) all.1)
+  enclosed-named source units all = from-enclosed source (first (spelled source units.name)) units.units (all-right P units.extends (units_lexemes units.units) all.1)
 
 -- each stands among themselves
 among : (lexemes : List Lexeme) → AllByRecursion (Contains lexemes) lexemes

@@ -5,6 +5,5 @@ mod Passing
 mod ImportSamples
 mod Needs
 mod TreeWalk
-mod Scoping
-mod Rounding
+mod NamedSteps
 mod Lexemes

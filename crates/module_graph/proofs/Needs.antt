@@ -7,7 +7,7 @@ use Rattle.tla_tree.specs.declared.unit.Unit.TheVariants as unit
 use Rattle.tla_tree.specs.Arena.{Node}
 use Rattle.unit_grammar.specs.Units.{UnitTree, Variables, Constants, OperatorDefinition, FunctionDefinition, ModuleDefinition, Instance, Assumption, Theorem, Line, ModuleBegin, ModuleEnd}
 use Rattle.unit_grammar.specs.UnitNodes.{unit_at}
-use Rattle.module_graph.specs.Nestings.{begun_name}
+use Rattle.module_graph.specs.UnitNames.{begun_name}
 use Rattle.tla_model.specs.ModuleNames.{module_names}
 use Rattle.module_graph.specs.Imports.{LiesIn, compared}
 

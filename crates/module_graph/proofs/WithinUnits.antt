@@ -1,6 +1,6 @@
 -- What a module needs stands in its lexemes in their order, and so do the names that are compared.
 use Rattle.std.proofs.Common.{◌≡◌, ℕ, List, [], ◌∷◌, ◌++◌, refl, sym, subst}
-use Rattle.std.specs.Prelude.{Option, None}
+use Rattle.std.specs.Prelude.{⊤, Option, None}
 use Rattle.std.specs.List.{AllByRecursion}
 use Rattle.tla_symbols.specs.declared.lexeme.Lexeme.{Lexeme}
 use Rattle.tla_tree.specs.declared.form.Form.TheVariants as Form
@@ -9,7 +9,10 @@ use Rattle.unit_grammar.specs.Units.{UnitTree, Instance, Assumption, Theorem, Mo
 use Rattle.unit_grammar.specs.Derivation as d
 use Rattle.tla_model.specs.ModuleNames.{module_names, instances}
 use Rattle.list_laws.proofs.Lists.{all-both, all-left, all-right}
-use Rattle.module_graph.specs.Imports.{Scope, spelled, begun, outside, is_needed, imports_from, imports_of, compared, LiesIn, AreNamesPlaced}
+use Rattle.tla_model.specs.Lexemes.{spelled}
+use Rattle.module_scope.specs.Environments.{Scope, begun, first}
+use Rattle.module_scope.specs.Imports.{imports_from, imports_of, is_needed}
+use Rattle.module_graph.specs.Imports.{compared, LiesIn, AreNamesPlaced}
 use Rattle.module_graph.specs.Within.{IsWithin, none, other, next}
 use Rattle.module_graph.proofs.Within.{after, both, before, last, filtered, all-within}
 use Rattle.module_graph.proofs.WithinTrees.{expression-in, definition-in, instance-in}
@@ -38,11 +41,11 @@ defined-in before x {a = a} w = subst (λ z. IsWithin z a) (sym (names-defined b
 
 module _ (text outermost : List ℕ) where
   -- of one unit
-  needed-in : (scope : Scope) (unit : UnitTree) {a : List Lexeme} → IsWithin (module_names unit) a → IsWithin (imports_from text outermost scope (unit ∷ [])) a
+  needed-in : (scope : Scope ⊤) (unit : UnitTree) {a : List Lexeme} → IsWithin (module_names unit) a → IsWithin (imports_from text outermost scope (unit ∷ [])) a
   needed-in scope unit w = last (filtered _ w)
 
   mutual
-    unit-in : {units : List UnitTree} {a : List Lexeme} {t : Lexeme} → d.DerivesUnit units a t → (scope : Scope) → IsWithin (imports_from text outermost scope units) a
+    unit-in : {units : List UnitTree} {a : List Lexeme} {t : Lexeme} → d.DerivesUnit units a t → (scope : Scope ⊤) → IsWithin (imports_from text outermost scope units) a
     unit-in (d.variables k ns) scope = none
     unit-in (d.constants k ns) scope = none
     unit-in (d.definition {before} {x} {a} {b} l x') scope = after a (needed-in scope (defined before x) (defined-in before x (definition-in x')))
@@ -51,18 +54,18 @@ module _ (text outermost : List ℕ) where
     unit-in (d.theorem {w} {x = x} k x') scope = other w (needed-in scope (Theorem w None x) (expression-in x'))
     unit-in (d.line k m) scope = none
     unit-in (d.nested {n} {names} {a} {b} {units} e k ds m) scope =
-        let within : Scope = begun outermost scope (spelled text n) in
-        both (filtered (is_needed text within.taken) (extends-in k))
+        let within : Scope ⊤ = begun scope (spelled text n) in
+        both (filtered (is_needed text outermost within) (extends-in k))
         (subst (λ z. IsWithin z (b ++ e ∷ [])) (sym (imports-append text outermost within units (ModuleEnd e ∷ []))) (both (units-in ds within) none))
 
-    units-in : {units : List UnitTree} {a : List Lexeme} {t : Lexeme} → d.DerivesUnits units a t → (scope : Scope) → IsWithin (imports_from text outermost scope units) a
+    units-in : {units : List UnitTree} {a : List Lexeme} {t : Lexeme} → d.DerivesUnits units a t → (scope : Scope ⊤) → IsWithin (imports_from text outermost scope units) a
     units-in d.no_units scope = none
     units-in (d.more_units {unit} {units} {a} {b} u us) scope =
         subst (λ z. IsWithin z (a ++ b)) (sym (imports-append text outermost scope unit units)) (both (unit-in u scope) (units-in us (scope_after text outermost scope unit)))
 
 -- the needs of a module stand in its lexemes, in their order
 pub imports-in : (text : List ℕ) (found : ModuleUnits) (lexemes : List Lexeme) → d.DerivesModule found lexemes → IsWithin (imports_of text found) lexemes
-imports-in text _ _ (d.outermost {n} {names} {a} {b} {units} c k us m) = both (extends-in k) (before (c ∷ []) (units-in text (spelled text n) us outside))
+imports-in text _ _ (d.outermost {n} {names} {a} {b} {units} c k us m) = both (extends-in k) (before (c ∷ []) (units-in text (spelled text n) us (first (spelled text n))))
 
 module _ (P : Lexeme → Type 0) where
   abbrev Compares : UnitTree → Type 0

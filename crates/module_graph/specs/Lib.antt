@@ -1,4 +1,4 @@
 pub mod Imports
-pub mod Nestings
-pub mod Rounds
+pub mod Named
+pub mod UnitNames
 pub mod Within

@@ -4,19 +4,15 @@
 //! a tree, and each takes time in proportion to the tree.
 #![tactic(auto)]
 
-mod around;
-mod enclosed;
 mod holding;
 mod laws;
-mod needed;
-mod nesting;
+mod named;
 mod trees;
 mod unit_names;
 
-pub use enclosed::enclosing;
 pub use holding::holds_instance;
 pub use laws::{
     enclosing_are_lexemes, imports_are_lexemes, lexemes_lie_names, names_lie, needs_in_order,
     passes_nested,
 };
-pub use needed::imports;
+pub use named::{NamedModules, named_modules};

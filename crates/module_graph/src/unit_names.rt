@@ -3,7 +3,7 @@ ghost use Rattle.std.specs.Prelude.{◌≡◌, IfOk};
 ghost use Rattle.tla_tree.specs.Arena.{AreThere};
 ghost use Rattle.unit_grammar.specs.UnitNodes.{nodes_in, unit_at};
 ghost use Rattle.tla_model.specs.ModuleNames as names_of;
-ghost use Rattle.module_graph.specs.Nestings.{InstancesAt};
+ghost use Rattle.module_graph.specs.UnitNames.{InstancesAt};
 
 use crate::trees::instances;
 use std::alloc::Global;

@@ -4,8 +4,8 @@ use Rattle.unit_grammar.specs.UnitNodes.{module_of}
 use Rattle.check_core.proofs.Checking.{none-long, refused-behind, refused-checked, refused-face, resolved-behind, resolved-checked, some-long}
 use Rattle.check_core.proofs.checked.check_module.Goals as goal
 
-pub imports-requires-clause-placed : goal.imports-requires-clause-placed
-imports-requires-clause-placed g c = c.lexemes_lie_names.ensures _ _ c.requires.readable.lie
+pub named_modules-requires-clause-placed : goal.named_modules-requires-clause-placed
+named_modules-requires-clause-placed g c = c.lexemes_lie_names.ensures _ _ c.requires.readable.lie
 
 pub returns-then-not-is_empty-clause-checked : goal.returns-then-not-is_empty-clause-checked
 returns-then-not-is_empty-clause-checked g c =

@@ -1,0 +1,4 @@
+pub mod Entries
+pub mod Environments
+pub mod Imports
+pub mod Kept
