@@ -1,26 +1,26 @@
 -- Modules that are read, unit by unit: their contexts, and what they export.
-use Rattle.std.specs.Prelude.{ℕ, Bool, true, false, not, ◌||◌, List, [], ◌∷◌, ◌++◌, Option, Some, None, is_some, if◌then◌else◌, map}
-use Rattle.std.specs.Str.{bytes_eq}
+use Rattle.std.specs.Prelude.{ℕ, Bool, true, false, not, ◌||◌, List, [], ◌∷◌, ◌++◌, Option, Some, None, if◌then◌else◌, map}
 use Rattle.tla_symbols.specs.declared.lexeme.Lexeme.{Lexeme}
 use Rattle.tla_tree.specs.Syntax.{Trees}
 use Rattle.unit_grammar.specs.Units.{ModuleUnits}
 use Rattle.tla_model.specs.declared.names.Finding.TheVariants.{Clashes}
 use Rattle.tla_model.specs.declared.names.Binder.{Binder}
 use Rattle.tla_model.specs.declared.names.Binding.TheVariants as as_binding
-use Rattle.tla_model.specs.Tables.{Table, Named, added, empty, find, has, lookup, put}
+use Rattle.tla_model.specs.Tables.{Table, Named, empty, find, has, put}
 use Rattle.tla_model.specs.Entities.{Meaning, Text, meant, name_of, same_meaning, declared_among, declaring}
 use Rattle.tla_model.specs.Lexemes.{spelled}
 use Rattle.tla_model.specs.Contexts.{Context, built_in}
 use Rattle.module_model.specs.Exports.{Exports, exports_of}
 use Rattle.tla_model.specs.Scopes.{Finding}
+use Rattle.module_scope.specs.Environments.{Environment, behind, inside, is_taken, meaning, outermost}
 
--- a module that is read: its name, its context, what it exports so far, and the names of modules that are taken there:
--- those of nested modules that can be named, with what they export, and those of this module and of the ones round it
+-- a module that is read: its name, its context, what it exports so far, and the modules that can be named there, with what
+-- nested ones export
 pub record Reading : Type 0 where
   pub name : List ℕ
   pub context : Context
   pub exports : Table Meaning
-  pub modules : List (List ℕ × Option Exports)
+  pub modules : Environment Exports
 
 -- the name is there with another meaning
 abbrev pub differs : Option (Option Meaning) → Meaning → Bool
@@ -65,7 +65,7 @@ pub record Place : Type 0 where
 
 module _ (text : Text) (files : List ℕ → Exports) where
   abbrev pub brings : Reading → Lexeme → Exports
-  brings reading l = exports_under files (lookup bytes_eq reading.modules (spelled text.source l)) (spelled text.source l)
+  brings reading l = exports_under files (meaning reading.modules (spelled text.source l)) (spelled text.source l)
 
   abbrev pub extends_all : Reading → List Lexeme → Reading
   extends_all reading [] = reading
@@ -88,12 +88,12 @@ module _ (text : Text) (files : List ℕ → Exports) where
 
   -- a nested module may not have the name of one round it or of one that can be named
   abbrev pub is_named : Reading → Lexeme → Bool
-  is_named reading name = is_some (lookup bytes_eq reading.modules (spelled text.source name))
+  is_named reading name = is_taken reading.modules (spelled text.source name)
 
   -- a nested module before what it extends: it begins with the context round it
   abbrev pub nested : Reading → Lexeme → Reading
   nested reading name =
-      record { name = spelled text.source name; context = reading.context; exports = empty; modules = added bytes_eq reading.modules (spelled text.source name) None }
+      record { name = spelled text.source name; context = reading.context; exports = empty; modules = inside reading.modules (spelled text.source name) }
 
   abbrev pub entered : Place → Lexeme → List Lexeme → Place
   entered place name extends = record { here = extends_all (nested place.here name) extends; round = place.here ∷ place.round }
@@ -102,11 +102,11 @@ module _ (text : Text) (files : List ℕ → Exports) where
   abbrev pub left : Reading → List Reading → Place
   left inner [] = record { here = inner; round = [] }
   left inner (outer ∷ round) =
-      record { here = record outer { modules = added bytes_eq outer.modules inner.name (Some (exports_of inner.exports)) }; round = round }
+      record { here = record outer { modules = behind outer.modules inner.name (exports_of inner.exports) }; round = round }
 
   -- a module before what it extends
   abbrev pub unread : Reading
-  unread = record { name = text.file; context = built_in; exports = empty; modules = (text.file, None) ∷ [] }
+  unread = record { name = text.file; context = built_in; exports = empty; modules = outermost text.file }
 
   abbrev pub begun : List Lexeme → Place
   begun extends = record { here = extends_all unread extends; round = [] }

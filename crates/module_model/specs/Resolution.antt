@@ -14,7 +14,9 @@ use Rattle.tla_model.specs.Contexts.{Context, bind_all, meaning_of}
 use Rattle.module_model.specs.Exports.{Behind, Exports, Outside, carried, exports_by, exports_of, nothing, or_none, parameters_in}
 use Rattle.module_model.specs.Instances.{all_named_instances, brought_by, called_by, either, entry_of, first_of, found_behind, implied, left_sides, own_parameters, paths_in, replaced_as, unit_trees}
 use Rattle.tla_model.specs.Lexemes.{spelled}
-use Rattle.tla_model.specs.ModuleNames.{instances_from, names_of}
+use Rattle.tla_model.specs.ModuleNames.{instances_from}
+use Rattle.module_scope.specs.Environments.{is_taken, meaning}
+use Rattle.module_scope.specs.Imports.{imports_of}
 use Rattle.module_model.specs.Modules.{Place, Reading, all_clashing, begun, brings_clash, constants, declare_all, entered, is_named, joined, left, nested, text_of, unread}
 use Rattle.tla_model.specs.Scopes.{Finding, all_refused, behind, binders, definition, found, has_set, inside, itself, prefixed, reserved, scope, symbol}
 
@@ -114,7 +116,7 @@ pub record Position : Type 0 where
 abbrev pub with_nested : List (List ℕ × Exports) → Reading → List Reading → List (List ℕ × Exports)
 with_nested nested inner [] = nested
 with_nested nested inner (outer ∷ round) =
-    if is_some (lookup bytes_eq outer.modules inner.name) then nested
+    if is_taken outer.modules inner.name then nested
     else (inner.name, own_parameters outer.context (exports_of inner.exports)) ∷ nested
 
 -- a module is read over files, and the words INSTANCE of its text stand before module names that begin here
@@ -126,7 +128,7 @@ module _ (text : Text) (files : List ℕ → Outside) (words : List ℕ) where
   module_under nested (Some (Some exports)) name = record { exports = exports; parameters = or_none (lookup bytes_eq nested name); behind = λ decl. [] }
 
   abbrev pub module_named : Position → List ℕ → Outside
-  module_named position name = module_under position.nested (lookup bytes_eq position.place.here.modules name) name
+  module_named position name = module_under position.nested (meaning position.place.here.modules name) name
 
   -- an INSTANCE, by the name of its module
   abbrev pub unit_of : Lexeme → UnitId
@@ -211,9 +213,9 @@ module _ (files : List ℕ → Outside) (source : List ℕ) (units : ModuleUnits
   behind_files [] decl = []
   behind_files (l ∷ rest) decl = first_of ((files (spelled source l)).behind decl) (behind_files rest decl)
 
-  -- what stands behind an instance: one of the text, or one that the modules reach which it names
+  -- what stands behind an instance: one of the text, or one that the modules reach which it needs
   abbrev pub behind_all : DeclId → Exports
-  behind_all decl = either (lookup same_decl (behind_units text files (words_of units) first units.units) decl) (behind_files (names_of units) decl)
+  behind_all decl = either (lookup same_decl (behind_units text files (words_of units) first units.units) decl) (behind_files (imports_of source units) decl)
 
   -- what is found in a module, by what the files are that its names mean
   abbrev pub findings : List Finding

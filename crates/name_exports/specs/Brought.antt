@@ -7,6 +7,7 @@ use Rattle.tla_model.specs.declared.ids.UnitId.{UnitId}
 use Rattle.module_model.specs.declared.imported.Import.{Import}
 use Rattle.tla_model.specs.Tables.{AreNew, Table, Named as Name}
 use Rattle.tla_model.specs.Entities.{Meaning}
+use Rattle.module_scope.specs.Environments.{Environment}
 use Rattle.module_model.specs.Exports.{Exports, exports_of, face_exports}
 use Rattle.module_model.specs.Modules.{Reading, brings_clash, clashes, extended, with_entry}
 use Rattle.name_exports.specs.declared.exported.Names.{Names}
@@ -27,7 +28,7 @@ import_exports _ = []
 
 -- module names that are taken, and what those export that can be named
 abbrev pub ModuleNames : Type 0
-ModuleNames = List (List ℕ × Option Exports)
+ModuleNames = Environment Exports
 
 -- a module of this title that is read, with the module names taken there
 abbrev pub as_read : List ℕ → ModuleNames → Names → Reading

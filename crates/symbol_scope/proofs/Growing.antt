@@ -1,8 +1,7 @@
 -- Tables that grow, and what stands before a mark of them.
-use Rattle.std.proofs.Common.{◌≡◌, ◌≤◌, ◌+◌, ℕ, zero, suc, List, [], ◌∷◌, ◌++◌, Option, Some, None, Bool, true, false, cond, length, take, reverse, append_assoc, refl, ap, sym, subst, ◌∙◌, arith}
+use Rattle.std.proofs.Common.{◌≡◌, ◌≤◌, ◌+◌, ℕ, List, [], ◌∷◌, ◌++◌, Some, None, Bool, true, false, cond, length, take, reverse, append_assoc, refl, ap, sym, subst, ◌∙◌, arith}
 use Rattle.std.specs.Prelude.{is_some}
 use Rattle.std.specs.Str.{bytes_eq}
-use Rattle.std.specs.Borrow.{Bor}
 use Rattle.std.proofs.lemmas.List.{append-nil, length-append, take-append-le, take_all, reverse-append}
 use Rattle.tla_symbols.specs.declared.lexeme.Lexeme.{Lexeme}
 use Rattle.tla_model.specs.declared.names.Binder.{Binder}
@@ -10,11 +9,11 @@ use Rattle.tla_model.specs.Contexts.{Context}
 use Rattle.tla_model.specs.Entities.{Meaning, Text, meant, name_of}
 use Rattle.module_model.specs.Exports.{Exports, exports_of}
 use Rattle.module_model.specs.Modules.{Place, Reading, brings, clashes, declare, declare_all, extended, extends_all, with_entry}
-use Rattle.tla_model.specs.Tables.{Named, Table, Word, Symbol, added, has, lookup, same_symbol}
+use Rattle.tla_model.specs.Tables.{Named, Word, Symbol, added, has, lookup, same_symbol}
 use Rattle.name_context.specs.declared.context.Mark.{Mark}
 use Rattle.symbol_scope.specs.declared.nesting.Outer.{Outer}
 use Rattle.name_context.specs.AsTables.{cut, mark_of}
-use Rattle.symbol_scope.specs.Readings.{Files, modules_of, taken_by}
+use Rattle.symbol_scope.specs.Readings.{Files}
 use Rattle.name_exports.specs.Brought.{ModuleNames, brought}
 use Rattle.symbol_scope.specs.Rounds.{AreRound, IsAt, IsOuter, begun_in, behind, left_by, outside_of}
 use Rattle.symbol_scope.specs.declared.nesting.Nesting.{Nesting}
@@ -134,15 +133,6 @@ outer-begun reading title outer named shown marked counted =
 pub round-behind : (inner reading : Reading) (outers : List Outer) (round : List Reading) → AreRound reading.context reading.modules outers round → AreRound (behind inner reading).context (behind inner reading).modules outers round
 round-behind inner reading outers round are =
     round-grown reading.context reading.context reading.modules (behind inner reading).modules outers round (stays reading.context.words) (stays reading.context.symbols) (grown-added bytes_eq reading.modules inner.name (Some (exports_of inner.exports))) are
-
-pub modules-take : (n : ℕ) (rows : List (Bor (List ℕ) × Option (Table Meaning))) → modules_of (take n rows) ≡ take n (modules_of rows)
-modules-take zero rows = refl
-modules-take (suc n) [] = refl
-modules-take (suc n) (row ∷ rows) = ap (λ rest. (row.0.now, taken_by row.1) ∷ rest) (modules-take n rows)
-
-pub modules-length : (rows : List (Bor (List ℕ) × Option (Table Meaning))) → length (modules_of rows) ≡ length rows
-modules-length [] = refl
-modules-length (row ∷ rows) = ap suc (modules-length rows)
 
 pub last-first : (outers rest : List Outer) (outer : Outer) → outers ≡ rest ++ outer ∷ [] → reverse outers ≡ outer ∷ reverse rest
 last-first outers rest outer is = ap (λ z. reverse z) is ∙ reverse-append rest (outer ∷ [])

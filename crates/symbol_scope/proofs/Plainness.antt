@@ -6,6 +6,7 @@ use Rattle.tla_symbols.specs.declared.lexeme.Lexeme.{Lexeme}
 use Rattle.tla_tree.specs.declared.form.Form.TheVariants as Form
 use Rattle.tla_tree.specs.Syntax.{Tree, Trees, Node, Nil, Cons}
 use Rattle.unit_grammar.specs.Units.{UnitTree, Variables, Constants, OperatorDefinition, FunctionDefinition, ModuleDefinition, Instance, Assumption, Theorem, Line, ModuleBegin, ModuleEnd, ModuleUnits}
+use Rattle.module_scope.specs.Imports.{imports_of}
 use Rattle.module_model.specs.declared.imported.Import.{Import}
 use Rattle.tla_model.specs.Contexts.{Context, bind_all, meaning_of}
 use Rattle.tla_model.specs.declared.names.Meaning.TheVariants.{BuiltIn, Declared}
@@ -15,7 +16,7 @@ use Rattle.module_model.specs.Exports as given
 use Rattle.module_model.specs.Imports.{Imports, import_of}
 use Rattle.module_model.specs.Instances.{all_named_instances, called_by, either, first_of, named_instance, named_instances, paths_in, unit_trees}
 use Rattle.tla_model.specs.Lexemes.{spelled}
-use Rattle.tla_model.specs.ModuleNames.{holds_instance, instance_names, instances, instances_in, instantiated, is_some_name, names_of}
+use Rattle.tla_model.specs.ModuleNames.{holds_instance, instance_names, instances, instances_in, instantiated, is_some_name}
 use Rattle.module_model.specs.Modules.{Place, all_clashing, text_of, unread}
 use Rattle.module_model.specs.Resolution as whole
 use Rattle.module_model.specs.Resolution.{Around, Position}
@@ -264,8 +265,8 @@ module _ (files : List ℕ → Outside) (source : List ℕ) (units : ModuleUnits
 
   pub all-behind-none : IsNone (whole.behind_all files source units)
   all-behind-none decl =
-      ap (λ z. either (lookup same_decl z decl) (whole.behind_files files source units (names_of units) decl)) (behind-none (text_of source units) files (whole.words_of units) (whole.first files source units) units.units none)
-      ∙ files-none (names_of units) decl
+      ap (λ z. either (lookup same_decl z decl) (whole.behind_files files source units (imports_of source units) decl)) (behind-none (text_of source units) files (whole.words_of units) (whole.first files source units) units.units none)
+      ∙ files-none (imports_of source units) decl
 
   pub findings-plain : whole.findings files source units ≡ plain.findings (exports_by files) source units
   findings-plain =

@@ -1,52 +1,47 @@
 -- Names that a module takes.
 use Rattle.std.proofs.Common.{◌≡◌, ℕ, List, [], ◌∷◌, ◌++◌, Option, Some, None, Bool, true, false, cond, refl, ap, sym, ◌∙◌}
 use Rattle.std.specs.Prelude.{is_some, option_map}
-use Rattle.std.specs.Borrow.{Bor}
-use Rattle.std.specs.Map as map
 use Rattle.std.specs.Str.{bytes_eq}
+use Rattle.std.proofs.lemmas.List.{map-append}
 use Rattle.tla_model.specs.declared.names.Binder.{Binder}
 use Rattle.tla_model.specs.Contexts.{bind}
 use Rattle.tla_model.specs.Entities.{Meaning, Text, meant, name_of}
 use Rattle.module_model.specs.Modules.{Reading, declare, declare_all, exports_under, with_entry}
-use Rattle.tla_model.specs.Tables.{Named, Table, Word, Symbol, find, lookup, put}
+use Rattle.tla_model.specs.Tables.{Named, Table, Word, Symbol, added, find, put}
+use Rattle.module_scope.specs.Environments.{Environment, is_taken, meaning}
 use Rattle.name_exports.specs.declared.exported.Names.{Names}
 use Rattle.symbol_scope.specs.Readings.{Files, modules_of, taken_by}
 use Rattle.name_exports.specs.Brought.{IsBrought}
 
-abbrev Rows : Type 0
-Rows = List (Bor (List ℕ) × Option (Table Meaning))
-
-pub lookup-modules : (rows : Rows) (name : List ℕ) → option_map taken_by (map.lookup (λ (key : Bor (List ℕ)). bytes_eq name key.now) rows) ≡ lookup bytes_eq (modules_of rows) name
-lookup-modules [] name = refl
-lookup-modules (row ∷ rows) name = by (bytes_eq name row.0.now) (lookup-modules rows name)
-  where
-    by : (b : Bool) → option_map taken_by (map.lookup (λ (key : Bor (List ℕ)). bytes_eq name key.now) rows) ≡ lookup bytes_eq (modules_of rows) name →
-        option_map taken_by (cond b (Some row.1) (map.lookup (λ (key : Bor (List ℕ)). bytes_eq name key.now) rows)) ≡ cond b (Some (taken_by row.1)) (lookup bytes_eq (modules_of rows) name)
-    by true rest = refl
-    by false rest = rest
-
-pub some-modules : (rows : Rows) (name : List ℕ) → is_some (map.lookup (λ (key : Bor (List ℕ)). bytes_eq name key.now) rows) ≡ is_some (lookup bytes_eq (modules_of rows) name)
-some-modules rows name = kept (map.lookup (λ (key : Bor (List ℕ)). bytes_eq name key.now) rows) ∙ ap is_some (lookup-modules rows name)
-  where
-    kept : (found : Option (Option (Table Meaning))) → is_some found ≡ is_some (option_map taken_by found)
-    kept None = refl
-    kept (Some x) = refl
-
-pub modules-append : (rows : Rows) (key : Bor (List ℕ)) (exports : Option (Table Meaning)) → modules_of (rows ++ (key, exports) ∷ []) ≡ modules_of rows ++ (key.now, taken_by exports) ∷ []
-modules-append [] key exports = refl
-modules-append (row ∷ rows) key exports = ap (λ z. (row.0.now, taken_by row.1) ∷ z) (modules-append rows key exports)
-
--- what is found under a module name
-pub under-found : (files : Files) (rows : Rows) (name : List ℕ) (found : Option (Option (Table Meaning))) → found ≡ map.lookup (λ (key : Bor (List ℕ)). bytes_eq name key.now) rows →
-    exports_under files (option_map taken_by found) name ≡ exports_under files (lookup bytes_eq (modules_of rows) name) name
-under-found files rows name found is = ap (λ z. exports_under files (option_map taken_by z) name) is ∙ ap (λ z. exports_under files z name) (lookup-modules rows name)
-
-pub nothing-brought : (names : Names) → IsBrought names names false []
-nothing-brought names = record { reads = λ title taken. refl; tells = λ title taken. refl }
-
 pub mapped-some : {A B : Type 0} (f : A → B) (found : Option A) → is_some (option_map f found) ≡ is_some found
 mapped-some f None = refl
 mapped-some f (Some x) = refl
+
+pub lookup-modules : (modules : Environment (Table Meaning)) (name : List ℕ) → option_map taken_by (meaning modules name) ≡ meaning (modules_of modules) name
+lookup-modules [] name = refl
+lookup-modules (entry ∷ modules) name = by (bytes_eq name entry.0) (lookup-modules modules name)
+  where
+    by : (b : Bool) → option_map taken_by (meaning modules name) ≡ meaning (modules_of modules) name → option_map taken_by (cond b (Some entry.1) (meaning modules name)) ≡ cond b (Some (taken_by entry.1)) (meaning (modules_of modules) name)
+    by true rest = refl
+    by false rest = rest
+
+pub some-modules : (modules : Environment (Table Meaning)) (name : List ℕ) → is_taken modules name ≡ is_taken (modules_of modules) name
+some-modules modules name = sym (mapped-some taken_by (meaning modules name)) ∙ ap is_some (lookup-modules modules name)
+
+pub modules-added : (modules : Environment (Table Meaning)) (name : List ℕ) (exports : Option (Table Meaning)) → modules_of (added bytes_eq modules name exports) ≡ added bytes_eq (modules_of modules) name (taken_by exports)
+modules-added modules name exports = by (is_taken modules name) (some-modules modules name)
+  where
+    by : (b : Bool) → b ≡ is_taken (modules_of modules) name → modules_of (cond b modules (modules ++ (name, exports) ∷ [])) ≡ added bytes_eq (modules_of modules) name (taken_by exports)
+    by true same = rw (sym same) refl
+    by false same = rw (sym same) (map-append (λ (entry : List ℕ × Option (Table Meaning)). (entry.0, taken_by entry.1)) modules ((name, exports) ∷ []))
+
+-- what is found under a module name
+pub under-found : (files : Files) (modules : Environment (Table Meaning)) (name : List ℕ) (found : Option (Option (Table Meaning))) → found ≡ meaning modules name →
+    exports_under files (option_map taken_by found) name ≡ exports_under files (meaning (modules_of modules) name) name
+under-found files modules name found is = ap (λ z. exports_under files (option_map taken_by z) name) is ∙ ap (λ z. exports_under files z name) (lookup-modules modules name)
+
+pub nothing-brought : (names : Names) → IsBrought names names false []
+nothing-brought names = record { reads = λ title taken. refl; tells = λ title taken. refl }
 
 -- a name that is there stays
 pub put-there : {V : Type 0} (table : Table V) (name : Named) (value : V) → is_some (find table name) ≡ true → table ≡ put table name value

@@ -5,4 +5,4 @@ use Rattle.name_exports.specs.Brought.{as_read}
 use Rattle.symbol_scope.specs.Readings.{modules_of}
 
 abbrev pub reading_of : Read → Reading
-reading_of read = as_read read.name.now (modules_of read.modules.entries) read.names
+reading_of read = as_read read.name.now (modules_of read.modules) read.names

@@ -1,6 +1,5 @@
 -- Modules that are read, in code, as those of the definitions.
 use Rattle.std.specs.Prelude.{ℕ, List, [], ◌∷◌, Option, Some, None, map, if◌then◌else◌}
-use Rattle.std.specs.Borrow.{Bor}
 use Rattle.tla_symbols.specs.declared.lexeme.Lexeme.{Lexeme}
 use Rattle.tla_model.specs.Tables.{Table, empty}
 use Rattle.tla_model.specs.Entities.{Meaning, Text}
@@ -8,6 +7,7 @@ use Rattle.module_model.specs.Exports.{Exports, exports_of}
 use Rattle.tla_model.specs.Scopes.{Finding}
 use Rattle.module_model.specs.Modules.{Reading, brings, brings_clash}
 use Rattle.tla_model.specs.declared.names.Finding.TheVariants.{Clashes}
+use Rattle.module_scope.specs.Environments.{Environment}
 use Rattle.name_exports.specs.Brought.{ModuleNames}
 
 -- what those export that can be named
@@ -15,8 +15,8 @@ abbrev pub taken_by : Option (Table Meaning) → Option Exports
 taken_by None = None
 taken_by (Some table) = Some (exports_of table)
 
-abbrev pub modules_of : List (Bor (List ℕ) × Option (Table Meaning)) → ModuleNames
-modules_of entries = map (λ entry. (entry.0.now, taken_by entry.1)) entries
+abbrev pub modules_of : Environment (Table Meaning) → ModuleNames
+modules_of modules = map (λ entry. (entry.0, taken_by entry.1)) modules
 
 -- what the files of these names export
 abbrev pub Files : Type 0

@@ -1,6 +1,5 @@
 -- The modules round the one that is read, in code: their names are the first ones of its tables.
-use Rattle.std.specs.Prelude.{◌≡◌, ◌≤◌, ◌++◌, if◌then◌else◌, ⊤, ℕ, List, [], ◌∷◌, None, Some, length, reverse, take}
-use Rattle.std.specs.Str.{bytes_eq}
+use Rattle.std.specs.Prelude.{◌≡◌, ◌≤◌, ◌++◌, if◌then◌else◌, ⊤, ℕ, List, [], ◌∷◌, length, reverse, take}
 use Rattle.tla_model.specs.Contexts.{Context}
 use Rattle.module_model.specs.Exports.{exports_of}
 use Rattle.tla_model.specs.declared.names.Finding.TheVariants.{Taken}
@@ -10,7 +9,9 @@ use Rattle.module_model.specs.Modules.{Place, Reading, all_clashing, is_named, n
 use Rattle.symbol_scope.specs.WithoutInstances.{found_in}
 use Rattle.unit_grammar.specs.Units.{UnitTree}
 use Rattle.tla_symbols.specs.declared.lexeme.Lexeme.{Lexeme}
-use Rattle.tla_model.specs.Tables.{added, empty}
+use Rattle.tla_model.specs.Tables.{empty}
+use Rattle.module_scope.specs.Environments as environments
+use Rattle.module_scope.specs.Environments.{inside}
 use Rattle.symbol_scope.specs.declared.nesting.Outer.{Outer}
 use Rattle.symbol_scope.specs.declared.nesting.Nesting.{Nesting}
 use Rattle.name_context.specs.AsTables.{cut}
@@ -20,11 +21,11 @@ use Rattle.name_exports.specs.Brought.{ModuleNames}
 
 -- a nested module of this title that begins
 abbrev pub begun_in : Reading → List ℕ → Reading
-begun_in reading title = record { name = title; context = reading.context; exports = empty; modules = added bytes_eq reading.modules title None }
+begun_in reading title = record { name = title; context = reading.context; exports = empty; modules = inside reading.modules title }
 
 -- a module behind one that is nested in it
 abbrev pub behind : Reading → Reading → Reading
-behind inner outer = record outer { modules = added bytes_eq outer.modules inner.name (Some (exports_of inner.exports)) }
+behind inner outer = record outer { modules = environments.behind outer.modules inner.name (exports_of inner.exports) }
 
 pub record IsOuter (context : Context) (taken : ModuleNames) (outer : Outer) (reading : Reading) : Type 0 where
   pub title : reading.name ≡ outer.name.now

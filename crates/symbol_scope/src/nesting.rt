@@ -4,7 +4,7 @@ ghost use Rattle.module_model.specs.Modules.{Place, Reading as Read};
 ghost use Rattle.symbol_scope.specs.Modules.{reading_of};
 ghost use Rattle.symbol_scope.specs.Rounds.{IsAt, IsOuter, IsUnread, begun_in, behind, outside_of};
 
-use crate::reading::{Reading, take_name};
+use crate::reading::Reading;
 use name_context::Mark;
 use name_exports::Exported;
 use std::alloc::Global;
@@ -38,7 +38,7 @@ impl<'a> Reading<'a> {
     {
         let mark = self.names.context.mark()?;
         let modules = self.modules.len();
-        take_name(&mut self.modules, name, None)?;
+        self.modules.add(name, None)?;
         let exports = mem::replace(&mut self.names.exports, Exported::new(alloc));
         let outer = Outer {
             name: self.name,
@@ -64,7 +64,7 @@ impl<'a> Reading<'a> {
         let title = mem::replace(&mut self.name, name);
         self.names.context.cut(mark);
         self.modules.truncate(modules);
-        take_name(&mut self.modules, title, Some(inner))?;
+        self.modules.add(title, Some(inner))?;
         Ok(())
     }
 }

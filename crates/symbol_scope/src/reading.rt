@@ -1,7 +1,6 @@
 // A module that is read.
-ghost use Rattle.std.specs.Prelude.{◌≡◌, ◌<◌, length, false, ◌++◌, None, Some, IfOk, OnOk};
+ghost use Rattle.std.specs.Prelude.{◌≡◌, ◌<◌, length, false, ◌++◌, IfOk, OnOk};
 ghost use Rattle.std.specs.List.{AllByRecursion};
-ghost use Rattle.std.specs.Str.{bytes_eq};
 ghost use Rattle.tla_tree.specs.Arena.{tree_at};
 ghost use Rattle.tla_model.specs.Contexts.{built_in};
 ghost use Rattle.tla_model.specs.Contexts as contexts;
@@ -15,12 +14,13 @@ ghost use Rattle.declared_names.specs.Listed.{listed};
 ghost use Rattle.tree_scope.specs.Lying.{BindersLie};
 ghost use Rattle.symbol_scope.specs.Readings as readings;
 ghost use Rattle.name_exports.specs.Brought.{IsBrought};
+ghost use Rattle.module_scope.specs.Environments.{meaning};
 ghost use Rattle.symbol_scope.specs.Readings.{modules_of, no_files};
 ghost use Rattle.symbol_scope.specs.Modules.{reading_of};
 
 use declared_names::defined;
-use indexmap::IndexMap;
 use module_model::Imported;
+use module_scope::Modules;
 use name_context::{Context, Named};
 use name_exports::{Exported, Names, bring_import, bring_nested};
 use std::alloc::Global;
@@ -31,7 +31,7 @@ use tool_list::{List, Memory};
 use tree_scope::{ModuleText, refuse};
 
 /// Module names that are taken, and what those export that can be named.
-pub type Taken<'a> = IndexMap<&'a str, Option<Exported<'a>>>;
+pub type Taken<'a> = Modules<'a, Exported<'a>>;
 
 /// A module that is read.
 #[derive(Drop)]
@@ -53,21 +53,6 @@ fn put_built_in(context: &mut Context<'_>) -> Result<(), Memory>
     Ok(())
 }
 
-/// Takes a module name, unless it is taken.
-pub fn take_name<'a>(
-    modules: &mut Taken<'a>,
-    name: &'a str,
-    exports: Option<Exported<'a>>,
-) -> Result<(), Memory>
-    ensures { OnOk result (modules_of modules.new.entries ≡ tables.added bytes_eq (modules_of modules.old.entries) name.now (readings.taken_by exports.entry)) }
-{
-    if modules.contains_key(name) {
-        return Ok(());
-    }
-    modules.insert(name, exports)?;
-    Ok(())
-}
-
 // Puts the names that the module of a name brings, and answers whether one of them clashes.
 fn bring<'a>(
     alloc: Global,
@@ -76,9 +61,9 @@ fn bring<'a>(
     imported: &'a Imported,
     name: &str,
 ) -> Result<bool, Memory>
-    ensures { IfOk result (λ clash. IsBrought names.old names.new clash (in_modules.exports_under (files_of imported.now) (tables.lookup bytes_eq (modules_of modules.now.entries) name.now) name.now)) }
+    ensures { IfOk result (λ clash. IsBrought names.old names.new clash (in_modules.exports_under (files_of imported.now) (meaning (modules_of modules.now) name.now) name.now)) }
 {
-    match modules.get(name) {
+    match modules.meaning(name) {
         Some(Some(exports)) => {
             let clash = bring_nested(alloc, names, exports)?;
             Ok(clash)
@@ -111,7 +96,7 @@ impl<'a> Reading<'a> {
                 context: Context::new(alloc),
                 exports: Exported::new(alloc),
             },
-            modules: IndexMap::new(alloc),
+            modules: Modules::new(alloc),
         }
     }
 
@@ -122,7 +107,7 @@ impl<'a> Reading<'a> {
         ensures { OnOk result (reading_of self.new ≡ in_modules.unread text.now no_files) }
     {
         put_built_in(&mut self.names.context)?;
-        take_name(&mut self.modules, self.name, None)?;
+        self.modules.add(self.name, None)?;
         Ok(())
     }
 
@@ -243,6 +228,6 @@ impl<'a> Reading<'a> {
         requires { LiesIn text.now.source name }
         ensures { result ≡ in_modules.is_named text.now no_files (reading_of self.now) name }
     {
-        self.modules.contains_key(text.spelled(name))
+        self.modules.is_taken(text.spelled(name))
     }
 }

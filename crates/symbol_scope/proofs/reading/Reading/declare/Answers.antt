@@ -11,16 +11,16 @@ pub returns-clause-reading : goal.returns-clause-reading
 returns-clause-reading c =
     let self = c.args.self.now in
     declared-new c.args.text.now c.args.local (reading_of self) c.args.binder (meant_by c.name_of-name.result) c.name_of-name.ensures
-    (as_read self.name.now (modules_of self.modules.entries) c.put.new.self) c.in_ok-meaning.meaning c.in_ok-meaning.ensures
-    (c.in_ok-put.ensures self.name.now (modules_of self.modules.entries))
+    (as_read self.name.now (modules_of self.modules) c.put.new.self) c.in_ok-meaning.meaning c.in_ok-meaning.ensures
+    (c.in_ok-put.ensures self.name.now (modules_of self.modules))
     (ap is_some (sym c.get.ensures) ∙ mapped-some _ c.get.result ∙ sym c.is_some.ensures ∙ c.if-is_some.false) no_files
 
 pub returns-clause-context : goal.returns-clause-context
 returns-clause-context c =
     let self = c.args.self.now in
     new-bound c.args.text.now c.args.local (reading_of self) c.args.binder (meant_by c.name_of-name.result) c.name_of-name.ensures
-    (as_read self.name.now (modules_of self.modules.entries) c.put.new.self) c.in_ok-meaning.meaning c.in_ok-meaning.ensures
-    (c.in_ok-put.ensures self.name.now (modules_of self.modules.entries))
+    (as_read self.name.now (modules_of self.modules) c.put.new.self) c.in_ok-meaning.meaning c.in_ok-meaning.ensures
+    (c.in_ok-put.ensures self.name.now (modules_of self.modules))
 
 pub returns-then-is_some-clause-reading : goal.returns-then-is_some-clause-reading
 returns-then-is_some-clause-reading c =
