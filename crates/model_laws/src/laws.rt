@@ -7,6 +7,7 @@ ghost use Rattle.tla_model.specs.Entities.{Meaning};
 ghost use Rattle.module_model.specs.Exports.{Exports, Outside};
 ghost use Rattle.tla_model.specs.Lexemes.{module_lexemes};
 ghost use Rattle.module_model.specs.Resolution.{findings};
+ghost use Rattle.model_laws.specs.Needed.{AsksNeeded};
 ghost use Rattle.module_model.specs.Substitutions.{AreApart, is_declared, replacement_of};
 ghost use Rattle.tla_model.specs.Tables.{Named};
 ghost use Rattle.module_model.specs.declared.face.Replacement.{Replacement};
@@ -21,4 +22,11 @@ pub fn faults_at_lexemes()
 /// parameter, and so the one under its declaration.
 pub fn replaced_by_declaration()
     ensures { (parameters : Exports) → (replacements : List Replacement) → (i : ℕ) → (p : Named × Meaning) → (r : Replacement) → (decl : DeclId) → AreApart parameters → slice_get parameters i ≡ Some p → slice_get replacements i ≡ Some r → is_declared p.1 decl ≡ true → replacement_of parameters replacements decl ≡ Some r }
+{}
+
+/// What the names of a module mean is told by the files that it needs: over others that agree on these,
+/// the same is found at its names, it exports the same, and the same stands behind the instances that
+/// it reaches.
+pub fn asks_needed()
+    ensures { (source : List ℕ) → (units : ModuleUnits) → AsksNeeded source units }
 {}

@@ -1,4 +1,4 @@
-//! Laws on what is said of a module in `tla_model`.
+//! Laws on what is said of a module in `module_model`.
 //!
 //! Each follows from the definitions there alone. Small modules with what their names mean stand in its
 //! `proofs/`.
@@ -6,4 +6,4 @@
 
 mod laws;
 
-pub use laws::{faults_at_lexemes, replaced_by_declaration};
+pub use laws::{asks_needed, faults_at_lexemes, replaced_by_declaration};
