@@ -11,6 +11,7 @@ use Rattle.tla_model.specs.declared.entity.Decl.{Decl}
 use Rattle.tla_model.specs.declared.entity.Level.{Level}
 use Rattle.tla_model.specs.declared.entity.Use.{Use}
 use Rattle.tla_model.specs.declared.ids.Callee.{Callee}
+use Rattle.tla_model.specs.declared.ids.DeclId.{DeclId}
 use Rattle.unit_grammar.specs.Units.{ModuleUnits}
 use Rattle.tla_model.specs.Entities.{Entity, Meaning, Text, declaration, declaring}
 use Rattle.module_model.specs.Exports.{Outside}
@@ -24,10 +25,13 @@ pub record Resolved : Type 0 where
   pub entity : Entity
   pub callee : Callee
 
+-- a use of a declaration
+abbrev pub use_of : Lexeme → DeclId → Use
+use_of l decl = record { name = l.span; «module» = decl.«module»; place = decl.place; level = Level.Constant }
+
 abbrev pub meant_by : Lexeme → Meaning → List Resolved
 meant_by l BuiltIn = []
-meant_by l (Declared entity callee) =
-    record { «use» = record { name = l.span; «module» = callee.decl.«module»; place = callee.decl.place; level = Level.Constant }; entity = entity; callee = callee } ∷ []
+meant_by l (Declared entity callee) = record { «use» = use_of l callee.decl; entity = entity; callee = callee } ∷ []
 
 abbrev pub resolved_at : Finding → List Resolved
 resolved_at (Means l meaning) = meant_by l meaning

@@ -1,18 +1,10 @@
 -- How what is found is sorted out: into uses, replacements and faults.
 use Rattle.std.specs.Prelude.{◌≡◌, List, [], ◌++◌, map}
-use Rattle.tla_symbols.specs.declared.lexeme.Lexeme.{Lexeme}
 use Rattle.tla_model.specs.declared.Diagnostic.{Diagnostic}
-use Rattle.tla_model.specs.declared.entity.Level.{Level}
-use Rattle.tla_model.specs.declared.entity.Use.{Use}
-use Rattle.tla_model.specs.declared.ids.DeclId.{DeclId}
 use Rattle.module_model.specs.declared.bound.Bound.{Bound}
 use Rattle.module_model.specs.declared.bound.Implied.{Implied}
 use Rattle.module_model.specs.Bindings.{AreInOrder, Resolved, faults, implied, resolved}
 use Rattle.tla_model.specs.Scopes.{Finding}
-
--- a use of a declaration
-abbrev pub use_of : Lexeme → DeclId → Use
-use_of l decl = record { name = l.span; «module» = decl.«module»; place = decl.place; level = Level.Constant }
 
 -- no name stands for anything
 pub record IsNothing (bound : Bound) : Type 0 where

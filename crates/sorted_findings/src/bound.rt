@@ -3,7 +3,7 @@ ghost use Rattle.std.specs.Prelude.{◌≡◌, ◌++◌, ◌∷◌, [], OnOk};
 ghost use Rattle.module_model.specs.Bindings as bindings;
 ghost use Rattle.tla_model.specs.declared.names.Meaning.TheVariants as means;
 ghost use Rattle.tla_model.specs.declared.ids.Callee.{Callee as Called};
-ghost use Rattle.sorted_findings.specs.Sorting.{HasMore, IsNothing, use_of};
+ghost use Rattle.sorted_findings.specs.Sorting.{HasMore, IsNothing};
 
 use module_model::{Bound, Implied, in_order};
 use std::alloc::Global;
@@ -28,7 +28,7 @@ pub fn nothing(alloc: Global) -> Bound
 
 // Appends a use of a declaration.
 fn push_use(uses: &mut List<Use>, at: Lexeme, decl: &DeclId) -> Result<(), Memory>
-    ensures { OnOk result (uses.new ≡ uses.old ++ use_of at decl.now ∷ []) }
+    ensures { OnOk result (uses.new ≡ uses.old ++ bindings.use_of at decl.now ∷ []) }
 {
     let module = decl.module.copied()?;
     uses.push(Use {
