@@ -1,6 +1,6 @@
 -- The lexeme sets: which spellings are lexemes, and of which kind. A text is its bytes here. All that
 -- begins, ends or tells apart lexemes is ASCII, and in UTF-8 a byte below 128 is a character.
-use Rattle.std.specs.Prelude.{ℕ, List, [], ◌∷◌, Bool, true, false, not, ◌&&◌, ◌||◌, ◌==◌, nat_eq, nat_le, nat_lt, Option, Some, None, if◌then◌else◌, codes, length}
+use Rattle.std.specs.Prelude.{ℕ, List, [], ◌∷◌, Bool, true, false, not, ◌&&◌, ◌||◌, ◌==◌, nat_eq, nat_le, nat_lt, Option, Some, None, if◌then◌else◌, codes, is_none, length}
 use Rattle.std.specs.List.{list_all, list_any, starts_with}
 use Rattle.std.specs.Char.{is_ascii_alphabetic, is_ascii_alphanumeric, is_ascii_digit, is_ascii_hexdigit}
 use Rattle.std.specs.Option.{option_map}
@@ -46,7 +46,7 @@ table_kind spelling = or_else (option_map Word (word_of spelling)) (or_else (opt
 
 -- these bytes, and others after them
 abbrev pub goes_beyond : List ℕ → List ℕ → Bool
-goes_beyond front spelling = starts_with nat_eq spelling front && nat_lt (length front) (length spelling)
+goes_beyond prefix spelling = starts_with nat_eq spelling prefix && nat_lt (length prefix) (length spelling)
 
 -- `WF_` or `SF_`, and others after them
 abbrev pub is_fair : List ℕ → Bool
@@ -55,6 +55,10 @@ is_fair spelling = goes_beyond (codes "WF_") spelling || goes_beyond (codes "SF_
 -- letters, digits and `_` with at least one letter, but not `WF_` or `SF_` and others after them
 abbrev pub is_name : List ℕ → Bool
 is_name spelling = list_all (is_in WordChar) spelling && list_any (is_in Letter) spelling && not (is_fair spelling)
+
+-- an identifier: a name that is no reserved word
+unfoldable pub is_identifier : List ℕ → Bool
+is_identifier spelling = is_name spelling && is_none (table_kind spelling)
 
 -- ---- numbers
 

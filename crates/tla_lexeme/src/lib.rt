@@ -11,6 +11,7 @@ mod begin;
 mod class;
 mod comment;
 mod header;
+mod identifier;
 mod number;
 mod part;
 mod sign;
@@ -26,6 +27,7 @@ ghost use Rattle.tla_lexeme.specs.Spans.{IsPlaced};
 ghost use Rattle.tla_lexeme.specs.ModulePart.{module_part, IsLexError};
 
 use header::header_of;
+pub use identifier::is_identifier;
 use part::part_from;
 use std::alloc::Global;
 use tla_symbols::Lexeme;
@@ -68,7 +70,7 @@ pub fn lex(alloc: Global, text: &Text) -> Result<List<Lexeme>, LexError>
 }
 
 /// The law that the definition of a text's lexemes stands under: blanks and comments are passed over,
-/// each lexeme but the last is a member of the lexeme sets at its place, and no longer front of what
+/// each lexeme but the last is a member of the lexeme sets at its place, and no longer prefix of what
 /// stands there is one; the last is the text's end or what is at fault. It does nothing.
 pub fn reads_longest()
     ensures { (text : List ℕ) (at : ℕ) → ReadsLongest text at }
