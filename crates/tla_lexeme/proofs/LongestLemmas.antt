@@ -1,4 +1,4 @@
--- The longest front that is of a kind.
+-- The longest prefix that is of a kind.
 use Rattle.std.proofs.Common.{◌≡◌, ℕ, zero, suc, ◌-◌, ◌<◌, ◌≤◌, List, Option, Some, None, take, refl, sym, ap, ◌∙◌, ⊎_elim, arith}
 use Rattle.std.proofs.lemmas.Bool.{cases_lt}
 use Rattle.tla_symbols.specs.declared.lexeme.LexKind.{LexKind}

@@ -7,9 +7,9 @@ use Rattle.tla_lexeme.specs.declared.class.Class.TheVariants.{Digit}
 use Rattle.tla_lexeme.specs.LexemeSets.{is_in, is_run, is_run_of, base_of, is_fraction, is_after_backslash, is_based, is_long_run}
 use Rattle.tla_lexeme.specs.Lengths.{fraction_len, with_one, base_len, after_backslash_len, based_len, long_run_len}
 
--- ---- fronts of a text
+-- ---- beginnings of a text
 
--- bytes of a text's front that all pass a test are at the front of those that pass
+-- bytes of a text's prefix that all pass a test are at the prefix of those that pass
 pub all-le : (p : ℕ → Bool) (m : ℕ) (xs : List ℕ) → m ≤ length xs → list_all p (take m xs) ≡ true → m ≤ prefix_len p xs
 all-le p zero xs l h = omega arith
 all-le p (suc m) [] l h = absurd (omega arith)
@@ -19,12 +19,12 @@ all-le p (suc m) (x ∷ xs) l h =
     let shape : prefix_len p (x ∷ xs) ≡ 1 + prefix_len p xs = cond-true (p x) (1 + prefix_len p xs) 0 parts.0 in
     omega (arith, more, shape)
 
-pub all-front : (p : ℕ → Bool) (n : ℕ) (xs : List ℕ) → n ≤ prefix_len p xs → list_all p (take n xs) ≡ true
-all-front p zero xs h = refl
-all-front p (suc n) [] h = refl
-all-front p (suc n) (x ∷ xs) h =
+pub all-prefix : (p : ℕ → Bool) (n : ℕ) (xs : List ℕ) → n ≤ prefix_len p xs → list_all p (take n xs) ≡ true
+all-prefix p zero xs h = refl
+all-prefix p (suc n) [] h = refl
+all-prefix p (suc n) (x ∷ xs) h =
     ⊎_elim
-    (λ (yes : p x ≡ true). let shape : prefix_len p (x ∷ xs) ≡ 1 + prefix_len p xs = cond-true (p x) (1 + prefix_len p xs) 0 yes in and_from (p x) (list_all p (take n xs)) yes (all-front p n xs (omega (arith, shape))))
+    (λ (yes : p x ≡ true). let shape : prefix_len p (x ∷ xs) ≡ 1 + prefix_len p xs = cond-true (p x) (1 + prefix_len p xs) 0 yes in and_from (p x) (list_all p (take n xs)) yes (all-prefix p n xs (omega (arith, shape))))
     (λ (no : p x ≡ false). absurd (let shape : prefix_len p (x ∷ xs) ≡ 0 = cond-false (p x) (1 + prefix_len p xs) 0 no in omega (arith, shape)))
     (cases_Bool (p x))
 
@@ -36,7 +36,7 @@ prefix-le p (x ∷ xs) =
     (λ (no : p x ≡ false). let shape : prefix_len p (x ∷ xs) ≡ 0 = cond-false (p x) (1 + prefix_len p xs) 0 no in omega (arith, shape))
     (cases_Bool (p x))
 
--- the first bytes of a front that pass a test
+-- the first bytes of a prefix that pass a test
 pub prefix-take : (p : ℕ → Bool) (m : ℕ) (xs : List ℕ) → prefix_len p (take m xs) ≡ min m (prefix_len p xs)
 prefix-take p zero xs = omega arith
 prefix-take p (suc m) [] = omega arith
@@ -46,13 +46,13 @@ prefix-take p (suc m) (x ∷ xs) = step (p x) (prefix-take p m xs)
     step true more = omega (arith, more)
     step false more = omega arith
 
-pub any-front : (p : ℕ → Bool) (m n : ℕ) (xs : List ℕ) → m ≤ n → list_any p (take n xs) ≡ false → list_any p (take m xs) ≡ false
-any-front p zero n xs l h = refl
-any-front p (suc m) zero xs l h = absurd (omega arith)
-any-front p (suc m) (suc n) [] l h = refl
-any-front p (suc m) (suc n) (x ∷ xs) l h = let parts = or_parts (p x) (list_any p (take n xs)) h in or_from (p x) (list_any p (take m xs)) parts.0 (any-front p m n xs (omega arith) parts.1)
+pub any-prefix : (p : ℕ → Bool) (m n : ℕ) (xs : List ℕ) → m ≤ n → list_any p (take n xs) ≡ false → list_any p (take m xs) ≡ false
+any-prefix p zero n xs l h = refl
+any-prefix p (suc m) zero xs l h = absurd (omega arith)
+any-prefix p (suc m) (suc n) [] l h = refl
+any-prefix p (suc m) (suc n) (x ∷ xs) l h = let parts = or_parts (p x) (list_any p (take n xs)) h in or_from (p x) (list_any p (take m xs)) parts.0 (any-prefix p m n xs (omega arith) parts.1)
 
--- a front that is too long to pass
+-- a prefix that is too long to pass
 pub too-long : (p : ℕ → Bool) (m : ℕ) (xs : List ℕ) → m ≤ length xs → prefix_len p xs < m → list_all p (take m xs) ≡ false
 too-long p m xs l h = false_from_ne_true (list_all p (take m xs)) (λ yes. let le = all-le p m xs l yes in omega (arith, le))
 
@@ -70,16 +70,16 @@ run-from : (class : Class) (w : List ℕ) → 0 < length w → list_all (is_in c
 run-from class [] l h = absurd (omega arith)
 run-from class (c ∷ cs) l h = h
 
-pub length-front : (m : ℕ) (xs : List ℕ) → m ≤ length xs → length (take m xs) ≡ m
-length-front zero xs l = refl
-length-front (suc m) [] l = absurd (omega arith)
-length-front (suc m) (x ∷ xs) l = let h = length-front m xs (omega arith) in omega (arith, h)
+pub length-prefix : (m : ℕ) (xs : List ℕ) → m ≤ length xs → length (take m xs) ≡ m
+length-prefix zero xs l = refl
+length-prefix (suc m) [] l = absurd (omega arith)
+length-prefix (suc m) (x ∷ xs) l = let h = length-prefix m xs (omega arith) in omega (arith, h)
 
 pub run-le : (class : Class) (m : ℕ) (xs : List ℕ) → m ≤ length xs → is_run class (take m xs) ≡ true → (m ≤ prefix_len (is_in class) xs) × (0 < m)
-run-le class m xs l h = (all-le (is_in class) m xs l (run-all class (take m xs) h), omega (arith, run-some class (take m xs) h, length-front m xs l))
+run-le class m xs l h = (all-le (is_in class) m xs l (run-all class (take m xs) h), omega (arith, run-some class (take m xs) h, length-prefix m xs l))
 
-pub run-front : (class : Class) (n : ℕ) (xs : List ℕ) → 0 < n → n ≤ prefix_len (is_in class) xs → is_run class (take n xs) ≡ true
-run-front class n xs pos h = run-from class (take n xs) (omega (arith, length-front n xs (omega (arith, prefix-le (is_in class) xs)))) (all-front (is_in class) n xs h)
+pub run-prefix : (class : Class) (n : ℕ) (xs : List ℕ) → 0 < n → n ≤ prefix_len (is_in class) xs → is_run class (take n xs) ≡ true
+run-prefix class n xs pos h = run-from class (take n xs) (omega (arith, length-prefix n xs (omega (arith, prefix-le (is_in class) xs)))) (all-prefix (is_in class) n xs h)
 
 -- ---- numbers
 
@@ -153,13 +153,13 @@ fraction-at (suc n) (c ∷ cs) e h =
     (λ (point : eqb c 46 ≡ true).
     let len : fraction_len (c ∷ cs) ≡ with_one (prefix_len (is_in Digit) cs) = shape ∙ cond-true (eqb c 46) (with_one (prefix_len (is_in Digit) cs)) 0 point in
     let one = with_one-is (prefix_len (is_in Digit) cs) (omega (arith, len, point-none c cs none)) in
-    cond-true (eqb c 46) (is_run Digit (take n cs)) (is_in Digit c && is_fraction (take n cs)) point ∙ run-front Digit n cs (omega (arith, e, one.0, one.1, len, digits-none c cs none, point-none c cs none)) (omega (arith, e, one.1, len, digits-none c cs none, point-none c cs none)))
+    cond-true (eqb c 46) (is_run Digit (take n cs)) (is_in Digit c && is_fraction (take n cs)) point ∙ run-prefix Digit n cs (omega (arith, e, one.0, one.1, len, digits-none c cs none, point-none c cs none)) (omega (arith, e, one.1, len, digits-none c cs none, point-none c cs none)))
     (λ (other : eqb c 46 ≡ false). absurd (let len : fraction_len (c ∷ cs) ≡ 0 = shape ∙ cond-false (eqb c 46) (with_one (prefix_len (is_in Digit) cs)) 0 other in omega (arith, len, point-none c cs none)))
     (cases_Bool (eqb c 46)))
     (cases_Bool (is_in Digit c))
 
-pub fraction-front : (xs : List ℕ) → 0 < point_len xs → is_fraction (take (digits_len xs + point_len xs) xs) ≡ true
-fraction-front xs h = fraction-at (digits_len xs + point_len xs) xs refl h
+pub fraction-prefix : (xs : List ℕ) → 0 < point_len xs → is_fraction (take (digits_len xs + point_len xs) xs) ≡ true
+fraction-prefix xs h = fraction-at (digits_len xs + point_len xs) xs refl h
 
 -- a number with a base
 base-le : (base : Option Class) (m : ℕ) (ds : List ℕ) → m ≤ length ds → is_run_of base (take m ds) ≡ true → (suc m ≤ base_len base ds) × (0 < m)
@@ -173,7 +173,7 @@ base-at : (base : Option Class) (m : ℕ) (ds : List ℕ) → suc m ≡ base_len
 base-at None m ds e = absurd (omega (arith, e))
 base-at (Some class) m ds e =
     let one = with_one-is (prefix_len (is_in class) ds) (omega (arith, e)) in
-    run-front class m ds (omega (arith, e, one.0, one.1)) (omega (arith, e, one.1))
+    run-prefix class m ds (omega (arith, e, one.0, one.1)) (omega (arith, e, one.1))
 
 backslash-le : (m : ℕ) (cs : List ℕ) → m ≤ length cs → is_after_backslash (take m cs) ≡ true → m ≤ after_backslash_len cs × (0 < m)
 backslash-le zero cs l h = absurd (both_ways false refl h)
@@ -197,9 +197,9 @@ based-at m c cs h e =
     let one = with_one-is (after_backslash_len cs) (omega (arith, e)) in
     and_from (eqb c 92) (is_after_backslash (take m cs)) h (backslash-at m cs (omega (arith, e, one.1)) (omega (arith, e, one.0, one.1)))
 
-pub based-front : (c : ℕ) (cs : List ℕ) (n : ℕ) → eqb c 92 ≡ true → n ≡ based_len (c ∷ cs) → 0 < n → is_based (take n (c ∷ cs)) ≡ true
-based-front c cs zero h e pos = absurd (omega arith)
-based-front c cs (suc m) h e pos = based-at m c cs h e
+pub based-prefix : (c : ℕ) (cs : List ℕ) (n : ℕ) → eqb c 92 ≡ true → n ≡ based_len (c ∷ cs) → 0 < n → is_based (take n (c ∷ cs)) ≡ true
+based-prefix c cs zero h e pos = absurd (omega arith)
+based-prefix c cs (suc m) h e pos = based-at m c cs h e
 
 -- ---- long runs
 
@@ -208,7 +208,7 @@ long-le class m xs l h =
     let parts = and_parts (leb 4 (length (take m xs))) (list_all (is_in class) (take m xs)) h in
     let four = leb-true 4 (length (take m xs)) parts.0 in
     let le = all-le (is_in class) m xs l parts.1 in
-    let shape : long_run_len class xs ≡ prefix_len (is_in class) xs = cond-true (leb 4 (prefix_len (is_in class) xs)) (prefix_len (is_in class) xs) 0 (le-leb 4 (prefix_len (is_in class) xs) (omega (arith, four, le, length-front m xs l))) in
+    let shape : long_run_len class xs ≡ prefix_len (is_in class) xs = cond-true (leb 4 (prefix_len (is_in class) xs)) (prefix_len (is_in class) xs) 0 (le-leb 4 (prefix_len (is_in class) xs) (omega (arith, four, le, length-prefix m xs l))) in
     omega (arith, le, shape)
 
 pub long-is : (class : Class) (xs : List ℕ) → 0 < long_run_len class xs → (4 ≤ prefix_len (is_in class) xs) × (long_run_len class xs ≡ prefix_len (is_in class) xs)
@@ -218,8 +218,8 @@ long-is class xs h =
     (λ (long : 4 ≤ prefix_len (is_in class) xs). (long, cond-true (leb 4 (prefix_len (is_in class) xs)) (prefix_len (is_in class) xs) 0 (le-leb 4 (prefix_len (is_in class) xs) long)))
     (cases_lt (prefix_len (is_in class) xs) 4)
 
-pub long-front : (class : Class) (n : ℕ) (xs : List ℕ) → n ≡ long_run_len class xs → 0 < n → is_long_run class (take n xs) ≡ true
-long-front class n xs e h =
+pub long-prefix : (class : Class) (n : ℕ) (xs : List ℕ) → n ≡ long_run_len class xs → 0 < n → is_long_run class (take n xs) ≡ true
+long-prefix class n xs e h =
     let is = long-is class xs (omega (arith, e)) in
-    let size : length (take n xs) ≡ n = length-front n xs (omega (arith, e, is.1, prefix-le (is_in class) xs)) in
-    and_from (leb 4 (length (take n xs))) (list_all (is_in class) (take n xs)) (le-leb 4 (length (take n xs)) (omega (arith, size, e, is.0, is.1))) (all-front (is_in class) n xs (omega (arith, e, is.1)))
+    let size : length (take n xs) ≡ n = length-prefix n xs (omega (arith, e, is.1, prefix-le (is_in class) xs)) in
+    and_from (leb 4 (length (take n xs))) (list_all (is_in class) (take n xs)) (le-leb 4 (length (take n xs)) (omega (arith, size, e, is.0, is.1))) (all-prefix (is_in class) n xs (omega (arith, e, is.1)))

@@ -11,7 +11,7 @@ use Rattle.tla_lexeme.specs.Lexing.{lexeme_at, longest_of}
 use Rattle.tla_lexeme.specs.Lengths.{fraction_len, base_len, after_backslash_len, based_len, long_run_len, open_sign, goes_on, most_further, most_len}
 use Rattle.tla_lexeme.proofs.LongestLemmas.{longest_some, longest_same, longest_down}
 use Rattle.tla_lexeme.proofs.TableLemmas.{open-none, sign-none, is_not_open}
-use Rattle.tla_lexeme.proofs.SetLemmas.{prefix-take, prefix-le, too-long, length-front, fraction-at, fraction-shape, with_one-is, with_one-some, based-le, based-at, long-le, long-is, long-front}
+use Rattle.tla_lexeme.proofs.SetLemmas.{prefix-take, prefix-le, too-long, length-prefix, fraction-at, fraction-shape, with_one-is, with_one-some, based-le, based-at, long-le, long-is, long-prefix}
 use Rattle.tla_lexeme.proofs.KindLemmas.{from_suc, kind-open, kind-table, open-number, open-dashes, open-equals, open-nothing, name-first, string-first, long-first, based-first, run-first, fraction-first, number-none, number-long}
 
 -- what the numbers and the long runs are that begin at a sign
@@ -28,8 +28,8 @@ no_open w h = ne_eqb (open_sign w).len 0 (λ e. omega (arith, e))
 point-some : (k : ℕ) (cs : List ℕ) → 0 < fraction_len (46 ∷ cs) → fraction_len (46 ∷ cs) ≤ suc k → 0 < fraction_len (46 ∷ take k cs)
 point-some k cs pos le =
     let one = with_one-is (prefix_len (is_in Digit) cs) (omega (arith, fraction-shape 46 cs)) in
-    let front = prefix-take (is_in Digit) k cs in
-    let some = with_one-some (prefix_len (is_in Digit) (take k cs)) (omega (arith, front, one.0, one.1, fraction-shape 46 cs, le)) in
+    let prefix = prefix-take (is_in Digit) k cs in
+    let some = with_one-some (prefix_len (is_in Digit) (take k cs)) (omega (arith, prefix, one.0, one.1, fraction-shape 46 cs, le)) in
     omega (arith, some, fraction-shape 46 (take k cs))
 
 at_point : (cs : List ℕ) → IsOpen 46 cs (record { len = fraction_len (46 ∷ cs); kind = Number })
@@ -73,9 +73,9 @@ at_backslash cs = record {
 long-some : (class : Class) (m : ℕ) (xs : List ℕ) → 0 < long_run_len class xs → long_run_len class xs ≤ m → 0 < long_run_len class (take m xs)
 long-some class m xs pos le =
     let is = long-is class xs pos in
-    let front = prefix-take (is_in class) m xs in
-    let e : long_run_len class (take m xs) ≡ prefix_len (is_in class) (take m xs) = cond-true (leb 4 (prefix_len (is_in class) (take m xs))) (prefix_len (is_in class) (take m xs)) 0 (le-leb 4 (prefix_len (is_in class) (take m xs)) (omega (arith, front, is.0, is.1, le))) in
-    omega (arith, e, front, is.0, is.1, le)
+    let prefix = prefix-take (is_in class) m xs in
+    let e : long_run_len class (take m xs) ≡ prefix_len (is_in class) (take m xs) = cond-true (leb 4 (prefix_len (is_in class) (take m xs))) (prefix_len (is_in class) (take m xs)) 0 (le-leb 4 (prefix_len (is_in class) (take m xs)) (omega (arith, prefix, is.0, is.1, le))) in
+    omega (arith, e, prefix, is.0, is.1, le)
 
 long-later : (class : Class) (m : ℕ) (xs : List ℕ) → m ≤ length xs → long_run_len class xs < m → is_long_run class (take m xs) ≡ false
 long-later class m xs l lt = false_from_ne_true (is_long_run class (take m xs)) (λ yes. let le = long-le class m xs l yes in omega (arith, le))
@@ -83,14 +83,14 @@ long-later class m xs l lt = false_from_ne_true (is_long_run class (take m xs)) 
 at_dash : (cs : List ℕ) → IsOpen 45 cs (record { len = long_run_len Dash (45 ∷ cs); kind = Dashes })
 at_dash cs = record {
   later = λ k lt le. open-nothing (45 ∷ take k cs) (name-first 45 (take k cs) refl) (number-none (45 ∷ take k cs) (run-first 45 (take k cs) refl) (fraction-first 45 (take k cs) refl refl) (based-first 45 (take k cs) refl)) (string-first 45 (take k cs) refl) (long-later Dash (suc k) (45 ∷ cs) le lt) (long-first EqualSign 45 (take k cs) refl);
-  here = λ k e. open-dashes (45 ∷ take k cs) (name-first 45 (take k cs) refl) (number-none (45 ∷ take k cs) (run-first 45 (take k cs) refl) (fraction-first 45 (take k cs) refl refl) (based-first 45 (take k cs) refl)) (string-first 45 (take k cs) refl) (long-front Dash (suc k) (45 ∷ cs) e (omega arith));
+  here = λ k e. open-dashes (45 ∷ take k cs) (name-first 45 (take k cs) refl) (number-none (45 ∷ take k cs) (run-first 45 (take k cs) refl) (fraction-first 45 (take k cs) refl refl) (based-first 45 (take k cs) refl)) (string-first 45 (take k cs) refl) (long-prefix Dash (suc k) (45 ∷ cs) e (omega arith));
   tables = λ k pos le. open-none (45 ∷ take k cs) (no_open (45 ∷ take k cs) (long-some Dash (suc k) (45 ∷ cs) pos le));
 }
 
 at_equal_sign : (cs : List ℕ) → IsOpen 61 cs (record { len = long_run_len EqualSign (61 ∷ cs); kind = Equals })
 at_equal_sign cs = record {
   later = λ k lt le. open-nothing (61 ∷ take k cs) (name-first 61 (take k cs) refl) (number-none (61 ∷ take k cs) (run-first 61 (take k cs) refl) (fraction-first 61 (take k cs) refl refl) (based-first 61 (take k cs) refl)) (string-first 61 (take k cs) refl) (long-first Dash 61 (take k cs) refl) (long-later EqualSign (suc k) (61 ∷ cs) le lt);
-  here = λ k e. open-equals (61 ∷ take k cs) (name-first 61 (take k cs) refl) (number-none (61 ∷ take k cs) (run-first 61 (take k cs) refl) (fraction-first 61 (take k cs) refl refl) (based-first 61 (take k cs) refl)) (string-first 61 (take k cs) refl) (long-first Dash 61 (take k cs) refl) (long-front EqualSign (suc k) (61 ∷ cs) e (omega arith));
+  here = λ k e. open-equals (61 ∷ take k cs) (name-first 61 (take k cs) refl) (number-none (61 ∷ take k cs) (run-first 61 (take k cs) refl) (fraction-first 61 (take k cs) refl refl) (based-first 61 (take k cs) refl)) (string-first 61 (take k cs) refl) (long-first Dash 61 (take k cs) refl) (long-prefix EqualSign (suc k) (61 ∷ cs) e (omega arith));
   tables = λ k pos le. open-none (61 ∷ take k cs) (no_open (61 ∷ take k cs) (long-some EqualSign (suc k) (61 ∷ cs) pos le));
 }
 
@@ -143,7 +143,7 @@ open_cons c cs start is pos le = longest_some kind_of (length (c ∷ cs)) start.
 short-spelling : (c : ℕ) (cs : List ℕ) → is_in WordChar c ≡ false → (k : ℕ) → most_len (c ∷ cs) < suc k → suc k ≤ length (c ∷ cs) → table_kind (c ∷ take k cs) ≡ None
 short-spelling c cs word k lt le =
     sign-none (c ∷ take k cs) (or_from _ _ word (⊎_elim
-    (λ (many : most_further c < k). and_left _ _ (lt-leb (length (take k cs)) (most_further c) (omega (arith, length-front k cs (omega arith)))))
+    (λ (many : most_further c < k). and_left _ _ (lt-leb (length (take k cs)) (most_further c) (omega (arith, length-prefix k cs (omega arith)))))
     (λ (few : k ≤ most_further c). and_right _ _ (too-long (goes_on c) k cs (omega arith) (omega (arith, lt))))
     (cases_lt (most_further c) k)))
 

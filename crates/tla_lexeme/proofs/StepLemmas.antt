@@ -29,9 +29,9 @@ pub record IsStep (text : List ℕ) (at len : ℕ) : Type 0 where
   pub fits : at + len ≤ length text
   pub cut : IsCharBoundary text (at + len)
 
--- ---- a front whose last byte is ASCII
+-- ---- a prefix whose last byte is ASCII
 
--- the front of what stands at a place
+-- the prefix of what stands at a place
 pub record IsLowFront (rest : List ℕ) (len : ℕ) : Type 0 where
   pub some : 0 < len
   pub fits : len ≤ length rest

@@ -51,7 +51,7 @@ end-step at escaped c cs = by (string_step escaped c)
 some_at : (a b : ℕ) → a ≡ b → (let o : Option ℕ = Some a in o) ≡ Some b
 some_at a b e = ap (λ i. let o : Option ℕ = Some i in o) e
 
--- a front that closes the string ends where the string ends
+-- a prefix that closes the string ends where the string ends
 closed-end : (at m : ℕ) (escaped : Bool) (cs : List ℕ) → m ≤ length cs → closes_string escaped (take m cs) ≡ true → string_end at escaped cs ≡ Some (at + m)
 closed-end at zero escaped cs l h = absurd (both_ways false refl (sym (nil escaped) ∙ h))
   where
@@ -70,7 +70,7 @@ closed-end at (suc m) escaped (c ∷ cs) l h =
     by_step Escapes m cs l h f t = t h ∙ some_at (at + 1 + m) (at + suc m) (omega arith)
     by_step Breaks m cs l h f t = absurd (both_ways false refl h)
 
--- where the string ends, a front closes it
+-- where the string ends, a prefix closes it
 end-closed : (at n : ℕ) (escaped : Bool) (cs : List ℕ) → string_end at escaped cs ≡ Some n → (m : ℕ) × (n ≡ at + m) × (m ≤ length cs) × (closes_string escaped (take m cs) ≡ true)
 end-closed at n escaped [] h = absurd (none_some n h)
   where
@@ -102,7 +102,7 @@ quoted-string : (w : List ℕ) → closes_string false w ≡ true → kind_of (3
 quoted-string w h =
     kind-open (34 ∷ w) (quote-none (34 ∷ w) refl) ∙ open-string (34 ∷ w) (name-first 34 w refl) (number-none (34 ∷ w) (run-first 34 w refl) (fraction-first 34 w refl refl) (based-first 34 w refl)) h
 
--- a front that closes the string has its length
+-- a prefix that closes the string has its length
 only-end : (cs : List ℕ) (end : Option ℕ) (k : ℕ) → string_end 1 false cs ≡ end → k ≤ length cs → (end ≡ Some (1 + k) → ⊥) → closes_string false (take k cs) ≡ false
 only-end cs end k e l not_there = false_from_ne_true (closes_string false (take k cs)) (λ yes. not_there (sym e ∙ closed-end 1 k false cs l yes))
 

@@ -1,4 +1,4 @@
--- The longest front is the longest.
+-- The longest prefix is the longest.
 use Rattle.std.proofs.Common.{◌≡◌, ℕ, zero, suc, ◌<◌, ◌≤◌, List, Option, Some, None, length, take, refl, ap, ◌∙◌, ⊎_elim, arith}
 use Rattle.std.proofs.lemmas.Bool.{cases_lt}
 use Rattle.tla_symbols.specs.declared.lexeme.LexKind.{LexKind}

@@ -15,7 +15,7 @@ use Rattle.tla_lexeme.specs.Lexing.{lexeme_at, begins}
 use Rattle.tla_lexeme.specs.Lengths.{has_letter, bare_len, begins_fair, named_len, fraction_len}
 use Rattle.tla_lexeme.proofs.LongestLemmas.{longest_some}
 use Rattle.tla_lexeme.proofs.TableLemmas.{word-none, digit-none, is_word_spelling}
-use Rattle.tla_lexeme.proofs.SetLemmas.{all-le, all-front, too-long, prefix-le, any-front, run-front, fraction-front, digits_len, point_len, digits-here, digits-none, point-here, point-none}
+use Rattle.tla_lexeme.proofs.SetLemmas.{all-le, all-prefix, too-long, prefix-le, any-prefix, run-prefix, fraction-prefix, digits_len, point_len, digits-here, digits-none, point-here, point-none}
 use Rattle.tla_lexeme.proofs.KindLemmas.{from_suc, kind-open, open-name, open-number, number-long, based-first, not-byte, word-first, run-first, fraction-first, number-none}
 
 -- ---- letters and digits
@@ -72,18 +72,18 @@ bare-none text pos =
 
 -- ---- `WF_` and `SF_`
 
-same-front : (f : List ℕ) (m : ℕ) (xs : List ℕ) → length f ≤ m → starts_with nat_eq (take m xs) f ≡ starts_with nat_eq xs f
-same-front f m xs h = rw (take-take (length f) m xs h) refl
+same-prefix : (f : List ℕ) (m : ℕ) (xs : List ℕ) → length f ≤ m → starts_with nat_eq (take m xs) f ≡ starts_with nat_eq xs f
+same-prefix f m xs h = rw (take-take (length f) m xs h) refl
 
 beyond-no : (f : List ℕ) (m : ℕ) (xs : List ℕ) → m ≤ length xs → starts_with nat_eq xs f ≡ false → goes_beyond f (take m xs) ≡ false
 beyond-no f m xs l h =
     ⊎_elim
     (λ (short : m < length f). and_right _ _ (le-ltb (length f) (length (take m xs)) (omega (arith, length-take-le m xs l))))
-    (λ (long : length f ≤ m). and_left _ _ (same-front f m xs long ∙ h))
+    (λ (long : length f ≤ m). and_left _ _ (same-prefix f m xs long ∙ h))
     (cases_lt m (length f))
 
 beyond-yes : (f : List ℕ) (m : ℕ) (xs : List ℕ) → m ≤ length xs → length f < m → starts_with nat_eq xs f ≡ true → goes_beyond f (take m xs) ≡ true
-beyond-yes f m xs l lt h = and_from _ _ (same-front f m xs (omega arith) ∙ h) (lt-ltb (length f) (length (take m xs)) (omega (arith, length-take-le m xs l)))
+beyond-yes f m xs l lt h = and_from _ _ (same-prefix f m xs (omega arith) ∙ h) (lt-ltb (length f) (length (take m xs)) (omega (arith, length-take-le m xs l)))
 
 fair-no : (m : ℕ) (xs : List ℕ) → m ≤ length xs → begins_fair xs ≡ false → is_fair (take m xs) ≡ false
 fair-no m xs l h = let parts = or_parts (begins xs (codes "WF_")) (begins xs (codes "SF_")) h in or_from _ _ (beyond-no (codes "WF_") m xs l parts.0) (beyond-no (codes "SF_") m xs l parts.1)
@@ -93,18 +93,18 @@ fair-yes m xs l lt h =
     ⊎_elim (λ (w : begins xs (codes "WF_") ≡ true). or_left _ _ (beyond-yes (codes "WF_") m xs l lt w)) (λ (s : begins xs (codes "SF_") ≡ true). or_right _ _ (beyond-yes (codes "SF_") m xs l lt s))
     (or_cases (begins xs (codes "WF_")) (begins xs (codes "SF_")) h)
 
-front-is : (f xs : List ℕ) → begins xs f ≡ true → f ≡ take (length f) xs
-front-is f xs h = (bytes_eq-Decides f (take (length f) xs)).0 h
+prefix-is : (f xs : List ℕ) → begins xs f ≡ true → f ≡ take (length f) xs
+prefix-is f xs h = (bytes_eq-Decides f (take (length f) xs)).0 h
 
 -- the word itself
 fair-kind : (xs : List ℕ) → begins_fair xs ≡ true → (k : LexKind) × (table_kind (take 3 xs) ≡ Some k)
 fair-kind xs h =
-    ⊎_elim (λ (w : begins xs (codes "WF_") ≡ true). (Word WeakFair, subst (λ l. table_kind l ≡ Some (Word WeakFair)) (front-is (codes "WF_") xs w) refl)) (λ (s : begins xs (codes "SF_") ≡ true). (Word StrongFair, subst (λ l. table_kind l ≡ Some (Word StrongFair)) (front-is (codes "SF_") xs s) refl))
+    ⊎_elim (λ (w : begins xs (codes "WF_") ≡ true). (Word WeakFair, subst (λ l. table_kind l ≡ Some (Word WeakFair)) (prefix-is (codes "WF_") xs w) refl)) (λ (s : begins xs (codes "SF_") ≡ true). (Word StrongFair, subst (λ l. table_kind l ≡ Some (Word StrongFair)) (prefix-is (codes "SF_") xs s) refl))
     (or_cases (begins xs (codes "WF_")) (begins xs (codes "SF_")) h)
 
 fair-first : (c : ℕ) (cs : List ℕ) → begins_fair (c ∷ cs) ≡ true → (is_in Digit c ≡ false) × (3 ≤ length (c ∷ cs))
 fair-first c cs h =
-    ⊎_elim (λ (w : begins (c ∷ cs) (codes "WF_") ≡ true). of_front (codes "WF_") (front-is (codes "WF_") (c ∷ cs) w) refl refl) (λ (s : begins (c ∷ cs) (codes "SF_") ≡ true). of_front (codes "SF_") (front-is (codes "SF_") (c ∷ cs) s) refl refl)
+    ⊎_elim (λ (w : begins (c ∷ cs) (codes "WF_") ≡ true). of_front (codes "WF_") (prefix-is (codes "WF_") (c ∷ cs) w) refl refl) (λ (s : begins (c ∷ cs) (codes "SF_") ≡ true). of_front (codes "SF_") (prefix-is (codes "SF_") (c ∷ cs) s) refl refl)
     (or_cases (begins (c ∷ cs) (codes "WF_")) (begins (c ∷ cs) (codes "SF_")) h)
   where
     of_front : (f : List ℕ) → f ≡ take (length f) (c ∷ cs) → length f ≡ 3 → list_any (is_in Digit) (take 1 f) ≡ false → (is_in Digit c ≡ false) × (3 ≤ length (c ∷ cs))
@@ -131,7 +131,7 @@ named-size c cs word bare =
     (omega (arith, n, one), omega (arith, n, prefix-le (is_in WordChar) (c ∷ cs)), omega (arith, n, short)))
     (cases_Bool (begins_fair (c ∷ cs)))
 
--- a longer front is neither a reserved word nor a name
+-- a longer prefix is neither a reserved word nor a name
 named-later : (c : ℕ) (cs : List ℕ) → is_in WordChar c ≡ true → (k : ℕ) → named_len (c ∷ cs) < suc k → suc k ≤ length (c ∷ cs) → (is_name (take (suc k) (c ∷ cs)) ≡ false) × (is_word_spelling (take (suc k) (c ∷ cs)) ≡ false)
 named-later c cs word k lt le =
     ⊎_elim
@@ -156,7 +156,7 @@ or_else-some : (o other : Option LexKind) (k : LexKind) → (o ≡ None → othe
 or_else-some None other k h = h refl
 or_else-some (Some x) other k h = refl
 
--- the longest front that is not cut short is a name where it is no reserved word
+-- the longest prefix that is not cut short is a name where it is no reserved word
 named-kind : (c : ℕ) (cs : List ℕ) → is_in WordChar c ≡ true → bare_len (c ∷ cs) ≡ 0 → table_kind (take (named_len (c ∷ cs)) (c ∷ cs)) ≡ None → open_kind (take (named_len (c ∷ cs)) (c ∷ cs)) ≡ Some Name
 named-kind c cs word bare none =
     ⊎_elim
@@ -167,7 +167,7 @@ named-kind c cs word bare none =
     (λ (plain : begins_fair (c ∷ cs) ≡ false).
     let n : named_len (c ∷ cs) ≡ prefix_len (is_in WordChar) (c ∷ cs) = cond-false (begins_fair (c ∷ cs)) 3 (prefix_len (is_in WordChar) (c ∷ cs)) plain in
     let letter = bare-letter (c ∷ cs) bare (omega (arith, run-letter c cs word)) in
-    let name : is_name (run (c ∷ cs)) ≡ true = and_from _ _ (and_from _ _ (all-front (is_in WordChar) (prefix_len (is_in WordChar) (c ∷ cs)) (c ∷ cs) (omega arith)) letter) (not_from_false _ (fair-no (prefix_len (is_in WordChar) (c ∷ cs)) (c ∷ cs) (prefix-le (is_in WordChar) (c ∷ cs)) plain)) in
+    let name : is_name (run (c ∷ cs)) ≡ true = and_from _ _ (and_from _ _ (all-prefix (is_in WordChar) (prefix_len (is_in WordChar) (c ∷ cs)) (c ∷ cs) (omega arith)) letter) (not_from_false _ (fair-no (prefix_len (is_in WordChar) (c ∷ cs)) (c ∷ cs) (prefix-le (is_in WordChar) (c ∷ cs)) plain)) in
     ap (λ i. open_kind (take i (c ∷ cs))) n ∙ open-name (run (c ∷ cs)) name)
     (cases_Bool (begins_fair (c ∷ cs)))
   where
@@ -194,7 +194,7 @@ bare-name : (text : List ℕ) (m : ℕ) → 0 < bare_len text → m ≤ length t
 bare-name text m pos le =
     let none = bare-none text pos in
     ⊎_elim
-    (λ (short : m ≤ prefix_len (is_in WordChar) text). and_left _ _ (and_right _ _ (any-front (is_in Letter) m (prefix_len (is_in WordChar) text) text short none.0)))
+    (λ (short : m ≤ prefix_len (is_in WordChar) text). and_left _ _ (and_right _ _ (any-prefix (is_in Letter) m (prefix_len (is_in WordChar) text) text short none.0)))
     (λ (long : prefix_len (is_in WordChar) text < m). and_left _ _ (and_left _ _ (too-long (is_in WordChar) m text le long)))
     (cases_le m (prefix_len (is_in WordChar) text))
   where
@@ -210,8 +210,8 @@ number-none-later c cs digit pos k lt le =
 is_number-here : (text : List ℕ) → 0 < digits_len text → is_number (take (digits_len text + point_len text) text) ≡ true
 is_number-here text pos =
     ⊎_elim
-    (λ (point : 0 < point_len text). or_left _ _ (or_right _ _ (fraction-front text point)))
-    (λ (none : point_len text ≤ 0). or_left _ _ (or_left _ _ (run-front Digit (digits_len text + point_len text) text (omega arith) (omega arith))))
+    (λ (point : 0 < point_len text). or_left _ _ (or_right _ _ (fraction-prefix text point)))
+    (λ (none : point_len text ≤ 0). or_left _ _ (or_left _ _ (run-prefix Digit (digits_len text + point_len text) text (omega arith) (omega arith))))
     (cases_lt 0 (point_len text))
 
 number-kind : (c : ℕ) (cs : List ℕ) (n : ℕ) → n ≡ digits_len (c ∷ cs) + point_len (c ∷ cs) → is_in Digit c ≡ true → 0 < bare_len (c ∷ cs) → n ≤ length (c ∷ cs) → kind_of (take n (c ∷ cs)) ≡ Some Number
@@ -246,7 +246,7 @@ underscore-later cs pos k lt le =
     ⊎_elim
     (λ (all : list_all (is_in WordChar) (take (suc k) (95 ∷ cs)) ≡ true).
     let short = all-le (is_in WordChar) (suc k) (95 ∷ cs) le all in
-    let letters = any-front (is_in Letter) (suc k) (prefix_len (is_in WordChar) (95 ∷ cs)) (95 ∷ cs) short none.0 in
+    let letters = any-prefix (is_in Letter) (suc k) (prefix_len (is_in WordChar) (95 ∷ cs)) (95 ∷ cs) short none.0 in
     and_left _ _ (and_right _ _ (or_from _ _ (lt-leb (length (95 ∷ take k cs)) 1 (omega (arith, length-take-le (suc k) (95 ∷ cs) le))) letters)))
     (λ (some : list_all (is_in WordChar) (take (suc k) (95 ∷ cs)) ≡ false). and_left _ _ (and_left _ _ some))
     (cases_Bool (list_all (is_in WordChar) (take (suc k) (95 ∷ cs))))
@@ -266,11 +266,11 @@ underscore_is (c ∷ cs) word digit pos =
 
 -- ---- the same in the terms of the code
 
-pub named_by_run : (text front : List ℕ) (n : ℕ) (found : Option LexKind) (kind : LexKind) → is_in WordChar (slice_index text 0) ≡ true → bare_len text ≡ 0 → n ≡ named_len text → n ≤ length text → front ≡ take n text → found ≡ table_kind front → kind ≡ unwrap_or found Name → Some (record { len = length front; kind = kind }) ≡ lexeme_at text
-named_by_run text front n found kind word bare isn le isfront isfound iskind =
-    let size : length front ≡ named_len text = ap length isfront ∙ length-take-le n text le ∙ isn in
+pub named_by_run : (text prefix : List ℕ) (n : ℕ) (found : Option LexKind) (kind : LexKind) → is_in WordChar (slice_index text 0) ≡ true → bare_len text ≡ 0 → n ≡ named_len text → n ≤ length text → prefix ≡ take n text → found ≡ table_kind prefix → kind ≡ unwrap_or found Name → Some (record { len = length prefix; kind = kind }) ≡ lexeme_at text
+named_by_run text prefix n found kind word bare isn le isfront isfound iskind =
+    let size : length prefix ≡ named_len text = ap length isfront ∙ length-take-le n text le ∙ isn in
     let k : kind ≡ unwrap_or (table_kind (take (named_len text) text)) Name = iskind ∙ ap (λ o. unwrap_or o Name) (isfound ∙ ap table_kind (isfront ∙ ap (λ i. take i text) isn)) in
-    members (length front) (named_len text) kind (unwrap_or (table_kind (take (named_len text) text)) Name) size k ∙ sym (named_is text word bare)
+    members (length prefix) (named_len text) kind (unwrap_or (table_kind (take (named_len text) text)) Name) size k ∙ sym (named_is text word bare)
   where
     members : (a b : ℕ) (j k : LexKind) → a ≡ b → j ≡ k → (let o : Option Member = Some (record { len = a; kind = j }) in o) ≡ Some (record { len = b; kind = k })
     members a b j k e f = cc

@@ -20,7 +20,7 @@ abbrev pub member_or : Option LexKind → ℕ → Option Member → Option Membe
 member_or (Some kind) len shorter = Some (record { len = len; kind = kind })
 member_or None len shorter = shorter
 
--- the longest front of a text, of at most so many bytes, that is a spelling of a kind
+-- the longest prefix of a text, of at most so many bytes, that is a spelling of a kind
 abbrev pub longest_of : (List ℕ → Option LexKind) → ℕ → List ℕ → Option Member
 longest_of kind zero text = None
 longest_of kind (suc n) text = member_or (kind (take (suc n) text)) (suc n) (longest_of kind n text)
@@ -32,7 +32,7 @@ lexeme_at text = longest_of kind_of (length text) text
 -- ---- blanks and comments
 
 abbrev pub begins : List ℕ → List ℕ → Bool
-begins text front = starts_with nat_eq text front
+begins text prefix = starts_with nat_eq text prefix
 
 -- how many bytes of a text stand in its first line, before the line end
 abbrev pub line_len : List ℕ → ℕ

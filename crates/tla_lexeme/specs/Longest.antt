@@ -10,11 +10,11 @@ use Rattle.tla_lexeme.specs.declared.begin.Member.{Member}
 use Rattle.tla_lexeme.specs.LexemeSets.{is_in, kind_of}
 use Rattle.tla_lexeme.specs.Lexing.{lexemes_after, begins, line_len, comment_len, char_len}
 
--- no longer front of a text, of at most so many bytes, is a lexeme
+-- no longer prefix of a text, of at most so many bytes, is a lexeme
 abbrev pub NoneLonger : (List ℕ → Option LexKind) → ℕ → List ℕ → ℕ → Type 0
 NoneLonger kind most text len = (n : ℕ) → len < n → n ≤ most → kind (take n text) ≡ None
 
--- a member of the sets, and no longer one: or none, and no front is one
+-- a member of the sets, and no longer one: or none, and no prefix is one
 abbrev pub IsLongestOf : (List ℕ → Option LexKind) → ℕ → List ℕ → Option Member → Type 0
 IsLongestOf kind most text None = NoneLonger kind most text 0
 IsLongestOf kind most text (Some m) = (0 < m.len) × (m.len ≤ most) × (kind (take m.len text) ≡ Some m.kind) × NoneLonger kind most text m.len
@@ -37,7 +37,7 @@ pub record IsClear (text : List ℕ) : Type 0 where
   pub no_line : begins text (codes "\\*") ≡ false
   pub no_block : begins text (codes "(*") ≡ false
 
--- so many bytes of a text are of this kind, and of no longer front is there one
+-- so many bytes of a text are of this kind, and of no longer prefix is there one
 pub record IsTaken (text : List ℕ) (kind : LexKind) (len : ℕ) : Type 0 where
   pub clear : IsClear text
   pub some : 0 < len
@@ -45,7 +45,7 @@ pub record IsTaken (text : List ℕ) (kind : LexKind) (len : ℕ) : Type 0 where
   pub is : kind_of (take len text) ≡ Some kind
   pub none_longer : NoneLonger kind_of (length text) text len
 
--- no front of a text is a lexeme
+-- no prefix of a text is a lexeme
 abbrev pub NoneBegins : List ℕ → Type 0
 NoneBegins text = NoneLonger kind_of (length text) text 0
 

@@ -55,7 +55,7 @@ fn comment(text: &[u8]) -> Begin
     }
 }
 
-/// The longest lexeme that begins a text. So many bytes at its front are known to be digits and `_`
+/// The longest lexeme that begins a text. So many bytes at its prefix are known to be digits and `_`
 /// with no letter among the word characters after them.
 fn lexeme_at(text: &[u8], bare: usize) -> Option<Member>
     requires { bare ≡ bare_len text.now }

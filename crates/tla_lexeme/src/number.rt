@@ -6,7 +6,7 @@ ghost use Rattle.tla_lexeme.specs.Lengths as lengths;
 use crate::class::{Class, run_len};
 use crate::slices::{first_of, skip};
 
-/// How many bytes a point and the digits after it have at a text's front: 0 where they are not there.
+/// How many bytes a point and the digits after it have at a text's beginning: 0 where they are not there.
 pub fn fraction_len(text: &[u8]) -> usize
     ensures value { result ≡ lengths.fraction_len text.now }
     ensures within { result ≤ length text.now }
@@ -48,7 +48,7 @@ fn digits_len(text: &[u8]) -> usize
     if count > 0 { 1 + count } else { 0 }
 }
 
-/// How many bytes a number with a base has after the backslash at a text's front: 0 where there is none.
+/// How many bytes a number with a base has after the backslash at a text's beginning: 0 where there is none.
 pub fn based_len(text: &[u8]) -> usize
     requires { 0 < length text.now }
     ensures value { result ≡ lengths.based_len text.now }

@@ -9,7 +9,7 @@ ghost use Rattle.tla_lexeme.specs.declared.class.Class.TheVariants.{WordChar};
 use crate::begin::Member;
 use crate::class::{Class, run_len};
 use crate::number::{based_len, fraction_len};
-use crate::slices::{front, skip};
+use crate::slices::{prefix, skip};
 use crate::table::longest_spelled;
 use tla_symbols::LexKind;
 
@@ -96,14 +96,14 @@ fn most_further(first: u8) -> usize
     }
 }
 
-/// How many bytes a symbol or a mark at a text's front has at most.
+/// How many bytes a symbol or a mark at a text's beginning has at most.
 fn most_len(text: &[u8]) -> usize
     requires { 0 < length text.now }
     ensures value { result ≡ lengths.most_len text.now }
     ensures within { result ≤ length text.now }
 {
     let more = skip(text, 1);
-    let few = front(more, more.len().min(most_further(text[0])));
+    let few = prefix(more, more.len().min(most_further(text[0])));
     1 + goes_on_len(text[0], few)
 }
 

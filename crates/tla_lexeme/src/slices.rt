@@ -10,7 +10,7 @@ pub fn first_of<T: Copy>(items: &[T]) -> Option<(T, &[T])>
     Some((*first, more))
 }
 
-pub fn front<T>(items: &[T], count: usize) -> &[T]
+pub fn prefix<T>(items: &[T], count: usize) -> &[T]
     requires { count ≤ length items.now }
     ensures { result.now ≡ take count items.now }
 {
@@ -24,8 +24,8 @@ pub fn skip<T>(items: &[T], count: usize) -> &[T]
     &items[count..]
 }
 
-pub fn begins(text: &[u8], front: &[u8]) -> bool
-    ensures { result ≡ starts_with nat_eq text.now front.now }
+pub fn begins(text: &[u8], prefix: &[u8]) -> bool
+    ensures { result ≡ starts_with nat_eq text.now prefix.now }
 {
-    text.starts_with(front)
+    text.starts_with(prefix)
 }

@@ -4,7 +4,7 @@ ghost use Rattle.tla_lexeme.specs.LexemeSets as sets;
 ghost use Rattle.tla_lexeme.specs.Lexing as lexing;
 
 use crate::begin::Member;
-use crate::slices::front;
+use crate::slices::prefix;
 use tla_spelling::{mark_of, op_of, word_of};
 use tla_symbols::LexKind;
 
@@ -29,7 +29,7 @@ pub fn longest_spelled(text: &[u8], most: usize) -> Option<Member>
 {
     let mut len = most;
     while len > 0 {
-        if let Some(kind) = table_kind(front(text, len)) {
+        if let Some(kind) = table_kind(prefix(text, len)) {
             return Some(Member { len, kind });
         }
         len -= 1;

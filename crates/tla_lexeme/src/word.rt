@@ -8,7 +8,7 @@ ghost use Rattle.tla_lexeme.specs.declared.class.Class.TheVariants.{WordChar, Di
 use crate::begin::Member;
 use crate::class::{Class, run_len};
 use crate::number::fraction_len;
-use crate::slices::{begins, front, skip};
+use crate::slices::{begins, prefix, skip};
 use crate::table::table_kind;
 use tla_symbols::{LexKind, Mark};
 
@@ -54,7 +54,7 @@ fn named(text: &[u8]) -> Member
     requires letter { lengths.bare_len text.now ≡ 0 }
     ensures { Some result ≡ lexing.lexeme_at text.now }
 {
-    let run = front(text, named_len(text));
+    let run = prefix(text, named_len(text));
     Member {
         len: run.len(),
         kind: table_kind(run).unwrap_or(LexKind::Name),
