@@ -6,6 +6,7 @@ use Rattle.tla_tree.specs.declared.form.Form.{Form}
 use Rattle.tla_tree.specs.Syntax as Syntax
 use Rattle.tla_tree.specs.Syntax.{trees}
 
+-- a form with the place of its lexemes, and the numbers of the nodes that are its parts
 pub record Node : Type 0 where
   pub form : Form
   pub span : Span
@@ -19,9 +20,11 @@ nowhere = record { form = Form.Names; span = record { start = 0; end = 0 }; chil
 abbrev pub node_at : List Node → ℕ → Node
 node_at nodes number = slice_index_or nodes number nowhere
 
+-- all of these are numbers of nodes
 abbrev pub AreThere : List Node → List ℕ → Type 0
 AreThere nodes numbers = AllByRecursion (λ number. number < length nodes) numbers
 
+-- the known tree with a number, or one of no text where there is none
 abbrev pub tree_of : List Syntax.Tree → ℕ → Syntax.Tree
 tree_of known number = slice_index_or known number (Syntax.Node Form.Names nowhere.span Syntax.Nil)
 

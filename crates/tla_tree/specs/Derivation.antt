@@ -203,6 +203,7 @@ mutual
         → DerivesSegment x a i → DerivesSegments xs b i
         → DerivesSegments (Cons x xs) (a ++ t ∷ b) i
 
+  -- `Id` or `Id(e, ..)`
   pub data DerivesSegment : Tree → List Lexeme → ℕ → Type 0 where
     bare : {n : Lexeme} {i : ℕ} → IsName n → DerivesSegment (built (Form.Segment n) Nil (n ∷ [])) (n ∷ []) i
     applied : {n : Lexeme} {xs : Trees} {a : List Lexeme} {i : ℕ} (t u : Lexeme)
@@ -218,6 +219,7 @@ mutual
         → DerivesArgument x a i (Some t) → DerivesArguments xs b i o
         → DerivesArguments (Cons x xs) (a ++ t ∷ b) i o
 
+  -- an expression, or a symbol that is passed bare
   pub data DerivesArgument : Tree → List Lexeme → ℕ → Option Lexeme → Type 0 where
     expression : {x : Tree} {a : List Lexeme} {i : ℕ} {o : Option Lexeme} → Derives x a i o → DerivesArgument x a i o
     passed : {op : Op} {t : Lexeme} {i : ℕ} {o : Option Lexeme}
@@ -237,6 +239,7 @@ mutual
         → DerivesTupleNames xs a → Derives x b i o
         → DerivesBound (built Form.TupleBound (then xs x) (a ++ m ∷ b)) (a ++ m ∷ b) i o
 
+  -- one or more bounds parted by commas
   pub data DerivesBounds : Trees → List Lexeme → ℕ → Option Lexeme → Type 0 where
     last_bound : {x : Tree} {a : List Lexeme} {i : ℕ} {o : Option Lexeme} → DerivesBound x a i o → DerivesBounds (one x) a i o
     more_bounds : {x : Tree} {xs : Trees} {a b : List Lexeme} {i : ℕ} {o : Option Lexeme} (t : Lexeme)
@@ -244,13 +247,14 @@ mutual
         → DerivesBound x a i (Some t) → DerivesBounds xs b i o
         → DerivesBounds (Cons x xs) (a ++ t ∷ b) i o
 
-  -- the fields of a record or of a set of records, by the mark after the names
+  -- a field of a record or of a set of records, by the mark after its name
   pub data DerivesField : Mark → Tree → List Lexeme → ℕ → Option Lexeme → Type 0 where
     named : {mark : Mark} {n m : Lexeme} {x : Tree} {a : List Lexeme} {i : ℕ} {o : Option Lexeme}
         → IsName n → IsMark m mark
         → Derives x a i o
         → DerivesField mark (built (Form.Field n) (one x) (n ∷ m ∷ a)) (n ∷ m ∷ a) i o
 
+  -- one or more fields parted by commas, all with this mark
   pub data DerivesFields : Mark → Trees → List Lexeme → ℕ → Option Lexeme → Type 0 where
     last_field : {mark : Mark} {x : Tree} {a : List Lexeme} {i : ℕ} {o : Option Lexeme} → DerivesField mark x a i o → DerivesFields mark (one x) a i o
     more_fields : {mark : Mark} {x : Tree} {xs : Trees} {a b : List Lexeme} {i : ℕ} {o : Option Lexeme} (t : Lexeme)
@@ -265,6 +269,7 @@ mutual
         → DerivesSteps xs a i → Derives x b i o
         → DerivesUpdate (built Form.Update (then xs x) (t ∷ (a ++ e ∷ b))) (t ∷ (a ++ e ∷ b)) i o
 
+  -- one or more updates parted by commas
   pub data DerivesUpdates : Trees → List Lexeme → ℕ → Option Lexeme → Type 0 where
     last_update : {x : Tree} {a : List Lexeme} {i : ℕ} {o : Option Lexeme} → DerivesUpdate x a i o → DerivesUpdates (one x) a i o
     more_updates : {x : Tree} {xs : Trees} {a b : List Lexeme} {i : ℕ} {o : Option Lexeme} (t : Lexeme)
@@ -282,6 +287,7 @@ mutual
         → DerivesList xs a i (Some u)
         → DerivesStep (built Form.IndexStep xs (t ∷ (a ++ u ∷ []))) (t ∷ (a ++ u ∷ [])) i
 
+  -- one or more steps, one right behind the other
   pub data DerivesSteps : Trees → List Lexeme → ℕ → Type 0 where
     last_step : {x : Tree} {a : List Lexeme} {i : ℕ} → DerivesStep x a i → DerivesSteps (one x) a i
     more_steps : {x : Tree} {xs : Trees} {a b : List Lexeme} {i : ℕ} → DerivesStep x a i → DerivesSteps xs b i → DerivesSteps (Cons x xs) (a ++ b) i
@@ -300,6 +306,7 @@ mutual
         → DerivesArm x a i (Some t) → DerivesArms xs b i o
         → DerivesArms (Cons x xs) (a ++ t ∷ b) i o
 
+  -- `e -> e`, an arm with a guard
   pub data DerivesArm : Tree → List Lexeme → ℕ → Option Lexeme → Type 0 where
     arm : {x y : Tree} {a b : List Lexeme} {i : ℕ} {o : Option Lexeme} (t : Lexeme)
         → IsMark t Mark.Arrow
@@ -362,6 +369,7 @@ mutual
         → DerivesReplacements xs a i o
         → DerivesInstance (built (Form.Instance m) xs (w ∷ m ∷ t ∷ a)) (w ∷ m ∷ t ∷ a) i o
 
+  -- one or more replacements parted by commas
   pub data DerivesReplacements : Trees → List Lexeme → ℕ → Option Lexeme → Type 0 where
     last_replacement : {x : Tree} {a : List Lexeme} {i : ℕ} {o : Option Lexeme} → DerivesReplacement x a i o → DerivesReplacements (one x) a i o
     more_replacements : {x : Tree} {xs : Trees} {a b : List Lexeme} {i : ℕ} {o : Option Lexeme} (t : Lexeme)

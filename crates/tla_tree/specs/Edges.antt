@@ -16,25 +16,29 @@ pub data Edge : Type 0 where
   Applied : Edge
   Selected : Edge
 
+-- the lowest precedence of a range; a symbol without one has 0
 abbrev pub low_end : Option Range → ℕ
 low_end None = 0
 low_end (Some range) = range.lo
 
+-- the highest precedence of a range; a symbol without one has 0
 abbrev pub high_end : Option Range → ℕ
 high_end None = 0
 high_end (Some range) = range.hi
 
+-- the symbol of this range associates to the left
 abbrev pub left_of : Option Range → Bool
 left_of None = false
 left_of (Some range) = range.left
 
--- the precedence range: an open form has 0-0, an application 16-16, a field 17-17
+-- the low end of the precedence range: an open form has 0-0, an application 16-16, a field 17-17
 abbrev pub lo : Edge → ℕ
 lo (Operator op fix) = low_end (range_of op fix)
 lo Open = 0
 lo Applied = 16
 lo Selected = 17
 
+-- the high end of the precedence range
 abbrev pub hi : Edge → ℕ
 hi (Operator op fix) = high_end (range_of op fix)
 hi Open = 0
@@ -56,9 +60,11 @@ Meets outer inner = hi outer < lo inner
 abbrev pub Joins : Edge → Edge → Type 0
 Joins outer inner = Meets outer inner ⊎ ((inner ≡ outer) × IsTrue (associates outer))
 
+-- all these edges lie above the outer operator, as is asked of what stands on its right
 abbrev pub AllMeet : Edge → List Edge → Type 0
 AllMeet outer inners = AllByRecursion (Meets outer) inners
 
+-- all these edges lie above it or join it, as is asked of what stands on its left
 abbrev pub AllJoin : Edge → List Edge → Type 0
 AllJoin outer inners = AllByRecursion (Joins outer) inners
 
@@ -67,6 +73,7 @@ abbrev pub operator : LexKind → Fix → Edge
 operator (LexKind.Sym op) fix = Operator op fix
 operator _ fix = Open
 
+-- `\X` on an edge, the same for any number of factors
 abbrev pub product : Edge
 product = Operator Op.Product Fix.Infix
 
@@ -88,6 +95,7 @@ right_mark Form.Let = Some Open
 right_mark Form.Lambda = Some Open
 right_mark _ = None
 
+-- what a form with this mark has on its left edge: only what has an operand before it has one
 abbrev pub left_mark : Form → Option Edge
 left_mark (Form.Infix symbol) = Some (operator symbol.kind Fix.Infix)
 left_mark Form.Product = Some product
@@ -96,6 +104,7 @@ left_mark Form.Application = Some Applied
 left_mark (Form.FieldAccess name) = Some Selected
 left_mark _ = None
 
+-- an edge and those of the part beside it; a form without an edge hides what is inside it
 abbrev pub beside : Option Edge → List Edge → List Edge
 beside None rest = []
 beside (Some edge) rest = edge ∷ rest
@@ -105,6 +114,7 @@ abbrev mutual
   pub right_edge : Tree → List Edge
   right_edge (Node f s parts) = beside (right_mark f) (right_edge_of_last parts)
 
+  -- the right edge of the last part, if there is one
   pub right_edge_of_last : Trees → List Edge
   right_edge_of_last Nil = []
   right_edge_of_last (Cons tree Nil) = right_edge tree
@@ -115,6 +125,7 @@ abbrev mutual
   pub left_edge : Tree → List Edge
   left_edge (Node f s parts) = beside (left_mark f) (left_edge_of_first parts)
 
+  -- the left edge of the first part, if there is one
   pub left_edge_of_first : Trees → List Edge
   left_edge_of_first Nil = []
   left_edge_of_first (Cons tree rest) = left_edge tree

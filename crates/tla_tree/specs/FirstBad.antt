@@ -8,6 +8,7 @@ use Rattle.tla_tree.specs.Derivation.{Derives}
 abbrev pub DerivesWhole : Tree → List Lexeme → Type 0
 DerivesWhole tree lexemes = Derives tree lexemes 0 None
 
+-- some tree derives the whole list
 abbrev pub IsDerivable : List Lexeme → Type 0
 IsDerivable lexemes = (tree : Tree) × DerivesWhole tree lexemes
 

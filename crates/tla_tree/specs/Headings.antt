@@ -16,6 +16,7 @@ pub data DerivesNameList : Trees → List Lexeme → Type 0 where
       → DerivesNameList xs a
       → DerivesNameList (Cons (built (Form.Name n) Nil (n ∷ [])) xs) (n ∷ t ∷ a)
 
+-- the names that a quantifier binds without a set, as one part
 pub data DerivesNames : Tree → List Lexeme → Type 0 where
   names : {xs : Trees} {a : List Lexeme} → DerivesNameList xs a → DerivesNames (built Form.Names xs a) a
 
@@ -56,6 +57,7 @@ pub data DerivesParameter : Tree → List Lexeme → Type 0 where
       → IsMark p Mark.Underscore → IsSymbol t op → Defines op Fix.Postfix
       → DerivesParameter (built (Form.PostfixParameter t) Nil (p ∷ t ∷ [])) (p ∷ t ∷ [])
 
+-- one or more parameters parted by commas
 pub data DerivesParameters : Trees → List Lexeme → Type 0 where
   last_parameter : {x : Tree} {a : List Lexeme} → DerivesParameter x a → DerivesParameters (one x) a
   more_parameters : {x : Tree} {xs : Trees} {a b : List Lexeme} (t : Lexeme)

@@ -11,26 +11,31 @@ use Rattle.tla_symbols.specs.Symbols.{range_of, is_definable}
 use Rattle.tla_tree.specs.declared.form.Form.{Form}
 use Rattle.tla_tree.specs.Syntax.{Tree, Trees, Node, Nil, Cons}
 
--- the kind of a lexeme
+-- the lexeme is an Identifier
 abbrev pub IsName : Lexeme → Type 0
 IsName t = t.kind ≡ LexKind.Name
 
+-- the lexeme is this reserved word
 abbrev pub IsWord : Lexeme → Word → Type 0
 IsWord t word = t.kind ≡ LexKind.Word word
 
+-- the lexeme is this mark
 abbrev pub IsMark : Lexeme → Mark → Type 0
 IsMark t mark = t.kind ≡ LexKind.Mark mark
 
+-- the lexeme is this symbol, in any of its spellings
 abbrev pub IsSymbol : Lexeme → Op → Type 0
 IsSymbol t op = t.kind ≡ LexKind.Sym op
 
--- the symbol can be applied, or defined, at this place
+-- the symbol can be applied at this place
 abbrev pub Applies : Op → Fix → Type 0
 Applies op fix = IsTrue (is_some (range_of op fix))
 
+-- a module may define the symbol at this place
 abbrev pub Defines : Op → Fix → Type 0
 Defines op fix = IsTrue (is_definable op fix)
 
+-- the symbol `\X`, which makes one form of all its factors
 abbrev pub is_product : Op → Bool
 is_product Op.Product = true
 is_product _ = false
@@ -49,11 +54,12 @@ is_given Op.Or = false
 is_given Op.Negative = true
 is_given op = is_some (range_of op Fix.Infix) || is_some (range_of op Fix.Postfix)
 
--- from the first lexeme to the last
+-- the end of the last lexeme
 abbrev pub end_of : Lexeme → List Lexeme → ℕ
 end_of t [] = t.span.end
 end_of t (next ∷ rest) = end_of next rest
 
+-- from the first lexeme to the last
 abbrev pub place : List Lexeme → Span
 place [] = record { start = 0; end = 0 }
 place (t ∷ rest) = record { start = t.span.start; end = end_of t rest }
@@ -62,9 +68,11 @@ place (t ∷ rest) = record { start = t.span.start; end = end_of t rest }
 abbrev pub built : Form → Trees → List Lexeme → Tree
 built form parts lexemes = Node form (place lexemes) parts
 
+-- a form's only part
 abbrev pub one : Tree → Trees
 one x = Cons x Nil
 
+-- a form's two parts
 abbrev pub two : Tree → Tree → Trees
 two x y = Cons x (Cons y Nil)
 

@@ -5,10 +5,12 @@ use Rattle.tla_symbols.specs.declared.lexeme.LexKind.TheVariants as LexKind
 use Rattle.tla_tree.specs.declared.form.Form.{Form}
 use Rattle.tla_tree.specs.Syntax.{Tree, Trees, Node, Nil, Cons}
 
+-- a form stands without parts
 abbrev pub HasNoPart : Trees → Type 0
 HasNoPart Nil = Unit {0}
 HasNoPart (Cons tree rest) = ⊥
 
+-- a form has one part and no other
 abbrev pub HasOnePart : Trees → Type 0
 HasOnePart Nil = ⊥
 HasOnePart (Cons tree rest) = HasNoPart rest
@@ -18,6 +20,7 @@ abbrev pub IsBareSegment : Tree → Type 0
 IsBareSegment (Node (Form.Segment name) s parts) = HasNoPart parts
 IsBareSegment (Node _ s parts) = ⊥
 
+-- no segment has arguments
 abbrev pub AreBareSegments : Trees → Type 0
 AreBareSegments Nil = Unit {0}
 AreBareSegments (Cons tree rest) = IsBareSegment tree × AreBareSegments rest
@@ -27,10 +30,12 @@ abbrev pub IsPlainName : Tree → Type 0
 IsPlainName (Node Form.Identifier s parts) = HasOnePart parts × AreBareSegments parts
 IsPlainName (Node _ s parts) = ⊥
 
+-- each part is one name without arguments
 abbrev pub ArePlainNames : Trees → Type 0
 ArePlainNames Nil = Unit {0}
 ArePlainNames (Cons tree rest) = IsPlainName tree × ArePlainNames rest
 
+-- a form has at least one part
 abbrev pub HasParts : Trees → Type 0
 HasParts Nil = ⊥
 HasParts (Cons tree rest) = Unit {0}
@@ -41,6 +46,7 @@ IsBinder (Node Form.Identifier s parts) = HasOnePart parts × AreBareSegments pa
 IsBinder (Node Form.Tuple s parts) = HasParts parts × ArePlainNames parts
 IsBinder (Node _ s parts) = ⊥
 
+-- the first part is what a CHOOSE can bind
 abbrev pub BeginsWithBinder : Trees → Type 0
 BeginsWithBinder Nil = ⊥
 BeginsWithBinder (Cons tree rest) = IsBinder tree

@@ -5,10 +5,12 @@ use Rattle.tla_tree.specs.declared.tree.Node.{Node}
 use Rattle.tla_tree.specs.Arena as Arena
 use Rattle.tla_tree.specs.Arena.{height_at}
 
+-- a kept node as one of the arena: its stretch of the numbers are its children
 abbrev pub node_of : List ℕ → Node → Arena.Node
 node_of numbers node =
     record { form = node.form; span = node.span; children = take (node.end - node.first) (drop node.first numbers) }
 
+-- all kept nodes as those of the arena
 abbrev pub nodes_of : List ℕ → List Node → List Arena.Node
 nodes_of numbers [] = []
 nodes_of numbers (node ∷ nodes) = node_of numbers node ∷ nodes_of numbers nodes
@@ -17,9 +19,11 @@ nodes_of numbers (node ∷ nodes) = node_of numbers node ∷ nodes_of numbers no
 abbrev pub nowhere : Node
 nowhere = record { form = Arena.nowhere.form; span = Arena.nowhere.span; height = 0; first = 0; end = 0 }
 
+-- the kept node with a number
 abbrev pub kept_at : List Node → ℕ → Node
 kept_at nodes number = slice_index_or nodes number nowhere
 
+-- the children of the node are a stretch of the list of numbers
 abbrev pub IsStretch : List ℕ → Node → Type 0
 IsStretch numbers node = (node.first ≤ node.end) × (node.end ≤ length numbers)
 

@@ -9,17 +9,21 @@ mutual
   pub data Tree : Type 0 where
     Node : (form : Form) (span : Span) (parts : Trees) → Tree
 
+  -- the parts of a form, in their order
   pub data Trees : Type 0 where
     Nil : Trees
     Cons : (tree : Tree) (trees : Trees) → Trees
 
+-- the trees of a list as parts
 abbrev pub trees : List Tree → Trees
 trees [] = Nil
 trees (tree ∷ rest) = Cons tree (trees rest)
 
+-- the form of the node at the top
 abbrev pub form : Tree → Form
 form (Node f s parts) = f
 
+-- the place of the tree's lexemes in the text
 abbrev pub span : Tree → Span
 span (Node f s parts) = s
 
@@ -32,6 +36,7 @@ abbrev mutual
   pub height : Tree → ℕ
   height (Node f s parts) = above f (highest parts)
 
+  -- the greatest height of parts; without parts it is 0
   pub highest : Trees → ℕ
   highest Nil = 0
   highest (Cons tree rest) = max (height tree) (highest rest)

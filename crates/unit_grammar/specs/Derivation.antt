@@ -20,17 +20,19 @@ use Rattle.unit_grammar.specs.Units.{UnitTree, Variables, Constants, Instance, A
 abbrev pub IsDashes : Lexeme → Type 0
 IsDashes t = t.kind ≡ LexKind.Dashes
 
--- the run of `=` that ends a nested module, and the one that closes the outermost
+-- the run of `=` that ends a nested module
 abbrev pub IsEquals : Lexeme → Type 0
 IsEquals t = t.kind ≡ LexKind.Equals
 
+-- the run of `=` that closes the outermost module
 abbrev pub IsClose : Lexeme → Type 0
 IsClose t = t.kind ≡ LexKind.Close
 
--- `VARIABLE` or `VARIABLES`, `CONSTANT` or `CONSTANTS`
+-- `VARIABLE` or `VARIABLES`
 abbrev pub DeclaresVariables : Lexeme → Type 0
 DeclaresVariables w = IsWord w Word.Variable ⊎ IsWord w Word.Variables
 
+-- `CONSTANT` or `CONSTANTS`
 abbrev pub DeclaresConstants : Lexeme → Type 0
 DeclaresConstants w = IsWord w Word.Constant ⊎ IsWord w Word.Constants
 

@@ -5,6 +5,7 @@ use Rattle.tla_symbols.specs.declared.lexeme.Lexeme.{Lexeme}
 use Rattle.unit_grammar.specs.Units.{ModuleUnits}
 use Rattle.unit_grammar.specs.Derivation.{DerivesModule}
 
+-- some module derives the whole list
 abbrev pub IsDerivable : List Lexeme → Type 0
 IsDerivable lexemes = (found : ModuleUnits) × DerivesModule found lexemes
 
