@@ -16,11 +16,13 @@ use Rattle.expr_grammar.specs.declared.wait.Lead.{Lead}
 use Rattle.expr_grammar.specs.declared.wait.Shape.{Shape}
 use Rattle.expr_grammar.specs.Tables.{mode, Child, child, list_of, goes_on, begins, at_mark, endable, absorbs, role, edge_of, lead, takes, choice, shape, is_expression, name_of, converted, finishes, at_part}
 
+-- a form that is not whole yet: what it waits for, its parts so far, and all the lexemes that it has read
 pub record Frame : Type 0 where
   pub wait : Wait
   pub parts : List Tree
   pub read : List Lexeme
 
+-- the frame with this wait, these parts and these lexemes
 abbrev pub frame : Wait → List Tree → List Lexeme → Frame
 frame w ps a = record { wait = w; parts = ps; read = a }
 
@@ -34,9 +36,11 @@ abbrev pub inside_list : Option Lexeme → ℕ → ℕ
 inside_list None i = i
 inside_list (Some t) i = max i (suc t.col)
 
+-- the same with a frame that waits so, where the frames below it ask for column i
 abbrev pub inside : Wait → ℕ → ℕ
 inside w i = inside_list (list_of w) i
 
+-- the column from which lexemes stand inside all lists whose items are due in these frames, 0 without one
 abbrev pub inner : List Frame → ℕ
 inner [] = 0
 inner (f ∷ fs) = inside f.wait (inner fs)
@@ -51,6 +55,7 @@ abbrev pub entry : Wait → Wait
 entry (Wait.FunctionNames flag) = Wait.SquareFirst flag
 entry w = w
 
+-- a lexeme or an operand is due in the innermost frame, or a part with a frame of its own begins there
 abbrev pub ready : List Frame → State
 ready [] = At []
 ready (f ∷ fs) = with_child (child f.wait) (frame (entry f.wait) f.parts f.read ∷ fs)
@@ -63,6 +68,7 @@ node form f = built form (trees f.parts) f.read
 abbrev pub node_with : Form → Frame → Tree → List Lexeme → Tree
 node_with form f e b = built form (trees (f.parts ++ e ∷ [])) (f.read ++ b)
 
+-- a part that closed, taken by its parent at once where that has a wait to go on with
 abbrev pub absorbed : Option Wait → Frame → List Frame → Tree → List Lexeme → State
 absorbed None f fs e b = Have (f ∷ fs) e b
 absorbed (Some w) f fs e b = At (frame w (f.parts ++ e ∷ []) (f.read ++ b) ∷ fs)
@@ -72,19 +78,23 @@ abbrev pub complete : List Frame → Tree → List Lexeme → State
 complete [] e b = Have [] e b
 complete (f ∷ fs) e b = absorbed (absorbs f.wait) f fs e b
 
+-- what an operator makes of the operand before it: the first part of a frame of its own, or a whole node
 abbrev pub led : Lead → Frame → List Frame → Tree → List Lexeme → Lexeme → Option State
 led (Lead.Push w) f fs e b t = Some (ready (frame w (e ∷ []) (b ++ t ∷ []) ∷ f ∷ fs))
 led (Lead.Node form) f fs e b t = Some (Have (f ∷ fs) (built form (one e) (b ++ t ∷ [])) (b ++ t ∷ []))
 led Lead.NoLead f fs e b t = None
 
+-- goes on with the form of a frame that ends, and refuses where the frame may not end
 abbrev pub on_form : Option Form → (Form → Option State) → Option State
 on_form None go = None
 on_form (Some form) go = go form
 
+-- the same at the end of the lexemes, where the answer is a tree
 abbrev pub on_tree : Option Form → (Form → Option Tree) → Option Tree
 on_tree None go = None
 on_tree (Some form) go = go form
 
+-- the way that is chosen at an operator: the frame ends, or it waits; at a clash the lexeme is refused
 abbrev pub act : Choice → Option State → Option State → Option State
 act Ends ends waits = ends
 act Waits ends waits = waits
@@ -100,6 +110,7 @@ operator_step (f ∷ fs) e b t =
     (on_form (finishes f.wait (shape e)) (λ form. operator_step fs (node_with form f e b) (f.read ++ b) t))
     (cond (is_expression (shape e)) (led (lead (role t.kind) t) f fs e b t) None))
 
+-- the move of the table for a lexeme after a part; the last argument says how a frame ends before the lexeme
 abbrev pub moved : PartMove → Frame → List Frame → Tree → List Lexeme → Lexeme → (Form → Option State) → Option State
 moved (PartMove.Finish form) f fs e b t go = go form
 moved (PartMove.Done form c) f fs e b t go =
@@ -116,6 +127,7 @@ part_step [] e b t = None
 part_step (f ∷ fs) e b t =
     moved (at_part f.wait (shape e) t) f fs e b t (λ form. part_step fs (node_with form f e b) (f.read ++ b) t)
 
+-- an infix or postfix symbol, the `[` of an application or the `.` of a field
 abbrev pub is_operator : Role → Bool
 is_operator Role.Mark = false
 is_operator _ = true
@@ -138,6 +150,7 @@ leave (f ∷ fs) e b t =
     (on_form (finishes f.wait (shape e)) (λ form.
     (cond (nat_lt t.col (inner fs)) (leave fs (node_with form f e b) (f.read ++ b) t) (within fs (node_with form f e b) (f.read ++ b) t))))
 
+-- a lexeme after a finished part, left of the innermost list's items or among them
 abbrev pub have : List Frame → Tree → List Lexeme → Lexeme → Option State
 have fs e b t = cond (nat_lt t.col (inner fs)) (leave fs e b t) (within fs e b t)
 
@@ -145,6 +158,7 @@ have fs e b t = cond (nat_lt t.col (inner fs)) (leave fs e b t) (within fs e b t
 abbrev pub ended : Option Form → Frame → List Frame → Lexeme → Option State
 ended o f fs t = on_form o (λ form. have fs (node form f) f.read t)
 
+-- the move of the table for a lexeme in a frame without a finished part; what it refuses may end the frame
 abbrev pub marked : MarkMove → Frame → List Frame → Lexeme → Option State
 marked (MarkMove.Shift w) f fs t = Some (ready (frame w f.parts (f.read ++ t ∷ []) ∷ fs))
 marked (MarkMove.Leaf form w) f fs t = Some (ready (frame w (f.parts ++ built form Nil (t ∷ []) ∷ []) (f.read ++ t ∷ []) ∷ fs))
@@ -154,6 +168,7 @@ marked (MarkMove.Hand h) f fs t = Some (ready (frame (Wait.Handing h t) f.parts 
 marked (MarkMove.Close form) f fs t = Some (complete fs (built form (trees f.parts) (f.read ++ t ∷ [])) (f.read ++ t ∷ []))
 marked MarkMove.Refused f fs t = ended (endable f.wait (Some t.kind)) f fs t
 
+-- what a lexeme begins; where it begins nothing it is for the frame itself
 abbrev pub begun : Start → Frame → List Frame → Lexeme → Option State
 begun (Start.Leaf form) f fs t = Some (Have (f ∷ fs) (built form Nil (t ∷ [])) (t ∷ []))
 begun (Start.Push w) f fs t = Some (ready (frame w [] (t ∷ []) ∷ f ∷ fs))
@@ -161,20 +176,24 @@ begun (Start.PushLeaf form w) f fs t = Some (ready (frame w (built form Nil (t �
 begun (Start.Hand h) f fs t = Some (ready (frame (Wait.Handing h t) [] [] ∷ f ∷ fs))
 begun Start.NoStart f fs t = marked (at_mark f.wait t) f fs t
 
+-- a lexeme where a part or a lexeme is due: left of the items of an open list it can only end the frame
 abbrev pub due : List Frame → Lexeme → Option State
 due [] t = None
 due (f ∷ fs) t =
     cond (nat_lt t.col (inner (f ∷ fs))) (ended (endable f.wait (Some t.kind)) f fs t) (begun (begins (mode f.wait) t) f fs t)
 
+-- one lexeme more
 abbrev pub step : State → Lexeme → Option State
 step (At fs) t = due fs t
 step (Have fs e b) t = have fs e b t
 
+-- the state after these lexemes; there is none after a refused one
 abbrev pub run : Option State → List Lexeme → Option State
 run o [] = o
 run None (t ∷ ts) = None
 run (Some st) (t ∷ ts) = run (step st t) ts
 
+-- before the first lexeme: an expression is due, and nothing stands round it
 abbrev pub start : State
 start = At (frame Wait.Whole [] [] ∷ [])
 
@@ -183,20 +202,24 @@ abbrev pub whole : Wait → Tree → Option Tree
 whole Wait.Whole e = cond (is_expression (shape e)) (Some e) None
 whole _ e = None
 
+-- the frames round a finished part end with it, the innermost first, and leave the answer
 abbrev pub close_all : List Frame → Tree → List Lexeme → Option Tree
 close_all [] e b = None
 close_all (f ∷ []) e b = whole f.wait e
 close_all (f ∷ g ∷ fs) e b = on_tree (finishes f.wait (shape e)) (λ form. close_all (g ∷ fs) (node_with form f e b) (f.read ++ b))
 
+-- the answer where no part is finished: the innermost frame must end without one
 abbrev pub finish_due : List Frame → Option Tree
 finish_due [] = None
 finish_due (f ∷ fs) = on_tree (endable f.wait None) (λ form. close_all fs (node form f) f.read)
 
+-- the one expression that has been read, if it is whole here
 abbrev pub finish : Option State → Option Tree
 finish None = None
 finish (Some (At fs)) = finish_due fs
 finish (Some (Have fs e b)) = close_all fs e b
 
+-- the tree of a list of lexemes, if the machine accepts it
 abbrev pub parse : List Lexeme → Option Tree
 parse ts = finish (run (Some start) ts)
 
@@ -204,28 +227,34 @@ parse ts = finish (run (Some start) ts)
 abbrev pub start_bounds : State
 start_bounds = ready (frame Wait.WholeBounds [] [] ∷ [])
 
+-- the bottom frame of bounds has them as its parts, the last one among them
 abbrev pub whole_bounds : Wait → Shape → Trees → Option Trees
 whole_bounds Wait.WholeBounds Shape.Bound bounds = Some bounds
 whole_bounds _ _ bounds = None
 
+-- goes on with the form of a frame that ends, where the answer is bounds
 abbrev pub on_bounds : Option Form → (Form → Option Trees) → Option Trees
 on_bounds None go = None
 on_bounds (Some form) go = go form
 
+-- the frames round a finished part end with it, the innermost first, and leave bounds
 abbrev pub close_bounds : List Frame → Tree → List Lexeme → Option Trees
 close_bounds [] e b = None
 close_bounds (f ∷ []) e b = whole_bounds f.wait (shape e) (trees (f.parts ++ e ∷ []))
 close_bounds (f ∷ g ∷ fs) e b = on_bounds (finishes f.wait (shape e)) (λ form. close_bounds (g ∷ fs) (node_with form f e b) (f.read ++ b))
 
+-- the bounds where no part is finished: the innermost frame must end without one
 abbrev pub finish_due_bounds : List Frame → Option Trees
 finish_due_bounds [] = None
 finish_due_bounds (f ∷ fs) = on_bounds (endable f.wait None) (λ form. close_bounds fs (node form f) f.read)
 
+-- the bounds that have been read, if they are whole here
 abbrev pub finish_bounds : Option State → Option Trees
 finish_bounds None = None
 finish_bounds (Some (At fs)) = finish_due_bounds fs
 finish_bounds (Some (Have fs e b)) = close_bounds fs e b
 
+-- the bounds that a list of lexemes spells, if the machine accepts it
 abbrev pub parse_bounds : List Lexeme → Option Trees
 parse_bounds ts = finish_bounds (run (Some start_bounds) ts)
 

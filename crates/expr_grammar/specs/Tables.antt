@@ -95,13 +95,16 @@ pub record Child : Type 0 where
   pub wait : Wait
   pub read : List Lexeme
 
+-- a part that has no lexeme yet
 abbrev pub fresh : Wait → Child
 fresh w = record { wait = w; read = [] }
 
+-- a segment that begins with its name, or a definition that begins with a name or with `-.`
 abbrev pub handed : Handed → Lexeme → Child
 handed Handed.Segment t = record { wait = Wait.SegmentName t; read = t ∷ [] }
 handed Handed.Definition t = record { wait = cond (is_name t.kind) (Wait.DefinitionName t) (Wait.PrefixName t); read = t ∷ [] }
 
+-- the part that begins in a frame that waits so before any lexeme comes, if it has a frame of its own
 abbrev pub child : Wait → Option Child
 child Wait.WholeBounds = Some (fresh (Wait.BindingStart Binding.Bound))
 child (Wait.Handing h t) = Some (handed h t)
@@ -124,27 +127,32 @@ list_of (Wait.ListFirst t) = Some t
 list_of (Wait.ListItem t) = Some t
 list_of _ = None
 
+-- conjunction and disjunction, in all their spellings
 abbrev pub is_junction : LexKind → Bool
 is_junction (LexKind.Sym Op.And) = true
 is_junction (LexKind.Sym Op.Or) = true
 is_junction _ = false
 
+-- both are conjunctions, or both disjunctions
 abbrev pub same_junction : LexKind → LexKind → Bool
 same_junction (LexKind.Sym Op.And) (LexKind.Sym Op.And) = true
 same_junction (LexKind.Sym Op.Or) (LexKind.Sym Op.Or) = true
 same_junction _ _ = false
 
+-- a lexeme that may stand before an item of an aligned list: `/\` or `\/`, and no longer spelling
 abbrev pub is_bullet : Lexeme → Bool
 is_bullet t = cond (is_junction t.kind) (nat_eq t.span.end (t.span.start + 2)) false
 
+-- a lexeme begins the next item of the list with this first bullet: it is the same one in the same column
 abbrev pub goes_on : Lexeme → Lexeme → Bool
 goes_on first t = cond (is_bullet t) (cond (same_junction t.kind first.kind) (nat_eq t.col first.col) false) false
 
--- what a lexeme begins where an expression is due
+-- what a symbol begins where an expression is due: an aligned list, or a prefix application
 abbrev pub start_symbol : Op → Lexeme → Start
 start_symbol op t =
     cond (is_bullet t) (Start.Push (Wait.ListFirst t)) (cond (is_some (range_of op Fix.Prefix)) (Start.Push (Wait.PrefixOperand t)) Start.NoStart)
 
+-- what a lexeme begins where an expression is due, by its kind
 abbrev pub start_kind : LexKind → Lexeme → Start
 start_kind LexKind.Name t = Start.Hand Handed.Segment
 start_kind LexKind.Number t = Start.Leaf (Form.Number t)
@@ -176,20 +184,24 @@ subscript_kind (LexKind.Mark Mark.LeftBrace) t = Start.Push Wait.BraceFirst
 subscript_kind (LexKind.Mark Mark.LeftAngle) t = Start.Push (Wait.AngleFirst false)
 subscript_kind _ t = Start.NoStart
 
+-- what a lexeme begins by what comes next in the frame: nothing but an operand or a subscript begins so
 abbrev pub begins : Mode → Lexeme → Start
 begins Mode.Operand t = start_kind t.kind t
 begins Mode.Subscript t = subscript_kind t.kind t
 begins Mode.Marks t = Start.NoStart
 begins Mode.Child t = Start.NoStart
 
+-- a symbol that a module may define at this place
 abbrev pub defines : Fix → LexKind → Bool
 defines fix (LexKind.Sym op) = is_definable op fix
 defines fix _ = false
 
+-- a symbol that may be a bare argument
 abbrev pub passes : LexKind → Bool
 passes (LexKind.Sym op) = is_passed op
 passes _ = false
 
+-- a symbol that may stand bare on the right of `<-`
 abbrev pub is_given_kind : LexKind → Bool
 is_given_kind (LexKind.Sym op) = is_given op
 is_given_kind _ = false
@@ -198,21 +210,26 @@ is_given_kind _ = false
 abbrev pub is_replaceable : LexKind → Bool
 is_replaceable k = cond (is_name k) true (cond (defines Fix.Prefix k) true (cond (defines Fix.Infix k) true (defines Fix.Postfix k)))
 
+-- the move where the test holds; else the lexeme is refused
 abbrev pub if_move : Bool → MarkMove → MarkMove
 if_move test move = cond test move MarkMove.Refused
 
+-- more names may follow after a comma: not where one is chosen
 abbrev pub takes_more : Binding → Bool
 takes_more Binding.One = false
 takes_more _ = true
 
+-- `\in` and a set may follow
 abbrev pub takes_set : Binding → Bool
 takes_set Binding.Names = false
 takes_set _ = true
 
+-- the names may stand without a set
 abbrev pub takes_none : Binding → Bool
 takes_none Binding.Bound = false
 takes_none _ = true
 
+-- a tuple of names may stand without a set: only where one is chosen
 abbrev pub takes_lone_tuple : Binding → Bool
 takes_lone_tuple Binding.One = true
 takes_lone_tuple _ = false
@@ -296,6 +313,7 @@ at_mark _ t = MarkMove.Refused
 abbrev pub ends_symbol : LexKind → Bool
 ends_symbol k = cond (is_comma k) true (is_right_paren k)
 
+-- the form where the test holds, else none
 abbrev pub when : Bool → Form → Option Form
 when test form = cond test (Some form) None
 
@@ -318,24 +336,27 @@ absorbs Wait.StepFirst = Some Wait.StepNext
 absorbs Wait.StepNext = Some Wait.StepNext
 absorbs _ = None
 
--- what a lexeme is after an operand
+-- what a symbol is after an operand: infix where it can be, else postfix
 abbrev pub role_of : Op → Role
 role_of op =
     cond (is_some (range_of op Fix.Infix)) (Role.Symbol op Fix.Infix)
     (cond (is_some (range_of op Fix.Postfix)) (Role.Symbol op Fix.Postfix) Role.Mark)
 
+-- what a lexeme is after an operand; a lexeme that goes on with no operand is a mark
 abbrev pub role : LexKind → Role
 role (LexKind.Sym op) = role_of op
 role (LexKind.Mark Mark.LeftBracket) = Role.Apply
 role (LexKind.Mark Mark.Dot) = Role.Select
 role _ = Role.Mark
 
+-- what the lexeme after an operand is as an edge of the form that it goes on with
 abbrev pub edge_of : Role → Edge
 edge_of (Role.Symbol op fix) = Operator op fix
 edge_of Role.Apply = Applied
 edge_of Role.Select = Selected
 edge_of Role.Mark = Open
 
+-- the right operand of an infix symbol is due, behind `\X` a factor
 abbrev pub lead_infix : Op → Lexeme → Lead
 lead_infix Op.Product t = Lead.Push Wait.Factor
 lead_infix op t = Lead.Push (Wait.InfixOperand t)
@@ -354,11 +375,12 @@ abbrev pub takes : Wait → Role → Bool
 takes Wait.Factor (Role.Symbol Op.Product Fix.Infix) = true
 takes _ _ = false
 
--- what becomes of a frame at an operator after its part
+-- in a frame of no operator: it waits where an operand is due, and elsewhere the operator clashes
 abbrev pub choice_in : Mode → Choice
 choice_in Mode.Operand = Waits
 choice_in _ = Clashes
 
+-- what becomes of a frame at an operator after its part, by the edge of that operator
 abbrev pub choice : Wait → Edge → Choice
 choice (Wait.PrefixOperand t) q = choose (operator t.kind Fix.Prefix) q
 choice (Wait.InfixOperand t) q = choose (operator t.kind Fix.Infix) q
@@ -370,11 +392,12 @@ choice Wait.SquareSubscript q = Ends
 choice Wait.AngleSubscript q = Ends
 choice w q = choice_in (mode w)
 
--- the shapes of parts
+-- the shape of an identifier with these segments
 abbrev pub plain_shape : Trees → Shape
 plain_shape (Cons (Node (Form.Segment n) s Nil) Nil) = Shape.Plain n
 plain_shape _ = Shape.Expression
 
+-- one name without arguments
 abbrev pub is_plain : Shape → Bool
 is_plain (Shape.Plain n) = true
 is_plain _ = false
@@ -384,28 +407,34 @@ abbrev pub shape_by : Bool → Shape
 shape_by true = Shape.Helper
 shape_by false = Shape.Expression
 
+-- an identifier that is one name without arguments
 abbrev pub is_plain_name : Tree → Bool
 is_plain_name (Node Form.Identifier s parts) = is_plain (plain_shape parts)
 is_plain_name (Node _ s parts) = false
 
+-- at least one such identifier, and nothing else
 abbrev pub are_plain_names : Trees → Bool
 are_plain_names Nil = false
 are_plain_names (Cons x Nil) = is_plain_name x
 are_plain_names (Cons x (Cons y rest)) = cond (is_plain_name x) (are_plain_names (Cons y rest)) false
 
+-- what may turn out to be bound: a name, or a tuple of names
 abbrev pub is_binder : Tree → Bool
 is_binder (Node Form.Identifier s parts) = is_plain (plain_shape parts)
 is_binder (Node Form.Tuple s parts) = are_plain_names parts
 is_binder (Node _ s parts) = false
 
+-- the form `x \in e` where x may be bound, else an expression like others
 abbrev pub member_shape : Bool → Shape
 member_shape true = Shape.Member
 member_shape false = Shape.Expression
 
+-- an infix application is told apart where it is `x \in e` and x may be bound
 abbrev pub infix_shape : Lexeme → Trees → Shape
 infix_shape t (Cons x (Cons y Nil)) = member_shape (cond (is_member t.kind) (is_binder x) false)
 infix_shape t _ = Shape.Expression
 
+-- what the tables tell apart of a finished part
 abbrev pub shape : Tree → Shape
 shape (Node Form.Identifier s parts) = plain_shape parts
 shape (Node (Form.Infix t) s parts) = infix_shape t parts
@@ -419,6 +448,7 @@ shape (Node (Form.Instance m) s parts) = Shape.Instance
 shape (Node (Form.Symbol t) s parts) = Shape.Symbol
 shape (Node f s parts) = shape_by (helps f)
 
+-- the shapes of expressions; other shapes are of helper forms
 abbrev pub is_expression : Shape → Bool
 is_expression (Shape.Plain n) = true
 is_expression Shape.Member = true
@@ -429,10 +459,12 @@ is_expression _ = false
 abbrev pub name_leaf : Lexeme → Tree
 name_leaf n = built (Form.Name n) Nil (n ∷ [])
 
+-- one name without arguments becomes a name that is bound; another tree stays
 abbrev pub name_of : Tree → Tree
 name_of (Node Form.Identifier s (Cons (Node (Form.Segment n) s' Nil) Nil)) = name_leaf n
 name_of x = x
 
+-- the same for each part of a tuple
 abbrev pub names_of : Trees → Trees
 names_of Nil = Nil
 names_of (Cons x xs) = Cons (name_of x) (names_of xs)
@@ -442,10 +474,12 @@ abbrev pub bound_of : Tree → Tree → List Lexeme → Tree
 bound_of (Node Form.Tuple s parts) y b = built Form.TupleBound (then (names_of parts) y) b
 bound_of x y b = built Form.Bound (then (one (name_of x)) y) b
 
+-- a part of the form `x \in e` becomes a bound; another part stays
 abbrev pub as_bound : Tree → List Lexeme → Tree
 as_bound (Node (Form.Infix t) s (Cons x (Cons y Nil))) b = bound_of x y b
 as_bound x b = x
 
+-- what a finished part becomes among its parent's parts, if it stays at all
 abbrev pub converted : Conversion → Tree → List Lexeme → List Tree
 converted Conversion.Keep x b = x ∷ []
 converted Conversion.Drop x b = []
@@ -490,15 +524,19 @@ ends_with_part (Wait.DefinitionBody n) Shape.Instance = Some (Form.ModuleDefinit
 ends_with_part (Wait.Replacements m) Shape.Helper = Some (Form.Instance m)
 ends_with_part _ _ = None
 
+-- the form of a frame that may end with a part of this shape
 abbrev pub finishes : Wait → Shape → Option Form
 finishes w sh = cond (is_expression sh) (ends_with w) (ends_with_part w sh)
 
+-- the move where the test holds; else the lexeme does nothing to the frame
 abbrev pub if_goes : Bool → PartMove → PartMove
 if_goes test move = cond test move PartMove.Refused
 
+-- the frame takes the part as it is, and goes on behind the lexeme
 abbrev pub keeps : Wait → PartMove
 keeps w = PartMove.Goes w Conversion.Keep
 
+-- the frame takes the part as it is, and ends with the lexeme
 abbrev pub done : Form → PartMove
 done form = PartMove.Done form Conversion.Keep
 
@@ -506,15 +544,18 @@ done form = PartMove.Done form Conversion.Keep
 abbrev pub parted : LexKind → Wait → Bool → Form → PartMove
 parted k w closes form = cond (is_comma k) (keeps w) (if_goes closes (done form))
 
+-- `:` after the first part in braces: a filter behind `x \in e`, else the image by bounds
 abbrev pub after_brace : Shape → LexKind → PartMove
 after_brace Shape.Member k = if_goes (is_colon k) (PartMove.Goes Wait.FilterBody Conversion.AsBound)
 after_brace _ k = if_goes (is_colon k) (keeps Wait.ImageBounds)
 
+-- after the first part in brackets, of any shape: a function set, an action where it may be one, EXCEPT
 abbrev pub after_square : Bool → Lexeme → PartMove
 after_square b t =
     cond (is_arrow t.kind) (keeps Wait.FunctionTo)
     (cond (is_right_bracket_subscript t.kind) (if_goes b (keeps Wait.SquareSubscript)) (if_goes (is_except t.kind) (keeps Wait.ExceptUpdates)))
 
+-- after a first part in brackets that may also be the name of a field, or begin the bounds of a function
 abbrev pub in_square : Bool → Shape → Lexeme → PartMove
 in_square b (Shape.Plain n) t =
     cond (is_comma t.kind) (PartMove.Convert b)
@@ -555,6 +596,7 @@ after_expression Wait.IfThen sh t = if_goes (is_else t.kind) (keeps Wait.IfElse)
 after_expression Wait.ArmGuard sh t = if_goes (is_arrow t.kind) (keeps Wait.ArmBody)
 after_expression _ sh t = PartMove.Refused
 
+-- the next part is due after a comma, and the move is made where the parts are closed
 abbrev pub after_bound : Wait → Bool → PartMove → LexKind → PartMove
 after_bound w closes move k = cond (is_comma k) (keeps w) (if_goes closes move)
 
@@ -582,6 +624,7 @@ after_part (Wait.FunctionHeadBounds n) Shape.Bound t = after_bound (Wait.Functio
 after_part (Wait.Replacements m) Shape.Helper t = if_goes (is_comma t.kind) (keeps (Wait.Replacements m))
 after_part _ sh t = PartMove.Refused
 
+-- the frame ends before the lexeme as this form, if it may end
 abbrev pub finish_by : Option Form → PartMove
 finish_by None = PartMove.Refused
 finish_by (Some form) = PartMove.Finish form
@@ -591,5 +634,6 @@ abbrev pub or_finish : PartMove → Option Form → PartMove
 or_finish PartMove.Refused o = finish_by o
 or_finish move o = move
 
+-- what a lexeme that is no operator does to a frame with a finished part beside it
 abbrev pub at_part : Wait → Shape → Lexeme → PartMove
 at_part w sh t = or_finish (cond (is_expression sh) (after_expression w sh t) (after_part w sh t)) (finishes w sh)

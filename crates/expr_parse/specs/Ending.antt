@@ -24,6 +24,7 @@ pub record Outermost : Type 0 where
   pub tree : Tree
   pub spelled : List Lexeme
 
+-- goes on with the form of a frame that ends, and leaves nothing where the frame may not end
 abbrev pub on_outermost : Option Form → (Form → Option Outermost) → Option Outermost
 on_outermost None go = None
 on_outermost (Some form) go = go form
@@ -34,11 +35,13 @@ closing [] e b = None
 closing (f ∷ []) e b = Some (record { frame = f; tree = e; spelled = b })
 closing (f ∷ g ∷ fs) e b = on_outermost (finishes f.wait (shape e)) (λ form. closing (g ∷ fs) (node_with form f e b) (f.read ++ b))
 
+-- the same of a state, whose innermost frame must end by itself where no part is finished
 abbrev pub ending : State → Option Outermost
 ending (At []) = None
 ending (At (f ∷ fs)) = on_outermost (endable f.wait None) (λ form. closing fs (node form f) f.read)
 ending (Have fs e b) = closing fs e b
 
+-- the same, where a refused lexeme has left no state
 abbrev pub ending_of : Option State → Option Outermost
 ending_of None = None
 ending_of (Some state) = ending state
@@ -49,6 +52,7 @@ takes_whole Goal.Expression Wait.Whole sh = is_expression sh
 takes_whole Goal.Bounds Wait.WholeBounds Shape.Bound = true
 takes_whole goal _ sh = false
 
+-- what is left is the whole that the goal asks for
 abbrev pub is_whole : Goal → Option Outermost → Bool
 is_whole goal None = false
 is_whole goal (Some last) = takes_whole goal last.frame.wait (shape last.tree)
@@ -65,6 +69,7 @@ shape_of_form (Form.Instance m) = Shape.Instance
 shape_of_form (Form.Symbol t) = Shape.Symbol
 shape_of_form f = shape_by (helps f)
 
+-- goes on with the form of a frame that ends, and fails where the frame may not end
 abbrev pub on_ending : Option Form → (Form → Bool) → Bool
 on_ending None go = false
 on_ending (Some form) go = go form
@@ -81,6 +86,7 @@ IsLeft nodes stack None None = Unit {0}
 IsLeft nodes stack (Some part) (Some last) = Stands nodes stack (last.frame ∷ []) × IsPart nodes part last.tree last.spelled
 IsLeft nodes stack _ _ = ⊥
 
+-- the frames have ended to what is left, with no more new nodes than these; old ones stay
 pub record Closes (nodes more : List Arena.Node) (stack : Stack) (part : Option Part) (last : Option Outermost) (made : ℕ) : Type 0 where
   pub grows : Grows nodes more
   pub few : length more ≤ length nodes + made
@@ -91,6 +97,7 @@ abbrev pub IsOf : Goal → Tree → Machine.Frame → Tree → Type 0
 IsOf Goal.Expression tree frame last = tree ≡ last
 IsOf Goal.Bounds tree frame last = (form tree ≡ Form.Bounds) × (parts_of tree ≡ trees (frame.parts ++ last ∷ []))
 
+-- a node has what the goal asks of the outermost frame and its part, with at most one node more
 pub record IsGoal (nodes more : List Arena.Node) (node : ℕ) (goal : Goal) (frame : Machine.Frame) (last : Tree) : Type 0 where
   pub grows : Grows nodes more
   pub few : length more ≤ length nodes + 1

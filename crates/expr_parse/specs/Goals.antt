@@ -12,6 +12,7 @@ use Rattle.expr_grammar.specs.Following.{closes_bounds}
 use Rattle.tree_parts.specs.Parts.{parts_of}
 use Rattle.expr_parse.specs.declared.goal.Goal.{Goal}
 
+-- the lexemes before which an expression of a unit may be done
 abbrev pub stops : LexKind → Bool
 stops kind = Following.stops kind
 

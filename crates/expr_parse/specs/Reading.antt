@@ -17,6 +17,7 @@ use Rattle.tree_parts.specs.Parts.{Grows}
 use Rattle.expr_stack.specs.Standing.{Stands}
 use Rattle.expr_parse.specs.Standing.{IsTurn}
 
+-- where the machine on lists begins for a goal
 abbrev pub start_of : Goal → State
 start_of Goal.Expression = start
 start_of Goal.Bounds = start_bounds
@@ -57,6 +58,7 @@ abbrev pub IsDoneBy : List Arena.Node → Goal → Step → Outermost → Type 0
 IsDoneBy nodes goal (Step.Done node) last = (node < length nodes) × IsOf goal (tree_at nodes node) last.frame last.tree
 IsDoneBy nodes goal _ last = ⊥
 
+-- a step is done with what was left, with at most one more node than the frames make; old ones stay
 pub record IsDone (nodes more : List Arena.Node) (goal : Goal) (step : Step) (last : Outermost) (made : ℕ) : Type 0 where
   pub grows : Grows nodes more
   pub few : length more ≤ length nodes + (made + 1)
@@ -68,6 +70,7 @@ IsStepTo Step.Going (Some state) = Unit {0}
 IsStepTo Step.Refused None = Unit {0}
 IsStepTo _ _ = ⊥
 
+-- a lexeme was read where the machine on lists reads it, with no more new nodes; old ones stay
 pub record HasStepped (nodes more : List Arena.Node) (machine : ExprMachine) (step : Step) (state : Option State) (next : Lexeme) : Type 0 where
   pub grows : Grows nodes more
   pub few : length more ≤ length nodes + made_run state (next ∷ [])

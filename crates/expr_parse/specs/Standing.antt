@@ -47,6 +47,7 @@ pub record IsReady (nodes : List Arena.Node) (stack : Stack) (part : Part) : Typ
   pub stands : Stands nodes stack frames
   pub is : IsPart nodes part tree spelled
 
+-- the stack stands for some frames of the machine
 abbrev pub IsDue : List Arena.Node → Stack → Type 0
 IsDue nodes stack = (frames : List Machine.Frame) × Stands nodes stack frames
 
@@ -62,6 +63,7 @@ FollowsFrame machine made nodes more stack stack' held part turn =
     (frame : Machine.Frame) → (below : List Machine.Frame) → (tree : Tree) → (spelled : List Lexeme) → IsBeside nodes stack held part frame below tree spelled
     → Turns nodes more stack' turn (machine frame below tree spelled) (made frame below tree spelled)
 
+-- a frame that was taken from the stack and the part beside it stand for some of the machine
 pub record CanTake (nodes : List Arena.Node) (stack : Stack) (held : Frame) (part : Part) : Type 0 where
   pub frame : Machine.Frame
   pub below : List Machine.Frame
@@ -81,6 +83,7 @@ pub record Becomes (nodes more : List Arena.Node) (part : Part) (tree : Tree) (s
   pub few : length more ≤ length nodes + made
   pub is : IsPart more part tree spelled
 
+-- a node has this tree, with no more new nodes than these; old ones stay
 pub record Renamed (nodes more : List Arena.Node) (number : ℕ) (tree : Tree) (made : ℕ) : Type 0 where
   pub grows : Grows nodes more
   pub few : length more ≤ length nodes + made
@@ -108,9 +111,11 @@ abbrev pub continues_by : Option Lexeme → Lexeme → Option Lexeme
 continues_by None t = None
 continues_by (Some first) t = cond (goes_on first t) (Some first) None
 
+-- the same after a part of this shape: only an expression is the item of a list
 abbrev pub continues : Wait → Shape → Lexeme → Option Lexeme
 continues wait shape t = continues_by (cond (is_expression shape) (list_of wait) None) t
 
+-- the operands are these two numbers; of another count of numbers there are none
 abbrev pub AreTwo : Option Operands → List ℕ → Type 0
 AreTwo None (left ∷ right ∷ []) = ⊥
 AreTwo None numbers = Unit {0}

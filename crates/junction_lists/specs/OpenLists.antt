@@ -28,6 +28,7 @@ IsJunction bullet kind = (kind ≡ LexKind.Sym bullet) × ((bullet ≡ Op.And) �
 abbrev pub IsBulletOf : OpenList → Lexeme → Type 0
 IsBulletOf list lexeme = (lexeme.col ≡ list.col) × (lexeme.span.end ≡ lexeme.span.start + 2) × IsJunction list.bullet lexeme.kind
 
+-- the lexeme begins an item of the innermost list, if one is open
 abbrev pub IsInnermostBullet : List OpenList → Lexeme → Type 0
 IsInnermostBullet [] lexeme = ⊥
 IsInnermostBullet (list ∷ []) lexeme = IsBulletOf list lexeme

@@ -6,7 +6,7 @@ use Rattle.tla_tree.specs.Edges.{Edge, Operator, Open, Applied, Selected, lo, hi
 use Rattle.precedence.specs.declared.Choice.{Choice}
 use Rattle.precedence.specs.declared.Choice.TheVariants.{Ends, Waits, Clashes}
 
--- symbols and places by number
+-- symbols by number
 unfoldable pub op_number : Op → ℕ
 op_number Op.Not = 0
 op_number Op.Enabled = 1
@@ -108,15 +108,17 @@ op_number Op.PlusClosure = 96
 op_number Op.StarClosure = 97
 op_number Op.SharpClosure = 98
 
+-- places of symbols by number
 unfoldable pub fix_number : Fix → ℕ
 fix_number Fix.Prefix = 0
 fix_number Fix.Infix = 1
 fix_number Fix.Postfix = 2
 
--- whether two stand for the same
+-- whether two symbols are the same
 unfoldable pub same_op : Op → Op → Bool
 same_op a b = nat_eq (op_number a) (op_number b)
 
+-- whether two edges are the same
 unfoldable pub same_edge : Edge → Edge → Bool
 same_edge (Operator a f) (Operator b g) = cond (nat_eq (fix_number f) (fix_number g)) (same_op a b) false
 same_edge Open Open = true
@@ -124,9 +126,11 @@ same_edge Applied Applied = true
 same_edge Selected Selected = true
 same_edge _ _ = false
 
+-- whether the range of the inner operator lies above that of the outer one
 unfoldable pub meets : Edge → Edge → Bool
 meets outer inner = nat_lt (hi outer) (lo inner)
 
+-- whether it does, or both are one symbol that associates to the left
 unfoldable pub joins : Edge → Edge → Bool
 joins outer inner = cond (meets outer inner) true (cond (same_edge inner outer) (associates outer) false)
 

@@ -5,6 +5,7 @@ use Rattle.tla_symbols.specs.declared.lexeme.LexKind.TheVariants.{Mark}
 use Rattle.tla_symbols.specs.declared.lexeme.Mark.TheVariants.{Define}
 use Rattle.tla_symbols.specs.declared.lexeme.Lexeme.{Lexeme}
 
+-- `==`, behind which the body of a definition begins
 abbrev pub defines : LexKind → Bool
 defines (Mark Define) = true
 defines _ = false

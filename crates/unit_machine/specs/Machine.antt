@@ -26,6 +26,7 @@ pub record Frame : Type 0 where
   pub parts : Trees
   pub read : List Lexeme
 
+-- the frame with this wait, these parts and these lexemes
 abbrev pub frame : Wait → Trees → List Lexeme → Frame
 frame w ps a = record { wait = w; parts = ps; read = a }
 
@@ -55,9 +56,11 @@ pub record State : Type 0 where
   pub units : List UnitTree
   pub focus : Focus
 
+-- so many modules are open, after these units, and this is read now
 abbrev pub state : ℕ → List UnitTree → Focus → State
 state depth units focus = record { depth = depth; units = units; focus = focus }
 
+-- the unit that is whole with this last part
 abbrev pub unit_of : Begun → Tree → UnitTree
 unit_of (OfConstants xs) x = Constants (then xs x)
 unit_of (OfDefinition before) x = defined before x
@@ -75,6 +78,7 @@ abbrev pub closed : ℕ → List UnitTree → Option State
 closed (suc ℕ.zero) us = Some (state ℕ.zero us (Stands Due.Closed []))
 closed _ us = None
 
+-- what a lexeme begins where a unit is due, behind the LOCAL that may stand before it
 abbrev pub started : UnitStart → Option Lexeme → ℕ → List UnitTree → Lexeme → Option State
 started (UnitStart.Goes due) l d us t = Some (state d us (Stands due []))
 started (UnitStart.Definition w) l d us t = Some (state d us (Part (OfDefinition l) (frame w Nil (t ∷ [])) []))
@@ -90,6 +94,7 @@ started UnitStart.Refused l d us t = None
 abbrev pub unit_due : Option Lexeme → ℕ → List UnitTree → Lexeme → Option State
 unit_due l d us t = started (unit_start t.kind t) l d us t
 
+-- the move of the table for a lexeme where something is due; a unit that it ends is read before the lexeme
 abbrev pub due_moved : DueMove → List Lexeme → ℕ → List UnitTree → Lexeme → Option State
 due_moved (DueMove.Goes due) names d us t = Some (state d us (Stands due names))
 due_moved (DueMove.Named due) names d us t = Some (state d us (Stands due (names ++ t ∷ [])))
@@ -113,6 +118,7 @@ abbrev pub concluded : Begun → Tree → ℕ → List UnitTree → Option State
 concluded (OfConstants xs) x d us = Some (state d us (Declared (then xs x)))
 concluded begun x d us = None
 
+-- the tree of a frame
 abbrev pub node : Form → Frame → Tree
 node form f = built form f.parts f.read
 
@@ -120,15 +126,17 @@ node form f = built form f.parts f.read
 abbrev pub taking : Frame → Tree → List Lexeme → Frame
 taking g x b = frame (after_part g.wait) (then g.parts x) (g.read ++ b)
 
+-- a part that ended with its own last lexeme goes to the frame below, and at the bottom to the unit
 abbrev pub shut : Begun → List Frame → Tree → List Lexeme → ℕ → List UnitTree → Option State
 shut begun [] x b d us = concluded begun x d us
 shut begun (g ∷ gs) x b d us = Some (state d us (Part begun (taking g x b) gs))
 
--- the lexeme is the first of an expression
+-- an expression is read on with the lexeme, its first one or a later one, unless it is refused there
 abbrev pub reading : Option Expressions.State → Begun → List Frame → List Lexeme → ℕ → List UnitTree → Option State
 reading None begun fs b d us = None
 reading (Some st) begun fs b d us = Some (state d us (Expression begun fs st b))
 
+-- the move of the table for a lexeme in a frame; the last argument says how a frame ends before the lexeme
 abbrev pub moved : Move → Begun → Frame → List Frame → ℕ → List UnitTree → Lexeme → (Form → Option State) → Option State
 moved (Move.Shift w) begun f fs d us t go = Some (state d us (Part begun (frame w f.parts (f.read ++ t ∷ [])) fs))
 moved (Move.Leaf form w) begun f fs d us t go = Some (state d us (Part begun (frame w (then f.parts (built form Nil (t ∷ []))) (f.read ++ t ∷ [])) fs))
@@ -151,6 +159,7 @@ abbrev pub given : List Frame → Begun → Tree → List Lexeme → ℕ → Lis
 given [] begun x b d us t = finished begun x d us t
 given (g ∷ gs) begun x b d us t = part_step gs begun (frame (after_expression g.wait) (then g.parts x) (g.read ++ b)) d us t
 
+-- a lexeme after an expression that is done before it, or else in the expression
 abbrev pub expression_step : Option Tree → Begun → List Frame → Expressions.State → List Lexeme → ℕ → List UnitTree → Lexeme → Option State
 expression_step (Some x) begun fs st b d us t = given fs begun x b d us t
 expression_step None begun fs st b d us t = reading (Expressions.step st t) begun fs (b ++ t ∷ []) d us
@@ -159,14 +168,17 @@ expression_step None begun fs st b d us t = reading (Expressions.step st t) begu
 abbrev pub bounds_before : Option Expressions.State → LexKind → Option Trees
 bounds_before st kind = cond (is_right_bracket kind) (finish_bounds st) None
 
+-- bounds are read on with the lexeme, unless it is refused there
 abbrev pub reading_bounds : Option Expressions.State → Begun → Frame → List Lexeme → ℕ → List UnitTree → Option State
 reading_bounds None begun f b d us = None
 reading_bounds (Some st) begun f b d us = Some (state d us (Bounds begun f st b))
 
+-- a lexeme after bounds that are done before it, or else in the bounds
 abbrev pub bounds_step : Option Trees → Begun → Frame → Expressions.State → List Lexeme → ℕ → List UnitTree → Lexeme → Option State
 bounds_step (Some xs) begun f st b d us t = part_step [] begun (frame (after_bounds f.wait) xs (f.read ++ b)) d us t
 bounds_step None begun f st b d us t = reading_bounds (Expressions.step st t) begun f (b ++ t ∷ []) d us
 
+-- a lexeme by what is read now
 abbrev pub focus_step : Focus → ℕ → List UnitTree → Lexeme → Option State
 focus_step (Stands due names) d us t = due_moved (due_move due t) names d us t
 focus_step (Declared xs) d us t = after_declared xs d us t
@@ -174,9 +186,11 @@ focus_step (Part begun f fs) d us t = part_step fs begun f d us t
 focus_step (Expression begun fs st b) d us t = expression_step (done_before (Some st) t.kind) begun fs st b d us t
 focus_step (Bounds begun f st b) d us t = bounds_step (bounds_before (Some st) t.kind) begun f st b d us t
 
+-- one lexeme more
 abbrev pub step : State → Lexeme → Option State
 step s t = focus_step s.focus s.depth s.units t
 
+-- the state after these lexemes; there is none after a refused one
 abbrev pub run : Option State → List Lexeme → Option State
 run o [] = o
 run None (t ∷ ts) = None
@@ -189,6 +203,7 @@ held (Expression begun fs st b) = length fs
 held (Bounds begun f st b) = 1
 held _ = 0
 
+-- before the first lexeme: no module is open, and the dashes of the outermost are due
 abbrev pub opening : State
 opening = state ℕ.zero [] (Stands Due.Opening [])
 
@@ -197,14 +212,17 @@ abbrev pub whole : List UnitTree → Option ModuleUnits
 whole (ModuleBegin n names ∷ us) = Some (record { name = n; extends = names; units = us })
 whole _ = None
 
+-- the module, where the outermost one is closed
 abbrev pub answered : Focus → List UnitTree → Option ModuleUnits
 answered (Stands Due.Closed names) us = whole us
 answered _ us = None
 
+-- the one module that has been read, if it is closed
 abbrev pub answer : Option State → Option ModuleUnits
 answer None = None
 answer (Some s) = answered s.focus s.units
 
+-- the module that a list of lexemes spells, if the machine accepts it
 abbrev pub parse : List Lexeme → Option ModuleUnits
 parse ts = answer (run (Some opening) ts)
 

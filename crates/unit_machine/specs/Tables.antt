@@ -14,14 +14,17 @@ use Rattle.unit_machine.specs.declared.wait.UnitStart.{UnitStart}
 use Rattle.unit_machine.specs.declared.wait.Wait.{Wait}
 use Rattle.unit_machine.specs.declared.wait.Move.{Move}
 
+-- four or more `-`: a line, or a part of a module's header
 abbrev pub is_dashes : LexKind → Bool
 is_dashes LexKind.Dashes = true
 is_dashes _ = false
 
+-- the word MODULE, which makes a module's begin of the dashes before it
 abbrev pub is_module : LexKind → Bool
 is_module (LexKind.Word Word.Module) = true
 is_module _ = false
 
+-- the word EXTENDS, behind a module's header
 abbrev pub is_extends : LexKind → Bool
 is_extends (LexKind.Word Word.Extends) = true
 is_extends _ = false
@@ -52,6 +55,7 @@ unit_start (LexKind.Word Word.Axiom) t = UnitStart.Assumption
 unit_start (LexKind.Word Word.Theorem) t = UnitStart.Theorem
 unit_start _ t = UnitStart.Refused
 
+-- the move where the test holds; else the lexeme is refused
 abbrev pub if_due : Bool → DueMove → DueMove
 if_due test move = cond test move DueMove.Refused
 
@@ -71,6 +75,7 @@ due_move Due.VariableName t = if_due (is_name t.kind) (DueMove.Named Due.Variabl
 due_move Due.VariableRead t = cond (is_comma t.kind) (DueMove.Goes Due.VariableName) DueMove.Listed
 due_move Due.Closed t = DueMove.Refused
 
+-- the move of a frame where the test holds; else the lexeme is refused
 abbrev pub if_move : Bool → Move → Move
 if_move test move = cond test move Move.Refused
 
@@ -126,13 +131,14 @@ after_part (Wait.Replacements m) = Wait.ReplacementsRead m
 after_part (Wait.Body n) = Wait.Complete (Form.ModuleDefinition n)
 after_part w = w
 
--- and once it has the expression, or the bounds
+-- and once it has the expression
 abbrev pub after_expression : Wait → Wait
 after_expression (Wait.Body n) = Wait.Complete (Form.OperatorDefinition n)
 after_expression (Wait.Right form) = Wait.Complete form
 after_expression (Wait.ReplacementRight n) = Wait.Complete (Form.Replacement n)
 after_expression w = w
 
+-- and once it has the bounds of a function's head
 abbrev pub after_bounds : Wait → Wait
 after_bounds (Wait.Bounds n) = Wait.BoundsRead n
 after_bounds w = w
