@@ -26,10 +26,12 @@ greatest kinds = plain (fold (λ most kind. max most (level kind)) 0 kinds)
 abbrev pub is_no_action : Kind → Bool
 is_no_action kind = not (level kind == 2)
 
+-- the kind of `[A]_e`
 abbrev pub is_box : Kind → Bool
 is_box BoxAction = true
 is_box _ = false
 
+-- the kind of `<<A>>_e`
 abbrev pub is_diamond : Kind → Bool
 is_diamond DiamondAction = true
 is_diamond _ = false

@@ -11,6 +11,7 @@ Definition = List ℕ × List ℕ
 abbrev pub defined : Definition → List ℕ
 defined definition = definition.0 ++ (codes " == CHOOSE n : n = <<" ++ (definition.1 ++ codes ">>"))
 
+-- the line of EXTENDS, where a module is extended
 abbrev pub extending : Option (List ℕ) → List (List ℕ)
 extending None = []
 extending (Some name) = (codes "EXTENDS " ++ name) ∷ []
@@ -25,6 +26,7 @@ abbrev pub module_text : List ℕ → Option (List ℕ) → List Definition → 
 module_text name extended definitions =
     text_of ((codes "---- MODULE " ++ (name ++ codes " ----")) ∷ (extending extended ++ (map defined definitions ++ codes "====" ∷ [])))
 
+-- what Naturals defines: the numbers from 0 on, arithmetic, order and intervals
 abbrev pub naturals_definitions : List Definition
 naturals_definitions =
     (codes "Nat", codes "\"Nat\"") ∷
@@ -41,18 +43,22 @@ naturals_definitions =
     (codes "a % b", codes "\"%\", a, b") ∷
     []
 
+-- the text of Naturals, which extends no module
 unfoldable pub naturals : List ℕ
 naturals = module_text (codes "Naturals") None naturals_definitions
 
+-- what Integers adds to Naturals: all whole numbers, and the minus before its operand
 abbrev pub integers_definitions : List Definition
 integers_definitions =
     (codes "Int", codes "\"Int\"") ∷
     (codes "-. a", codes "\"neg\", a") ∷
     []
 
+-- the text of Integers, which extends Naturals
 unfoldable pub integers : List ℕ
 integers = module_text (codes "Integers") (Some (codes "Naturals")) integers_definitions
 
+-- what Reals adds to Integers: all real numbers, infinity and division
 abbrev pub reals_definitions : List Definition
 reals_definitions =
     (codes "Real", codes "\"Real\"") ∷
@@ -60,9 +66,11 @@ reals_definitions =
     (codes "a / b", codes "\"/\", a, b") ∷
     []
 
+-- the text of Reals, which extends Integers
 unfoldable pub reals : List ℕ
 reals = module_text (codes "Reals") (Some (codes "Integers")) reals_definitions
 
+-- what Sequences defines: finite sequences, their parts, and how they are put together
 abbrev pub sequences_definitions : List Definition
 sequences_definitions =
     (codes "Seq(S)", codes "\"Seq\", S") ∷
@@ -75,18 +83,22 @@ sequences_definitions =
     (codes "SelectSeq(s, Test(_))", codes "\"SelectSeq\", s, Test(s)") ∷
     []
 
+-- the text of Sequences, which extends no module
 unfoldable pub sequences : List ℕ
 sequences = module_text (codes "Sequences") None sequences_definitions
 
+-- what FiniteSets defines: which sets are finite, and how many elements they have
 abbrev pub finite_sets_definitions : List Definition
 finite_sets_definitions =
     (codes "IsFiniteSet(S)", codes "\"IsFiniteSet\", S") ∷
     (codes "Cardinality(S)", codes "\"Cardinality\", S") ∷
     []
 
+-- the text of FiniteSets, which extends no module
 unfoldable pub finite_sets : List ℕ
 finite_sets = module_text (codes "FiniteSets") None finite_sets_definitions
 
+-- what Bags defines: bags, which hold elements a number of times, and operators on them
 abbrev pub bags_definitions : List Definition
 bags_definitions =
     (codes "IsABag(B)", codes "\"IsABag\", B") ∷
@@ -104,9 +116,11 @@ bags_definitions =
     (codes "CopiesIn(e, B)", codes "\"CopiesIn\", e, B") ∷
     []
 
+-- the text of Bags, which extends no module
 unfoldable pub bags : List ℕ
 bags = module_text (codes "Bags") None bags_definitions
 
+-- what TLC defines: printing and assertions, functions by their points, and values that it computes
 abbrev pub tlc_definitions : List Definition
 tlc_definitions =
     (codes "Print(out, val)", codes "\"Print\", out, val") ∷
@@ -123,6 +137,7 @@ tlc_definitions =
     (codes "RandomElement(s)", codes "\"RandomElement\", s") ∷
     []
 
+-- the text of TLC, which extends no module
 unfoldable pub tlc : List ℕ
 tlc = module_text (codes "TLC") None tlc_definitions
 

@@ -6,6 +6,7 @@ use Rattle.tla_model.specs.declared.Diagnostic.{Diagnostic}
 use Rattle.front_laws.specs.Fronts.{Fault, fault_of, syntax_code, IsFront, IsFrontOfLexemes}
 use Rattle.tla_front.specs.declared.module.FrontError.{FrontError}
 
+-- a fault is the front of these bytes, for a file of this name; want of memory says nothing of them
 abbrev pub IsFrontFault : List ℕ → List ℕ → FrontError → Type 0
 IsFrontFault name bytes (FrontError.Fault fault) = IsFront name bytes (Fault fault)
 IsFrontFault name bytes FrontError.Memory = Unit {0}

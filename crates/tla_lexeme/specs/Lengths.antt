@@ -14,6 +14,7 @@ use Rattle.tla_lexeme.specs.declared.string.Step.TheVariants.{Closes, Goes, Esca
 use Rattle.tla_lexeme.specs.LexemeSets.{is_in, base_of}
 use Rattle.tla_lexeme.specs.Lexing.{begins, lexemes_after}
 
+-- some byte of a run is a letter, so that it may be a name
 abbrev pub has_letter : List ℕ → Bool
 has_letter run = list_any (is_in Letter) run
 
@@ -21,6 +22,7 @@ has_letter run = list_any (is_in Letter) run
 abbrev pub bare_len : List ℕ → ℕ
 bare_len text = if has_letter (take (prefix_len (is_in WordChar) text) text) then 0 else prefix_len (is_in WordChar) text
 
+-- `WF_` or `SF_` begins the text: a word that ends there, whatever follows
 abbrev pub begins_fair : List ℕ → Bool
 begins_fair text = begins text (codes "WF_") || begins text (codes "SF_")
 
@@ -37,10 +39,12 @@ fraction_len (c ∷ cs) = if c == 46 && nat_lt 0 (prefix_len (is_in Digit) cs) t
 abbrev pub with_one : ℕ → ℕ
 with_one len = if nat_lt 0 len then 1 + len else 0
 
+-- the letter of a base and at least one digit of that base; 0 where the letter names none
 abbrev pub base_len : Option Class → List ℕ → ℕ
 base_len None digits = 0
 base_len (Some class) digits = with_one (prefix_len (is_in class) digits)
 
+-- the same, by the letter that stands first
 abbrev pub after_backslash_len : List ℕ → ℕ
 after_backslash_len [] = 0
 after_backslash_len (b ∷ ds) = base_len (base_of b) ds
@@ -50,6 +54,7 @@ abbrev pub based_len : List ℕ → ℕ
 based_len [] = 0
 based_len (c ∷ cs) = with_one (after_backslash_len cs)
 
+-- a run of one sign, if it has at least four
 abbrev pub long_run_len : Class → List ℕ → ℕ
 long_run_len class text = if nat_le 4 (prefix_len (is_in class) text) then prefix_len (is_in class) text else 0
 
@@ -103,6 +108,7 @@ string_end at escaped (c ∷ cs) =
 
 -- ---- between lexemes
 
+-- a blank or a comment, which is passed over
 abbrev pub is_gap : Begin → Bool
 is_gap (Gap len) = true
 is_gap _ = false

@@ -34,6 +34,7 @@ is_run class (c ∷ cs) = is_in class c && list_all (is_in class) cs
 
 -- ---- reserved words, symbols and marks
 
+-- the first of two that is there
 abbrev pub or_else : {A : Type 0} → Option A → Option A → Option A
 or_else None other = other
 or_else (Some x) other = Some x
@@ -74,6 +75,7 @@ base_of letter =
     if letter == 111 || letter == 79 then Some Octal else (
     if letter == 104 || letter == 72 then Some Hexadecimal else None))
 
+-- one or more digits of a base, if there is a base
 abbrev pub is_run_of : Option Class → List ℕ → Bool
 is_run_of None digits = false
 is_run_of (Some class) digits = is_run class digits
@@ -83,15 +85,18 @@ abbrev pub is_after_backslash : List ℕ → Bool
 is_after_backslash [] = false
 is_after_backslash (b ∷ ds) = is_run_of (base_of b) ds
 
+-- a number with a base, from its backslash on
 abbrev pub is_based : List ℕ → Bool
 is_based [] = false
 is_based (c ∷ cs) = c == 92 && is_after_backslash cs
 
+-- digits, a fraction, or a number with a base
 abbrev pub is_number : List ℕ → Bool
 is_number spelling = is_run Digit spelling || is_fraction spelling || is_based spelling
 
 -- ---- strings
 
+-- nothing stands behind the quote that closes a string
 abbrev pub is_empty : List ℕ → Bool
 is_empty [] = true
 is_empty (c ∷ cs) = false
@@ -103,6 +108,7 @@ closes_string escaped [] = false
 closes_string true (c ∷ cs) = is_in Escaped c && closes_string false cs
 closes_string false (c ∷ cs) = if c == 34 then is_empty cs else (if c == 92 then closes_string true cs else (is_in InLine c && closes_string false cs))
 
+-- from the quote that opens a string to the one that closes it
 abbrev pub is_string : List ℕ → Bool
 is_string [] = false
 is_string (c ∷ cs) = c == 34 && closes_string false cs
@@ -115,6 +121,7 @@ is_long_run class spelling = nat_le 4 (length spelling) && list_all (is_in class
 
 -- ---- all sets
 
+-- the kind of a spelling that no table lists: a name, a number, a string, or a run
 abbrev pub open_kind : List ℕ → Option LexKind
 open_kind spelling =
     if is_name spelling then Some Name else (

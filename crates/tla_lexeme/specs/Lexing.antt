@@ -31,6 +31,7 @@ lexeme_at text = longest_of kind_of (length text) text
 
 -- ---- blanks and comments
 
+-- the text begins with these bytes
 abbrev pub begins : List ℕ → List ℕ → Bool
 begins text prefix = starts_with nat_eq text prefix
 
@@ -59,10 +60,12 @@ char_len (b ∷ bs) = 1 + continuation_len b
 
 -- ---- what begins at a place
 
+-- a comment of so many bytes, or for one that does not end its `(*` at fault
 abbrev pub gap_or_fault : Option ℕ → Begin
 gap_or_fault (Some len) = Gap len
 gap_or_fault None = Nothing 2
 
+-- the longest lexeme, or where none begins a character of so many bytes at fault
 abbrev pub longest_or_fault : Option Member → ℕ → Begin
 longest_or_fault (Some member) len = Longest member
 longest_or_fault None len = Nothing len

@@ -32,15 +32,18 @@ abbrev pub header_from : ℕ → List ℕ → Option ℕ
 header_from at [] = None
 header_from at (c ∷ cs) = if begins_with_header (c ∷ cs) then Some at else header_from (at + 1) cs
 
+-- where the module's header begins, if the text has one
 abbrev pub header_of : List ℕ → Option ℕ
 header_of text = header_from 0 text
 
 -- ---- the closing run
 
+-- the word MODULE, which asks for one run of `=` more
 abbrev pub is_module_word : LexKind → Bool
 is_module_word (Word Module) = true
 is_module_word _ = false
 
+-- a run of `=`, which may close a module
 abbrev pub is_equals : LexKind → Bool
 is_equals Equals = true
 is_equals _ = false

@@ -14,6 +14,7 @@ meaning_of text meaning (entry ∷ entries) spelling = if bytes_eq (text entry) 
 abbrev pub Table : Type 0 → Type 0
 Table M = List (List ℕ × M)
 
+-- what a spelling means by a table, if it stands there
 abbrev pub in_table : {M : Type 0} → Table M → List ℕ → Option M
 in_table table spelling = meaning_of (λ e. e.0) (λ e. e.1) table spelling
 

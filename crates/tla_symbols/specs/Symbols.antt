@@ -132,6 +132,7 @@ postfix_place StarClosure = free 15 15 false
 postfix_place SharpClosure = free 15 15 false
 postfix_place _ = nowhere
 
+-- what a symbol is at this place: built in, free for modules to define, or not to be used there
 abbrev pub place_of : Op → Fix → Place
 place_of op Prefix = prefix_place op
 place_of op Infix = infix_place op
