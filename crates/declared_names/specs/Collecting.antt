@@ -9,12 +9,15 @@ use Rattle.tla_model.specs.Entities.{Binding, bound_as, declared_in, placed}
 use Rattle.declared_names.specs.declared.declared.Due.TheVariants as due
 use Rattle.declared_names.specs.Nodes.{defined_at}
 
+-- names of a tree that are still to be collected
 abbrev pub Due : Type 0
 Due = due.the_data
 
+-- what is due as it is kept, the first one last
 abbrev pub stack : List Due → List Due
 stack todo = reverse todo
 
+-- the names of these nodes, each bound so, are due
 abbrev pub names_of : Binding → List ℕ → List Due
 names_of binding nodes = map (λ node. due.Names node binding) nodes
 
@@ -24,13 +27,16 @@ lead false parts = 0
 lead true [] = 0
 lead true (part ∷ parts) = 1
 
+-- the node whose names are due
 abbrev pub node_of : Due → ℕ
 node_of (due.Names node binding) = node
 node_of (due.Defined node) = node
 
+-- the node of what is due is there
 abbrev pub IsThere : List Node → Due → Type 0
 IsThere nodes item = node_of item < length nodes
 
+-- the same of all that is due
 abbrev pub AreDue : List Node → List Due → Type 0
 AreDue nodes items = AllByRecursion (IsThere nodes) items
 
@@ -39,10 +45,12 @@ abbrev pub due_of : List Node → Due → List Binder
 due_of nodes (due.Names node binding) = declared_in binding (tree_at nodes node)
 due_of nodes (due.Defined node) = defined_at nodes node
 
+-- all the names that are due, in their order
 abbrev pub all_due : List Node → List Due → List Binder
 all_due nodes [] = []
 all_due nodes (item ∷ items) = due_of nodes item ++ all_due nodes items
 
+-- of a node the name alone is due that it defines
 abbrev pub defined : ℕ → Due
 defined node = due.Defined node
 
@@ -51,14 +59,17 @@ abbrev mutual
   pub size : Tree → ℕ
   size (Syntax.Node form s parts) = 2 + sizes parts
 
+  -- the same of several trees
   pub sizes : Trees → ℕ
   sizes Syntax.Nil = 0
   sizes (Syntax.Cons x rest) = size x + sizes rest
 
+-- how much one of these is: as much as its tree, or one for the defined name alone
 abbrev pub size_of : List Node → Due → ℕ
 size_of nodes (due.Names node binding) = size (tree_at nodes node)
 size_of nodes (due.Defined node) = 1
 
+-- how much all of these are together
 abbrev pub all_size : List Node → List Due → ℕ
 all_size nodes [] = 0
 all_size nodes (item ∷ items) = size_of nodes item + all_size nodes items

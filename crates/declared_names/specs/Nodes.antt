@@ -8,9 +8,11 @@ use Rattle.tla_model.specs.declared.names.Binder.{Binder}
 use Rattle.tla_model.specs.Entities.{defined}
 use Rattle.tla_model.specs.Scopes.{binders}
 
+-- the form of the node with a number
 abbrev pub form_at : List Node → ℕ → Form
 form_at nodes node = (node_at nodes node).form
 
+-- the trees of that node's children
 abbrev pub parts_at : List Node → ℕ → Trees
 parts_at nodes node = trees (map (tree_at nodes) (node_at nodes node).children)
 

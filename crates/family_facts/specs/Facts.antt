@@ -23,6 +23,7 @@ pub record Own : Type 0 where
   pub bytes : List ℕ
   pub front : Front
 
+-- what a text is for a file of this name, without other texts
 abbrev pub own_of : List ℕ → List ℕ → Own
 own_of name bytes = record { bytes = bytes; front = front_of name bytes }
 
@@ -31,6 +32,7 @@ abbrev pub needs_by : List ℕ → Front → Option (List (List ℕ))
 needs_by bytes (Tree found) = Some (map (spelled bytes) (imports_of bytes found))
 needs_by bytes (Fault fault) = None
 
+-- the same of a text with its front
 abbrev pub needs_of : Own → Option (List (List ℕ))
 needs_of own = needs_by own.bytes own.front
 
@@ -56,6 +58,7 @@ abbrev pub diagnosed_by : List ℕ → Front → (List ℕ → Given) → Diagno
 diagnosed_by bytes (Tree found) given = record { faults = in_order (all_faults given bytes found); outside = outside_in (files_given given) bytes found }
 diagnosed_by bytes (Fault fault) given = record { faults = fault ∷ []; outside = nothing }
 
+-- what is found of a text, by the states of its needs
 abbrev pub fact_of : List ℕ → Own → List (List ℕ × State Diagnosed) → Diagnosed
 fact_of name own given = diagnosed_by own.bytes own.front (given_by_states given)
 
@@ -63,6 +66,7 @@ fact_of name own given = diagnosed_by own.bytes own.front (given_by_states given
 abbrev pub state_of : Texts → List ℕ → State Diagnosed
 state_of texts = values.value own_of needs_of fact_of texts
 
+-- what is found of a text with a name; without one nothing is found, and the module is nothing to others
 abbrev pub diagnosed_text : Texts → List ℕ → Option (List ℕ) → Diagnosed
 diagnosed_text texts name None = record { faults = []; outside = nothing }
 diagnosed_text texts name (Some bytes) = fact_of name (own_of name bytes) (values.given_in own_of needs_of fact_of texts name)
@@ -82,5 +86,6 @@ abbrev pub front_holds : Front → Bool
 front_holds (Tree found) = holds_instance found
 front_holds (Fault fault) = false
 
+-- the word INSTANCE stands in some member of a family, where that has no front fault
 abbrev pub some_instance : List Member → Bool
 some_instance family = list_any (λ (m : Member). front_holds (front_of m.name m.bytes)) family

@@ -11,6 +11,7 @@ use Rattle.family_facts.specs.Fronts.{front_of}
 use Rattle.family_facts.specs.declared.verdict.File.{File}
 use Rattle.family_facts.specs.declared.verdict.Verdict.{Verdict}
 
+-- a text, which is empty where there is none
 abbrev pub text_or_none : Option (List ℕ) → List ℕ
 text_or_none None = []
 text_or_none (Some text) = text
@@ -19,12 +20,15 @@ text_or_none (Some text) = text
 abbrev pub built_in_names : List (List ℕ)
 built_in_names = codes "Naturals" ∷ codes "Integers" ∷ codes "Reals" ∷ codes "Sequences" ∷ codes "FiniteSets" ∷ codes "Bags" ∷ codes "RealTime" ∷ codes "TLC" ∷ []
 
+-- the built-in module of a name, as a member of a family
 abbrev pub built_in : List ℕ → Member
 built_in name = record { name = name; bytes = text_or_none (std_text name) }
 
+-- all built-in modules
 abbrev pub built_in_members : List Member
 built_in_members = map built_in built_in_names
 
+-- a file as a member of a family: the module of its name
 abbrev pub member_of : File → Member
 member_of file = record { name = file.name; bytes = file.bytes }
 
@@ -50,6 +54,7 @@ pub record IsVerdict (family : List Member) (file : File) (verdict : Verdict) : 
   pub diagnosed : IsDiagnosed family file.name found
   pub faults : verdict.faults ≡ found.faults
 
+-- each file has its verdict, in order, in the family of the files and the built-in modules
 abbrev pub AreVerdicts : List File → List Verdict → Type 0
 AreVerdicts files verdicts = AllZip (IsVerdict (family_of files)) files verdicts
 
@@ -73,6 +78,7 @@ verdicts_if_built files = if some_instance (family_of files) then None else Some
 
 -- ---- checks
 
+-- the names of a module are checked once, but of one with a front fault not at all
 abbrev pub check_count : Front → ℕ
 check_count (Tree found) = 1
 check_count (Fault fault) = 0

@@ -22,6 +22,7 @@ pub record IsTreeOf (name bytes : List ℕ) (tree : ModuleTree) : Type 0 where
   pub readable : IsReadable tree
   pub named : spelled tree.source tree.name ≡ name
 
+-- what was read is the front of these bytes, for a file of this name
 abbrev pub IsReading : List ℕ → List ℕ → Reading → Type 0
 IsReading name bytes (Reading.Tree tree) = IsTreeOf name bytes tree
 IsReading name bytes (Reading.Fault fault) = IsFront name bytes (Fault fault) × IsPlaced (text_of bytes) fault.span
@@ -40,9 +41,11 @@ pub record IsModule (name bytes : List ℕ) («module» : Module) : Type 0 where
   pub reading : IsReading name bytes «module».reading
   pub needs : «module».needs ≡ needs_in «module».reading
 
+-- a module under its name
 abbrev pub Entry : Type 0
 Entry = List ℕ × Module
 
+-- an entry is the module of a member of a family
 pub record IsEntry (member : Member) (entry : Entry) : Type 0 where
   pub named : entry.0 ≡ member.name
   pub is : IsModule entry.0 member.bytes entry.1
@@ -59,6 +62,7 @@ added members member = if is_there members member.name then members else members
 
 -- ---- INSTANCE
 
+-- the word INSTANCE stands in a module without front fault
 abbrev pub reading_holds_instance : Reading → Bool
 reading_holds_instance (Reading.Tree tree) = holds_instance (module_of tree)
 reading_holds_instance (Reading.Fault fault) = false

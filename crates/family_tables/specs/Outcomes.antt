@@ -39,6 +39,7 @@ abbrev pub IsBare : Outcome → Type 0
 IsBare (Outcome.Refused found) = ⊤
 IsBare (Outcome.Accepted face) = parts_behind (arc_value face).parts (arc_value face).parts ≡ []
 
+-- no outcome of these brings an instance
 abbrev pub AreBare : List (List ℕ × Outcome) → Type 0
 AreBare outcomes = (name : List ℕ) (outcome : Outcome) → entry_of outcomes name ≡ Some outcome → IsBare outcome
 
@@ -46,6 +47,7 @@ AreBare outcomes = (name : List ℕ) (outcome : Outcome) → entry_of outcomes n
 abbrev pub IsBareImport : Import → Type 0
 IsBareImport import = import_behind (Some import) ≡ []
 
+-- no import of these brings an instance
 abbrev pub AreBareImports : Imports → Type 0
 AreBareImports imports = (name : List ℕ) → import_behind (import_of imports name) ≡ []
 
@@ -108,6 +110,7 @@ trees_of (Some «module») = tree_count «module».reading
 
 -- ---- verdicts
 
+-- the faults of a refused module; without an outcome, or accepted, it has none
 abbrev pub faults_of : Option Outcome → List Diagnostic
 faults_of (Some (Outcome.Refused faults)) = faults
 faults_of _ = []

@@ -21,6 +21,7 @@ module _ (entries : List Entry) where
     pub named : entry.0 ≡ name
     pub needs : Contains entry.1.needs need
 
+  -- a module needs another, at once or through others
   abbrev pub Reaches : List ℕ → List ℕ → Type 0
   Reaches = Leads Needs
 
@@ -60,6 +61,7 @@ abbrev pub IsCycles : List Entry → Option graphs.Family → Type 0
 IsCycles entries None = (name : List ℕ) → Reaches entries name name → ⊥
 IsCycles entries (Some graph) = IsGraph (names_in entries) (Needs entries) graph
 
+-- a plan has an order of the modules, and where some module reaches itself the graph of their needs
 pub record IsPlan (entries : List Entry) (plan : Plan) : Type 0 where
   pub order : IsOrder entries plan.order
   pub cycles : IsCycles entries plan.cycles

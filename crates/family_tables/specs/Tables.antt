@@ -12,5 +12,6 @@ abbrev pub entry_of : {T : Type 0} → List (List ℕ × T) → List ℕ → Opt
 entry_of [] name = None
 entry_of (entry ∷ rest) name = if bytes_eq name entry.0 then Some entry.1 else entry_of rest name
 
+-- the names of a table, in their order
 abbrev pub names_in : {T : Type 0} → List (List ℕ × T) → List (List ℕ)
 names_in entries = map (λ entry. entry.0) entries

@@ -37,16 +37,19 @@ pub record IsOwn (name : List ℕ) (exports : Exports) (held : Interface) : Type
 abbrev pub Key : Type 0
 Key = List ℕ × Option ℕ
 
+-- the key of a module or of a nested one
 abbrev pub key_of : ModuleId → Key
 key_of id = (id.«module», id.nested)
 
+-- both keys are of one module
 abbrev pub same_key : Key → Key → Bool
 same_key a b = bytes_eq a.0 b.0 && option_eq nat_eq a.1 b.1
 
--- the module of a part, and those of parts
+-- the module of a part
 abbrev pub key_in : Held → Key
 key_in part = key_of part.interface.«module»
 
+-- the modules of parts
 abbrev pub keys_in : List Held → List Key
 keys_in parts = map key_in parts
 
@@ -62,6 +65,7 @@ bare held = record { interface = held; places = [] }
 abbrev pub with_part : List Held → Held → List Held
 with_part parts part = if is_among (keys_in parts) (key_in part) then parts else parts ++ bare part.interface ∷ []
 
+-- the same of several parts, one after another
 abbrev pub with_parts : List Held → List Held → List Held
 with_parts parts [] = parts
 with_parts parts (part ∷ more) = with_parts (with_part parts part) more
@@ -78,6 +82,7 @@ abbrev pub with_import : List Held → Option Import → List Held
 with_import parts (Some (Import.Module face)) = with_face parts (arc_value face).parts
 with_import parts _ = parts
 
+-- with what is reached by the imports of these names, one after another
 abbrev pub with_imports : Imports → List ℕ → List Held → List Lexeme → List Held
 with_imports imports source parts [] = parts
 with_imports imports source parts (name ∷ names) = with_imports imports source (with_import parts (import_of imports (spelled source name))) names

@@ -16,10 +16,11 @@ held_by gathered = first_parts gathered.first ++ held gathered.more
 
 -- ---- modules
 
--- a module as the set has it, and those of a set
+-- a module as the set has it
 abbrev pub key_under : Bor (List ℕ) × Option ℕ → Key
 key_under key = (key.0.now, key.1)
 
+-- the modules that a set has
 abbrev pub keys_under : List (Bor (List ℕ) × Option ℕ) → List Key
 keys_under keys = map key_under keys
 
@@ -27,6 +28,7 @@ keys_under keys = map key_under keys
 abbrev pub with_key : List Key → Key → List Key
 with_key keys key = if is_among keys key then keys else keys ++ key ∷ []
 
+-- the same of several modules, one after another
 abbrev pub with_keys : List Key → List Key → List Key
 with_keys keys [] = keys
 with_keys keys (key ∷ more) = with_keys (with_key keys key) more
@@ -44,5 +46,6 @@ abbrev pub AreKept : List Key → List Held → List Held → Type 0
 AreKept [] first more = more ≡ []
 AreKept (key ∷ keys) first more = AreKeysOf (key ∷ keys) (first ++ more)
 
+-- the set has the modules of all parts, unless only those of the first import are gathered
 abbrev pub AreGathered : Gathered → Type 0
 AreGathered gathered = AreKept (keys_under gathered.modules.keys) (first_parts gathered.first) (held gathered.more)

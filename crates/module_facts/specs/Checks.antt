@@ -25,6 +25,7 @@ pub data Given : Type 0 where
   Refused : Given
   Accepted : (outside : Outside) → Given
 
+-- what a module is by its import; without one it is unknown
 abbrev pub given_by : Option Import → Given
 given_by None = Unknown
 given_by (Some Import.Unknown) = Unknown
@@ -38,16 +39,19 @@ given_in imports name = given_by (import_of imports name)
 
 -- ---- faults of imports
 
+-- the fault at the name of a module that is not accepted
 abbrev pub import_fault : Given → Lexeme → List Diagnostic
 import_fault Unknown l = at 301 l
 import_fault Cyclic l = at 302 l
 import_fault Refused l = at 303 l
 import_fault (Accepted outside) l = []
 
+-- the same of several names, in their order
 abbrev pub faults_of_imports : (List ℕ → Given) → List ℕ → List Lexeme → List Diagnostic
 faults_of_imports given source [] = []
 faults_of_imports given source (l ∷ rest) = import_fault (given (spelled source l)) l ++ faults_of_imports given source rest
 
+-- at each of these names the fault of a cyclic import
 abbrev pub cyclic_at : List Lexeme → List Diagnostic
 cyclic_at [] = []
 cyclic_at (l ∷ rest) = at 302 l ++ cyclic_at rest
@@ -63,6 +67,7 @@ abbrev pub outside_by : Given → Outside
 outside_by (Accepted outside) = outside
 outside_by _ = nothing
 
+-- the same of the modules of all names
 abbrev pub files_given : (List ℕ → Given) → List ℕ → Outside
 files_given given name = outside_by (given name)
 
@@ -71,6 +76,7 @@ abbrev pub or_else : List Diagnostic → List Diagnostic → List Diagnostic
 or_else [] others = others
 or_else (fault ∷ rest) others = fault ∷ rest
 
+-- what is at fault in a module, by what the modules are that it names
 abbrev pub all_faults : (List ℕ → Given) → List ℕ → ModuleUnits → List Diagnostic
 all_faults given source units = or_else (import_faults given source units) (faults (findings (files_given given) source units))
 
@@ -79,9 +85,11 @@ abbrev pub unless_any : {A : Type 0} → List Diagnostic → List A → List A
 unless_any [] items = items
 unless_any (fault ∷ rest) items = []
 
+-- the uses of names in a module, each with its declaration
 abbrev pub all_uses : (List ℕ → Given) → List ℕ → ModuleUnits → List Use
 all_uses given source units = unless_any (import_faults given source units) (map (λ r. r.«use») (resolved (findings (files_given given) source units)))
 
+-- the declarations of a module's text
 abbrev pub all_decls : (List ℕ → Given) → List ℕ → ModuleUnits → List Decl
 all_decls given source units = unless_any (import_faults given source units) (decls (text_of source units) (declaring units.units))
 

@@ -33,10 +33,12 @@ abbrev pub meant_by : Lexeme → Meaning → List Resolved
 meant_by l BuiltIn = []
 meant_by l (Declared entity callee) = record { «use» = use_of l callee.decl; entity = entity; callee = callee } ∷ []
 
+-- what is found at one name, as a use where it means a declaration
 abbrev pub resolved_at : Finding → List Resolved
 resolved_at (Means l meaning) = meant_by l meaning
 resolved_at _ = []
 
+-- the same of all findings, in their order
 abbrev pub resolved : List Finding → List Resolved
 resolved [] = []
 resolved (finding ∷ rest) = resolved_at finding ++ resolved rest
@@ -46,10 +48,12 @@ abbrev pub replaced_by : Lexeme → Meaning → Meaning → List Replaced
 replaced_by l (Declared parameter replaced) (Declared symbol callee) = record { at = l.span; parameter = parameter; symbol = symbol; callee = callee } ∷ []
 replaced_by l parameter meaning = []
 
+-- what is found at one name, as a replacement where it is one that is not written
 abbrev pub implied_at : Finding → List Replaced
 implied_at (Implied l parameter meaning) = replaced_by l parameter meaning
 implied_at _ = []
 
+-- the same of all findings, in their order
 abbrev pub implied : List Finding → List Replaced
 implied [] = []
 implied (finding ∷ rest) = implied_at finding ++ implied rest
@@ -58,9 +62,11 @@ implied (finding ∷ rest) = implied_at finding ++ implied rest
 abbrev pub decls : Text → List Binder → List Decl
 decls text names = map (λ binder. record { id = declaration text binder.name; name = binder.name.span; entity = binder.entity }) names
 
+-- a fault of this code at the place of a lexeme
 abbrev pub at : ℕ → Lexeme → List Diagnostic
 at code l = record { code = code; span = l.span } ∷ []
 
+-- a finding as a fault; a use that means something is none, nor is a replacement that is not written
 abbrev pub fault : Finding → List Diagnostic
 fault (Means l meaning) = []
 fault (Unknown l) = at 401 l
@@ -72,6 +78,7 @@ fault (ReplacedTwice l) = at 406 l
 fault (Unreplaced l) = at 407 l
 fault (Implied l parameter meaning) = []
 
+-- the faults among findings, in their order
 abbrev pub faults : List Finding → List Diagnostic
 faults [] = []
 faults (finding ∷ rest) = fault finding ++ faults rest

@@ -30,6 +30,7 @@ stands_behind (entity.Definition orders) = true
 stands_behind (entity.Instance orders) = true
 stands_behind _ = false
 
+-- a meaning is an entity of this kind; what is built in is no entity
 abbrev pub is_meant : (Entity → Bool) → Meaning → Bool
 is_meant which BuiltIn = false
 is_meant which (Declared entity callee) = which entity
@@ -44,6 +45,7 @@ carried entries = filter (λ entry. is_meant stands_behind entry.1) entries
 
 -- ---- what a module is to one that names it
 
+-- what is found, and no entries where nothing is
 abbrev pub or_none : Option Exports → Exports
 or_none None = []
 or_none (Some exports) = exports
@@ -63,6 +65,7 @@ pub record Outside : Type 0 where
   pub parameters : Exports
   pub behind : DeclId → Exports
 
+-- what a module that is not there, or not accepted, is to others
 abbrev pub nothing : Outside
 nothing = record { exports = []; parameters = []; behind = λ decl. [] }
 
@@ -72,15 +75,17 @@ exports_by files name = (files name).exports
 
 -- ---- tables as lists
 
--- a table as a list: identifiers, then symbols
+-- the identifiers of a table as entries
 abbrev pub of_words : List (List ℕ × Meaning) → Exports
 of_words [] = []
 of_words (entry ∷ rest) = (Word entry.0, entry.1) ∷ of_words rest
 
+-- the symbols of a table as entries
 abbrev pub of_symbols : List (Op × Meaning) → Exports
 of_symbols [] = []
 of_symbols (entry ∷ rest) = (Symbol entry.0, entry.1) ∷ of_symbols rest
 
+-- a table as a list: identifiers, then symbols
 abbrev pub exports_of : Table Meaning → Exports
 exports_of table = of_words table.words ++ of_symbols table.symbols
 
@@ -110,13 +115,16 @@ abbrev pub part_behind : List Held → List ℕ → List Instance → Behind
 part_behind parts places [] = []
 part_behind parts places (instance ∷ rest) = under instance.name (carried (part_exports parts (slice_get places instance.«module»))) ++ part_behind parts places rest
 
+-- behind the instances of these parts, whose modules have their places among all parts of the face
 abbrev pub parts_behind : List Held → List Held → Behind
 parts_behind all [] = []
 parts_behind all (part ∷ rest) = part_behind all part.places part.interface.instances ++ parts_behind all rest
 
+-- what a module with this face is to one that names it
 abbrev pub face_outside : List Held → Outside
 face_outside parts = record { exports = face_exports parts; parameters = parameters_in (face_exports parts); behind = behind_in (parts_behind parts parts) }
 
+-- what an import is to the module that names it; one at fault is nothing
 abbrev pub import_outside : Option Import → Outside
 import_outside (Some (Import.Module face)) = face_outside (arc_value face).parts
 import_outside _ = nothing

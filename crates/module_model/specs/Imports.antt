@@ -13,6 +13,7 @@ abbrev pub import_of : Imports → List ℕ → Option Import
 import_of [] name = None
 import_of (entry ∷ rest) name = if bytes_eq name entry.0 then Some entry.1 else import_of rest name
 
+-- no import stands under the name
 abbrev pub HasNoImport : Imports → List ℕ → Type 0
 HasNoImport imports name = import_of imports name ≡ None
 

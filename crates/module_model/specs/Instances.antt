@@ -77,6 +77,7 @@ abbrev pub passed : UnitId → Exports → Exports → Exports
 passed unit [] entries = entries
 passed unit (parameter ∷ parameters) entries = map (λ entry. (entry.0, through unit entry.1)) entries
 
+-- what this INSTANCE without a name brings of a module: its definitions and instances
 abbrev pub brought_by : UnitId → Outside → Exports
 brought_by unit outside = passed unit outside.parameters (carried outside.exports)
 
@@ -108,21 +109,26 @@ path_start Form.Identifier (Cons (Node (Form.Segment l) s arguments) (Cons x res
 path_start form parts = []
 
 abbrev mutual
+  -- the instances that a tree names, with the names of their modules, in the order of the text
   pub named_instances : Tree → List (Lexeme × Lexeme)
   named_instances (Node form s parts) = named_instance form parts ++ all_named_instances parts
 
+  -- the same of several trees
   pub all_named_instances : Trees → List (Lexeme × Lexeme)
   all_named_instances Nil = []
   all_named_instances (Cons x rest) = named_instances x ++ all_named_instances rest
 
 abbrev mutual
+  -- where the paths that lead through an instance begin in a tree, in the order of the text
   pub path_starts : Tree → List ℕ
   path_starts (Node form s parts) = path_start form parts ++ all_path_starts parts
 
+  -- the same of several trees
   pub all_path_starts : Trees → List ℕ
   all_path_starts Nil = []
   all_path_starts (Cons x rest) = path_starts x ++ all_path_starts rest
 
+-- where the paths through instances begin in these units, in order
 abbrev pub paths_in : List UnitTree → List ℕ
 paths_in [] = []
 paths_in (unit ∷ units) = all_path_starts (unit_trees unit) ++ paths_in units

@@ -10,9 +10,11 @@ pub record Held : Type 0 where
   pub interface : Interface
   pub places : List ℕ
 
+-- a part of a face, whoever shares its interface
 abbrev pub held_in : Part → Held
 held_in part = record { interface = arc_value part.interface; places = part.places }
 
+-- the parts of a face, in order
 abbrev pub held : List Part → List Held
 held parts = map held_in parts
 

@@ -11,6 +11,7 @@ use Rattle.name_context.specs.declared.context.Context.{Context}
 use Rattle.name_context.specs.declared.context.Named.TheVariants as named
 use Rattle.name_context.specs.declared.context.Mark.{Mark}
 
+-- the words of a table in code, each with its value
 abbrev pub words_of : {V : Type 0} → List (Bor (List ℕ) × V) → List (List ℕ × V)
 words_of entries = map (λ entry. (entry.0.now, entry.1)) entries
 
@@ -23,6 +24,7 @@ taken_words (Some table) = table.now.words
 abbrev pub usable : List ℕ × Meaning → List ℕ × Option Meaning
 usable entry = (entry.0, Some entry.1)
 
+-- the same of all words of a table
 abbrev pub usable_words : List (List ℕ × Meaning) → List (List ℕ × Option Meaning)
 usable_words words = map usable words
 
@@ -34,6 +36,7 @@ first_words context = words_of context.before.entries
 abbrev pub behind : Context → List (List ℕ × Option Meaning)
 behind context = usable_words (take context.shared_len (taken_words context.taken)) ++ words_of context.words.entries
 
+-- what a context in code means, with all its words in the order in which they count
 abbrev pub context_of : Context → contexts.Context
 context_of context = record { words = first_words context ++ behind context; symbols = context.symbols.items }
 
@@ -48,10 +51,12 @@ pub record CanTake (context : Context) (words : List (List ℕ × Meaning)) : Ty
   pub once : AreNew bytes_eq [] words
   pub apart : AreApart words (words_of context.words.entries)
 
+-- a name as the code asks for it, as a name of the definitions
 abbrev pub meant_by : named.the_data → tables.Named
 meant_by (named.Word word) = tables.Word word.now
 meant_by (named.Symbol op) = tables.Symbol op
 
+-- the mark of all names that a table has now
 abbrev pub mark_of : {V : Type 0} → Table V → Mark
 mark_of table = record { words = length table.words; symbols = length table.symbols }
 

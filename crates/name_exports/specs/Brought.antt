@@ -13,6 +13,7 @@ use Rattle.module_model.specs.Modules.{Reading, brings_clash, clashes, extended,
 use Rattle.name_exports.specs.declared.exported.Names.{Names}
 use Rattle.name_context.specs.AsTables.{AreApart, behind, context_of, first_words, usable_words}
 
+-- both are the same INSTANCE in the same module's text
 abbrev pub same_unit : UnitId → UnitId → Bool
 same_unit a b = bytes_eq a.«module» b.«module» && nat_eq a.place b.place
 

@@ -7,6 +7,7 @@ use Rattle.tla_model.specs.Entities.{Meaning, BuiltIn, Binder, Text, meant, name
 abbrev pub Context : Type 0
 Context = Table (Option Meaning)
 
+-- what stands under a name, if something does and it can be used
 abbrev pub usable : Option (Option Meaning) → Option Meaning
 usable None = None
 usable (Some meaning) = meaning
@@ -19,9 +20,11 @@ meaning_of context name = usable (find context name)
 abbrev pub built_in : Context
 built_in = record { words = (codes "TRUE", Some BuiltIn) ∷ (codes "FALSE", Some BuiltIn) ∷ (codes "BOOLEAN", Some BuiltIn) ∷ (codes "STRING", Some BuiltIn) ∷ []; symbols = [] }
 
+-- a declared or bound name means itself from here on, unless the name is taken
 abbrev pub bind : Text → Context → Binder → Context
 bind text context binder = put context (name_of text.source binder.name) (Some (meant text binder))
 
+-- the same of several names, one after another
 abbrev pub bind_all : Text → Context → List Binder → Context
 bind_all text context [] = context
 bind_all text context (binder ∷ rest) = bind_all text (bind text context binder) rest

@@ -18,6 +18,7 @@ use Rattle.unit_grammar.specs.Units.{UnitTree, Variables, Constants, OperatorDef
 pub use Rattle.tla_model.specs.declared.names.Meaning.TheVariants.{BuiltIn, Declared}
 pub use Rattle.tla_model.specs.declared.names.Binder.{Binder}
 
+-- what a declared or bound name stands for
 abbrev pub Entity : Type 0
 Entity = entity.the_data
 
@@ -26,6 +27,7 @@ abbrev pub name_by : List ℕ → Kind → Named
 name_by bytes (LexKind.Sym op) = Symbol op
 name_by bytes _ = Word bytes
 
+-- the name that a lexeme of the text is
 abbrev pub name_of : List ℕ → Lexeme → Named
 name_of source l = name_by (spelled source l) l.kind
 
@@ -33,9 +35,11 @@ name_of source l = name_by (spelled source l) l.kind
 abbrev pub Meaning : Type 0
 Meaning = meaning.the_data
 
+-- both are the same declaring name of the same module's text
 abbrev pub same_decl : DeclId → DeclId → Bool
 same_decl a b = bytes_eq a.«module» b.«module» && nat_eq a.place b.place
 
+-- both came through the same INSTANCEs, in the same order
 abbrev pub same_units : List UnitId → List UnitId → Bool
 same_units [] [] = true
 same_units (a ∷ as_) (b ∷ bs) = bytes_eq a.«module» b.«module» && nat_eq a.place b.place && same_units as_ bs
@@ -53,6 +57,7 @@ same_meaning _ _ = false
 abbrev pub Binding : Type 0
 Binding = as_binding.the_data
 
+-- the entity of a name with so many places that is declared or bound so
 abbrev pub entity_of : Binding → ℕ → Entity
 entity_of as_binding.Constant places = entity.Constant places
 entity_of as_binding.Parameter places = entity.Parameter places
@@ -78,6 +83,7 @@ placed (Form.InfixParameter l) = (l, 2) ∷ []
 placed (Form.PostfixParameter l) = (l, 1) ∷ []
 placed _ = []
 
+-- the same of each of these parts; what stands inside them is not looked at
 abbrev pub all_placed : Trees → List (Lexeme × ℕ)
 all_placed Nil = []
 all_placed (Cons (Node form s parts) rest) = placed form ++ all_placed rest
@@ -97,6 +103,7 @@ pub data Defines : Type 0 where
   Function : (l : Lexeme) → Defines
   Module : (l : Lexeme) → Defines
 
+-- what a form defines, by its name; a form that is no definition defines nothing
 abbrev pub defines : Form → Defines
 defines (Form.OperatorDefinition l) = Operator l
 defines (Form.PrefixDefinition l) = Operator l
@@ -106,6 +113,7 @@ defines (Form.FunctionDefinition l) = Function l
 defines (Form.ModuleDefinition l) = Module l
 defines _ = Nothing
 
+-- the name with its entity: operators and instances have orders of parameters, a function has none
 abbrev pub defined_as : Defines → Trees → List Binder
 defined_as Nothing parts = []
 defined_as (Operator l) parts = record { name = l; entity = entity.Definition (orders parts) } ∷ []
@@ -144,17 +152,21 @@ abbrev mutual
       bound_as binding (placed form)
       ++ (if follows_first form then declared_round form parts else defined form parts ++ declared_among (binding_in binding form) parts)
 
+  -- the same of the parts of a form that defines a symbol behind its first part
   pub declared_round : Form → Trees → List Binder
   declared_round form Nil = defined form Nil
   declared_round form (Cons x rest) = declared_in (binding_of form) x ++ defined form (Cons x rest) ++ declared_among (binding_of form) rest
 
+  -- the same of several trees, one after another
   pub declared_among : Binding → Trees → List Binder
   declared_among binding Nil = []
   declared_among binding (Cons x rest) = declared_in binding x ++ declared_among binding rest
 
+-- the names that the tree of a unit declares and binds, its own among them
 abbrev pub within : Tree → List Binder
 within x = declared_in (as_binding.Bound false) x
 
+-- the names of variables, as they are declared
 abbrev pub variables : List Lexeme → List Binder
 variables names = map (λ name. record { name = name; entity = entity.Variable }) names
 
@@ -171,6 +183,7 @@ declared_by (Theorem word name x) = within x
 declared_by (ModuleBegin name extends) = record { name = name; entity = entity.Module } ∷ []
 declared_by _ = []
 
+-- the declaring names of these units, in the order of the text
 abbrev pub declaring : List UnitTree → List Binder
 declaring [] = []
 declaring (unit ∷ units) = declared_by unit ++ declaring units
@@ -196,5 +209,6 @@ declaration text l = record { «module» = text.file; place = place_in text.star
 abbrev pub own : Text → Lexeme → Callee
 own text l = record { instance = 0; decl = declaration text l; via = [] }
 
+-- what a declaring name means in its own text
 abbrev pub meant : Text → Binder → Meaning
 meant text binder = Declared binder.entity (own text binder.name)

@@ -57,6 +57,7 @@ abbrev mutual
   pub lexemes : Tree → List Lexeme
   lexemes (Node form s parts) = held form ++ all_lexemes parts
 
+  -- the same of several trees, in their order
   pub all_lexemes : Trees → List Lexeme
   all_lexemes Nil = []
   all_lexemes (Cons x rest) = lexemes x ++ all_lexemes rest
@@ -75,6 +76,7 @@ unit_lexemes (Line dashes) = []
 unit_lexemes (ModuleBegin name extends) = name ∷ extends
 unit_lexemes (ModuleEnd closing) = []
 
+-- the same of several units, in their order
 abbrev pub units_lexemes : List UnitTree → List Lexeme
 units_lexemes [] = []
 units_lexemes (unit ∷ units) = unit_lexemes unit ++ units_lexemes units

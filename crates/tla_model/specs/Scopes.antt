@@ -25,6 +25,7 @@ abbrev pub names_in : Bool → Trees → List (Lexeme × ℕ)
 names_in true parts = all_placed parts
 names_in false parts = []
 
+-- the names inside those parts that are groups
 abbrev pub all_grouped : Trees → List (Lexeme × ℕ)
 all_grouped Nil = []
 all_grouped (Cons (Node form s parts) rest) = names_in (is_group form) parts ++ all_grouped rest
@@ -50,13 +51,16 @@ abbrev pub prefixed : Op.the_data → Op.the_data
 prefixed Op.Minus = Op.Negative
 prefixed op = op
 
+-- a symbol as it is spelled, where nothing stands before it that would make it another
 abbrev pub itself : Op.the_data → Op.the_data
 itself op = op
 
+-- a use at the lexeme, by its meaning, which may be none
 abbrev pub found : Lexeme → Option Meaning → List Finding
 found l None = Unknown l ∷ []
 found l (Some meaning) = Means l meaning ∷ []
 
+-- a use of this symbol; one that no module may define is built in and looked up nowhere
 abbrev pub used_as : Context → Lexeme → Op.the_data → List Finding
 used_as context l op = if is_free op then found l (meaning_of context (Symbol op)) else []
 
@@ -70,6 +74,7 @@ module _ (text : Text) where
   abbrev pub refused : Context → Lexeme → List Finding
   refused context l = if has context (name_of text.source l) then Taken l ∷ [] else []
 
+  -- the same of several names, each in the context behind those before it
   abbrev pub all_refused : Context → List Binder → List Finding
   all_refused context [] = []
   all_refused context (binder ∷ rest) = refused context binder.name ++ all_refused (bind text context binder) rest

@@ -15,9 +15,10 @@ shown entry = (entry.0.now, entry.1.now)
 abbrev pub words_of : List (String Global × Meaning) → List (List ℕ × Meaning)
 words_of entries = map (λ entry. (string_bytes entry.0, entry.1)) entries
 
--- those of a stretch, and those of all stretches
+-- those of a stretch
 abbrev pub words_in : {S Z : Type 0} → Arc (IndexMap (String Global) Meaning S) Z → List (List ℕ × Meaning)
 words_in stretch = words_of (arc_value stretch).entries
 
+-- those of all stretches
 abbrev pub all_words : {S Z : Type 0} → List (Arc (IndexMap (String Global) Meaning S) Z) → List (List ℕ × Meaning)
 all_words stretches = flat_map words_in stretches

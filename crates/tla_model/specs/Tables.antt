@@ -10,14 +10,17 @@ pub data Named : Type 0 where
   Word : (bytes : List ℕ) → Named
   Symbol : (op : Op) → Named
 
+-- both are one symbol, in whichever spelling
 abbrev pub same_symbol : Op → Op → Bool
 same_symbol a b = sameb op.the_type a b
 
+-- both are one identifier, or one symbol
 abbrev pub same_named : Named → Named → Bool
 same_named (Word a) (Word b) = bytes_eq a b
 same_named (Symbol a) (Symbol b) = same_symbol a b
 same_named _ _ = false
 
+-- the name is one of these
 abbrev pub is_among : List Named → Named → Bool
 is_among [] name = false
 is_among (other ∷ rest) name = same_named name other || is_among rest name
@@ -41,13 +44,16 @@ pub record Table (V : Type 0) : Type 0 where
   pub words : List (List ℕ × V)
   pub symbols : List (Op × V)
 
+-- a table without names
 abbrev pub empty : {V : Type 0} → Table V
 empty = record { words = []; symbols = [] }
 
+-- the value under a name, if it is there
 abbrev pub find : {V : Type 0} → Table V → Named → Option V
 find table (Word bytes) = lookup bytes_eq table.words bytes
 find table (Symbol op) = lookup same_symbol table.symbols op
 
+-- the name has a value
 abbrev pub has : {V : Type 0} → Table V → Named → Bool
 has table name = is_some (find table name)
 

@@ -7,6 +7,7 @@ use Rattle.tla_model.specs.Tables.{lookup}
 abbrev pub noted : List ℕ → ℕ → Option ℕ
 noted starts start = if nat_lt (place_in starts start) (length starts) then Some (place_in starts start) else None
 
+-- the entries have for each start the place that is noted for it, and places are numbers of 32 bits
 pub record AreNoted (entries : List (ℕ × ℕ)) (starts : List ℕ) : Type 0 where
   pub few : length starts < 2 ^ 32
   pub places : (start : ℕ) → lookup nat_eq entries start ≡ noted starts start

@@ -26,6 +26,7 @@ module _ (text : Text) where
         ++ all_refused text (inside text context form parts) (binders form parts)
         ++ walk_rest (scope text context form parts) parts
 
+    -- the same of several parts, all in one context
     pub walk_each : Context → Trees → List Finding
     walk_each context Nil = []
     walk_each context (Cons x rest) = walk context x ++ walk_each context rest
@@ -40,11 +41,12 @@ module _ (text : Text) where
     walk_chain context Nil = []
     walk_chain context (Cons x rest) = walk context x ++ walk_chain (behind text context x) rest
 
-    -- the sets among the parts, and the others
+    -- the sets among the parts
     pub walk_sets : Context → Trees → List Finding
     walk_sets context Nil = []
     walk_sets context (Cons (Node form s parts) rest) = (if has_set form then walk context (Node form s parts) else []) ++ walk_sets context rest
 
+    -- the parts that are no sets
     pub walk_rest : Context → Trees → List Finding
     walk_rest context Nil = []
     walk_rest context (Cons (Node form s parts) rest) = (if has_set form then [] else walk context (Node form s parts)) ++ walk_rest context rest
@@ -57,6 +59,7 @@ module _ (text : Text) where
         ++ (if is_some (meaning_of context (name_of text.source l)) then unfound context rest else [])
     segments context (Cons _ rest) = []
 
+    -- the second segment is unknown, and its arguments are looked at
     pub unfound : Context → Trees → List Finding
     unfound context Nil = []
     unfound context (Cons (Node (Form.Segment l) s arguments) rest) = Unknown l ∷ walk_each context arguments

@@ -21,6 +21,7 @@ use Rattle.name_context.specs.declared.context.Mark.{Mark}
 use Rattle.name_context.specs.AsTables.{cut}
 use Rattle.declared_names.specs.Nodes.{IsWhole, binders_at, form_at}
 
+-- what is to be done next in a walk
 abbrev pub Task : Type 0
 Task = task.the_data
 
@@ -36,9 +37,11 @@ naming Form.SetImage = how.BoundsLast
 naming (Form.FunctionDefinition l) = how.Function l
 naming _ = how.BoundsFirst
 
+-- visits of these nodes, one after another
 abbrev pub visits : List ℕ → List Task
 visits nodes = map (λ node. task.Visit node) nodes
 
+-- both hold, or neither
 abbrev pub same : Bool → Bool → Bool
 same true b = b
 same false true = false
@@ -48,28 +51,33 @@ same false false = true
 abbrev pub is_chosen : List Node → Bool → ℕ → Bool
 is_chosen nodes sets node = same (has_set (form_at nodes node)) sets
 
--- visits, each with the definition of its name behind it; and the same from the end
+-- visits, each with the definition of its name behind it
 abbrev pub chain : List ℕ → List Task
 chain [] = []
 chain (node ∷ nodes) = task.Visit node ∷ (task.Define node ∷ chain nodes)
 
+-- the same from the end, as it is put on a stack
 abbrev pub chain_back : List ℕ → List Task
 chain_back [] = []
 chain_back (node ∷ nodes) = task.Define node ∷ (task.Visit node ∷ chain_back nodes)
 
+-- the scope that began at a mark is left
 abbrev pub leave : Mark → Task
 leave mark = task.Leave mark
 
+-- a symbol is used as it is spelled
 abbrev pub used : Lexeme → Task
 used l = task.Symbol l
 
--- what is due of a node, before more, by its children: sets of bounds, and then the scope of the names
+-- visits of the children that have a set, or of those that have none
 abbrev pub with_sets : List Node → Bool → List ℕ → List Task
 with_sets nodes sets children = visits (filter (is_chosen nodes sets) children)
 
+-- the names of a node enter the context, the children without a set are visited, and the scope is left
 abbrev pub in_scope : List Node → ℕ → List ℕ → Mark → List Task → List Task
 in_scope nodes node children mark more = task.Bind node ∷ (with_sets nodes false children ++ (task.Leave mark ∷ more))
 
+-- what is due of a node, before more, by its children: sets of bounds, and then the scope of the names
 abbrev pub scope_tasks : List Node → ℕ → List ℕ → Mark → List Task → List Task
 scope_tasks nodes node children mark more = with_sets nodes true children ++ in_scope nodes node children mark more
 
@@ -91,10 +99,12 @@ abbrev pub missing_tasks : Form.the_data → List ℕ → List Task → List Tas
 missing_tasks (Form.Segment l) arguments more = task.Missing l ∷ (visits arguments ++ more)
 missing_tasks _ arguments more = more
 
+-- the same of the first of these segments; those behind it are not looked at
 abbrev pub second_tasks : List Node → List ℕ → List Task → List Task
 second_tasks nodes [] more = more
 second_tasks nodes (x ∷ rest) more = missing_tasks (form_at nodes x) (node_at nodes x).children more
 
+-- the first of these segments is a node whose children are there, if there is one
 abbrev pub IsFirstWhole : List Node → List ℕ → Type 0
 IsFirstWhole nodes [] = Unit {0}
 IsFirstWhole nodes (x ∷ rest) = IsWhole nodes x × AreThere nodes (node_at nodes x).children
@@ -114,6 +124,7 @@ abbrev pub segment_of : Form.the_data → Option Lexeme
 segment_of (Form.Segment l) = Some l
 segment_of _ = None
 
+-- the visit of one node
 abbrev pub visited : ℕ → Task
 visited node = task.Visit node
 
@@ -126,6 +137,7 @@ pub record Outcome : Type 0 where
   pub findings : List Finding
   pub context : Context
 
+-- these findings, and then what an outcome has
 abbrev pub emit : List Finding → Outcome → Outcome
 emit findings outcome = record outcome { findings = findings ++ outcome.findings }
 
@@ -145,11 +157,12 @@ module _ (text : Text) (nodes : List Node) where
   run context (task.Function l ∷ tasks) = run (bind text context (function_name l)) tasks
   run context (task.Leave mark ∷ tasks) = run (cut context mark) tasks
 
-  -- the nodes of a task are there, and its names lie in the text
+  -- the node is there, and the names of its tree lie in the text
   pub record IsNode (node : ℕ) : Type 0 where
     pub there : node < length nodes
     pub lie : AllByRecursion (LiesIn text.source) (lexemes (tree_at nodes node))
 
+  -- the node of a task is there, and its names lie in the text
   abbrev pub IsReady : Task → Type 0
   IsReady (task.Visit node) = IsNode node
   IsReady (task.Bind node) = IsNode node
@@ -157,6 +170,7 @@ module _ (text : Text) (nodes : List Node) where
   IsReady (task.Function l) = LiesIn text.source l
   IsReady _ = Unit {0}
 
+  -- the same of all tasks
   abbrev pub AreReady : List Task → Type 0
   AreReady tasks = AllByRecursion IsReady tasks
 
@@ -165,14 +179,17 @@ module _ (text : Text) (nodes : List Node) where
     pub size : Tree → ℕ
     size (Syntax.Node form s parts) = 6 + sizes parts
 
+    -- the same of several trees
     pub sizes : Trees → ℕ
     sizes Syntax.Nil = 0
     sizes (Syntax.Cons x rest) = 1 + (size x + sizes rest)
 
+  -- how much one task is: a visit as much as its tree, any other task one
   abbrev pub size_of : Task → ℕ
   size_of (task.Visit node) = size (tree_at nodes node)
   size_of _ = 1
 
+  -- how much all tasks are together
   abbrev pub all_size : List Task → ℕ
   all_size [] = 0
   all_size (t ∷ tasks) = size_of t + all_size tasks
