@@ -46,13 +46,15 @@ pub record State : Type 0 where
   -- what the folder holds, where it tells
   pub folder : Option Told
 
--- the most modules, and the most bytes of their texts
+-- the most modules whose texts are held
 abbrev pub most_modules : ℕ
 most_modules = 1024
 
+-- the most bytes of their texts together
 abbrev pub most_bytes : ℕ
 most_bytes = 2 ^ 25
 
+-- the bytes of all texts together
 abbrev pub bytes_of : List ModuleText → ℕ
 bytes_of texts = sum_by (λ text. length text.bytes) texts
 
@@ -104,9 +106,11 @@ IsQuestion (Symbols uri) = ⊤
 IsQuestion BadParams = ⊥
 IsQuestion Unknown = ⊥
 
+-- both are the same line, and the same unit of it
 abbrev pub same_position : Position → Position → Bool
 same_position a b = (a.line == b.line) && (a.unit == b.unit)
 
+-- both have the same ends
 abbrev pub same_area : Area → Area → Bool
 same_area a b = same_position a.start b.start && same_position a.end b.end
 
@@ -117,10 +121,12 @@ same_notes [] (b ∷ bs) = false
 same_notes (a ∷ rest) [] = false
 same_notes (a ∷ rest) (b ∷ bs) = (a.code == b.code) && same_area a.area b.area && same_notes rest bs
 
+-- these are the notes that were last sent, if some were
 abbrev pub was_sent : Option (List Note) → List Note → Bool
 was_sent None notes = false
 was_sent (Some sent) notes = same_notes sent notes
 
+-- an open document gets the notes of its module
 abbrev pub notice : (List ℕ → List Note) → Opened → Due
 notice notes o = record { uri = o.uri; notes = notes o.name }
 
@@ -132,15 +138,18 @@ closing d = record { uri = d.uri; notes = [] }
 abbrev pub others_notice : (List ℕ → List Note) → Opened → List Due
 others_notice notes o = if was_sent o.sent (notes o.name) then [] else notice notes o ∷ []
 
+-- the same of several documents
 abbrev pub others_notices : (List ℕ → List Note) → List Opened → List Due
 others_notices notes [] = []
 others_notices notes (o ∷ os) = others_notice notes o ++ others_notices notes os
 
+-- the same with the named document, which gets a notice in any case: without notes where it is closed
 abbrev pub all_notices : (List ℕ → List Note) → Named → List Opened → List Due
 all_notices notes d [] = closing d ∷ []
 all_notices notes d (o ∷ os) =
     match_ordering (slice_cmp nat_cmp d.name o.name) (closing d ∷ (others_notice notes o ++ others_notices notes os)) (notice notes o ∷ others_notices notes os) (others_notice notes o ++ all_notices notes d os)
 
+-- all notices, with a document that was named or without one
 abbrev pub notices : (List ℕ → List Note) → Option Named → List Opened → List Due
 notices notes None os = others_notices notes os
 notices notes (Some d) os = all_notices notes d os

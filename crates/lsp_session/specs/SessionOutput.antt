@@ -105,6 +105,7 @@ IsAnswered (Symbols uri) = ⊤
 IsAnswered BadParams = ⊥
 IsAnswered Unknown = ⊥
 
+-- a request is answered, or refused with this error
 abbrev pub requested_by : Option ℤ → Meaning → Phase → State → Id → Call → Outcome
 requested_by None m phase s id call = answered m s id call
 requested_by (Some code) m phase s id call = wrote phase s (refused id code)
@@ -113,10 +114,11 @@ requested_by (Some code) m phase s id call = wrote phase s (refused id code)
 abbrev pub requested : Meaning → Phase → State → Id → Call → Outcome
 requested m phase s id call = requested_by (refusal phase call) m phase s id call
 
--- the frame of a notice, and those of several
+-- the frame of a notice
 abbrev pub notice_frame : Due → List ℕ
 notice_frame due = frame_of (notes_content due.uri due.notes)
 
+-- the frames of several notices, one behind the other
 abbrev pub notice_frames : List Due → List ℕ
 notice_frames dues = flat_map notice_frame dues
 
@@ -233,6 +235,7 @@ Adds old new (Err (Limit said)) = new ≡ old
 Adds old new (Err Memory) = (more : List ℕ) × (new ≡ old ++ more)
 Adds old new (Err Spent) = new ≡ old
 
+-- the session ends here, with whatever status
 abbrev pub is_end : Turn → Bool
 is_end On = false
 is_end (Ended status) = true

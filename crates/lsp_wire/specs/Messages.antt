@@ -12,6 +12,7 @@ use Rattle.lsp_wire.specs.Errors.{parse_error, invalid_request}
 use Rattle.lsp_wire.specs.Params.{params_of}
 use Rattle.lsp_wire.specs.Methods.{call_of, notice_of}
 
+-- the id of a number: one that is no integer names no request
 abbrev id_from : Option ℤ → FoundId
 id_from None = Refused
 id_from (Some n) = Valid (Int n)
@@ -48,6 +49,7 @@ with_method Absent None d = Invalid invalid_request Null
 with_method (Valid id) (Some method) d = Request id (call_of method (params_of d))
 with_method Absent (Some method) d = Notice (notice_of method (params_of d))
 
+-- a message by its member `method`, if it has one
 abbrev message_by : Option Data → FoundId → Data → Incoming
 message_by None id d = without_method id d
 message_by (Some method) id d = with_method id (as_str method) d

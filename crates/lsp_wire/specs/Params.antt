@@ -23,10 +23,12 @@ if_small n = if nat_lt n (2 ^ 31) then Some n else None
 abbrev pub small : Data → Option ℕ
 small d = option_and_then if_small (option_and_then as_u64 (as_number d))
 
+-- a `Position` of LSP: a line, and how many UTF-16 units stand before the place in it
 abbrev pub position_of : Data → Option Position
 position_of d =
     option_and_then (λ line. option_map (λ unit. record { line = line; unit = unit }) (option_and_then small (get (codes "character") d))) (option_and_then small (get (codes "line") d))
 
+-- a `Range` of LSP: from its start up to its end
 abbrev pub area_of : Data → Option Area
 area_of d =
     option_and_then (λ start. option_map (λ end. record { start = start; end = end }) (option_and_then position_of (get (codes "end") d))) (option_and_then position_of (get (codes "start") d))
@@ -41,6 +43,7 @@ range_of (Some (string s)) = None
 range_of (Some (array ds)) = None
 range_of (Some (object ms)) = option_map Some (area_of (object ms))
 
+-- a changed text, and the range that it replaces, which is the whole document where none is given
 abbrev pub change_of : Data → Option Change
 change_of d =
     option_and_then (λ text. option_map (λ area. record { area = area; text = text }) (range_of (get (codes "range") d))) (text_at (codes "text") d)
@@ -50,6 +53,7 @@ abbrev pub all_of : {A : Type 0} → (Data → Option A) → Items → Option (L
 all_of one no_items = Some []
 all_of one (item d ds) = option_and_then (λ x. option_map (λ xs. x ∷ xs) (all_of one ds)) (one d)
 
+-- the changes of a document, in the order in which they were made
 abbrev pub changes_of : Data → Option (List Change)
 changes_of params = option_and_then (all_of change_of) (option_and_then as_array (get (codes "contentChanges") params))
 
@@ -57,13 +61,16 @@ changes_of params = option_and_then (all_of change_of) (option_and_then as_array
 abbrev pub gone_from : ℕ → Option Bool
 gone_from n = if n == 1 then Some false else (if n == 2 then Some false else (if n == 3 then Some true else None))
 
+-- whether the type of a file's event says that the file was deleted
 abbrev pub gone_of : Data → Option Bool
 gone_of d = option_and_then gone_from (option_and_then as_u64 (as_number d))
 
+-- a file of the folder, and whether it was deleted
 abbrev pub event_of : Data → Option FileEvent
 event_of d =
     option_and_then (λ uri. option_map (λ gone. record { uri = uri; gone = gone }) (option_and_then gone_of (get (codes "type") d))) (text_at (codes "uri") d)
 
+-- the events of the folder's files, in their order
 abbrev pub events_of : Data → Option (List FileEvent)
 events_of params = option_and_then (all_of event_of) (option_and_then as_array (get (codes "changes") params))
 
@@ -80,6 +87,7 @@ abbrev pub with_declaration : Data → Option Bool
 with_declaration params =
     option_and_then as_bool (option_and_then (get (codes "includeDeclaration")) (get (codes "context") params))
 
+-- the first of two that is there
 abbrev pub or_else : {A : Type 0} → Option A → Option A → Option A
 or_else (Some x) other = Some x
 or_else None other = other

@@ -16,6 +16,7 @@ result_data (Place location) = location_data location
 result_data (Places locations) = array (items_of (map location_data locations))
 result_data (Symbols symbols) = array (items_of (map symbol_data symbols))
 
+-- the answer of JSON-RPC with a result, for the request of this id
 abbrev pub reply_message : Id → Reply → Data
 reply_message id reply =
     object (member (codes "id") (id_data id) (member (codes "jsonrpc") (string (codes "2.0")) (member (codes "result") (result_data reply) no_members)))
@@ -25,9 +26,12 @@ unfoldable pub reply_content : Id → Reply → List ℕ
 reply_content id reply = compact_text (reply_message id reply)
 
 -- ---- for private clauses: the result's text, reply by reply
+
+-- the text of what the server can do
 unfoldable pub initialized_text : List ℕ
 initialized_text = compact_text initialized_data
 
+-- the text of a reply's result
 unfoldable pub result_text : Reply → List ℕ
 result_text Initialized = initialized_text
 result_text Null = compact_text null

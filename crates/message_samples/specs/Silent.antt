@@ -16,6 +16,7 @@ silent_state due =
       folder = None;
     }
 
+-- what calls mean to the stand-in
 abbrev pub silent_meaning : Meaning
 silent_meaning =
     record {

@@ -21,6 +21,7 @@ abbrev pub step_fork : Header → ℕ → Option Header
 step_fork h b =
     if to_ascii_lowercase b == 108 then (if is_some h.length then None else Some (at h (Name ContentLength 1))) else (if to_ascii_lowercase b == 116 then (if h.typed then None else Some (at h (Name ContentType 1))) else None)
 
+-- in what the names share, by the letter that must stand there, or behind all of it
 abbrev pub step_prefix_at : Option ℕ → Header → ℕ → ℕ → Option Header
 step_prefix_at None h letters b = step_fork h b
 step_prefix_at (Some letter) h letters b =
@@ -45,6 +46,7 @@ abbrev pub value_part : Field → Part
 value_part ContentLength = Spaces 1009
 value_part ContentType = Value 1011
 
+-- in a field's own part of its name, by the letter that must stand there, or at the colon behind it
 abbrev pub step_name_at : Option ℕ → Header → Field → ℕ → ℕ → Option Header
 step_name_at None h field letters b = if b == 58 then Some (at h (value_part field)) else None
 step_name_at (Some letter) h field letters b =
@@ -78,6 +80,7 @@ step_value h left b =
 abbrev pub step_feed : Header → Part → ℕ → Option Header
 step_feed h part b = if b == 10 then Some (at h part) else None
 
+-- after the next byte, by where the reader stands
 abbrev pub step_at : Part → Header → ℕ → Option Header
 step_at LineStart h b = step_line_start h b
 step_at (Prefix letters) h b = step_prefix h letters b
@@ -108,6 +111,7 @@ IsOpen None typed = Unit {0}
 IsOpen (Some said) true = ⊥
 IsOpen (Some said) false = Unit {0}
 
+-- what is true of a reader that stands at this part of a header
 abbrev pub IsLiveAt : Part → Header → Type 0
 IsLiveAt LineStart h = Unit {0}
 IsLiveAt (Prefix letters) h = IsOpen h.length h.typed
@@ -135,6 +139,7 @@ said_at LineFeed said = None
 said_at LastFeed said = None
 said_at Whole said = said
 
+-- the length that a header says, once it is whole
 abbrev pub said_by : Header → Option ℕ
 said_by h = said_at h.part h.length
 
