@@ -28,8 +28,10 @@ seen (fact f) = 3 + f.face
 abbrev pub below : List (List ℕ × State SampleFact) → ℕ
 below given = fold (λ n g. (n * 31 + seen g.1) % 65536) 0 given
 
+-- the fact of a text: its face, its part that is not seen, and the digest of what its needs give
 abbrev pub fact_of : List ℕ → List ℕ → List (List ℕ × State SampleFact) → SampleFact
 fact_of name own given = record { face = slice_index own 0; hidden = slice_index own 1; below = below given }
 
+-- facts are alike by their faces alone
 abbrev pub same : SampleFact → SampleFact → Bool
 same a b = a.face == b.face

@@ -8,12 +8,14 @@ use Rattle.fact_store.specs.declared.given.Answer.TheVariants as answer
 use Rattle.fact_values.specs.States.{State, no_text, cyclic, broken, fact}
 
 module _ {F : Type 0} where
+  -- what a need gave, as a state
   abbrev pub gave_state : Gave F → State F
   gave_state gave.NoText = no_text
   gave_state gave.Cyclic = cyclic
   gave_state gave.Broken = broken
   gave_state (gave.Fact shared) = fact (arc_value shared)
 
+  -- what is answered about a text, as a state
   abbrev pub answer_state : Answer F → State F
   answer_state answer.NoText = no_text
   answer_state answer.Broken = broken

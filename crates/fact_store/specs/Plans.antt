@@ -15,9 +15,11 @@ among places place = list_any (nat_eq place) places
 abbrev pub Edges : Type 0
 Edges = List (Vec ℕ Global)
 
+-- with each marked place all that it needs are marked
 abbrev pub AreClosed : Edges → (ℕ → Bool) → Type 0
 AreClosed edges marked = (i j : ℕ) (row : Vec ℕ Global) → marked i ≡ true → slice_get edges i ≡ Some row → among row.items j ≡ true → marked j ≡ true
 
+-- a place is marked; one beyond the marks is not
 abbrev pub is_marked : List Bool → ℕ → Bool
 is_marked marks i = got (slice_get marks i)
   where
@@ -72,6 +74,7 @@ module _ {Own F : Type 0} where
 abbrev pub IsRank : Edges → ℕ → ℕ → Type 0
 IsRank edges place rank = (places : List ℕ) × AreReached edges place places × (rank ≡ length places)
 
+-- each place has its rank
 pub record AreRanks (edges : Edges) (ranks : List ℕ) : Type 0 where
   pub long : length ranks ≡ length edges
   pub each : (i : ℕ) → i < length ranks → IsRank edges i (slice_index ranks i)

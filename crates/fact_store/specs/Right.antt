@@ -26,6 +26,7 @@ module _ {Own F : Type 0} where
   abbrev pub outline : Slot Own F → List ℕ × List ℕ × Own × Option (List (List ℕ))
   outline slot = (slot.name, slot.bytes, slot.own, slot.needs)
 
+  -- the same of all slots
   abbrev pub outlines : List (Slot Own F) → List (List ℕ × List ℕ × Own × Option (List (List ℕ)))
   outlines slots = map outline slots
 
@@ -35,6 +36,7 @@ module _ {Own F : Type 0} where
     pub ranks : AreRanks plan.edges.items plan.ranks.items
     pub grounds : AreGrounds plan.edges.items plan.ranks.items plan.grounds.items
 
+  -- a plan is that of these slots, if there is one
   abbrev pub HoldsPlan : List (Slot Own F) → Option Plan → Type 0
   HoldsPlan slots None = Unit {0}
   HoldsPlan slots (Some plan) = IsPlan slots plan

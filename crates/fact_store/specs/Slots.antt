@@ -42,11 +42,13 @@ module _ {Own F : Type 0} where
       pub made : (kept : Kept F) → slot.kept ≡ Some kept → arc_value kept.fact ≡ fact_of slot.name (own_of slot.name (source kept slot.bytes)) (states kept.given)
       pub elsewhere : (kept : Kept F) (bytes : List ℕ) → slot.kept ≡ Some kept → kept.from ≡ Some bytes → name_eq bytes slot.bytes ≡ false
 
+    -- all slots are sound, and no two have one name
     pub record AreSound (slots : List (Slot Own F)) : Type 0 where
       pub each : (i : ℕ) (slot : Slot Own F) → slice_get slots i ≡ Some slot → IsSound slot
       pub distinct : AreDistinct slots
 
     module _ (same : F → F → Bool) where
+      -- whether a fact was made from these bytes, and from what the needs of the name give in these texts
       abbrev pub is_made_from : Texts → List ℕ → List ℕ → Option (Kept F) → Bool
       is_made_from texts name bytes None = false
       is_made_from texts name bytes (Some kept) = name_eq (source kept bytes) bytes && same_given same (states kept.given) (given_in own_of needs_of fact_of texts name)

@@ -12,6 +12,7 @@ needs_or_none None = []
 needs_or_none (Some names) = names
 
 module _ {Own F : Type 0} (own_of : List ℕ → List ℕ → Own) (needs_of : Own → Option (List (List ℕ))) (fact_of : List ℕ → Own → List (List ℕ × State F) → F) where
+  -- the needs of a text under a name; without a text there are none
   abbrev pub needs_of_text : List ℕ → Option (List ℕ) → List (List ℕ)
   needs_of_text name None = []
   needs_of_text name (Some bytes) = needs_or_none (needs_of (own_of name bytes))
@@ -32,10 +33,12 @@ module _ {Own F : Type 0} (own_of : List ℕ → List ℕ → Own) (needs_of : O
   abbrev pub all_given : Texts → (List ℕ → State F) → List ℕ → List (List ℕ) → List (List ℕ × State F)
   all_given texts values name needs = map (λ need. (need, gives texts values name need)) needs
 
+  -- a text whose needs can't be told is broken, and of another one there is a fact
   abbrev pub value_of_needs : Texts → (List ℕ → State F) → List ℕ → Own → Option (List (List ℕ)) → State F
   value_of_needs texts values name own None = broken
   value_of_needs texts values name own (Some needs) = fact (fact_of name own (all_given texts values name needs))
 
+  -- what a name is worth by its text, if it has one
   abbrev pub value_of_text : Texts → (List ℕ → State F) → List ℕ → Option (List ℕ) → State F
   value_of_text texts values name None = no_text
   value_of_text texts values name (Some bytes) = value_of_needs texts values name (own_of name bytes) (needs_of (own_of name bytes))
@@ -57,6 +60,7 @@ module _ {Own F : Type 0} (own_of : List ℕ → List ℕ → Own) (needs_of : O
     pub whole : IsSome (needs_of own)
     pub alike : same_given same given (given_in texts name) ≡ true
 
+  -- both times there is the same text, or none
   abbrev pub same_text : Option (List ℕ) → Option (List ℕ) → Bool
   same_text None None = true
   same_text (Some a) (Some b) = name_eq a b

@@ -21,13 +21,16 @@ abbrev pub fault_line : List ℕ → Diagnostic → List ℕ
 fault_line text fault =
     line_between (place_at Characters text fault.span.start) (place_at Characters text fault.span.end) fault.code
 
+-- the lines on all faults of a text
 abbrev pub fault_lines : List ℕ → List Diagnostic → List ℕ
 fault_lines text [] = []
 fault_lines text (fault ∷ faults) = fault_line text fault ++ fault_lines text faults
 
+-- the line on an accepted module
 abbrev pub acceptance : List ℕ → List ℕ
 acceptance name = name ++ codes " accepted\n"
 
+-- the lines on a refused module: it, and below it each fault
 abbrev pub refusal : List ℕ → List ℕ → List Diagnostic → List ℕ
 refusal name text faults = name ++ (codes " refused\n" ++ fault_lines text faults)
 
@@ -36,10 +39,12 @@ abbrev pub module_lines : List ℕ → List ℕ → List Diagnostic → List ℕ
 module_lines name text [] = acceptance name
 module_lines name text (fault ∷ faults) = refusal name text (fault ∷ faults)
 
+-- the lines on all modules, in their order
 abbrev pub lines_of : List Verdict → List ℕ
 lines_of [] = []
 lines_of (v ∷ vs) = module_lines v.name v.text v.faults ++ lines_of vs
 
+-- there is some fault
 abbrev pub has_faults : List Diagnostic → Bool
 has_faults [] = false
 has_faults (fault ∷ faults) = true
@@ -48,6 +53,7 @@ has_faults (fault ∷ faults) = true
 abbrev pub is_refused : Verdict → Bool
 is_refused v = has_faults v.faults
 
+-- how many modules are refused
 abbrev pub refused_count : List Verdict → ℕ
 refused_count verdicts = count_by is_refused verdicts
 

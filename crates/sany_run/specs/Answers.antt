@@ -17,6 +17,7 @@ is_stopped status = status == 3 || status == 6
 abbrev pub is_done : ℕ → Bool
 is_done status = status == 0 || status == 1 || status == 9
 
+-- a status that a run may end with
 abbrev pub is_status : ℕ → Bool
 is_status status = is_fault status || is_done status || status == 2 || status == 7
 

@@ -24,19 +24,24 @@ LIMIT = silent 7
 abbrev pub NOT_BUILT : Outcome
 NOT_BUILT = silent 9
 
+-- the report is written, and the status is 1 where some module is refused
 abbrev pub reported : List Verdict → Outcome
 reported verdicts = record { status = report_status verdicts; bytes = report verdicts }
 
+-- the report, if the files can be judged as yet
 abbrev pub outcome_of_verdicts : Option (List Verdict) → Outcome
 outcome_of_verdicts None = NOT_BUILT
 outcome_of_verdicts (Some verdicts) = reported verdicts
 
+-- the outcome for these files, over the built-in modules
 abbrev pub outcome_of_files : List File → Outcome
 outcome_of_files files = outcome_of_verdicts (verdicts_if_built files)
 
+-- a folder that passes a limit is not judged
 abbrev pub outcome_of_folder : Told → List ℕ → Outcome
 outcome_of_folder t folder = if is_over_folder t folder then LIMIT else outcome_of_files (files_of t folder)
 
+-- the outcome for the folder that is asked for, if one is
 abbrev pub outcome_of_request : Told → Option (List ℕ) → Outcome
 outcome_of_request t None = USAGE
 outcome_of_request t (Some folder) = outcome_of_folder t folder

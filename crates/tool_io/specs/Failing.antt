@@ -18,6 +18,7 @@ pub record CountsCall (old new : Failures) : Type 0 where
   pub calls : new.calls ≡ next_call old
   pub fails : new.fails ≡ old.fails
 
+-- the object failed; want of memory is no failure of it
 abbrev pub IsFailure : IoFault → Type 0
 IsFailure Failed = Unit {0}
 IsFailure Memory = ⊥
