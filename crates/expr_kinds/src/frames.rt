@@ -136,7 +136,7 @@ pub fn absorbs(wait: Wait) -> Option<Wait>
     }
 }
 
-/// The form of a frame that may end with an expression.
+// The form of a frame that may end with an expression.
 fn ends_with(wait: Wait) -> Option<Form>
     ensures { result ≡ tables.ends_with wait }
 {
@@ -171,7 +171,7 @@ fn ends_with(wait: Wait) -> Option<Form>
     Some(form)
 }
 
-/// The form of a frame that may end with a part that is no expression.
+// The form of a frame that may end with a part that is no expression.
 fn ends_with_part(wait: Wait, shape: Shape) -> Option<Form>
     ensures { result ≡ tables.ends_with_part wait shape }
 {

@@ -21,7 +21,7 @@ pub fn defines(fix: Fix, kind: LexKind) -> bool
     }
 }
 
-/// Whether the lexeme is a symbol that may be passed bare, as an argument.
+// Whether the lexeme is a symbol that may be passed bare, as an argument.
 fn passes(kind: LexKind) -> bool
     ensures { result ≡ tables.passes kind }
 {

@@ -23,7 +23,7 @@ use tla_tree::{Form, Tree};
 use tool_list::Memory;
 use tree_parts::{Part, leaf};
 
-/// The bounds of a function may begin as an operand.
+// The bounds of a function may begin as an operand.
 fn entry(wait: Wait) -> Wait
     ensures { result ≡ machine.entry wait }
 {
@@ -33,7 +33,7 @@ fn entry(wait: Wait) -> Wait
     }
 }
 
-/// The place of the lexeme that a frame hands to its part.
+// The place of the lexeme that a frame hands to its part.
 fn handed(wait: Wait) -> Option<Span>
     ensures { (part : tables.Child) → tables.child wait ≡ Some part → result ≡ place_of part.read }
 {
@@ -55,7 +55,7 @@ pub(crate) fn goes_on(stack: &mut Stack, wait: Wait, opening: Opening) -> Result
     Ok(Turn::Due)
 }
 
-/// A frame begins with the lexeme.
+// A frame begins with the lexeme.
 fn push(stack: &mut Stack, wait: Wait, lexeme: Lexeme) -> Result<Turn, Memory>
     ensures { IfOk result (λ turn. (nodes : List Node) → (frames : List machine.Frame) → Stands nodes stack.old frames → IsTurn nodes stack.new turn (Some (machine.ready (machine.frame wait [] (lexeme ∷ []) ∷ frames)))) }
 {
@@ -64,7 +64,7 @@ fn push(stack: &mut Stack, wait: Wait, lexeme: Lexeme) -> Result<Turn, Memory>
     Ok(turn)
 }
 
-/// A frame begins with the lexeme, and with a part that is made of it.
+// A frame begins with the lexeme, and with a part that is made of it.
 fn push_part(stack: &mut Stack, wait: Wait, part: Part) -> Result<Turn, Memory>
     ensures { IfOk result (λ turn. (nodes : List Node) → (frames : List machine.Frame) → (tree : syntax.Tree) → (spelled : List Lexeme) → Stands nodes stack.old frames → IsPart nodes part tree spelled → IsTurn nodes stack.new turn (Some (machine.ready (machine.frame wait (tree ∷ []) spelled ∷ frames)))) }
 {
@@ -74,7 +74,7 @@ fn push_part(stack: &mut Stack, wait: Wait, part: Part) -> Result<Turn, Memory>
     Ok(turn)
 }
 
-/// The frame takes a leaf that is made of a lexeme, and reads a lexeme, which may be another.
+// The frame takes a leaf that is made of a lexeme, and reads a lexeme, which may be another.
 fn take_leaf(
     stack: &mut Stack,
     tree: &mut Tree,
@@ -116,7 +116,7 @@ pub(crate) fn complete(stack: &mut Stack, part: Part) -> Result<Turn, Memory>
     }
 }
 
-/// The frame's node, which closes with a lexeme.
+// The frame's node, which closes with a lexeme.
 fn close_with(
     stack: &mut Stack,
     tree: &mut Tree,
@@ -132,7 +132,7 @@ fn close_with(
     Ok(turn)
 }
 
-/// A frame ends before the lexeme, if it may end without a further part.
+// A frame ends before the lexeme, if it may end without a further part.
 fn end(stack: &mut Stack, tree: &mut Tree, frame: Frame, lexeme: Lexeme) -> Result<Turn, Memory>
     requires { IsOpen tree.old stack.old frame.opening }
     ensures { IfOk result (λ turn. (top : machine.Frame) → (below : List machine.Frame) → frame.wait ≡ top.wait → Opens tree.old stack.old frame.opening top.parts top.read below → Turns tree.old tree.new stack.new turn (machine.ended (tables.endable top.wait (Some lexeme.kind)) top below lexeme) (counting.made_ended (tables.endable top.wait (Some lexeme.kind)) top below lexeme)) }
@@ -145,7 +145,7 @@ fn end(stack: &mut Stack, tree: &mut Tree, frame: Frame, lexeme: Lexeme) -> Resu
     Ok(turn)
 }
 
-/// Whether there is room to count one place more of an operator's parameter.
+// Whether there is room to count one place more of an operator's parameter.
 fn counts(wait: Wait) -> bool
     ensures { IsTrue result ↔ tables.places_of wait < 2 ^ 32 - 1 }
 {
@@ -155,7 +155,7 @@ fn counts(wait: Wait) -> bool
     }
 }
 
-/// A lexeme of the frame's own form.
+// A lexeme of the frame's own form.
 fn mark(stack: &mut Stack, tree: &mut Tree, frame: Frame, lexeme: Lexeme) -> Result<Turn, Memory>
     requires { IsOpen tree.old stack.old frame.opening }
     ensures { IfOk result (λ turn. (top : machine.Frame) → (below : List machine.Frame) → frame.wait ≡ top.wait → Opens tree.old stack.old frame.opening top.parts top.read below → Turns tree.old tree.new stack.new turn (machine.marked (tables.at_mark top.wait lexeme) top below lexeme) (counting.made_mark (tables.at_mark top.wait lexeme) top below lexeme)) }
@@ -197,7 +197,7 @@ fn mark(stack: &mut Stack, tree: &mut Tree, frame: Frame, lexeme: Lexeme) -> Res
     }
 }
 
-/// A lexeme of the innermost frame's own form.
+// A lexeme of the innermost frame's own form.
 fn mark_top(stack: &mut Stack, tree: &mut Tree, lexeme: Lexeme) -> Result<Turn, Memory>
     requires { IsDue tree.old stack.old }
     ensures { IfOk result (λ turn. (top : machine.Frame) → (below : List machine.Frame) → Stands tree.old stack.old (top ∷ below) → Turns tree.old tree.new stack.new turn (machine.marked (tables.at_mark top.wait lexeme) top below lexeme) (counting.made_mark (tables.at_mark top.wait lexeme) top below lexeme)) }
@@ -209,7 +209,7 @@ fn mark_top(stack: &mut Stack, tree: &mut Tree, lexeme: Lexeme) -> Result<Turn, 
     Ok(turn)
 }
 
-/// The innermost frame ends before the lexeme, if it may end without a further part.
+// The innermost frame ends before the lexeme, if it may end without a further part.
 fn end_top(stack: &mut Stack, tree: &mut Tree, lexeme: Lexeme) -> Result<Turn, Memory>
     requires { IsDue tree.old stack.old }
     ensures { IfOk result (λ turn. (top : machine.Frame) → (below : List machine.Frame) → Stands tree.old stack.old (top ∷ below) → Turns tree.old tree.new stack.new turn (machine.ended (tables.endable top.wait (Some lexeme.kind)) top below lexeme) (counting.made_ended (tables.endable top.wait (Some lexeme.kind)) top below lexeme)) }
@@ -221,7 +221,7 @@ fn end_top(stack: &mut Stack, tree: &mut Tree, lexeme: Lexeme) -> Result<Turn, M
     Ok(turn)
 }
 
-/// What the lexeme begins, or else does to the innermost frame.
+// What the lexeme begins, or else does to the innermost frame.
 fn begin(stack: &mut Stack, tree: &mut Tree, start: Start, lexeme: Lexeme) -> Result<Turn, Memory>
     requires { IsDue tree.old stack.old }
     ensures { IfOk result (λ turn. (top : machine.Frame) → (below : List machine.Frame) → Stands tree.old stack.old (top ∷ below) → Turns tree.old tree.new stack.new turn (machine.begun start top below lexeme) (counting.made_begun start top below lexeme)) }

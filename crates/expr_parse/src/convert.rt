@@ -23,7 +23,7 @@ use tla_tree::{Form, Tree};
 use tool_list::Memory;
 use tree_parts::{Part, add, covered, joined};
 
-/// A name that was read as an expression and binds.
+// A name that was read as an expression and binds.
 fn name_node(tree: &mut Tree, node: u32) -> Result<u32, Memory>
     requires { node < length tree.old }
     ensures { IfOk result (λ name. Renamed tree.old tree.new name (tables.name_of (tree_at tree.old node)) (counting.made_name (tree_at tree.old node))) }
@@ -47,7 +47,7 @@ pub(crate) fn name_of(tree: &mut Tree, part: Part) -> Result<Part, Memory>
     })
 }
 
-/// The names of a tuple that was read as an expression and binds.
+// The names of a tuple that was read as an expression and binds.
 fn names_of(alloc: Global, tree: &mut Tree, tuple: u32) -> Result<Vec<u32>, Memory>
     requires { tuple < length tree.old }
     ensures { IfOk result (λ names. AreNames tree.old tree.new names.items (parts_of (tree_at tree.old tuple))) }
@@ -72,7 +72,7 @@ fn child_at(tree: &Tree, node: u32, index: usize) -> u32
     tree.children(node)[index]
 }
 
-/// The operands of an infix form.
+// The operands of an infix form.
 #[derive(Clone, Copy)]
 struct Operands {
     left: u32,
@@ -101,7 +101,7 @@ fn two(children: &[u32]) -> Option<Operands>
     }
 }
 
-/// `x \in e` as a bound.
+// `x \in e` as a bound.
 fn bound_of(
     alloc: Global,
     tree: &mut Tree,
@@ -129,7 +129,7 @@ fn is_tuple(form: Form) -> bool
     matches!(&form, Form::Tuple)
 }
 
-/// A bare form that turns out to be a bound.
+// A bare form that turns out to be a bound.
 fn as_bound(alloc: Global, tree: &mut Tree, part: Part) -> Result<Part, Memory>
     requires { IsThere tree.old part }
     ensures { IfOk result (λ bound. (last : syntax.Tree) → (spelled : List Lexeme) → IsPart tree.old part last spelled → Becomes tree.old tree.new bound (tables.as_bound last spelled) spelled (counting.made_converted Conversion.AsBound last)) }
@@ -144,7 +144,7 @@ fn as_bound(alloc: Global, tree: &mut Tree, part: Part) -> Result<Part, Memory>
     })
 }
 
-/// The value of a field, by the field's name and the mark after it, which were read before.
+// The value of a field, by the field's name and the mark after it, which were read before.
 fn as_field(tree: &mut Tree, part: Part, name: Lexeme, mark: Lexeme) -> Result<Part, Memory>
     requires { IsThere tree.old part }
     ensures { IfOk result (λ field. (last : syntax.Tree) → (spelled : List Lexeme) → IsPart tree.old part last spelled → Becomes tree.old tree.new field (built (Form.Field name) (one last) (name ∷ mark ∷ spelled)) spelled 1) }

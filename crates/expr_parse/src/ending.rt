@@ -43,7 +43,7 @@ fn shape_of_form(form: Form) -> Shape
     }
 }
 
-/// Whether the outermost frame takes a part of this shape as the whole.
+// Whether the outermost frame takes a part of this shape as the whole.
 fn takes_whole(goal: Goal, wait: Wait, shape: Shape) -> bool
     ensures { result ≡ ends.takes_whole goal wait shape }
 {
@@ -59,7 +59,7 @@ fn takes_whole(goal: Goal, wait: Wait, shape: Shape) -> bool
     }
 }
 
-/// Whether all frames end after a part of this shape, and the outermost one takes it as the whole.
+// Whether all frames end after a part of this shape, and the outermost one takes it as the whole.
 fn all_end(goal: Goal, frames: &[Frame], last: Shape) -> bool
     ensures { result ≡ ends.all_end goal (reverse frames.now) last }
 {
@@ -75,7 +75,7 @@ fn all_end(goal: Goal, frames: &[Frame], last: Shape) -> bool
     open == 1 && takes_whole(goal, frames[0].wait, shape)
 }
 
-/// The frames but the innermost.
+// The frames but the innermost.
 fn outer(frames: &[Frame]) -> &[Frame]
     requires { 0 < length frames.now }
     ensures { (last : Frame) → (below : List Frame) → reverse frames.now ≡ last ∷ below → reverse result.now ≡ below }
@@ -83,7 +83,7 @@ fn outer(frames: &[Frame]) -> &[Frame]
     &frames[..frames.len() - 1]
 }
 
-/// Whether what is read is whole after the frames.
+// Whether what is read is whole after the frames.
 fn is_whole_due(stack: &Stack, goal: Goal) -> bool
     ensures { (nodes : List Arena.Node) → (frames : List machine.Frame) → Stands nodes stack.now frames → result ≡ ends.is_whole goal (ends.ending (machine.At frames)) }
 {
@@ -108,7 +108,7 @@ pub(crate) fn is_whole(stack: &Stack, tree: &Tree, turn: Turn, goal: Goal) -> bo
     }
 }
 
-/// Ends all frames but the outermost one after a part. `None` where one may not end.
+// Ends all frames but the outermost one after a part. `None` where one may not end.
 fn close_all(stack: &mut Stack, tree: &mut Tree, operand: Part) -> Result<Option<Part>, Memory>
     requires { IsReady tree.old stack.old operand }
     ensures { IfOk result (λ left. (frames : List machine.Frame) → (part : syntax.Tree) → (spelled : List Lexeme) → Stands tree.old stack.old frames → IsPart tree.old operand part spelled → Closes tree.old tree.new stack.new left (ends.closing frames part spelled) (counting.made_close frames part spelled)) }
@@ -129,7 +129,7 @@ fn close_all(stack: &mut Stack, tree: &mut Tree, operand: Part) -> Result<Option
     Ok(Some(part))
 }
 
-/// The same where a part or a lexeme is due: the innermost frame ends first.
+// The same where a part or a lexeme is due: the innermost frame ends first.
 fn close_due(stack: &mut Stack, tree: &mut Tree) -> Result<Option<Part>, Memory>
     requires { IsDue tree.old stack.old }
     ensures { IfOk result (λ left. (frames : List machine.Frame) → Stands tree.old stack.old frames → Closes tree.old tree.new stack.new left (ends.ending (machine.At frames)) (counting.made_last frames)) }

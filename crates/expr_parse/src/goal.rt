@@ -25,8 +25,8 @@ pub enum Step {
     Refused,
 }
 
-/// Whether an expression of a unit may be done before a lexeme of this kind: before what parts
-/// units or begins one, and what ends modules.
+// Whether an expression of a unit may be done before a lexeme of this kind: before what parts
+// units or begins one, and what ends modules.
 fn stops(kind: LexKind) -> bool
     ensures { result ≡ goals.stops kind }
 {
@@ -39,7 +39,7 @@ fn stops(kind: LexKind) -> bool
     }
 }
 
-/// Whether units begin with the word.
+// Whether units begin with the word.
 fn begins_unit(word: Word) -> bool
     ensures { result ≡ goals.stops (LexKind.Word word) }
 {

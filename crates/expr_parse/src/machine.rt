@@ -26,10 +26,10 @@ use tla_symbols::{LexKind, Lexeme};
 use tla_tree::Tree;
 use tool_list::Memory;
 
-/// Where a machine stands.
+// Where a machine stands.
 #[derive(Clone, Copy)]
 enum Stage {
-    /// Nothing was read.
+    // Nothing was read.
     Begins,
     Goes(Turn),
 }
@@ -44,7 +44,7 @@ pub struct ExprMachine {
     stage: Stage,
 }
 
-/// What a lexeme leads to.
+// What a lexeme leads to.
 fn advance(stack: &mut Stack, tree: &mut Tree, turn: Turn, lexeme: Lexeme) -> Result<Turn, Memory>
     requires { IsTurnReady tree.old stack.old turn }
     ensures { IfOk result (λ next. (state : Option machine.State) → IsTurn tree.old stack.old turn state → Turns tree.old tree.new stack.new next (machine.run state (lexeme ∷ [])) (counting.made_run state (lexeme ∷ []))) }
@@ -122,7 +122,7 @@ impl ExprMachine {
         Ok(step)
     }
 
-    /// Where the machine stands, with its outermost frame on the stack.
+    // Where the machine stands, with its outermost frame on the stack.
     fn begun(&mut self) -> Result<Turn, Memory>
         ensures turn { IfOk result (λ turn. (nodes : List Arena.Node) → (state : Option machine.State) → StandsAt nodes self.old self.old.stage state → IsTurn nodes self.new.stack turn state) }
         ensures goal { self.new.goal ≡ self.old.goal }
@@ -136,7 +136,7 @@ impl ExprMachine {
         }
     }
 
-    /// Whether what is read is whole, and a lexeme of this kind may follow.
+    // Whether what is read is whole, and a lexeme of this kind may follow.
     fn ends(&self, tree: &Tree, turn: Turn, kind: LexKind) -> bool
         requires { IsTurnReady tree.now self.now.stack turn }
         ensures { (state : Option machine.State) → IsTurn tree.now self.now.stack turn state → result ≡ cond (goals.may_end self.now.goal kind) (ends.is_whole self.now.goal (ends.ending_of state)) false }
@@ -144,7 +144,7 @@ impl ExprMachine {
         self.goal.may_end(kind) && is_whole(&self.stack, tree, turn, self.goal)
     }
 
-    /// Ends all frames: what is read is whole.
+    // Ends all frames: what is read is whole.
     fn finish(&mut self, tree: &mut Tree, turn: Turn) -> Result<Step, Memory>
         requires { IsTurnReady tree.old self.old.stack turn }
         ensures done { IfOk result (λ step. (state : Option machine.State) → (last : ends.Outermost) → IsTurn tree.old self.old.stack turn state → ends.ending_of state ≡ Some last → IsDone tree.old tree.new self.old.goal step last (counting.made_finish state)) }
@@ -161,7 +161,7 @@ impl ExprMachine {
         Ok(Step::Done { node })
     }
 
-    /// Reads the lexeme.
+    // Reads the lexeme.
     fn read(&mut self, tree: &mut Tree, turn: Turn, lexeme: Lexeme) -> Result<Step, Memory>
         requires { IsTurnReady tree.old self.old.stack turn }
         ensures read { IfOk result (λ step. (state : Option machine.State) → IsTurn tree.old self.old.stack turn state → HasStepped tree.old tree.new self.new step state lexeme) }
@@ -177,7 +177,7 @@ impl ExprMachine {
     }
 }
 
-/// Puts the outermost frame on the stack.
+// Puts the outermost frame on the stack.
 fn open(stack: &mut Stack, goal: Goal) -> Result<Turn, Memory>
     ensures { IfOk result (λ turn. (nodes : List Arena.Node) → Stands nodes stack.old [] → IsTurn nodes stack.new turn (Some (start_of goal))) }
 {

@@ -25,8 +25,8 @@ use tla_tree::{Form, Tree};
 use tool_list::Memory;
 use tree_parts::Part;
 
-/// The frame takes the part and the lexeme, and waits for this; no part with a frame of its own is
-/// due.
+// The frame takes the part and the lexeme, and waits for this; no part with a frame of its own is
+// due.
 fn take(
     stack: &mut Stack,
     frame: Frame,
@@ -41,7 +41,7 @@ fn take(
     Ok(Turn::Due)
 }
 
-/// An operator after the part takes it as an operand, inside the frame.
+// An operator after the part takes it as an operand, inside the frame.
 fn lead_on(
     stack: &mut Stack,
     tree: &mut Tree,
@@ -69,7 +69,7 @@ fn lead_on(
     }
 }
 
-/// The frame waits for its operand while an operator takes the part.
+// The frame waits for its operand while an operator takes the part.
 fn wait_on(
     stack: &mut Stack,
     tree: &mut Tree,
@@ -88,7 +88,7 @@ fn wait_on(
     Ok(turn)
 }
 
-/// `\X` takes one operand more.
+// `\X` takes one operand more.
 fn take_factor(
     stack: &mut Stack,
     tree: &Tree,
@@ -106,7 +106,7 @@ fn take_factor(
     Ok(turn)
 }
 
-/// What an operator does: it ends the frames that it does not stand in.
+// What an operator does: it ends the frames that it does not stand in.
 fn operate(
     stack: &mut Stack,
     tree: &mut Tree,
@@ -140,7 +140,7 @@ fn operate(
     Ok(Turn::Refused)
 }
 
-/// The frame ends with the lexeme.
+// The frame ends with the lexeme.
 fn done(
     stack: &mut Stack,
     tree: &mut Tree,
@@ -159,7 +159,7 @@ fn done(
     Ok(turn)
 }
 
-/// The frame goes on after the lexeme.
+// The frame goes on after the lexeme.
 fn goes(
     stack: &mut Stack,
     tree: &mut Tree,
@@ -177,7 +177,7 @@ fn goes(
     Ok(turn)
 }
 
-/// The next part begins with the lexeme.
+// The next part begins with the lexeme.
 fn hand(
     stack: &mut Stack,
     frame: Frame,
@@ -192,7 +192,7 @@ fn hand(
     Ok(turn)
 }
 
-/// The part begins the first bound of a function.
+// The part begins the first bound of a function.
 fn bind(
     stack: &mut Stack,
     tree: &mut Tree,
@@ -215,7 +215,7 @@ fn bind(
     Ok(Turn::Due)
 }
 
-/// Another lexeme than an operator ends the frames that may end, and the next frame takes it.
+// Another lexeme than an operator ends the frames that may end, and the next frame takes it.
 fn follow(stack: &mut Stack, tree: &mut Tree, operand: Part, lexeme: Lexeme) -> Result<Turn, Memory>
     requires { IsReady tree.old stack.old operand }
     ensures { IfOk result (λ turn. Follows (λ frames part spelled. machine.part_step frames part spelled lexeme) (λ frames part spelled. counting.made_part frames part spelled lexeme) tree.old tree.new stack.old stack.new operand turn) }
@@ -257,7 +257,7 @@ fn is_operator(role: Role) -> bool
     }
 }
 
-/// A lexeme that ends no list.
+// A lexeme that ends no list.
 fn within(stack: &mut Stack, tree: &mut Tree, part: Part, lexeme: Lexeme) -> Result<Turn, Memory>
     requires { IsReady tree.old stack.old part }
     ensures { IfOk result (λ turn. Follows (λ frames last spelled. machine.within frames last spelled lexeme) (λ frames last spelled. counting.made_within frames last spelled lexeme) tree.old tree.new stack.old stack.new part turn) }
@@ -270,7 +270,7 @@ fn within(stack: &mut Stack, tree: &mut Tree, part: Part, lexeme: Lexeme) -> Res
     Ok(turn)
 }
 
-/// The bullet of a list whose item the part ends, if the lexeme begins the next item.
+// The bullet of a list whose item the part ends, if the lexeme begins the next item.
 fn next_item(wait: Wait, shape: Shape, lexeme: Lexeme) -> Option<Lexeme>
     ensures { result ≡ continues wait shape lexeme }
 {
@@ -289,7 +289,7 @@ fn next_item(wait: Wait, shape: Shape, lexeme: Lexeme) -> Option<Lexeme>
     }
 }
 
-/// A lexeme that stands left of the innermost list's items ends that list, or is its bullet.
+// A lexeme that stands left of the innermost list's items ends that list, or is its bullet.
 fn leave(stack: &mut Stack, tree: &mut Tree, operand: Part, lexeme: Lexeme) -> Result<Turn, Memory>
     requires { IsReady tree.old stack.old operand }
     ensures { IfOk result (λ turn. Follows (λ frames part spelled. machine.leave frames part spelled lexeme) (λ frames part spelled. counting.made_leave frames part spelled lexeme) tree.old tree.new stack.old stack.new operand turn) }

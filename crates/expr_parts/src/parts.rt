@@ -31,7 +31,7 @@ fn if_goes(test: bool, then: PartMove) -> PartMove
     if test { then } else { PartMove::Refused }
 }
 
-/// A part goes on after a comma, and the form closes with a mark.
+// A part goes on after a comma, and the form closes with a mark.
 fn parted(kind: LexKind, wait: Wait, closes: bool, form: Form) -> PartMove
     ensures { result ≡ tables.parted kind wait closes form }
 {
@@ -93,8 +93,8 @@ fn in_square(actions: bool, shape: Shape, lexeme: Lexeme) -> PartMove
     }
 }
 
-/// What a mark does after the first part in braces, where that part may bind: `:` makes a filter
-/// of the bare form `x \in e`, and of another part the elements of an image.
+// What a mark does after the first part in braces, where that part may bind: `:` makes a filter
+// of the bare form `x \in e`, and of another part the elements of an image.
 fn after_brace(shape: Shape, kind: LexKind) -> PartMove
     ensures { result ≡ tables.after_brace shape kind }
 {
@@ -149,7 +149,7 @@ fn after_value(name: Lexeme, mark: Lexeme, next: Wait, form: Form, kind: LexKind
     )
 }
 
-/// After an expression.
+// After an expression.
 fn after_expression(wait: Wait, shape: Shape, lexeme: Lexeme) -> PartMove
     ensures { result ≡ tables.after_expression wait shape lexeme }
 {
@@ -210,7 +210,7 @@ fn after_expression(wait: Wait, shape: Shape, lexeme: Lexeme) -> PartMove
     }
 }
 
-/// A bound or a parameter goes on after a comma, and what follows them begins with a mark.
+// A bound or a parameter goes on after a comma, and what follows them begins with a mark.
 fn after_bound(next: Wait, closes: bool, then: PartMove, kind: LexKind) -> PartMove
     ensures { result ≡ tables.after_bound next closes then kind }
 {
@@ -231,7 +231,7 @@ fn after_definition(lexeme: Lexeme) -> PartMove
     if_goes(is_in_word(kind), keeps(Wait::LetBody))
 }
 
-/// After names.
+// After names.
 fn after_names(wait: Wait, lexeme: Lexeme) -> PartMove
     ensures { result ≡ tables.after_part wait Shape.Names lexeme }
 {
@@ -247,7 +247,7 @@ fn after_names(wait: Wait, lexeme: Lexeme) -> PartMove
     }
 }
 
-/// After a bound.
+// After a bound.
 fn after_bounds(wait: Wait, lexeme: Lexeme) -> PartMove
     ensures { result ≡ tables.after_part wait Shape.Bound lexeme }
 {
@@ -291,7 +291,7 @@ fn after_bounds(wait: Wait, lexeme: Lexeme) -> PartMove
     }
 }
 
-/// After a helper form that is no names and no bound.
+// After a helper form that is no names and no bound.
 fn after_helper(wait: Wait, lexeme: Lexeme) -> PartMove
     ensures { result ≡ tables.after_part wait Shape.Helper lexeme }
 {
@@ -320,7 +320,7 @@ fn after_helper(wait: Wait, lexeme: Lexeme) -> PartMove
     }
 }
 
-/// After a bare symbol.
+// After a bare symbol.
 fn after_symbol(wait: Wait, lexeme: Lexeme) -> PartMove
     ensures { result ≡ tables.after_part wait Shape.Symbol lexeme }
 {
@@ -336,7 +336,7 @@ fn after_symbol(wait: Wait, lexeme: Lexeme) -> PartMove
     }
 }
 
-/// After an arm of a CASE, which may be followed by another; one with OTHER may not.
+// After an arm of a CASE, which may be followed by another; one with OTHER may not.
 fn after_arm(wait: Wait, lexeme: Lexeme) -> PartMove
     ensures { result ≡ tables.after_part wait Shape.Arm lexeme }
 {
@@ -346,7 +346,7 @@ fn after_arm(wait: Wait, lexeme: Lexeme) -> PartMove
     }
 }
 
-/// After a part that is no expression.
+// After a part that is no expression.
 fn after_part(wait: Wait, shape: Shape, lexeme: Lexeme) -> PartMove
     requires { tables.is_expression shape ≡ false }
     ensures { result ≡ tables.after_part wait shape lexeme }
@@ -361,7 +361,7 @@ fn after_part(wait: Wait, shape: Shape, lexeme: Lexeme) -> PartMove
     }
 }
 
-/// What the lexeme does to a frame that goes on with it.
+// What the lexeme does to a frame that goes on with it.
 fn after(wait: Wait, shape: Shape, lexeme: Lexeme) -> PartMove
     ensures { result ≡ cond (tables.is_expression shape)
         (tables.after_expression wait shape lexeme)
@@ -373,7 +373,7 @@ fn after(wait: Wait, shape: Shape, lexeme: Lexeme) -> PartMove
     after_part(wait, shape, lexeme)
 }
 
-/// A frame goes on where it can, else it ends where it may.
+// A frame goes on where it can, else it ends where it may.
 fn or_finish(going: PartMove, form: Option<Form>) -> PartMove
     ensures { result ≡ tables.or_finish going form }
 {

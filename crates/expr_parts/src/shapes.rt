@@ -29,7 +29,7 @@ pub fn shape(tree: &Tree, node: u32) -> Shape
     }
 }
 
-/// The shape of a form that nothing else tells apart.
+// The shape of a form that nothing else tells apart.
 fn helper_shape(form: Form) -> Shape
     ensures { result ≡ tables.shape_by (helps form) }
 {
@@ -40,7 +40,7 @@ fn helper_shape(form: Form) -> Shape
     }
 }
 
-/// The shape of an identifier of these segments: a plain name has one segment without arguments.
+// The shape of an identifier of these segments: a plain name has one segment without arguments.
 fn plain_shape(tree: &Tree, segments: &[u32]) -> Shape
     requires { AreThere tree.now segments.now }
     ensures { result ≡ tables.plain_shape (trees (map (tree_at tree.now) segments.now)) }
@@ -67,7 +67,7 @@ fn lone_segment_shape(tree: &Tree, segment: u32) -> Shape
     }
 }
 
-/// The shape of an infix form: the bare form `x \in e` has a name or a tuple of names on the left.
+// The shape of an infix form: the bare form `x \in e` has a name or a tuple of names on the left.
 fn infix_shape(tree: &Tree, symbol: Lexeme, operands: &[u32]) -> Shape
     requires { AreThere tree.now operands.now }
     ensures { result ≡ tables.infix_shape symbol (trees (map (tree_at tree.now) operands.now)) }
@@ -84,7 +84,7 @@ fn infix_shape(tree: &Tree, symbol: Lexeme, operands: &[u32]) -> Shape
     }
 }
 
-/// Whether the part is a name or a tuple of names.
+// Whether the part is a name or a tuple of names.
 fn is_binder(tree: &Tree, node: u32) -> bool
     requires { node < length tree.now }
     ensures { result ≡ tables.is_binder (tree_at tree.now node) }
@@ -112,7 +112,7 @@ fn is_plain_name(tree: &Tree, node: u32) -> bool
     }
 }
 
-/// Whether there are parts, and each is a name.
+// Whether there are parts, and each is a name.
 fn are_plain_names(tree: &Tree, parts: &[u32]) -> bool
     requires { AreThere tree.now parts.now }
     ensures { result ≡ tables.are_plain_names (trees (map (tree_at tree.now) parts.now)) }

@@ -31,7 +31,7 @@ pub struct Opening {
 pub struct Frame {
     pub wait: Wait,
     pub opening: Opening,
-    /// The column from which lexemes stand inside all aligned lists up to this frame.
+    // The column from which lexemes stand inside all aligned lists up to this frame.
     inner: u64,
 }
 
@@ -43,7 +43,7 @@ pub struct Stack {
     parts: Vec<u32>,
 }
 
-/// The column from which lexemes stand inside the lists of a frame with this wait.
+// The column from which lexemes stand inside the lists of a frame with this wait.
 fn inside(wait: Wait, inner: u64) -> u64
     ensures { result ≡ machine.inside wait inner }
 {

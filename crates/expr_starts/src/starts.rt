@@ -110,7 +110,7 @@ fn word_start(word: Word, lexeme: Lexeme) -> Start
     }
 }
 
-/// What the lexeme begins where an expression is due.
+// What the lexeme begins where an expression is due.
 fn starts_expression(lexeme: Lexeme) -> Start
     ensures { result ≡ tables.start_kind lexeme.kind lexeme }
 {
@@ -125,7 +125,7 @@ fn starts_expression(lexeme: Lexeme) -> Start
     }
 }
 
-/// What the lexeme begins where a subscript is due.
+// What the lexeme begins where a subscript is due.
 fn starts_subscript(lexeme: Lexeme) -> Start
     ensures { result ≡ tables.subscript_kind lexeme.kind lexeme }
 {

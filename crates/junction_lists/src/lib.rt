@@ -12,7 +12,7 @@ use std::marker::Model;
 use tla_symbols::{LexKind, Lexeme, Op};
 use tool_list::Memory;
 
-/// An aligned list that is open: its bullet's symbol and its column.
+// An aligned list that is open: its bullet's symbol and its column.
 #[derive(Clone, Copy)]
 struct OpenList {
     bullet: Op,
@@ -93,8 +93,8 @@ impl ListStack {
     }
 }
 
-/// Whether the lexeme is the list's bullet, in its column. A bullet is told from `\land` and `\lor`
-/// by its span.
+// Whether the lexeme is the list's bullet, in its column. A bullet is told from `\land` and `\lor`
+// by its span.
 fn is_bullet_of(list: OpenList, lexeme: &Lexeme) -> bool
     ensures { IsTrue result ↔ IsBulletOf list lexeme.now }
 {
@@ -104,7 +104,7 @@ fn is_bullet_of(list: OpenList, lexeme: &Lexeme) -> bool
         && is_junction(list.bullet, lexeme.kind)
 }
 
-/// Whether the kind is that of `/\` or `\/`, and of this symbol.
+// Whether the kind is that of `/\` or `\/`, and of this symbol.
 fn is_junction(bullet: Op, kind: LexKind) -> bool
     ensures { IsTrue result ↔ IsJunction bullet kind }
 {

@@ -16,7 +16,7 @@ use std::io::{self, Read};
 use std::process::ExitCode;
 use std::rt::Env;
 
-/// More bytes than the input may have.
+// More bytes than the input may have.
 const TOO_MANY: usize = 67_108_864;
 
 fn has_words(rt: &(impl Env + AllocGlobal)) -> io::Result<bool> {
@@ -38,7 +38,7 @@ fn word_of(step: Step) -> &'static str {
     }
 }
 
-/// The status of a fault, and what standard error says of it.
+// The status of a fault, and what standard error says of it.
 fn told(fault: Fault) -> (u8, &'static str) {
     match fault {
         Fault::NotUtf8 => (3, "step_bench: the input is not UTF-8"),
@@ -48,7 +48,7 @@ fn told(fault: Fault) -> (u8, &'static str) {
     }
 }
 
-/// Prints what was found.
+// Prints what was found.
 fn show(rt: &impl Print, found: Found) -> io::Result<ExitCode> {
     let word = word_of(found.stop.step);
     println!(rt;
@@ -58,7 +58,7 @@ fn show(rt: &impl Print, found: Found) -> io::Result<ExitCode> {
     Ok(ExitCode::from(0))
 }
 
-/// Says on standard error why nothing is printed.
+// Says on standard error why nothing is printed.
 fn refuse(rt: &impl Eprint, status: u8, line: &str) -> io::Result<ExitCode> {
     eprintln!(rt; "{line}")?;
     Ok(ExitCode::from(status))

@@ -53,7 +53,7 @@ pub fn measure(alloc: Global, input: &[u8]) -> Result<Found, Fault>
     found_in(alloc, lexemes.as_slice())
 }
 
-/// Steps a machine over the lexemes behind the first `==` of a module.
+// Steps a machine over the lexemes behind the first `==` of a module.
 fn found_in(alloc: Global, lexemes: &[Lexeme]) -> Result<Found, Fault>
     ensures { (text : ListOf ℕ) → IsLexed text lexemes.now → MatchResult result (HasFound text) (IsFault text) }
 {
@@ -64,7 +64,7 @@ fn found_in(alloc: Global, lexemes: &[Lexeme]) -> Result<Found, Fault>
     Ok(found)
 }
 
-/// Steps a machine over the lexemes behind an `==`.
+// Steps a machine over the lexemes behind an `==`.
 fn found_behind(alloc: Global, lexemes: &[Lexeme]) -> Result<Found, Memory>
     ensures { IfOk result (HasFoundIn lexemes.now) }
 {
@@ -76,7 +76,7 @@ fn found_behind(alloc: Global, lexemes: &[Lexeme]) -> Result<Found, Memory>
     })
 }
 
-/// The lexemes of the text's module.
+// The lexemes of the text's module.
 fn lexemes_of(alloc: Global, input: &[u8]) -> Result<List<Lexeme>, Fault>
     requires { length input.now < 2 ^ 26 }
     ensures { MatchResult result (IsLexed input.now) (IsFault input.now) }

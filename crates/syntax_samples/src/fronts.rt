@@ -5,12 +5,12 @@ use std::test::Fail;
 use tla_front::{FrontError, front};
 use tla_model::Diagnostic;
 
-/// What the front of a text is.
+// What the front of a text is.
 #[derive(Clone, Copy, Debug, PartialEq, Eq)]
 enum Found {
-    /// A tree with so many units and of this height. A nested module has its begin and its end as units.
+    // A tree with so many units and of this height. A nested module has its begin and its end as units.
     Tree(usize, u32),
-    /// A fault of this code, from one byte to another.
+    // A fault of this code, from one byte to another.
     Fault(u16, u32, u32),
     Unread,
 }
@@ -65,7 +65,7 @@ fn finds_heights(rt: &impl Abort, alloc: Global, unit: [&str; 5], end: u32) -> R
     Ok(())
 }
 
-/// Declarations, `EXTENDS` and lines.
+// Declarations, `EXTENDS` and lines.
 static DECLARATIONS: [(&str, Found); 26] = [
     ("", Tree(0, 0)),
     ("EXTENDS Naturals, B", Tree(0, 0)),
@@ -98,7 +98,7 @@ static DECLARATIONS: [(&str, Found); 26] = [
     ("--- VARIABLE x", Fault(202, 19, 21)),
 ];
 
-/// Definitions.
+// Definitions.
 static DEFINITIONS: [(&str, Found); 35] = [
     ("LOCAL F == 1 G == F", Tree(2, 1)),
     ("F(x, G(_), _ + _, -. _) == G(x) + x", Tree(1, 3)),
@@ -143,7 +143,7 @@ static DEFINITIONS: [(&str, Found); 35] = [
     ("F == 1 2", Fault(202, 26, 27)),
 ];
 
-/// Instances, assumptions and theorems.
+// Instances, assumptions and theorems.
 static INSTANCES: [(&str, Found); 25] = [
     ("INSTANCE B LOCAL INSTANCE C", Tree(2, 1)),
     (
@@ -178,7 +178,7 @@ static INSTANCES: [(&str, Found); 25] = [
     ("AXIOM INSTANCE B", Fault(202, 25, 33)),
 ];
 
-/// Expressions, each as the body of a definition.
+// Expressions, each as the body of a definition.
 static EXPRESSIONS: [(&str, Found); 33] = [
     (
         "F == LET I == INSTANCE B WITH c <- a' IN I!G(b)",
@@ -239,7 +239,7 @@ static EXPRESSIONS: [(&str, Found); 33] = [
     ),
 ];
 
-/// Headers, closing lines, nested modules, and texts without a lexeme.
+// Headers, closing lines, nested modules, and texts without a lexeme.
 static MODULES: [(&[u8], Found); 21] = [
     (b"---- MODULE A ----\n====", Tree(0, 0)),
     (
@@ -285,7 +285,7 @@ static MODULES: [(&[u8], Found); 21] = [
     (b"---- MODULE B ----\nVARIABLE ====", Fault(202, 28, 32)),
 ];
 
-/// What opens a level of an expression, what stands inside all, and what closes a level.
+// What opens a level of an expression, what stands inside all, and what closes a level.
 static LEVELS: [(&str, &str, &str); 36] = [
     ("(", "a", ")"),
     ("{", "a", "}"),
@@ -325,7 +325,7 @@ static LEVELS: [(&str, &str, &str); 36] = [
     ("WF_b(", "a", ")"),
 ];
 
-/// What stands in a unit before its expression and behind it, and where its first lexeme ends.
+// What stands in a unit before its expression and behind it, and where its first lexeme ends.
 static UNITS: [(&str, &str, u32); 9] = [
     ("LOCAL F == ", "", 24),
     ("F(x) == ", "", 20),
@@ -338,8 +338,8 @@ static UNITS: [(&str, &str, u32); 9] = [
     ("THEOREM ", "", 26),
 ];
 
-/// Where `@` is of height 1,000: what is too high is at fault where no lexeme is bad, whatever the
-/// module's name.
+// Where `@` is of height 1,000: what is too high is at fault where no lexeme is bad, whatever the
+// module's name.
 static ORDER: [(&str, Found); 9] = [
     ("---- MODULE A ----\nF == @\n====", Tree(1, 1000)),
     ("---- MODULE A ----\nF == {@}\n====", Fault(105, 19, 20)),

@@ -7,7 +7,7 @@ use tla_symbols::{Fix, Op};
 
 fn crosses_threads<T: Send + Sync>(_: &T) {}
 
-/// How many of two waiting infix operators close before the one that comes.
+// How many of two waiting infix operators close before the one that comes.
 fn closed(
     alloc: Global,
     outer: Op,

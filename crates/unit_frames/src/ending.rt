@@ -4,8 +4,8 @@ ghost use Rattle.unit_grammar.specs.FirstBad.{IsLast, EndsOnce};
 
 use tla_symbols::{LexKind, Lexeme};
 
-/// Whether a lexeme is the last of a text's: the run of `=` that closes the module, the text's end, or
-/// a place at which no lexeme begins.
+// Whether a lexeme is the last of a text's: the run of `=` that closes the module, the text's end, or
+// a place at which no lexeme begins.
 fn is_last(lexeme: Lexeme) -> bool
     ensures { IsTrue result ↔ IsLast lexeme }
 {

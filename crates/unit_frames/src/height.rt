@@ -10,7 +10,7 @@ ghost use Rattle.unit_grammar.specs.UnitNodes.{nodes_in, unit_at};
 use tla_tree::{Tree, Unit};
 use tool_list::Memory;
 
-/// The height of a unit that has this node.
+// The height of a unit that has this node.
 fn height_of(tree: &Tree, node: u32) -> u32
     requires { node < length tree.now }
     ensures { result ≡ max 1 (height_at tree.now node) }
@@ -18,7 +18,7 @@ fn height_of(tree: &Tree, node: u32) -> u32
     tree.height(node).max(1)
 }
 
-/// The height of a unit that is no begin and no end of a nested module.
+// The height of a unit that is no begin and no end of a nested module.
 fn unit_height(tree: &Tree, unit: &Unit) -> u32
     requires { AreThere tree.now (nodes_in unit.now) }
     ensures { result ≡ heights.unit_height (unit_at tree.now unit.now) }
@@ -34,7 +34,7 @@ fn unit_height(tree: &Tree, unit: &Unit) -> u32
     }
 }
 
-/// What was seen of units: how many nested modules are open, and the height so far.
+// What was seen of units: how many nested modules are open, and the height so far.
 #[derive(Clone, Copy)]
 struct Measured {
     inside: u32,
@@ -42,7 +42,7 @@ struct Measured {
 }
 
 impl Measured {
-    /// One unit more. `Memory` where the height can't be counted further.
+    // One unit more. `Memory` where the height can't be counted further.
     fn with(self, tree: &Tree, unit: &Unit) -> Result<Measured, Memory>
         requires { AreThere tree.now (nodes_in unit.now) }
         ensures { IfOk result (λ more. (rest : List UnitTree) → max more.highest (highest_unit more.inside rest) ≡ max self.highest (highest_unit self.inside (unit_at tree.now unit.now ∷ rest))) }

@@ -18,7 +18,7 @@ use tool_list::Memory;
 use unit_frames::{Frame, Unfinished};
 use unit_steps::Next;
 
-/// An expression is due.
+// An expression is due.
 fn await_expression(unfinished: Unfinished) -> State
     ensures { (nodes : List arena.Node) → (st : Option machine.State) → steps.IsMoved nodes (Some (leads.Awaits unfinished)) st → IsMoved nodes (Some result) st }
 {
@@ -26,7 +26,7 @@ fn await_expression(unfinished: Unfinished) -> State
     State::Expression(unfinished, ExprReader::new(alloc, Goal::Expression))
 }
 
-/// Bounds are due, for which the frame waits.
+// Bounds are due, for which the frame waits.
 fn await_bounds(unfinished: Unfinished, frame: Frame) -> State
     ensures { (nodes : List arena.Node) → (st : Option machine.State) → steps.IsMoved nodes (Some (leads.Bounds unfinished frame)) st → IsMoved nodes (Some result) st }
 {
@@ -44,7 +44,7 @@ fn expression_begun(unfinished: Unfinished, reader: ExprReader, fed: Fed) -> Opt
     }
 }
 
-/// The lexeme is the first of an expression.
+// The lexeme is the first of an expression.
 fn begin_expression(
     unfinished: Unfinished,
     tree: &mut Tree,
@@ -59,7 +59,7 @@ fn begin_expression(
     Ok(expression_begun(unfinished, reader, fed))
 }
 
-/// The reader goes where units and frames lead that do not refuse a lexeme.
+// The reader goes where units and frames lead that do not refuse a lexeme.
 fn enter_next(next: Next, tree: &mut Tree) -> Result<Option<State>, Memory>
     ensures { IfOk result (λ moved. (nodes : List arena.Node) → (st : Option machine.State) → steps.Moves nodes tree.old (Some next) st → Moves nodes tree.new moved st) }
 {

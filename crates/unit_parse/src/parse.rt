@@ -36,7 +36,7 @@ impl From<Memory> for ParseError {
     }
 }
 
-/// The units after the first, which begins the module.
+// The units after the first, which begins the module.
 fn module_of(alloc: Global, tree: Tree, units: List<Unit>) -> Result<ModuleTree, Memory>
     requires { (us : List UnitTree) × (found : ModuleUnits) × AreUnits tree units us × (machine.whole us ≡ Some found) }
     ensures { IfOk result (λ parsed. (us : List UnitTree) → (found : ModuleUnits) → AreUnits tree units us → machine.whole us ≡ Some found → IsModule parsed found) }
@@ -57,7 +57,7 @@ fn module_of(alloc: Global, tree: Tree, units: List<Unit>) -> Result<ModuleTree,
     })
 }
 
-/// The module that is read, where the outermost one is closed.
+// The module that is read, where the outermost one is closed.
 fn closed(alloc: Global, state: State, tree: Tree) -> Result<ModuleTree, Memory>
     requires { (st : machine.State) × (found : ModuleUnits) × IsState tree state st × (machine.answer (Some st) ≡ Some found) }
     ensures { IfOk result (λ parsed. (st : machine.State) → (found : ModuleUnits) → IsState tree state st → machine.answer (Some st) ≡ Some found → IsModule parsed found) }

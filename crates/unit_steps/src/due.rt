@@ -18,7 +18,7 @@ use unit_frames::{Begun, Frame, Reached, Unfinished};
 use unit_machine::{Due, DueMove, UnitStart, Wait};
 use unit_tables::unit_start;
 
-/// The run of `=` that ends a nested module.
+// The run of `=` that ends a nested module.
 fn end_module(reached: Reached, lexeme: Lexeme) -> Result<Option<Next>, Memory>
     ensures { IfOk result (λ moved. (nodes : List arena.Node) → (depth : ℕ) → (us : List units.UnitTree) → IsReached nodes reached depth us → IsMoved nodes moved (machine.ended depth us lexeme)) }
 {
@@ -32,7 +32,7 @@ fn end_module(reached: Reached, lexeme: Lexeme) -> Result<Option<Next>, Memory>
     Ok(Some(Next::At(Point::Stands(reached, Due::Unit, List::new(alloc)))))
 }
 
-/// The run of `=` that closes the outermost module.
+// The run of `=` that closes the outermost module.
 fn close_module(reached: Reached) -> Option<Next>
     ensures { (nodes : List arena.Node) → (depth : ℕ) → (us : List units.UnitTree) → IsReached nodes reached depth us → IsMoved nodes result (machine.closed depth us) }
 {
@@ -43,7 +43,7 @@ fn close_module(reached: Reached) -> Option<Next>
     Some(Next::At(Point::Stands(reached.closes(), Due::Closed, List::new(alloc))))
 }
 
-/// A unit begins of which a frame waits for its next lexeme.
+// A unit begins of which a frame waits for its next lexeme.
 fn begin_part(reached: Reached, begun: Begun, frame: Frame) -> Next
     ensures { (nodes : List arena.Node) → (depth : ℕ) → (us : List units.UnitTree) → (b : machine.Begun) → (f : machine.Frame) → IsReached nodes reached depth us → IsBegun nodes begun b → IsFrame nodes frame f → IsMoved nodes (Some result) (Some (machine.state depth us (machine.Focus.Part b f []))) }
 {
@@ -56,7 +56,7 @@ fn begin_part(reached: Reached, begun: Begun, frame: Frame) -> Next
     Next::At(Point::Part(unfinished, frame))
 }
 
-/// A unit begins that is an expression.
+// A unit begins that is an expression.
 fn begin_claim(reached: Reached, begun: Begun) -> Next
     ensures { (nodes : List arena.Node) → (depth : ℕ) → (us : List units.UnitTree) → (b : machine.Begun) → IsReached nodes reached depth us → IsBegun nodes begun b → IsMoved nodes (Some result) (Some (machine.state depth us (machine.Focus.Expression b [] expressions.start []))) }
 {
@@ -68,7 +68,7 @@ fn begin_claim(reached: Reached, begun: Begun) -> Next
     })
 }
 
-/// What begins a unit, after the LOCAL that stands before it, if one does.
+// What begins a unit, after the LOCAL that stands before it, if one does.
 fn start(
     reached: Reached,
     begins: UnitStart,
@@ -104,7 +104,7 @@ fn start(
     }
 }
 
-/// A lexeme where a unit is due.
+// A lexeme where a unit is due.
 fn unit_due(reached: Reached, local: Option<Lexeme>, lexeme: Lexeme) -> Result<Option<Next>, Memory>
     ensures { IfOk result (λ moved. (nodes : List arena.Node) → (depth : ℕ) → (us : List units.UnitTree) → IsReached nodes reached depth us → IsMoved nodes moved (machine.unit_due local depth us lexeme)) }
 {
@@ -125,7 +125,7 @@ pub(crate) fn after_unit(
     unit_due(reached, None, lexeme)
 }
 
-/// A module begins inside those that are open, and the lexeme is due in it.
+// A module begins inside those that are open, and the lexeme is due in it.
 fn begin_module(
     reached: Reached,
     name: Lexeme,
@@ -140,7 +140,7 @@ fn begin_module(
     after_unit(reached, Unit::ModuleBegin { name, extends }, lexeme)
 }
 
-/// The names of a list, and one more.
+// The names of a list, and one more.
 fn name_more(names: List<Lexeme>, name: Lexeme) -> Result<List<Lexeme>, Memory>
     ensures { IfOk result (λ more. more ≡ names ++ name ∷ []) }
 {

@@ -19,7 +19,7 @@ use tool_list::Memory;
 use unit_frames::{Frame, Unfinished};
 use unit_machine::{Move, Wait};
 
-/// The lexeme is the first of an expression for which a frame waits.
+// The lexeme is the first of an expression for which a frame waits.
 fn begin_expression(
     unfinished: Unfinished,
     frame: Frame,
@@ -34,8 +34,8 @@ fn begin_expression(
     Ok(Some(Next::Begins(unfinished, lexeme)))
 }
 
-/// A part begins, in a frame of its own that has read the lexemes of the place, and this one waits
-/// for it.
+// A part begins, in a frame of its own that has read the lexemes of the place, and this one waits
+// for it.
 fn begin_part(
     unfinished: Unfinished,
     frame: Frame,
@@ -57,7 +57,7 @@ fn begin_part(
     Ok(Some(Next::At(Point::Part(unfinished, frame))))
 }
 
-/// The frame takes a leaf that is made of a lexeme, and reads one, which may be another.
+// The frame takes a leaf that is made of a lexeme, and reads one, which may be another.
 fn take_leaf(
     unfinished: Unfinished,
     frame: Frame,
@@ -76,7 +76,7 @@ fn take_leaf(
     Ok(Some(Next::At(Point::Part(unfinished, frame))))
 }
 
-/// The frame ends with the lexeme.
+// The frame ends with the lexeme.
 fn close(
     unfinished: Unfinished,
     frame: Frame,

@@ -65,7 +65,7 @@ pub(crate) fn part_step(
     go_on(unfinished, frame, whole, tree, lexeme)
 }
 
-/// A frame takes an expression that is whole before the lexeme.
+// A frame takes an expression that is whole before the lexeme.
 fn give_to(
     unfinished: Unfinished,
     frame: Frame,

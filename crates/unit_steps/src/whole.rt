@@ -21,7 +21,7 @@ use tree_parts::Part;
 use unit_frames::{Begun, Reached, Unfinished, then};
 use unit_tables::after_part;
 
-/// The unit of a definition, by its form.
+// The unit of a definition, by its form.
 fn defined(tree: &Tree, local: Option<Lexeme>, node: u32) -> Unit
     requires { node < length tree.now }
     ensures { AreUnits tree.now (result ∷ []) (units.defined local (tree_at tree.now node) ∷ []) }
@@ -33,7 +33,7 @@ fn defined(tree: &Tree, local: Option<Lexeme>, node: u32) -> Unit
     }
 }
 
-/// Declarations of constants, and one more, before a lexeme.
+// Declarations of constants, and one more, before a lexeme.
 fn declare(
     reached: Reached,
     declarations: List<u32>,
@@ -52,7 +52,7 @@ fn declare(
     after_declared(reached, declarations, lexeme)
 }
 
-/// A whole part of a unit that was read after others, before a lexeme.
+// A whole part of a unit that was read after others, before a lexeme.
 fn finished(
     reached: Reached,
     begun: Begun,
@@ -115,8 +115,8 @@ pub(crate) fn finish(
     )
 }
 
-/// A whole part of a unit that was read after others, with its last lexeme: declarations of
-/// constants may end so.
+// A whole part of a unit that was read after others, with its last lexeme: declarations of
+// constants may end so.
 fn conclude(reached: Reached, begun: Begun, node: u32) -> Result<Option<Next>, Memory>
     ensures { IfOk result (λ moved. (nodes : List arena.Node) → (depth : ℕ) → (us : List units.UnitTree) → (b : machine.Begun) → (x : syntax.Tree) → (spelled : List Lexeme) → (part : Part) → IsReached nodes reached depth us → IsBegun nodes begun b → part.node ≡ node → IsPart nodes part x spelled → IsMoved nodes moved (machine.concluded b x depth us)) }
 {

@@ -133,7 +133,7 @@ fn at_replacement_right(left: Lexeme, lexeme: Lexeme) -> Move
     Move::Expression
 }
 
-/// `==` before the right side of a definition of this form.
+// `==` before the right side of a definition of this form.
 fn right_side(kind: LexKind, form: Form) -> Move
     ensures { result ≡ tables.if_move (kinds.is_define kind) (Move.Shift (Wait.Right form)) }
 {

@@ -24,7 +24,7 @@ fn is_extends(kind: LexKind) -> bool
     matches!(&kind, LexKind::Word(Word::Extends))
 }
 
-/// Whether the lexeme begins a definition or an instance.
+// Whether the lexeme begins a definition or an instance.
 fn may_be_local(kind: LexKind) -> bool
     ensures { result ≡ tables.may_be_local kind }
 {
@@ -40,7 +40,7 @@ fn if_due(test: bool, due_move: DueMove) -> DueMove
     if test { due_move } else { DueMove::Refused }
 }
 
-/// `EXTENDS` after the line that begins a module, or what is due in it.
+// `EXTENDS` after the line that begins a module, or what is due in it.
 fn after_header(name: Lexeme, lexeme: Lexeme) -> DueMove
     ensures { result ≡ tables.due_move (Due.ModuleRead name) lexeme }
 {
