@@ -30,7 +30,7 @@ pub struct SampleFact {
 #[derive(Drop)]
 pub struct Sample;
 
-/// The byte at a place, or 0 past the end.
+// The byte at a place, or 0 past the end.
 fn byte_at(bytes: &[u8], place: usize) -> u8
     ensures { result ≡ slice_index bytes.now place }
 {
@@ -40,7 +40,7 @@ fn byte_at(bytes: &[u8], place: usize) -> u8
     }
 }
 
-/// Names of two bytes, one behind the other.
+// Names of two bytes, one behind the other.
 fn names_of(alloc: Global, bytes: &[u8]) -> Result<List<Chars>, Memory>
     ensures { IfOk result (λ names. names ≡ sample.names bytes.now) }
 {
@@ -56,7 +56,7 @@ fn names_of(alloc: Global, bytes: &[u8]) -> Result<List<Chars>, Memory>
     Ok(names)
 }
 
-/// What is seen of what a need gives.
+// What is seen of what a need gives.
 fn seen(gave: &Gave<SampleFact>) -> u32
     ensures value { result ≡ sample.seen (gave_state gave.now) }
     ensures small { result < 512 }
@@ -69,7 +69,7 @@ fn seen(gave: &Gave<SampleFact>) -> u32
     }
 }
 
-/// A digest of what the needs give.
+// A digest of what the needs give.
 fn below(given: &[(Chars, Gave<SampleFact>)]) -> u32
     ensures { result ≡ sample.below (states given.now) }
 {

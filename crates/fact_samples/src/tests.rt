@@ -4,7 +4,7 @@ use fact_store::{Answer, FactStore};
 use std::process::Abort;
 use std::test::Fail;
 
-/// What is done to a store: a name gets a text or loses it, or its value is asked for.
+// What is done to a store: a name gets a text or loses it, or its value is asked for.
 #[derive(Clone, Copy)]
 enum Step<'a> {
     Put(&'a str, &'a str),
@@ -12,23 +12,23 @@ enum Step<'a> {
     Demand(&'a str),
 }
 
-/// What came of a step.
+// What came of a step.
 #[derive(Clone, Copy, Debug, PartialEq, Eq)]
 enum Said {
     Done,
     NoText,
     Broken,
-    /// The fact's face, its hidden byte and its digest, and how many derivations it took.
+    // The fact's face, its hidden byte and its digest, and how many derivations it took.
     Fact(u8, u8, u32, u64),
 }
 
 use Said::{Broken, Done, Fact, NoText};
 use Step::{Demand, Put, Remove};
 
-/// Steps on one store, each with what has to come of it.
+// Steps on one store, each with what has to come of it.
 type Script = &'static [(Step<'static>, Said)];
 
-/// Edits: those alone cost a derivation that show.
+// Edits: those alone cost a derivation that show.
 static EDITS: [(Step, Said); 17] = [
     (Put("Bb", "b1Aa"), Done),
     (Demand("Bb"), Fact(b'b', b'1', 0, 1)),
@@ -53,7 +53,7 @@ static EDITS: [(Step, Said); 17] = [
     (Demand("Aa"), NoText),
 ];
 
-/// Demands in the middle of puts.
+// Demands in the middle of puts.
 static PUTS: [(Step, Said); 12] = [
     (Put("Dd", "d1Bb"), Done),
     (Put("Bb", "b1AaCc"), Done),
@@ -70,7 +70,7 @@ static PUTS: [(Step, Said); 12] = [
     (Demand("Dd"), Fact(b'e', b'1', 101, 0)),
 ];
 
-/// Cycles that are made and broken, and a broken text.
+// Cycles that are made and broken, and a broken text.
 static CYCLES: [(Step, Said); 13] = [
     (Put("Aa", "a1Bb"), Done),
     (Put("Bb", "b1Aa"), Done),
@@ -88,7 +88,7 @@ static CYCLES: [(Step, Said); 13] = [
     (Demand("Cc"), Fact(b'c', b'1', 100 * 31 + 1, 1)),
 ];
 
-/// Behind a chain of a thousand names, from "TX" down to "Aa".
+// Behind a chain of a thousand names, from "TX" down to "Aa".
 static CHAIN: [(Step, Said); 5] = [
     (Demand("TX"), Fact(b'f', b'1', 105, 1000)),
     (Put("Aa", "f2"), Done),
@@ -98,7 +98,7 @@ static CHAIN: [(Step, Said); 5] = [
     (Demand("TX"), Fact(b'f', b'1', 1, 1)),
 ];
 
-/// Behind a star of a thousand names that need "01", and "02" that needs them all.
+// Behind a star of a thousand names that need "01", and "02" that needs them all.
 static STAR: [(Step, Said); 6] = [
     (Put("01", "m1"), Done),
     (Demand("Aa"), Fact(b'g', b'1', 112, 2)),
@@ -108,7 +108,7 @@ static STAR: [(Step, Said); 6] = [
     (Demand("02"), Fact(b'f', b'1', 33024, 1)),
 ];
 
-/// A store with its way to derive facts, and the count of derivations.
+// A store with its way to derive facts, and the count of derivations.
 #[derive(Drop)]
 struct Trial {
     store: FactStore<Sample>,
@@ -174,7 +174,7 @@ fn answers_at_little_cost(rt: HostRuntime) -> Result<(), Fail> {
     Ok(())
 }
 
-/// A thousand names, from "Aa" to "TX".
+// A thousand names, from "Aa" to "TX".
 fn thousand_names(alloc: Global) -> Result<Vec<String>, Memory> {
     let mut names = Vec::new(alloc);
     for first in "ABCDEFGHIJKLMNOPQRST".chars() {
@@ -192,14 +192,14 @@ fn name_of(alloc: Global, first: char, second: char) -> Result<String, Memory> {
     Ok(name)
 }
 
-/// A text that needs the name.
+// A text that needs the name.
 fn needing(alloc: Global, name: &str) -> Result<String, Memory> {
     let mut text = String::from_str(alloc, "f1")?;
     text.push_str(name)?;
     Ok(text)
 }
 
-/// Gives each of the names a text that needs the one before.
+// Gives each of the names a text that needs the one before.
 fn chain(alloc: Global, names: &[String]) -> Result<Trial, Memory> {
     let mut trial = Trial::new(alloc);
     let mut text = needing(alloc, "")?;
@@ -210,7 +210,7 @@ fn chain(alloc: Global, names: &[String]) -> Result<Trial, Memory> {
     Ok(trial)
 }
 
-/// Gives each of the names a text that needs "01", and "02" one that needs them all.
+// Gives each of the names a text that needs "01", and "02" one that needs them all.
 fn star(alloc: Global, names: &[String]) -> Result<Trial, Memory> {
     let mut trial = Trial::new(alloc);
     let mut text = needing(alloc, "")?;

@@ -21,7 +21,7 @@ use std::sync::Arc;
 use step_count::Steps;
 use tool_list::{Chars, List, Memory};
 
-/// What a needed name gives to the text at a place.
+// What a needed name gives to the text at a place.
 fn gave_of<D: Derive>(
     slots: &Shelf<D::Own, D::Fact>,
     plan: &Plan,
@@ -52,7 +52,7 @@ fn gave_of<D: Derive>(
     Ok(Gave::Fact(Arc::try_clone(&kept.fact)?))
 }
 
-/// Whether two needs gave alike.
+// Whether two needs gave alike.
 fn same_gave<D: Derive>(d: &D, a: &Gave<D::Fact>, b: &Gave<D::Fact>) -> bool
     ensures { result ≡ same_state D.same (gave_state a.now) (gave_state b.now) }
 {
@@ -65,7 +65,7 @@ fn same_gave<D: Derive>(d: &D, a: &Gave<D::Fact>, b: &Gave<D::Fact>) -> bool
     }
 }
 
-/// Whether the same names gave alike.
+// Whether the same names gave alike.
 fn same_pairs<D: Derive>(d: &D, a: &[(Chars, Gave<D::Fact>)], b: &[(Chars, Gave<D::Fact>)]) -> bool
     ensures { result ≡ same_given D.same (states a.now) (states b.now) }
 {
@@ -84,8 +84,8 @@ fn same_pairs<D: Derive>(d: &D, a: &[(Chars, Gave<D::Fact>)], b: &[(Chars, Gave<
     true
 }
 
-/// Whether a fact was made from the present text, where what its needs give now is like what they
-/// gave then.
+// Whether a fact was made from the present text, where what its needs give now is like what they
+// gave then.
 fn is_fresh<D: Derive>(d: &D, kept: &Option<Kept<D::Fact>>, given: &Given<D::Fact>) -> bool
     ensures { result ≡ rules.is_fresh D.same kept.now (states given.now) }
 {
@@ -97,7 +97,7 @@ fn is_fresh<D: Derive>(d: &D, kept: &Option<Kept<D::Fact>>, given: &Given<D::Fac
     }
 }
 
-/// What the needs of the text at a place give to it, in order.
+// What the needs of the text at a place give to it, in order.
 fn given_of<D: Derive>(
     alloc: Global,
     slots: &Shelf<D::Own, D::Fact>,
@@ -120,7 +120,7 @@ fn given_of<D: Derive>(
     Ok(given)
 }
 
-/// The fact of a slot, derived from its text and from what its needs give.
+// The fact of a slot, derived from its text and from what its needs give.
 fn derive<D: Derive, L>(
     alloc: Global,
     d: &mut D,
@@ -143,7 +143,7 @@ fn derive<D: Derive, L>(
     })
 }
 
-/// Keeps the fact of the slot at a place where it is fresh, and else derives it.
+// Keeps the fact of the slot at a place where it is fresh, and else derives it.
 fn keep<D: Derive, L>(
     alloc: Global,
     d: &mut D,

@@ -25,7 +25,7 @@ pub fn reached(alloc: Global, edges: &[Vec<usize>], start: usize) -> Result<Vec<
     Ok(queue)
 }
 
-/// No place marked.
+// No place marked.
 fn unmarked(alloc: Global, len: usize) -> Result<Vec<bool>, Memory>
     ensures long { IfOk result (λ marks. vec_len marks ≡ len) }
     ensures none { IfOk result (λ marks. (i : ℕ) → is_marked marks.items i ≡ false) }
@@ -48,7 +48,7 @@ pub fn cover(marks: &mut Vec<bool>, len: usize) -> Result<(), Memory>
     Ok(())
 }
 
-/// Marks the places of a row, and queues those that were not marked.
+// Marks the places of a row, and queues those that were not marked.
 fn mark_row(row: &[usize], marks: &mut Vec<bool>, queue: &mut Vec<usize>) -> Result<(), Memory>
     requires { All (λ place. place < vec_len marks.old) row.now }
     ensures { IfOk result (λ _. MarksRow row.now marks.old.items marks.new.items queue.old.items queue.new.items) }

@@ -14,7 +14,7 @@ use std::alloc::Global;
 use step_count::Steps;
 use tool_list::Memory;
 
-/// Each of these places behind its rank.
+// Each of these places behind its rank.
 fn ranked(alloc: Global, ranks: &[usize], places: &[usize]) -> Result<Vec<(usize, usize)>, Memory>
     requires { All (λ place. place < length ranks.now) places.now }
     ensures { IfOk result (λ order. order.items ≡ map (λ place. (slice_index ranks.now place, place)) places.now) }
@@ -26,7 +26,7 @@ fn ranked(alloc: Global, ranks: &[usize], places: &[usize]) -> Result<Vec<(usize
     Ok(order)
 }
 
-/// Each of these places behind its rank, the lowest rank first.
+// Each of these places behind its rank, the lowest rank first.
 fn order_of(alloc: Global, ranks: &[usize], places: &[usize]) -> Result<Vec<(usize, usize)>, Memory>
     requires { All (λ place. place < length ranks.now) places.now }
     ensures { IfOk result (λ order. IsOrder ranks.now places.now order.items) }

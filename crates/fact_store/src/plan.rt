@@ -22,7 +22,7 @@ pub struct Plan {
     pub grounds: Vec<Vec<usize>>,
 }
 
-/// The places of the slots that these names name.
+// The places of the slots that these names name.
 fn row_of<O: Drop, F: Drop>(
     alloc: Global,
     slots: &Shelf<O, F>,
@@ -50,7 +50,7 @@ pub fn needed<O: Drop, F: Drop>(slot: &Slot<O, F>) -> &[Chars]
     }
 }
 
-/// For each slot the places of those that it needs.
+// For each slot the places of those that it needs.
 fn edges_of<O: Drop, F: Drop>(alloc: Global, slots: &Shelf<O, F>) -> Result<Vec<Vec<usize>>, Memory>
     requires { AreDistinct slots.now }
     ensures { IfOk result (λ edges. AreEdges slots.now edges.items) }
@@ -62,7 +62,7 @@ fn edges_of<O: Drop, F: Drop>(alloc: Global, slots: &Shelf<O, F>) -> Result<Vec<
     Ok(edges)
 }
 
-/// How many places each place reaches.
+// How many places each place reaches.
 fn ranks_of(alloc: Global, edges: &[Vec<usize>]) -> Result<Vec<usize>, Memory>
     requires { HasPlaces edges.now }
     ensures { IfOk result (λ ranks. AreRanks edges.now ranks.items) }
@@ -74,7 +74,7 @@ fn ranks_of(alloc: Global, edges: &[Vec<usize>]) -> Result<Vec<usize>, Memory>
     Ok(ranks)
 }
 
-/// Of the places in a row, those of another rank.
+// Of the places in a row, those of another rank.
 fn ground_of(
     alloc: Global,
     ranks: &[usize],
@@ -93,7 +93,7 @@ fn ground_of(
     Ok(ground)
 }
 
-/// For each place those that it needs and that do not lead back: they reach fewer places.
+// For each place those that it needs and that do not lead back: they reach fewer places.
 fn grounds_of(
     alloc: Global,
     edges: &[Vec<usize>],

@@ -33,7 +33,7 @@ pub fn same_bytes(a: &[u8], b: &[u8]) -> bool
     a == b
 }
 
-/// Where a fact was made from, once its text has these bytes.
+// Where a fact was made from, once its text has these bytes.
 fn source_after(from: Option<List<u8>>, before: List<u8>, bytes: &[u8]) -> Option<List<u8>>
     ensures { result ≡ slots_of.source_after from before bytes.now }
 {
@@ -44,7 +44,7 @@ fn source_after(from: Option<List<u8>>, before: List<u8>, bytes: &[u8]) -> Optio
     Some(source)
 }
 
-/// A fact once its text has these bytes.
+// A fact once its text has these bytes.
 fn kept_after<F: Drop>(kept: Option<Kept<F>>, before: List<u8>, bytes: &[u8]) -> Option<Kept<F>>
     ensures { result ≡ slots_of.kept_after kept before bytes.now }
 {

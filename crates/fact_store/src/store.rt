@@ -43,7 +43,7 @@ impl<D: Derive> Model for FactStore<D> {
     ghost invariant = { λ s. IsStore D.own_of D.needs_of D.fact_of D.same s.slots s.plan s.current.items };
 }
 
-/// A plan of these slots, where there is none yet.
+// A plan of these slots, where there is none yet.
 fn make_plan<O: Drop, F: Drop>(
     alloc: Global,
     slots: &Shelf<O, F>,
@@ -62,7 +62,7 @@ fn make_plan<O: Drop, F: Drop>(
     Ok(())
 }
 
-/// Brings the fact at a place up to the present texts.
+// Brings the fact at a place up to the present texts.
 fn bring_up<D: Derive, L>(
     alloc: Global,
     slots: &mut Shelf<D::Own, D::Fact>,
@@ -88,7 +88,7 @@ fn bring_up<D: Derive, L>(
     bring_all(alloc, slots, made, current, place, d, steps)
 }
 
-/// The fact at a place, where it stands.
+// The fact at a place, where it stands.
 fn fact_at<D: Derive>(
     slots: &Shelf<D::Own, D::Fact>,
     current: &[bool],

@@ -14,7 +14,7 @@ use crate::slot::Slot;
 use std::alloc::Global;
 use tool_list::{Chars, List, Memory};
 
-/// Whether two lists of names are the same.
+// Whether two lists of names are the same.
 fn same_names(a: &Option<List<Chars>>, b: &Option<List<Chars>>) -> bool
     ensures { IsTrue result → a.now ≡ b.now }
 {
@@ -25,7 +25,7 @@ fn same_names(a: &Option<List<Chars>>, b: &Option<List<Chars>>) -> bool
     }
 }
 
-/// Gives the slot at a place the text of another, with its parts. The plan stays where the needs do.
+// Gives the slot at a place the text of another, with its parts. The plan stays where the needs do.
 fn replace<O: Drop, F: Drop>(
     slots: &mut Shelf<O, F>,
     plan: &mut Option<Plan>,
@@ -49,7 +49,7 @@ fn replace<O: Drop, F: Drop>(
     slots.retext(place, bytes, own, needs);
 }
 
-/// The slot of a text, with the parts that this text has.
+// The slot of a text, with the parts that this text has.
 fn slot_of<D: Derive>(
     alloc: Global,
     name: &str,

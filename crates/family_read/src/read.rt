@@ -27,7 +27,7 @@ use tla_symbols::Lexeme;
 use tla_tree::ModuleTree;
 use tool_list::{Chars, List, Memory};
 
-/// The built-in modules.
+// The built-in modules.
 static BUILT_IN: [&str; 8] = [
     "Naturals",
     "Integers",

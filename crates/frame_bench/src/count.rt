@@ -26,7 +26,7 @@ pub fn count(alloc: Global, task: Task, stream: &[u8]) -> Result<Counts, Memory>
     Ok(counts)
 }
 
-/// Feeds one piece more, and counts the contents that are whole then.
+// Feeds one piece more, and counts the contents that are whole then.
 fn count_further(
     alloc: Global,
     task: Task,
@@ -45,7 +45,7 @@ fn count_further(
     Ok(counts)
 }
 
-/// Takes and counts the whole frames that wait.
+// Takes and counts the whole frames that wait.
 fn count_waiting(
     alloc: Global,
     task: Task,
@@ -67,7 +67,7 @@ fn count_waiting(
     }
 }
 
-/// The bytes behind so many.
+// The bytes behind so many.
 fn behind(bytes: &[u8], count: usize) -> &[u8]
     requires { count ≤ length bytes.now }
     ensures { result.now ≡ drop count bytes.now }
@@ -75,7 +75,7 @@ fn behind(bytes: &[u8], count: usize) -> &[u8]
     &bytes[count..]
 }
 
-/// The next piece of these bytes, of at most that size.
+// The next piece of these bytes, of at most that size.
 fn next_piece(bytes: &[u8], size: usize) -> &[u8]
     requires { 1 ≤ size }
     ensures front { (more : List ℕ) × (bytes.now ≡ result.now ++ more) }

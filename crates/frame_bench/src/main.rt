@@ -15,7 +15,7 @@ use std::io::{self, Read};
 use std::process::ExitCode;
 use std::rt::Env;
 
-/// More bytes than the input may have.
+// More bytes than the input may have.
 const TOO_MANY: usize = 67_108_864;
 
 fn words_of(rt: &(impl Env + AllocGlobal), alloc: Global) -> io::Result<Vec<String>> {

@@ -25,7 +25,7 @@ pub fn refused_in(alloc: Global, task: Task, content: &[u8]) -> Result<u64, Memo
     }
 }
 
-/// Whether a content is no message.
+// Whether a content is no message.
 fn is_refused(alloc: Global, content: &[u8]) -> Result<bool, Memory>
     ensures { IfOk result (λ refused. (message : Incoming) × IsMessage content.now message
         × (refused ≡ is_refused message)) }

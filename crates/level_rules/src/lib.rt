@@ -34,7 +34,7 @@ pub fn apply(rule: Rule, operands: &[Kind]) -> Result<Kind, Breaks>
     Ok(given(rule, operands))
 }
 
-/// Whether a rule takes an operand of this kind at this place.
+// Whether a rule takes an operand of this kind at this place.
 fn takes(rule: Rule, place: usize, kind: Kind) -> bool
     ensures { result ≡ kinds.takes rule place kind }
 {
@@ -49,7 +49,7 @@ fn takes(rule: Rule, place: usize, kind: Kind) -> bool
     }
 }
 
-/// Whether an action with a subscript takes this kind: the action first, and then a state function.
+// Whether an action with a subscript takes this kind: the action first, and then a state function.
 fn takes_subscripted(place: usize, kind: Kind) -> bool
     ensures { result ≡ kinds.takes_subscripted place kind }
 {
@@ -57,14 +57,14 @@ fn takes_subscripted(place: usize, kind: Kind) -> bool
     level(kind) <= most
 }
 
-/// Whether a kind is of another level than an action's.
+// Whether a kind is of another level than an action's.
 fn is_no_action(kind: Kind) -> bool
     ensures { result ≡ kinds.is_no_action kind }
 {
     level(kind) != 2
 }
 
-/// The kind that a rule gives where it takes its operands.
+// The kind that a rule gives where it takes its operands.
 fn given(rule: Rule, operands: &[Kind]) -> Kind
     ensures { result ≡ kinds.given rule operands.now }
 {
@@ -78,7 +78,7 @@ fn given(rule: Rule, operands: &[Kind]) -> Kind
     }
 }
 
-/// The plain kind of the greatest level.
+// The plain kind of the greatest level.
 fn greatest(operands: &[Kind]) -> Kind
     ensures { result ≡ kinds.greatest operands.now }
 {
@@ -89,7 +89,7 @@ fn greatest(operands: &[Kind]) -> Kind
     plain(most)
 }
 
-/// Constant 0, state 1, action 2, temporal 3.
+// Constant 0, state 1, action 2, temporal 3.
 fn level(kind: Kind) -> u8
     ensures { result ≡ kinds.level kind }
 {

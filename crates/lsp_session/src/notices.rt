@@ -12,7 +12,7 @@ use std::alloc::Global;
 use step_count::Steps;
 use tool_list::{Chars, List, Memory};
 
-/// Appends the frames of notices. After `Memory` the first of them may stand there.
+// Appends the frames of notices. After `Memory` the first of them may stand there.
 fn write_dues(alloc: Global, dues: &[Due], out: &mut List<u8>) -> Result<(), Memory>
     ensures ok { OnOk result (out.new ≡ out.old ++ notice_frames dues.now) }
     ensures err { OnErr result (IsCut out.old out.new (notice_frames dues.now)) }
@@ -23,7 +23,7 @@ fn write_dues(alloc: Global, dues: &[Due], out: &mut List<u8>) -> Result<(), Mem
     Ok(())
 }
 
-/// Sends the notices that a change of the texts asks for.
+// Sends the notices that a change of the texts asks for.
 fn notices<A: Answers, L>(
     answers: &mut A,
     alloc: Global,
@@ -127,7 +127,7 @@ fn files_changed<A: Answers, L>(
     }
 }
 
-/// Takes in a notification while the server runs.
+// Takes in a notification while the server runs.
 fn told_running<A: Answers, L>(
     answers: &mut A,
     alloc: Global,

@@ -58,7 +58,7 @@ pub fn fault_of(fault: AnswerFault) -> SessionFault
     }
 }
 
-/// The status of an exit.
+// The status of an exit.
 fn exit_status(phase: Phase) -> u8
     ensures { result ≡ exit_status phase }
 {

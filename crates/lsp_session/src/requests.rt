@@ -18,7 +18,7 @@ use std::alloc::Global;
 use step_count::Steps;
 use tool_list::List;
 
-/// Why a request is refused, if it is: the first reason that fits.
+// Why a request is refused, if it is: the first reason that fits.
 fn refusal(phase: Phase, call: &Call) -> Option<i32>
     ensures { result ≡ refusal phase call.now }
 {
@@ -37,7 +37,7 @@ fn refusal(phase: Phase, call: &Call) -> Option<i32>
     }
 }
 
-/// Takes the client's root, and answers `initialize`.
+// Takes the client's root, and answers `initialize`.
 fn initialize<A: Answers, L>(
     answers: &mut A,
     alloc: Global,
@@ -59,7 +59,7 @@ fn initialize<A: Answers, L>(
     }
 }
 
-/// Answers a question on the texts.
+// Answers a question on the texts.
 fn question<A: Answers, L>(
     answers: &mut A,
     alloc: Global,
@@ -80,7 +80,7 @@ fn question<A: Answers, L>(
     }
 }
 
-/// Appends the frame of an answer.
+// Appends the frame of an answer.
 fn reply(alloc: Global, id: &Id, found: &Reply, out: &mut List<u8>) -> Result<(), SessionFault>
     ensures ok { OnOk result (out.new ≡ out.old ++ frame_of (reply_content id.now found.now)) }
     ensures err { OnErr result (out.new ≡ out.old) }
@@ -104,7 +104,7 @@ pub fn refuse(alloc: Global, id: &Id, code: i32, out: &mut List<u8>) -> Result<(
     }
 }
 
-/// Answers a request that is not refused. Gives the phase that it leads to.
+// Answers a request that is not refused. Gives the phase that it leads to.
 fn answer<A: Answers, L>(
     answers: &mut A,
     alloc: Global,

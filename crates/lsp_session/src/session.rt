@@ -23,14 +23,14 @@ pub struct Session<A> {
     spent: bool,
 }
 
-/// Where a session stands after a message, and how it goes on.
+// Where a session stands after a message, and how it goes on.
 #[derive(Clone, Copy)]
 struct Handled {
     phase: Phase,
     turn: Turn,
 }
 
-/// Refuses, answers or takes in a message.
+// Refuses, answers or takes in a message.
 fn handle<A: Answers, L>(
     answers: &mut A,
     alloc: Global,
@@ -81,7 +81,7 @@ fn handle<A: Answers, L>(
     }
 }
 
-/// Reads a content, and handles its message.
+// Reads a content, and handles its message.
 fn read_and_handle<A: Answers, L>(
     answers: &mut A,
     alloc: Global,

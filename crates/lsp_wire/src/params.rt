@@ -11,7 +11,7 @@ use serde_json::Value;
 use std::alloc::Global;
 use tool_list::{Chars, List, Memory};
 
-/// The greatest number of a line or a unit.
+// The greatest number of a line or a unit.
 const MOST: u64 = 0x7FFF_FFFF;
 
 /// A string member.
@@ -21,7 +21,7 @@ pub fn text_at<'v>(value: &'v Value, key: &str) -> Option<&'v str>
     value.get(key).and_then(Value::as_str)
 }
 
-/// An integer from 0 to 2^31 - 1.
+// An integer from 0 to 2^31 - 1.
 fn small(value: &Value) -> Option<u32>
     ensures { result ≡ small (view value.now) }
 {
@@ -31,7 +31,7 @@ fn small(value: &Value) -> Option<u32>
     }
 }
 
-/// A place, as LSP writes it.
+// A place, as LSP writes it.
 fn position_of(value: &Value) -> Option<Position>
     ensures { result ≡ position_of (view value.now) }
 {
@@ -40,7 +40,7 @@ fn position_of(value: &Value) -> Option<Position>
     Some(Position { line, unit })
 }
 
-/// A range, as LSP writes it.
+// A range, as LSP writes it.
 fn area_of(value: &Value) -> Option<Area>
     ensures { result ≡ area_of (view value.now) }
 {
@@ -93,7 +93,7 @@ fn folder_of(params: &Value) -> Option<&str>
     text_at(params.get("workspaceFolders")?.get(0usize)?, "uri")
 }
 
-/// A range that may be missing or null. `None` where it is ill-typed.
+// A range that may be missing or null. `None` where it is ill-typed.
 fn range_of(range: Option<&Value>) -> Option<Option<Area>>
     ensures { result ≡ range_of (option_map (λ v. view v.now) range.entry) }
 {

@@ -19,7 +19,7 @@ pub fn quoted_text(alloc: Global, text: &str) -> Result<String, AllocError>
     Value::try_from_str(alloc, text)?.to_string(alloc)
 }
 
-/// What stands before an item: a comma, where another one stands before.
+// What stands before an item: a comma, where another one stands before.
 fn comma(later: bool) -> &'static str
     ensures { result.now ≡ comma_if later }
 {

@@ -8,7 +8,7 @@ use crate::symbols::symbols_text;
 use crate::types::Reply;
 use std::alloc::{AllocError, Global};
 
-/// What the server can do.
+// What the server can do.
 const INITIALIZED: &str =
     "{\"capabilities\":{\"definitionProvider\":true,\"documentSymbolProvider\":true,\"referencesProvider\":true,\"textDocumentSync\":{\"change\":2,\"openClose\":true}},\"serverInfo\":{\"name\":\"sany_tool\"}}";
 

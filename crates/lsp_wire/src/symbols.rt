@@ -59,7 +59,7 @@ fn single_around(alloc: Global, members: &str) -> Result<String, AllocError>
     format!(in alloc; "{{{members}")
 }
 
-/// The members of a symbol but for those inside it, and the closing brace.
+// The members of a symbol but for those inside it, and the closing brace.
 fn members_text(
     alloc: Global,
     name: &str,

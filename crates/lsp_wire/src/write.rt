@@ -94,7 +94,7 @@ fn notice_around(alloc: Global, params: &str) -> Result<String, AllocError>
     )
 }
 
-/// The JSON of what names a request.
+// The JSON of what names a request.
 fn id_text(alloc: Global, id: &Id) -> Result<String, AllocError>
     ensures { IfOk result (λ text. string_bytes text ≡ compact_text (id_data id.now)) }
 {

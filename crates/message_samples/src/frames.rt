@@ -5,11 +5,11 @@ use std::alloc::Global;
 use std::process::Abort;
 use std::test::Fail;
 
-/// A stream; the contents of its whole frames, with a bar behind each; the answer behind them; and
-/// whether the stream ends inside a frame.
+// A stream; the contents of its whole frames, with a bar behind each; the answer behind them; and
+// whether the stream ends inside a frame.
 type Row = (&'static str, &'static str, FrameNext, bool);
 
-/// Frames, and what is not one yet.
+// Frames, and what is not one yet.
 static FRAMES: [Row; 8] = [
     (
         "Content-Length: 2\r\n\r\n{}CONTENT-type:any thing\r\ncontent-length:   003\r\n\r\nabcContent-Length: 0\r\nContent-Type:\r\n\r\nContent-Length: 5\r\n\r\nxy",
@@ -53,7 +53,7 @@ static FRAMES: [Row; 8] = [
     ("", "", FrameNext::NotYet, false),
 ];
 
-/// Streams that hold what no header has.
+// Streams that hold what no header has.
 static REFUSED: [Row; 20] = [
     ("x", "", FrameNext::BadHeader { at: 0 }, false),
     ("\r", "", FrameNext::BadHeader { at: 0 }, false),
@@ -162,7 +162,7 @@ static REFUSED: [Row; 20] = [
     ),
 ];
 
-/// Lines of a name and a byte that is repeated so often.
+// Lines of a name and a byte that is repeated so often.
 static LINES: [(&str, u8, usize, FrameNext, bool); 4] = [
     ("Content-Type:", b'a', 1011, FrameNext::NotYet, true),
     (
@@ -182,7 +182,7 @@ static LINES: [(&str, u8, usize, FrameNext, bool); 4] = [
     ),
 ];
 
-/// Takes the whole frames, and answers their contents with a bar behind each.
+// Takes the whole frames, and answers their contents with a bar behind each.
 fn taken(alloc: Global, framer: &mut Framer, most: usize) -> Result<Vec<u8>, Fail> {
     let mut contents = Vec::new(alloc);
     for _ in 0..most {

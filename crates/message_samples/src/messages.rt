@@ -12,7 +12,7 @@ use std::process::Abort;
 use std::test::Fail;
 use tool_list::{Chars, List, Memory};
 
-/// What is written.
+// What is written.
 #[derive(Clone, Copy)]
 enum Sent {
     Initialized,
@@ -25,7 +25,7 @@ enum Sent {
     Symbols,
 }
 
-/// What is written, each with the length of its content and the content.
+// What is written, each with the length of its content and the content.
 static WRITTEN: [(Sent, usize, &str); 8] = [
     (
         Sent::Initialized,
@@ -73,7 +73,7 @@ fn reads(rt: &impl Abort, alloc: Global, content: &[u8], want: &str) -> Result<(
     Ok(())
 }
 
-/// So many lists in one another.
+// So many lists in one another.
 fn nested(alloc: Global, depth: usize) -> Result<Vec<u8>, AllocError> {
     let mut content = Vec::new(alloc);
     for _ in 0..depth {

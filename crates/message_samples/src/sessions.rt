@@ -28,7 +28,7 @@ fn after(
     session.message(alloc, content.as_bytes(), out, &mut Steps::new(()))
 }
 
-/// Hands these messages to a new session, and compares what comes.
+// Hands these messages to a new session, and compares what comes.
 fn follow(rt: &impl Abort, alloc: Global, rows: &'static [Row]) -> Result<Session<Silent>, Fail> {
     let mut session = Session::new(Silent::new(alloc));
     for (content, want, length, reply) in rows {

@@ -4,15 +4,15 @@ use std::alloc::Global;
 use std::process::Abort;
 use tool_list::{Chars, List};
 
-/// What is done to a graph, or has to be true of it.
+// What is done to a graph, or has to be true of it.
 enum Step {
-    /// A name is put, with what it needs.
+    // A name is put, with what it needs.
     Put(&'static str, &'static str),
-    /// These are the names in order.
+    // These are the names in order.
     Order(&'static str),
-    /// This is the first name on a cycle.
+    // This is the first name on a cycle.
     Cycle(&'static str),
-    /// Whether needs lead from one name to another.
+    // Whether needs lead from one name to another.
     Reaches(&'static str, &'static str, bool),
 }
 

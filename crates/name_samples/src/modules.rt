@@ -110,7 +110,7 @@ fn three_imports(rt: &impl Abort, alloc: Global) -> Imported {
     imported
 }
 
-/// Names, each with what is found under it.
+// Names, each with what is found under it.
 static IMPORTS: [(&str, &str); 4] = [("M", "M"), ("N", "cyclic"), ("", "refused"), ("m", "none")];
 
 fn has_imports(rt: &impl Abort, imported: &Imported) {
@@ -132,7 +132,7 @@ fn begins_with_no_import(rt: HostRuntime) {
     assert!(rt; imported.is_empty());
 }
 
-/// Faults over one byte.
+// Faults over one byte.
 static FAULTS: [Diagnostic; 4] = [
     Diagnostic {
         code: 303,
@@ -214,7 +214,7 @@ fn of_three(rt: &impl Abort, alloc: Global) -> NameTable {
     longer(alloc, &two, "c", 2).expect(rt, "c")
 }
 
-/// Words with their places, and whether each is found among so many.
+// Words with their places, and whether each is found among so many.
 static FINDS: [(usize, &str, u32, bool); 4] = [
     (1, "a", 0, true),
     (2, "b", 1, true),

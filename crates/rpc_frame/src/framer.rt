@@ -29,13 +29,13 @@ pub enum FrameNext {
 /// once, none of a content, and each byte is moved less often than twice.
 #[derive(Drop)]
 pub struct Framer {
-    /// The last frame from its content on, and what waits.
+    // The last frame from its content on, and what waits.
     bytes: Vec<u8>,
-    /// Where the last frame's content begins.
+    // Where the last frame's content begins.
     content: usize,
-    /// Where that content ends and what waits begins.
+    // Where that content ends and what waits begins.
     start: usize,
-    /// How many bytes of the stream were taken as frames.
+    // How many bytes of the stream were taken as frames.
     taken: u64,
     progress: Progress,
 }
@@ -89,8 +89,8 @@ impl Framer {
         waiting < 1 << 26 && self.taken.saturating_add(waiting as u64) < 1 << 63
     }
 
-    /// Lets go of the bytes before the last content, once they are more than the others. So the
-    /// bytes moved are never more than those let go.
+    // Lets go of the bytes before the last content, once they are more than the others. So the
+    // bytes moved are never more than those let go.
     fn let_go(&mut self)
         ensures { self.new ≡ self.old }
     {
@@ -143,7 +143,7 @@ impl Framer {
     }
 }
 
-/// Removes so many items at the front.
+// Removes so many items at the front.
 fn drop_front(bytes: &mut Vec<u8>, count: usize)
     requires { count ≤ vec_len bytes.old }
     ensures { bytes.new.items ≡ drop count bytes.old.items }
@@ -153,7 +153,7 @@ fn drop_front(bytes: &mut Vec<u8>, count: usize)
     bytes.truncate(kept);
 }
 
-/// The bytes behind so many.
+// The bytes behind so many.
 fn behind(bytes: &[u8], count: usize) -> &[u8]
     requires { count ≤ length bytes.now }
     ensures { result.now ≡ drop count bytes.now }
@@ -161,7 +161,7 @@ fn behind(bytes: &[u8], count: usize) -> &[u8]
     &bytes[count..]
 }
 
-/// Whether these bytes, of whose first header so much was read, end within a frame.
+// Whether these bytes, of whose first header so much was read, end within a frame.
 fn ends_inside(bytes: &[u8], progress: Progress) -> bool
     requires { HasRead bytes.now progress }
     ensures { IsTrue result ↔ EndsInside bytes.now }

@@ -70,13 +70,13 @@ pub enum Found {
     Long { said: u64 },
 }
 
-/// The most bytes of content that a frame may have.
+// The most bytes of content that a frame may have.
 const MOST_CONTENT: u64 = 16_777_216;
 
-/// What a line of 1,024 bytes has room for behind `Content-Length:`.
+// What a line of 1,024 bytes has room for behind `Content-Length:`.
 const LENGTH_ROOM: u16 = 1009;
 
-/// The same behind `Content-Type:`.
+// The same behind `Content-Type:`.
 const TYPE_ROOM: u16 = 1011;
 
 impl Header {
@@ -109,7 +109,7 @@ impl Header {
         }
     }
 
-    /// What a whole header says. `None` before its end.
+    // What a whole header says. `None` before its end.
     fn said(self) -> Option<u64>
         ensures { result ≡ said_by self }
     {
@@ -297,7 +297,7 @@ impl Progress {
         }
     }
 
-    /// What stands at the front of these bytes, which begin with a whole header.
+    // What stands at the front of these bytes, which begin with a whole header.
     fn behind_header(self, said: u64, bytes: &[u8]) -> Found
         requires read { HasRead bytes.now self }
         requires says { said_by self.header ≡ Some said }
@@ -317,7 +317,7 @@ impl Progress {
 }
 
 impl Field {
-    /// The name behind `Content-`, in lower case.
+    // The name behind `Content-`, in lower case.
     fn name(self) -> &'static [u8]
         ensures { result.now ≡ field_name self }
     {
@@ -327,7 +327,7 @@ impl Field {
         }
     }
 
-    /// What comes after the name's colon.
+    // What comes after the name's colon.
     fn value_part(self) -> Part
         ensures { result ≡ value_part self }
     {
@@ -338,7 +338,7 @@ impl Field {
     }
 }
 
-/// The letter of a name after so many.
+// The letter of a name after so many.
 fn next_letter(name: &[u8], letters: usize) -> Option<u8>
     ensures { result ≡ slice_get name.now letters }
 {

@@ -26,7 +26,7 @@ pub type Text = (&'static str, &'static [u8], u8, &'static str);
 /// Files, each with its bytes; the status; and the report.
 pub type Folder = (&'static [(&'static str, &'static [u8])], u8, &'static str);
 
-/// What a run answered, wrote and counted.
+// What a run answered, wrote and counted.
 #[derive(Drop)]
 struct Ran {
     status: u8,
@@ -55,7 +55,7 @@ fn module_of(alloc: Global, name: &str, lines: &str) -> Result<FileBytes, Memory
     file_of(alloc, file.as_str(), text.as_bytes())
 }
 
-/// The files of these modules, beside one that is no module's.
+// The files of these modules, beside one that is no module's.
 fn modules_of(alloc: Global, modules: &[(&str, &str)]) -> Result<List<FileBytes>, Memory> {
     let mut made = List::new(alloc);
     made.push(file_of(alloc, "A.txt", b"")?)?;
@@ -65,7 +65,7 @@ fn modules_of(alloc: Global, modules: &[(&str, &str)]) -> Result<List<FileBytes>
     Ok(made)
 }
 
-/// The folder `w` with these files, which fails at the call of this number.
+// The folder `w` with these files, which fails at the call of this number.
 fn folder_of(alloc: Global, files: List<FileBytes>, fails: u32) -> Result<MemoryFolder, Memory> {
     let path = Chars::from_str(alloc, "w")?;
     let mut map = List::new(alloc);
@@ -108,7 +108,7 @@ fn check(alloc: Global, files: List<FileBytes>) -> Result<Ran, Memory> {
     check_within(alloc, files, 400)
 }
 
-/// Checks these files, with room for so many bytes of a report.
+// Checks these files, with room for so many bytes of a report.
 fn check_within(alloc: Global, files: List<FileBytes>, room: u32) -> Result<Ran, Memory> {
     let folder = folder_of(alloc, files, 0)?;
     let output = MemorySink::new(alloc, room, 7, List::new(alloc))?;
@@ -188,7 +188,7 @@ fn reports_in_order_of_names(rt: HostRuntime) -> Result<(), Fail> {
     Ok(())
 }
 
-/// Modules, and how many are checked, the built-in ones among them.
+// Modules, and how many are checked, the built-in ones among them.
 static CHECKED: [Case; 6] = [
     (&[("A", "F == 1")], 9, ""),
     (&[("A", ";")], 8, ""),
@@ -250,7 +250,7 @@ fn numbered_file(alloc: Global, number: u32) -> Result<FileBytes, Memory> {
     file_of(alloc, name.as_str(), b"")
 }
 
-/// So many empty files with names of modules.
+// So many empty files with names of modules.
 fn numbered(alloc: Global, count: u32) -> Result<List<FileBytes>, Memory> {
     let mut files = List::new(alloc);
     for number in 0..count {

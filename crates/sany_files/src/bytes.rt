@@ -25,6 +25,7 @@ pub fn all_word_bytes(run: &[u8]) -> bool
     run.iter().all(|c| is_word_byte(*c))
 }
 
+/// Whether some byte is a letter.
 pub fn has_letter(run: &[u8]) -> bool
     ensures { result ≡ list_any is_ascii_alphabetic run.now }
 {

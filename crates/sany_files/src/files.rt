@@ -16,10 +16,10 @@ use tla_spelling::{op_of, word_of};
 use tool_io::{Folder, IoFault};
 use tool_list::{Chars, List, Memory};
 
-/// The most bytes that are read of a file.
+// The most bytes that are read of a file.
 const MOST: u64 = (1 << 25) + 1;
 
-/// The most bytes of all files of a folder.
+// The most bytes of all files of a folder.
 const MOST_BYTES: u64 = 1 << 25;
 
 #[tactic(auto, unfolding(crate::specs::Files::is_identifier))]
@@ -33,7 +33,7 @@ fn is_identifier(name: &[u8]) -> bool
         && op_of(name).is_none()
 }
 
-/// The module that a file stands for, by its name.
+// The module that a file stands for, by its name.
 fn module_of_file(file: &str) -> Option<&str>
     ensures { option_copied result ≡ files_in.module_of_file file.now }
 {

@@ -15,14 +15,14 @@ use std::alloc::{AllocError, Global};
 use tla_model::Diagnostic;
 use tla_text::{Measure, Place, Text};
 
-/// Where a report has come to in a text: an offset in bytes, with its place in characters.
+// Where a report has come to in a text: an offset in bytes, with its place in characters.
 #[derive(Clone, Copy)]
 struct Cursor {
     offset: u32,
     place: Place,
 }
 
-/// The last offset to which places go forward: no text of a module is longer.
+// The last offset to which places go forward: no text of a module is longer.
 const FORWARD: u32 = 1 << 27;
 
 // The cursor at the start of a text.

@@ -19,19 +19,19 @@ use std::alloc::Global;
 use step_count::Steps;
 use tool_io::{Folder, IoFault, Sink, Source};
 
-/// The words do not ask for anything.
+// The words do not ask for anything.
 const USAGE: u8 = 2;
 
-/// The folder failed.
+// The folder failed.
 const FOLDER_FAULT: u8 = 3;
 
-/// The output failed.
+// The output failed.
 const OUTPUT_FAULT: u8 = 5;
 
-/// There was no room.
+// There was no room.
 const NO_MEMORY: u8 = 6;
 
-/// A limit was passed.
+// A limit was passed.
 const LIMIT: u8 = 7;
 
 fn status_of_run<F: Folder, K: Sink, L>(

@@ -1,6 +1,6 @@
 // The texts of the built-in modules.
 
-// The natural numbers.
+/// The natural numbers.
 pub const NATURALS: &str = r#"---- MODULE Naturals ----
 Nat == CHOOSE n : n = <<"Nat">>
 a + b == CHOOSE n : n = <<"+", a, b>>
@@ -17,7 +17,7 @@ a % b == CHOOSE n : n = <<"%", a, b>>
 ====
 "#;
 
-// The integers.
+/// The integers.
 pub const INTEGERS: &str = r#"---- MODULE Integers ----
 EXTENDS Naturals
 Int == CHOOSE n : n = <<"Int">>
@@ -25,7 +25,7 @@ Int == CHOOSE n : n = <<"Int">>
 ====
 "#;
 
-// The real numbers.
+/// The real numbers.
 pub const REALS: &str = r#"---- MODULE Reals ----
 EXTENDS Integers
 Real == CHOOSE n : n = <<"Real">>
@@ -34,7 +34,7 @@ a / b == CHOOSE n : n = <<"/", a, b>>
 ====
 "#;
 
-// Finite sequences.
+/// Finite sequences.
 pub const SEQUENCES: &str = r#"---- MODULE Sequences ----
 Seq(S) == CHOOSE n : n = <<"Seq", S>>
 Len(s) == CHOOSE n : n = <<"Len", s>>
@@ -47,14 +47,14 @@ SelectSeq(s, Test(_)) == CHOOSE n : n = <<"SelectSeq", s, Test(s)>>
 ====
 "#;
 
-// Finite sets.
+/// Finite sets.
 pub const FINITE_SETS: &str = r#"---- MODULE FiniteSets ----
 IsFiniteSet(S) == CHOOSE n : n = <<"IsFiniteSet", S>>
 Cardinality(S) == CHOOSE n : n = <<"Cardinality", S>>
 ====
 "#;
 
-// Bags, or multisets.
+/// Bags, or multisets.
 pub const BAGS: &str = r#"---- MODULE Bags ----
 IsABag(B) == CHOOSE n : n = <<"IsABag", B>>
 BagToSet(B) == CHOOSE n : n = <<"BagToSet", B>>
@@ -72,7 +72,7 @@ CopiesIn(e, B) == CHOOSE n : n = <<"CopiesIn", e, B>>
 ====
 "#;
 
-// Bounds on the real time of actions.
+/// Bounds on the real time of actions.
 pub const REAL_TIME: &str = r#"---- MODULE RealTime ----
 EXTENDS Reals
 VARIABLE now
@@ -92,7 +92,7 @@ RTnow(v) ==
 ====
 "#;
 
-// Operators for the model checker.
+/// Operators for the model checker.
 pub const TLC: &str = r#"---- MODULE TLC ----
 Print(out, val) == CHOOSE n : n = <<"Print", out, val>>
 Assert(val, out) == CHOOSE n : n = <<"Assert", val, out>>

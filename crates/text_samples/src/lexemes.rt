@@ -38,7 +38,7 @@ fn shown(rt: &impl Abort, alloc: Global, body: &str) -> String {
     shown
 }
 
-/// Lines behind the header, each with its lexemes.
+// Lines behind the header, each with its lexemes.
 static LONGEST: [(&str, &str); 16] = [
     ("1..5", "Number<1> Sym(DotDot)<..> Number<5> End<> "),
     ("1.5 .5", "Number<1.5> Number<.5> End<> "),
@@ -117,7 +117,7 @@ fn stand(rt: &impl Abort, alloc: Global, source: &str, expected: &str) {
     assert!(rt; found.as_str() == expected, "{source}: {found}");
 }
 
-/// Texts, each with where its lexemes stand.
+// Texts, each with where its lexemes stand.
 static PLACES: [(&str, &str); 2] = [
     (
         "(* --- MODULE ---- MODULES ------\t MODULE",

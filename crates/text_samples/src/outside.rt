@@ -75,11 +75,11 @@ fn reads(
     }
 }
 
-/// What is asked of a folder, with its answer.
+// What is asked of a folder, with its answer.
 enum Asked {
-    /// The names under a path.
+    // The names under a path.
     Names(&'static str, &'static str),
-    /// The first bytes of a file under a path.
+    // The first bytes of a file under a path.
     Front(&'static str, &'static str, Option<&'static [u8]>),
 }
 

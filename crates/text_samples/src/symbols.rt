@@ -72,8 +72,8 @@ static RANGES: [(Op, Option<(u8, u8, bool)>); 4] = [
     (Op::Prime, None),
 ];
 
-/// Symbols as what stands before or behind an operand: whether it has a range, and whether it can be
-/// defined.
+// Symbols as what stands before or behind an operand: whether it has a range, and whether it can be
+// defined.
 static FIXES: [(Op, Fix, bool, bool); 4] = [
     (Op::Minus, Fix::Prefix, true, false),
     (Op::Negative, Fix::Prefix, false, true),

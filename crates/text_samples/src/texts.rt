@@ -22,7 +22,7 @@ fn places(rt: &impl Abort, text: &Text, offset: u32) -> [u32; 5] {
 
 const SOURCE: &str = "a\tb\r\nx😀é\ry\n";
 
-/// Offsets in the source, each with all that is known of it.
+// Offsets in the source, each with all that is known of it.
 static PLACES: [(u32, [u32; 5]); 11] = [
     (0, [0, 0, 0, 0, 0]),
     (1, [0, 1, 1, 0, 1]),
@@ -37,7 +37,7 @@ static PLACES: [(u32, [u32; 5]); 11] = [
     (15, [3, 0, 0, 3, 0]),
 ];
 
-/// Lines and units in the source, each with its offset.
+// Lines and units in the source, each with its offset.
 static UNITS: [(u32, u32, u32); 13] = [
     (0, 3, 3),
     (0, 4, 3),

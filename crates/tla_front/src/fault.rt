@@ -20,10 +20,10 @@ pub const TOO_LARGE: u16 = 104;
 /// A unit of the module is too high.
 pub const TOO_HIGH: u16 = 105;
 
-/// No lexeme begins.
+// No lexeme begins.
 const NO_LEXEME: u16 = 201;
 
-/// The lexemes begin no module.
+// The lexemes begin no module.
 const SYNTAX: u16 = 202;
 
 /// A fault of no bytes, at an offset.

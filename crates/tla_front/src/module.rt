@@ -28,7 +28,7 @@ use tool_list::{Chars, List, Memory};
 use unit_heights::{MOST_HEIGHT, first_high};
 use unit_parse::{ParseError, parse_module};
 
-/// The most bytes of one text.
+// The most bytes of one text.
 const MOST_TEXT: usize = 1 << 20;
 
 /// Why a module has no tree.

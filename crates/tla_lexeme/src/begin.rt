@@ -31,7 +31,7 @@ pub enum Begin {
     TextEnd,
 }
 
-/// How many bytes the character has that a byte begins.
+// How many bytes the character has that a byte begins.
 fn char_len(byte: u8) -> usize
     ensures { result ≡ 1 + continuation_len byte }
 {

@@ -27,6 +27,7 @@ pub enum Class {
 }
 
 impl Class {
+    /// Whether a byte is of the class.
     pub fn has(self, byte: u8) -> bool
         ensures { result ≡ is_in self byte }
     {

@@ -14,7 +14,7 @@ fn begins_with_module(text: &[u8]) -> bool
     begins(text, b"MODULE") && !goes_on(text)
 }
 
-/// Whether a letter, a digit or `_` follows the word.
+// Whether a letter, a digit or `_` follows the word.
 fn goes_on(text: &[u8]) -> bool
     ensures { result ≡ is_in WordChar (slice_index text.now 6) }
 {

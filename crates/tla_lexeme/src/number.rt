@@ -22,7 +22,7 @@ pub fn fraction_len(text: &[u8]) -> usize
     }
 }
 
-/// The digits of the base that a letter after a backslash names.
+// The digits of the base that a letter after a backslash names.
 fn base_of(letter: u8) -> Option<Class>
     ensures { result ≡ base_of letter }
 {

@@ -17,7 +17,7 @@ use tla_symbols::{LexKind, Lexeme, Span, Word};
 use tla_text::{Place, Text};
 use tool_list::{List, Memory};
 
-/// How many words `MODULE` and how many runs of `=` have been read.
+// How many words `MODULE` and how many runs of `=` have been read.
 #[derive(Clone, Copy)]
 struct Counts {
     words: u32,
@@ -25,7 +25,7 @@ struct Counts {
 }
 
 impl Counts {
-    /// Whether a lexeme of this kind closes the module.
+    // Whether a lexeme of this kind closes the module.
     fn closes(self, kind: LexKind) -> bool
         requires { self.runs + 1 < 2 ^ 32 }
         ensures { result ≡ (module_part.is_equals kind && self.runs + 1 == self.words) }
@@ -59,14 +59,14 @@ fn is_equals(kind: LexKind) -> bool
     matches!(kind, LexKind::Equals)
 }
 
-/// The kind that a lexeme has in the module part.
+// The kind that a lexeme has in the module part.
 fn kind_in(closes: bool, kind: LexKind) -> LexKind
     ensures { result ≡ (if closes then LexKind.Close else kind) }
 {
     if closes { LexKind::Close } else { kind }
 }
 
-/// A lexeme of so many bytes at an offset that has this place.
+// A lexeme of so many bytes at an offset that has this place.
 fn lexeme_of(at: u32, place: Place, kind: LexKind, len: u32) -> Lexeme
     requires { at + len < 2 ^ 32 }
     ensures { result ≡ record { kind = kind; span = record { start = at; end = at + len }; line = place.line; col = place.column } }
@@ -82,7 +82,7 @@ fn lexeme_of(at: u32, place: Place, kind: LexKind, len: u32) -> Lexeme
     }
 }
 
-/// What comes behind the blanks and comments at a place, and where.
+// What comes behind the blanks and comments at a place, and where.
 #[derive(Clone, Copy)]
 struct Behind {
     at: usize,
@@ -90,8 +90,8 @@ struct Behind {
     begin: Begin,
 }
 
-/// Passes over blanks and comments. So many bytes at the place are known to be digits and `_`, as
-/// `bare_len` counts them, or 0 where that is not known.
+// Passes over blanks and comments. So many bytes at the place are known to be digits and `_`, as
+// `bare_len` counts them, or 0 where that is not known.
 fn behind_gap(text: &[u8], start: usize, known: usize) -> Behind
     requires utf8 { IsUtf8 text.now }
     requires at_char { IsCharBoundary text.now start }
@@ -122,18 +122,18 @@ fn behind_gap(text: &[u8], start: usize, known: usize) -> Behind
     }
 }
 
-/// The lexeme that comes next.
+// The lexeme that comes next.
 #[derive(Clone, Copy)]
 struct Next {
     at: usize,
     member: Member,
-    /// What is known of the bytes behind it, as `bare_len` counts them.
+    // What is known of the bytes behind it, as `bare_len` counts them.
     bare: usize,
-    /// Whether it is `End` or `Bad`.
+    // Whether it is `End` or `Bad`.
     is_last: bool,
 }
 
-/// The next lexeme: the longest behind blanks and comments, `Bad` where none begins there, or `End`.
+// The next lexeme: the longest behind blanks and comments, `Bad` where none begins there, or `End`.
 fn next_lexeme(text: &[u8], start: usize, known: usize) -> Next
     requires utf8 { IsUtf8 text.now }
     requires at_char { IsCharBoundary text.now start }

@@ -13,7 +13,7 @@ use crate::slices::{prefix, skip};
 use crate::table::longest_spelled;
 use tla_symbols::LexKind;
 
-/// How many signs a text begins with, where they are four or more, and else 0.
+// How many signs a text begins with, where they are four or more, and else 0.
 fn long_run_len(class: Class, text: &[u8]) -> usize
     ensures value { result ≡ lengths.long_run_len class text.now }
     ensures within { result ≤ length text.now }
@@ -22,7 +22,7 @@ fn long_run_len(class: Class, text: &[u8]) -> usize
     if len >= 4 { len } else { 0 }
 }
 
-/// The longest number or run of signs at a sign. Its length is 0 where there is none.
+// The longest number or run of signs at a sign. Its length is 0 where there is none.
 fn open_sign(text: &[u8]) -> Member
     requires { 0 < length text.now }
     ensures value { result ≡ lengths.open_sign text.now }
@@ -52,14 +52,14 @@ fn open_sign(text: &[u8]) -> Member
     }
 }
 
-/// Whether a byte stands in symbols and marks as their first byte alone.
+// Whether a byte stands in symbols and marks as their first byte alone.
 fn stands_first(byte: u8) -> bool
     ensures { result ≡ lengths.stands_first byte }
 {
     matches!(byte, b'(' | b'[' | b'{' | b'}' | b',' | b'\'')
 }
 
-/// Whether a byte may stand in a symbol or a mark that begins with another.
+// Whether a byte may stand in a symbol or a mark that begins with another.
 fn goes_on(first: u8, byte: u8) -> bool
     ensures { result ≡ lengths.goes_on first byte }
 {
@@ -83,7 +83,7 @@ fn goes_on_len(first: u8, more: &[u8]) -> usize
     more.len()
 }
 
-/// How many bytes a symbol or a mark has at most behind the one that begins it.
+// How many bytes a symbol or a mark has at most behind the one that begins it.
 fn most_further(first: u8) -> usize
     ensures { result ≡ lengths.most_further first }
 {

@@ -17,6 +17,7 @@ pub fn prefix<T>(items: &[T], count: usize) -> &[T]
     &items[..count]
 }
 
+/// What follows the first so many items.
 pub fn skip<T>(items: &[T], count: usize) -> &[T]
     requires { count ≤ length items.now }
     ensures { result.now ≡ drop count items.now }

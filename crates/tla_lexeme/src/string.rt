@@ -8,7 +8,7 @@ use crate::class::Class;
 use crate::slices::{first_of, skip};
 use tla_symbols::LexKind;
 
-/// What a byte in a string does.
+// What a byte in a string does.
 enum Step {
     Closes,
     Goes,
@@ -36,7 +36,7 @@ fn step_at(escaped: bool, byte: u8) -> Step
     }
 }
 
-/// How many bytes the string has that begins a text, if it ends.
+// How many bytes the string has that begins a text, if it ends.
 fn string_len(text: &[u8]) -> Option<usize>
     requires { 0 < length text.now }
     ensures { result ≡ lengths.string_end 1 false (drop 1 text.now) }

@@ -48,7 +48,7 @@ fn named_len(text: &[u8]) -> usize
     run_len(Class::WordChar, text)
 }
 
-/// The longest lexeme at a run of word characters with a letter.
+// The longest lexeme at a run of word characters with a letter.
 fn named(text: &[u8]) -> Member
     requires word { sets.is_in WordChar (slice_index text.now 0) ≡ true }
     requires letter { lengths.bare_len text.now ≡ 0 }
@@ -61,7 +61,7 @@ fn named(text: &[u8]) -> Member
     }
 }
 
-/// The longest lexeme at a digit, in a run of word characters with no letter.
+// The longest lexeme at a digit, in a run of word characters with no letter.
 fn number(text: &[u8]) -> Member
     requires digit { sets.is_in Digit (slice_index text.now 0) ≡ true }
     requires bare { 0 < lengths.bare_len text.now }

@@ -22,7 +22,7 @@ pub struct Range {
     pub left: bool,
 }
 
-/// What a symbol is at one place. A place without a range is none where it can be applied.
+// What a symbol is at one place. A place without a range is none where it can be applied.
 #[derive(Clone, Copy)]
 struct Place {
     range: Option<Range>,

@@ -11,7 +11,7 @@ use crate::{Measure, Place};
 const TAB: u32 = 8;
 
 impl Measure {
-    /// The column after a character in a column.
+    // The column after a character in a column.
     fn after(self, column: u32, c: char) -> u32
         requires { next_column self column c < 2 ^ 32 }
         ensures { result ≡ next_column self column c }
@@ -36,7 +36,7 @@ fn utf16_len(c: char) -> u32
     c.len_utf16() as u32
 }
 
-/// The first character of a text, and what follows it.
+// The first character of a text, and what follows it.
 fn first_char(text: &str) -> Option<(char, &str)>
     ensures { MatchOption result (text.now ≡ []) (λ p. (text.now ≡ encode_utf8 p.0 ++ p.1.now) × IsUtf8 p.1.now) }
 {
@@ -59,7 +59,7 @@ pub(crate) fn column_after(measure: Measure, piece: &str) -> u32
     column
 }
 
-/// Whether a character ends a line, before the rest of a piece and what follows the piece.
+// Whether a character ends a line, before the rest of a piece and what follows the piece.
 fn ends_line(c: char, more: &str, after: &str) -> bool
     ensures { result ≡ ends_line c (chars more.now ++ chars after.now) }
 {
@@ -75,7 +75,7 @@ fn line_feed_comes(more: &str, after: &str) -> bool
     begins_with(more.as_bytes())
 }
 
-/// The place behind a character.
+// The place behind a character.
 fn behind(measure: Measure, place: Place, c: char, ends: bool) -> Place
     requires line { place.line + 1 < 2 ^ 32 }
     requires column { place.column + 8 < 2 ^ 32 }
@@ -108,7 +108,7 @@ pub(crate) fn place_behind(measure: Measure, place: Place, piece: &str, after: &
     place
 }
 
-/// Whether so many units, counted from the start of a line, end before a character.
+// Whether so many units, counted from the start of a line, end before a character.
 fn stops_before(units: u32, c: char) -> bool
     ensures { result ≡ stops_before units c }
 {

@@ -179,7 +179,7 @@ impl Text {
         Place { line, column }
     }
 
-    /// The place of an offset, by that of an offset before it. What stands between them is read.
+    // The place of an offset, by that of an offset before it. What stands between them is read.
     fn further(&self, measure: Measure, from: u32, place: Place, to: u32) -> Place
         requires from_at_char { IsCharBoundary self.now from }
         requires to_at_char { IsCharBoundary self.now to }
@@ -238,7 +238,7 @@ impl Text {
         Ok(())
     }
 
-    /// How many lines start behind the text's start and up to an offset.
+    // How many lines start behind the text's start and up to an offset.
     fn line_of(&self, offset: u32) -> u32
         ensures bound { result ≤ length (starts_after 0 self.now) }
         ensures point { IsLineOf result offset (starts_after 0 self.now) }
@@ -250,7 +250,7 @@ impl Text {
         line as u32
     }
 
-    /// Where a line starts that the text has.
+    // Where a line starts that the text has.
     fn start_of(&self, line: u32) -> u32
         requires { line ≤ length (starts_after 0 self.now) }
         ensures { result ≡ slice_index (0 ∷ starts_after 0 self.now) line }
@@ -262,7 +262,7 @@ impl Text {
         }
     }
 
-    /// What stands before an offset in its line.
+    // What stands before an offset in its line.
     fn line_before(&self, line: u32, offset: u32) -> &str
         requires at_char { IsCharBoundary self.now offset }
         requires of_line { IsLineOf line offset (starts_after 0 self.now) }

@@ -6,13 +6,14 @@ ghost use Rattle.tla_text.specs.Places as places;
 use memchr::memchr2;
 use std::alloc::{AllocError, Global};
 
-/// Whether a byte ends a line, before these others: of a carriage return and a line feed the second does.
+// Whether a byte ends a line, before these others: of a carriage return and a line feed the second does.
 fn ends_line(byte: u8, after: &[u8]) -> bool
     ensures { result ≡ places.ends_line byte after.now }
 {
     byte == b'\n' || (byte == b'\r' && !begins_with_line_feed(after))
 }
 
+/// Whether the first byte is a line feed.
 pub(crate) fn begins_with_line_feed(text: &[u8]) -> bool
     ensures { result ≡ places.begins_with_line_feed text.now }
 {
@@ -22,7 +23,7 @@ pub(crate) fn begins_with_line_feed(text: &[u8]) -> bool
     }
 }
 
-/// The first byte that may end a line: how many bytes stand before it, the byte, and what follows.
+// The first byte that may end a line: how many bytes stand before it, the byte, and what follows.
 fn next_line_byte(text: &[u8]) -> Option<(usize, u8, &[u8])>
     ensures starts { (at : ℕ) → MatchOption result (starts_after at text.now ≡ []) (λ p. starts_after at text.now ≡ starts_after (at + p.0) (p.1 ∷ p.2.now)) }
     ensures length { IfSome result (λ p. length text.now ≡ p.0 + (1 + length p.2.now)) }

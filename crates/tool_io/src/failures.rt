@@ -14,6 +14,7 @@ pub struct Failures {
 }
 
 impl Failures {
+    /// An object that fails at the calls of these numbers, before its first call.
     pub fn new(fails: List<u32>) -> Failures
         ensures { result ≡ record { fails = fails; calls = 0; faults = 0 } }
     {
@@ -44,6 +45,7 @@ impl Failures {
         self.faults = self.faults.saturating_add(1);
     }
 
+    /// How often the object has failed.
     pub fn count(&self) -> u64
         ensures { result ≡ self.now.faults }
     {

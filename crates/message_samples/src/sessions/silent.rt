@@ -136,7 +136,7 @@ impl Silent {
         self.told.as_str()
     }
 
-    /// Tells the document and the text, each behind its mark.
+    // Tells the document and the text, each behind its mark.
     fn tell(&mut self, marks: [char; 2], uri: &Uri, text: &str) -> Result<(), Memory>
         ensures due { self.new.due ≡ self.old.due }
         ensures faults { self.new.faults ≡ self.old.faults }
