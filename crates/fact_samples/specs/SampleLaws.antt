@@ -4,10 +4,10 @@ use Rattle.std.specs.Prelude.{◌&&◌, fold}
 use Rattle.std.proofs.lemmas.Bool.{eqb-true, eq-eqb}
 use Rattle.std.proofs.lemmas.List.{map-append, take_more}
 use Rattle.std.proofs.lemmas.List.Sums.{fold-append}
-use Rattle.fact_store.specs.declared.given.Gave.{Gave}
+use Rattle.fact_store.specs.declared.given.Input.{Input}
 use Rattle.fact_values.specs.Names.{name_eq}
 use Rattle.fact_values.specs.States.{State, no_text, cyclic, broken, fact, same_state, same_given}
-use Rattle.fact_store.specs.Given.{gave_state, states}
+use Rattle.fact_store.specs.Given.{input_state, states}
 use Rattle.fact_samples.specs.declared.SampleFact.{SampleFact}
 use Rattle.fact_samples.specs.Sample.{names, seen, below, same}
 
@@ -26,10 +26,10 @@ names-short [] l = refl
 names-short (a ∷ []) l = refl
 names-short (a ∷ b ∷ rest) l = absurd (omega arith)
 
-pub below-more : (given : List (List ℕ × Gave SampleFact)) (i : ℕ) (d : List ℕ × Gave SampleFact) → i < length given → below (states (take (i + 1) given)) ≡ (below (states (take i given)) * 31 + seen (gave_state (get_or given i d).1)) % 65536
+pub below-more : (given : List (List ℕ × Input SampleFact)) (i : ℕ) (d : List ℕ × Input SampleFact) → i < length given → below (states (take (i + 1) given)) ≡ (below (states (take i given)) * 31 + seen (input_state (get_or given i d).1)) % 65536
 below-more given i d l =
     ap (λ xs. below (states xs)) (take_more given i d l)
-    ∙ ap below (map-append (λ (g : List ℕ × Gave SampleFact). (g.0, gave_state g.1)) (take i given) (get_or given i d ∷ []))
+    ∙ ap below (map-append (λ (g : List ℕ × Input SampleFact). (g.0, input_state g.1)) (take i given) (get_or given i d ∷ []))
     ∙ fold-append (λ (n : ℕ) (g : List ℕ × State SampleFact). (n * 31 + seen g.1) % 65536) 0 (states (take i given)) (states (get_or given i d ∷ []))
 
 left : (a b : Bool) → (a && b) ≡ true → a ≡ true

@@ -6,10 +6,10 @@
 
 ghost use Rattle.std.specs.Prelude.{◌≡◌, ◌+◌, ◌*◌, ◌%◌, ◌^◌, ◌<◌, ℕ, List, IfOk, drop, fold, slice_index};
 ghost use Rattle.fact_values.specs.States.{State};
-ghost use Rattle.fact_store.specs.Given.{gave_state, states};
+ghost use Rattle.fact_store.specs.Given.{input_state, states};
 ghost use Rattle.fact_samples.specs.Sample as sample;
 
-use fact_store::{Derive, Gave, Given};
+use fact_store::{Derive, Given, Input};
 use std::alloc::Global;
 use std::str;
 use step_count::Steps;
@@ -57,25 +57,25 @@ fn names_of(alloc: Global, bytes: &[u8]) -> Result<List<Chars>, Memory>
 }
 
 // What is seen of what a need gives.
-fn seen(gave: &Gave<SampleFact>) -> u32
-    ensures value { result ≡ sample.seen (gave_state gave.now) }
+fn seen(input: &Input<SampleFact>) -> u32
+    ensures value { result ≡ sample.seen (input_state input.now) }
     ensures small { result < 512 }
 {
-    match gave {
-        Gave::NoText => 0,
-        Gave::Cyclic => 1,
-        Gave::Broken => 2,
-        Gave::Fact(fact) => 3 + fact.face as u32,
+    match input {
+        Input::NoText => 0,
+        Input::Cyclic => 1,
+        Input::Broken => 2,
+        Input::Fact(fact) => 3 + fact.face as u32,
     }
 }
 
 // A digest of what the needs give.
-fn below(given: &[(Chars, Gave<SampleFact>)]) -> u32
+fn below(given: &[(Chars, Input<SampleFact>)]) -> u32
     ensures { result ≡ sample.below (states given.now) }
 {
     let mut digest: u32 = 0;
-    for (_, gave) in given {
-        digest = (digest * 31 + seen(gave)) % 65536;
+    for (_, input) in given {
+        digest = (digest * 31 + seen(input)) % 65536;
     }
     digest
 }

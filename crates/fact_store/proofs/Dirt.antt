@@ -139,8 +139,8 @@ module _ {Own F : Type 0} (own_of : List ℕ → List ℕ → Own) (needs_of : O
   itself x kept e = (kept, e, refl, refl)
 
   -- one slot gets another text
-  pub owed-retext : (slots : List (Slot Own F)) (i : ℕ) (x y : Slot Own F) → AreDistinct slots → slice_get slots i ≡ Some x → y.name ≡ x.name → IsHandedOn x y → owed own_of needs_of fact_of same (slice_set slots i y) ≤ owed own_of needs_of fact_of same slots + dirty own_of needs_of fact_of same (texts_of slots) (texts_of (slice_set slots i y))
-  owed-retext slots i x y d at n handed =
+  pub owed-set_text : (slots : List (Slot Own F)) (i : ℕ) (x y : Slot Own F) → AreDistinct slots → slice_get slots i ≡ Some x → y.name ≡ x.name → IsHandedOn x y → owed own_of needs_of fact_of same (slice_set slots i y) ≤ owed own_of needs_of fact_of same slots + dirty own_of needs_of fact_of same (texts_of slots) (texts_of (slice_set slots i y))
+  owed-set_text slots i x y d at n handed =
       owed-pairs (texts_of slots) slots (slice_set slots i y) d' (length-set slots i y) pairs
     where
       d' : AreDistinct (slice_set slots i y)

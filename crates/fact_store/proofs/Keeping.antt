@@ -5,7 +5,7 @@ use Rattle.std.specs.Arc.{arc_value}
 use Rattle.list_laws.proofs.Tests.{and-right}
 use Rattle.fact_store.specs.declared.slot.Slot.{Slot}
 use Rattle.fact_store.specs.declared.slot.Kept.{Kept}
-use Rattle.fact_store.specs.declared.given.Gave.{Gave}
+use Rattle.fact_store.specs.declared.given.Input.{Input}
 use Rattle.fact_values.specs.Names.{name_eq}
 use Rattle.fact_values.specs.States.{State, same_given}
 use Rattle.fact_store.specs.Given.{states}
@@ -14,7 +14,7 @@ use Rattle.fact_store.specs.Right.{is_fresh, with_given, Keeps}
 use Rattle.fact_values.proofs.NameLemmas.{and_both}
 use Rattle.fact_store.proofs.Pairs.{same_given-refl, is_fresh-with_given}
 
-module _ {Own F : Type 0} (own_of : List ℕ → List ℕ → Own) (needs_of : Own → Option (List (List ℕ))) (fact_of : List ℕ → Own → List (List ℕ × State F) → F) (same : F → F → Bool) (same_refl : (a : F) → same a a ≡ true) (old new : List (Slot Own F)) (place : ℕ) (slot : Slot Own F) (given : List (List ℕ × Gave F)) (sound : IsSound own_of needs_of fact_of slot) where
+module _ {Own F : Type 0} (own_of : List ℕ → List ℕ → Own) (needs_of : Own → Option (List (List ℕ))) (fact_of : List ℕ → Own → List (List ℕ × State F) → F) (same : F → F → Bool) (same_refl : (a : F) → same a a ≡ true) (old new : List (Slot Own F)) (place : ℕ) (slot : Slot Own F) (given : List (List ℕ × Input F)) (sound : IsSound own_of needs_of fact_of slot) where
   -- its fact stands, and what is given now is like what was given then
   module _ (respects : (name : List ℕ) (own : Own) (xs ys : List (List ℕ × State F)) → same_given same xs ys ≡ true → fact_of name own xs ≡ fact_of name own ys) (fresh : is_fresh same slot.kept (states given) ≡ true) (written : new ≡ slice_set old place (record slot { kept = with_given slot.kept given })) where
     made : (o : Option (Kept F)) → slot.kept ≡ o → is_fresh same o (states given) ≡ true → (k : Kept F) → with_given o given ≡ Some k → arc_value k.fact ≡ fact_of slot.name (own_of slot.name (source k slot.bytes)) (states k.given)
@@ -60,5 +60,5 @@ module _ {Own F : Type 0} (own_of : List ℕ → List ℕ → Own) (needs_of : O
       };
       fresh =
           and_both (is_none kept.from) _ (ap is_none from)
-          (ap (λ (xs : List (List ℕ × Gave F)). same_given same (states xs) (states given)) with_these ∙ same_given-refl same same_refl (states given));
+          (ap (λ (xs : List (List ℕ × Input F)). same_given same (states xs) (states given)) with_these ∙ same_given-refl same same_refl (states given));
     }

@@ -4,7 +4,7 @@ pub mod SlotLemmas
 pub mod Rows
 pub mod Ranks
 pub mod Gifts
-pub mod GaveLemmas
+pub mod InputLemmas
 pub mod Pairs
 pub mod KeepLemmas
 pub mod Orders

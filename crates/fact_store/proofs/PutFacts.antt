@@ -8,8 +8,8 @@ use Rattle.fact_values.specs.States.{State}
 use Rattle.fact_values.specs.Values.{dirty}
 use Rattle.fact_store.specs.Slots.{texts_of, HasNoSlot, IsPlaceOf, AreSound, owed, new_slot}
 use Rattle.fact_store.proofs.TextLemmas.{texts_of-set, texts_of-push, texts_of-remove}
-use Rattle.fact_store.proofs.PutLemmas.{retexted, retexted-kept, IsSound-retexted, AreSound-retext, AreSound-push, AreSound-remove, IsSound-new}
-use Rattle.fact_store.proofs.Dirt.{owed-retext, owed-push, owed-remove}
+use Rattle.fact_store.proofs.PutLemmas.{with_text, with_text-kept, IsSound-with_text, AreSound-set_text, AreSound-push, AreSound-remove, IsSound-new}
+use Rattle.fact_store.proofs.Dirt.{owed-set_text, owed-push, owed-remove}
 
 module _ {Own F : Type 0} (own_of : List ℕ → List ℕ → Own) (needs_of : Own → Option (List (List ℕ))) (fact_of : List ℕ → Own → List (List ℕ × State F) → F) (same : F → F → Bool) (same_trans : (a b c : F) → same a b ≡ true → same b c ≡ true → same a c ≡ true) where
   pub record IsPut (old new : List (Slot Own F)) (name bytes : List ℕ) : Type 0 where
@@ -17,17 +17,17 @@ module _ {Own F : Type 0} (own_of : List ℕ → List ℕ → Own) (needs_of : O
     pub texts : texts_of new ≡ insert (texts_of old) name bytes
     pub owes : owed own_of needs_of fact_of same new ≤ owed own_of needs_of fact_of same old + dirty own_of needs_of fact_of same (texts_of old) (texts_of new)
 
-  pub put_over : (slots new : List (Slot Own F)) (place : ℕ) (name bytes text : List ℕ) (own : Own) (needs : Option (List (List ℕ))) → AreSound own_of needs_of fact_of slots → (p : IsPlaceOf slots name place) → text ≡ bytes → own ≡ own_of name bytes → needs ≡ needs_of own → new ≡ slice_set slots place (retexted p.0 text own needs) → IsPut slots new name bytes
+  pub put_over : (slots new : List (Slot Own F)) (place : ℕ) (name bytes text : List ℕ) (own : Own) (needs : Option (List (List ℕ))) → AreSound own_of needs_of fact_of slots → (p : IsPlaceOf slots name place) → text ≡ bytes → own ≡ own_of name bytes → needs ≡ needs_of own → new ≡ slice_set slots place (with_text p.0 text own needs) → IsPut slots new name bytes
   put_over slots new place name bytes text own needs s p et eo en e =
       subst (λ (ss : List (Slot Own F)). IsPut slots ss name bytes) (sym e) (record {
-        sound = AreSound-retext own_of needs_of fact_of slots place p.0 y s p.1 refl
-            (IsSound-retexted own_of needs_of fact_of p.0 text own needs (s.each place p.0 p.1) (eo ∙ ap (λ (n : List ℕ). own_of n bytes) (sym p.2) ∙ ap (own_of (p.0).name) (sym et)) en);
+        sound = AreSound-set_text own_of needs_of fact_of slots place p.0 y s p.1 refl
+            (IsSound-with_text own_of needs_of fact_of p.0 text own needs (s.each place p.0 p.1) (eo ∙ ap (λ (n : List ℕ). own_of n bytes) (sym p.2) ∙ ap (own_of (p.0).name) (sym et)) en);
         texts = texts_of-set slots place p.0 y s.distinct p.1 refl ∙ ap (λ (n : List ℕ). insert (texts_of slots) n text) p.2 ∙ ap (insert (texts_of slots) name) et;
-        owes = owed-retext own_of needs_of fact_of same same_trans slots place p.0 y s.distinct p.1 refl (λ kept k. retexted-kept p.0 text own needs kept k);
+        owes = owed-set_text own_of needs_of fact_of same same_trans slots place p.0 y s.distinct p.1 refl (λ kept k. with_text-kept p.0 text own needs kept k);
       })
     where
       y : Slot Own F
-      y = retexted p.0 text own needs
+      y = with_text p.0 text own needs
 
   pub put_new : (slots new : List (Slot Own F)) (name bytes called text : List ℕ) (own : Own) (needs : Option (List (List ℕ))) → AreSound own_of needs_of fact_of slots → HasNoSlot slots name → called ≡ name → text ≡ bytes → own ≡ own_of name bytes → needs ≡ needs_of own → new ≡ slots ++ (record { name = called; bytes = text; own = own; needs = needs; kept = None }) ∷ [] → IsPut slots new name bytes
   put_new slots new name bytes called text own needs s h ec et eo en e =
@@ -43,9 +43,9 @@ module _ {Own F : Type 0} (own_of : List ℕ → List ℕ → Own) (needs_of : O
       gone : HasNoSlot slots called
       gone = subst (HasNoSlot slots) (sym ec) h
 
-  pub slot_over : (slots new : List (Slot Own F)) (place : ℕ) (name bytes : List ℕ) (slot : Slot Own F) → AreSound own_of needs_of fact_of slots → (p : IsPlaceOf slots name place) → slot ≡ new_slot own_of needs_of name bytes → new ≡ slice_set slots place (retexted p.0 slot.bytes slot.own slot.needs) → IsPut slots new name bytes
+  pub slot_over : (slots new : List (Slot Own F)) (place : ℕ) (name bytes : List ℕ) (slot : Slot Own F) → AreSound own_of needs_of fact_of slots → (p : IsPlaceOf slots name place) → slot ≡ new_slot own_of needs_of name bytes → new ≡ slice_set slots place (with_text p.0 slot.bytes slot.own slot.needs) → IsPut slots new name bytes
   slot_over slots new place name bytes slot s p q e =
-      put_over slots new place name bytes bytes (own_of name bytes) (needs_of (own_of name bytes)) s p refl refl refl (e ∙ ap (λ (z : Slot Own F). slice_set slots place (retexted p.0 z.bytes z.own z.needs)) q)
+      put_over slots new place name bytes bytes (own_of name bytes) (needs_of (own_of name bytes)) s p refl refl refl (e ∙ ap (λ (z : Slot Own F). slice_set slots place (with_text p.0 z.bytes z.own z.needs)) q)
 
   pub slot_new : (slots new : List (Slot Own F)) (name bytes : List ℕ) (slot : Slot Own F) → AreSound own_of needs_of fact_of slots → HasNoSlot slots name → slot ≡ new_slot own_of needs_of name bytes → new ≡ slots ++ slot ∷ [] → IsPut slots new name bytes
   slot_new slots new name bytes slot s h q e =

@@ -53,11 +53,11 @@ names_same (x ∷ a) (y ∷ b) e = λ i. bytes_same x y (and-left (pointwise nat
 
 module _ {Own F : Type 0} where
   -- a slot with another text
-  abbrev pub retexted : Slot Own F → List ℕ → Own → Option (List (List ℕ)) → Slot Own F
-  retexted slot bytes own needs = record { name = slot.name; bytes = bytes; own = own; needs = needs; kept = kept_after slot.kept slot.bytes bytes }
+  abbrev pub with_text : Slot Own F → List ℕ → Own → Option (List (List ℕ)) → Slot Own F
+  with_text slot bytes own needs = record { name = slot.name; bytes = bytes; own = own; needs = needs; kept = kept_after slot.kept slot.bytes bytes }
 
-  pub retexted-kept : (slot : Slot Own F) (bytes : List ℕ) (own : Own) (needs : Option (List (List ℕ))) (kept : Kept F) → slot.kept ≡ Some kept → (later : Kept F) × ((retexted slot bytes own needs).kept ≡ Some later) × (source later bytes ≡ source kept slot.bytes) × (later.given ≡ kept.given)
-  retexted-kept slot bytes own needs kept e =
+  pub with_text-kept : (slot : Slot Own F) (bytes : List ℕ) (own : Own) (needs : Option (List (List ℕ))) (kept : Kept F) → slot.kept ≡ Some kept → (later : Kept F) × ((with_text slot bytes own needs).kept ≡ Some later) × (source later bytes ≡ source kept slot.bytes) × (later.given ≡ kept.given)
+  with_text-kept slot bytes own needs kept e =
       (record kept { from = source_after kept.from slot.bytes bytes }, ap (λ k. kept_after k slot.bytes bytes) e, source-after kept.from slot.bytes bytes, refl)
 
   -- the plan stays where a slot keeps its name and its needs
@@ -90,8 +90,8 @@ module _ {Own F : Type 0} where
   HoldsPlan-set slots i x y (Some plan) at n m h = IsPlan-set slots i x y plan at n m h
 
   module _ (own_of : List ℕ → List ℕ → Own) (needs_of : Own → Option (List (List ℕ))) (fact_of : List ℕ → Own → List (List ℕ × State F) → F) where
-    pub IsSound-retexted : (slot : Slot Own F) (bytes : List ℕ) (own : Own) (needs : Option (List (List ℕ))) → IsSound own_of needs_of fact_of slot → own ≡ own_of slot.name bytes → needs ≡ needs_of own → IsSound own_of needs_of fact_of (retexted slot bytes own needs)
-    IsSound-retexted slot bytes own needs s eo en = record {
+    pub IsSound-with_text : (slot : Slot Own F) (bytes : List ℕ) (own : Own) (needs : Option (List (List ℕ))) → IsSound own_of needs_of fact_of slot → own ≡ own_of slot.name bytes → needs ≡ needs_of own → IsSound own_of needs_of fact_of (with_text slot bytes own needs)
+    IsSound-with_text slot bytes own needs s eo en = record {
       own_part = eo;
       needs_part = en;
       made = λ k e. by_kept slot.kept refl k e;
@@ -111,8 +111,8 @@ module _ {Own F : Type 0} where
             let h : record kept { from = source_after kept.from slot.bytes bytes } ≡ k = cc in
             source_after-elsewhere kept.from slot.bytes bytes b (ap (λ (z : Kept F). z.from) h ∙ f)
 
-    pub AreSound-retext : (slots : List (Slot Own F)) (i : ℕ) (x y : Slot Own F) → AreSound own_of needs_of fact_of slots → slice_get slots i ≡ Some x → y.name ≡ x.name → IsSound own_of needs_of fact_of y → AreSound own_of needs_of fact_of (slice_set slots i y)
-    AreSound-retext slots i x y s e n sy = record {
+    pub AreSound-set_text : (slots : List (Slot Own F)) (i : ℕ) (x y : Slot Own F) → AreSound own_of needs_of fact_of slots → slice_get slots i ≡ Some x → y.name ≡ x.name → IsSound own_of needs_of fact_of y → AreSound own_of needs_of fact_of (slice_set slots i y)
+    AreSound-set_text slots i x y s e n sy = record {
       each = λ j z g. elim (set_cases slots i j y z (slice_get_within slots i x e) g) as (λ _. IsSound own_of needs_of fact_of z) [
         | inl this ↦ subst (IsSound own_of needs_of fact_of) this.1 sy
         | inr past ↦ s.each j z past.1

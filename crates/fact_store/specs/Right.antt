@@ -2,7 +2,7 @@
 use Rattle.std.specs.Prelude.{◌≡◌, ℕ, ◌≤◌, ◌⊎◌, Bool, true, false, ◌&&◌, List, Option, Some, None, length, map, slice_get, slice_set, slice_index, nat_eq, is_none}
 use Rattle.fact_store.specs.declared.slot.Slot.{Slot}
 use Rattle.fact_store.specs.declared.slot.Kept.{Kept}
-use Rattle.fact_store.specs.declared.given.Gave.{Gave}
+use Rattle.fact_store.specs.declared.given.Input.{Input}
 use Rattle.fact_store.specs.declared.plan.Plan.{Plan}
 use Rattle.fact_values.specs.Names.{has}
 use Rattle.fact_values.specs.States.{State, same_given}
@@ -17,7 +17,7 @@ is_fresh same None given = false
 is_fresh same (Some kept) given = is_none kept.from && same_given same (states kept.given) given
 
 -- a fact with this in place of what was given when it was made
-abbrev pub with_given : {F : Type 0} → Option (Kept F) → List (List ℕ × Gave F) → Option (Kept F)
+abbrev pub with_given : {F : Type 0} → Option (Kept F) → List (List ℕ × Input F) → Option (Kept F)
 with_given None given = None
 with_given (Some kept) given = Some (record kept { given = given })
 

@@ -4,7 +4,7 @@ ghost use Rattle.std.specs.Arc.{arc_value};
 ghost use Rattle.std.specs.List.{slice_get};
 ghost use Rattle.fact_values.specs.Names.{has};
 ghost use Rattle.fact_values.specs.States.{same_state, same_given};
-ghost use Rattle.fact_store.specs.Given.{gave_state, states};
+ghost use Rattle.fact_store.specs.Given.{input_state, states};
 ghost use Rattle.fact_values.specs.Values.{needs_or_none, gives, value, given_in, ComesFromTexts};
 ghost use Rattle.fact_store.specs.Slots.{texts_of, IsSound, owed};
 ghost use Rattle.fact_store.specs.Right.{IsPlan, IsDone, IsReady, IsRight, Keeps, Brings};
@@ -12,7 +12,7 @@ ghost use Rattle.fact_store.specs.Right as rules;
 ghost use Rattle.fact_store.specs.declared.slot.Slot.{Slot as SlotOf};
 
 use crate::derive::Derive;
-use crate::given::{Gave, Given};
+use crate::given::{Given, Input};
 use crate::plan::{Plan, needed};
 use crate::shelf::Shelf;
 use crate::slot::{Kept, Slot, same_bytes};
@@ -22,61 +22,65 @@ use step_count::Steps;
 use tool_list::{Chars, List, Memory};
 
 // What a needed name gives to the text at a place.
-fn gave_of<D: Derive>(
+fn input_of<D: Derive>(
     slots: &Shelf<D::Own, D::Fact>,
     plan: &Plan,
     current: &[bool],
     place: usize,
     need: &str,
-) -> Result<Gave<D::Fact>, Memory>
+) -> Result<Input<D::Fact>, Memory>
     requires right { IsRight D.own_of D.needs_of D.fact_of D.same slots.now current.now }
     requires plan { IsPlan slots.now plan.now }
     requires ready { IsReady slots.now plan.now.ranks.items current.now place }
     requires place { place < length slots.now }
     requires need { (slot : SlotOf D.Own D.Fact) → slice_get slots.now place ≡ Some slot → has (needs_or_none slot.needs) need.now ≡ true }
-    ensures { IfOk result (λ gave. (slot : SlotOf D.Own D.Fact) → slice_get slots.now place ≡ Some slot → gave_state gave ≡ gives D.own_of D.needs_of D.fact_of (texts_of slots.now) (value D.own_of D.needs_of D.fact_of (texts_of slots.now)) slot.name need.now) }
+    ensures { IfOk result (λ input. (slot : SlotOf D.Own D.Fact) → slice_get slots.now place ≡ Some slot → input_state input ≡ gives D.own_of D.needs_of D.fact_of (texts_of slots.now) (value D.own_of D.needs_of D.fact_of (texts_of slots.now)) slot.name need.now) }
 {
     let Some(other) = slots.place_of(need) else {
-        return Ok(Gave::NoText);
+        return Ok(Input::NoText);
     };
     if plan.ranks[other] == plan.ranks[place] {
-        return Ok(Gave::Cyclic);
+        return Ok(Input::Cyclic);
     }
     let slot = slots.at(other);
     if slot.needs.is_none() {
-        return Ok(Gave::Broken);
+        return Ok(Input::Broken);
     }
     let Some(kept) = &slot.kept else {
         unreachable!();
     };
-    Ok(Gave::Fact(Arc::try_clone(&kept.fact)?))
+    Ok(Input::Fact(Arc::try_clone(&kept.fact)?))
 }
 
 // Whether two needs gave alike.
-fn same_gave<D: Derive>(d: &D, a: &Gave<D::Fact>, b: &Gave<D::Fact>) -> bool
-    ensures { result ≡ same_state D.same (gave_state a.now) (gave_state b.now) }
+fn same_input<D: Derive>(d: &D, a: &Input<D::Fact>, b: &Input<D::Fact>) -> bool
+    ensures { result ≡ same_state D.same (input_state a.now) (input_state b.now) }
 {
     match (a, b) {
-        (Gave::NoText, Gave::NoText) => true,
-        (Gave::Cyclic, Gave::Cyclic) => true,
-        (Gave::Broken, Gave::Broken) => true,
-        (Gave::Fact(a), Gave::Fact(b)) => d.same_face(a, b),
+        (Input::NoText, Input::NoText) => true,
+        (Input::Cyclic, Input::Cyclic) => true,
+        (Input::Broken, Input::Broken) => true,
+        (Input::Fact(a), Input::Fact(b)) => d.same_face(a, b),
         _ => false,
     }
 }
 
 // Whether the same names gave alike.
-fn same_pairs<D: Derive>(d: &D, a: &[(Chars, Gave<D::Fact>)], b: &[(Chars, Gave<D::Fact>)]) -> bool
+fn same_pairs<D: Derive>(
+    d: &D,
+    a: &[(Chars, Input<D::Fact>)],
+    b: &[(Chars, Input<D::Fact>)],
+) -> bool
     ensures { result ≡ same_given D.same (states a.now) (states b.now) }
 {
     if a.len() != b.len() {
         return false;
     }
     for place in 0..a.len() {
-        let (name, gave) = &a[place];
+        let (name, input) = &a[place];
         let (other_name, other) = &b[place];
         if !same_bytes(name.as_str().as_bytes(), other_name.as_str().as_bytes())
-            || !same_gave(d, gave, other)
+            || !same_input(d, input, other)
         {
             return false;
         }
@@ -113,9 +117,9 @@ fn given_of<D: Derive>(
 {
     let mut given = List::new(alloc);
     for name in needed(slots.at(place)) {
-        let gave = gave_of::<D>(slots, plan, current, place, name.as_str())?;
+        let input = input_of::<D>(slots, plan, current, place, name.as_str())?;
         let name = Chars::from_str(alloc, name.as_str())?;
-        given.push((name, gave))?;
+        given.push((name, input))?;
     }
     Ok(given)
 }
@@ -161,7 +165,7 @@ fn keep<D: Derive, L>(
     ensures counted { OnOk result ((slot : SlotOf D.Own D.Fact) → slice_get slots.old place ≡ Some slot → steps.new ≤ steps.old + (if rules.is_fresh D.same slot.kept (states given) then 0 else 1)) }
 {
     if is_fresh(d, &slots.at(place).kept, &given) {
-        slots.regive(place, given);
+        slots.set_inputs(place, given);
         return Ok(());
     }
     let kept = derive(alloc, d, slots.at(place), given, steps)?;

@@ -3,7 +3,7 @@ use tool_list::{Chars, List};
 
 /// What a needed name gives to the text that needs it.
 #[derive(Drop)]
-pub enum Gave<F: Drop> {
+pub enum Input<F: Drop> {
     /// There is no text of that name.
     NoText,
     /// The needs of that name lead back to the one that needs it.
@@ -15,7 +15,7 @@ pub enum Gave<F: Drop> {
 }
 
 /// Each needed name with what it gives, in the order of the needs.
-pub type Given<F> = List<(Chars, Gave<F>)>;
+pub type Given<F> = List<(Chars, Input<F>)>;
 
 /// The value of a name, from the texts.
 #[derive(Drop)]

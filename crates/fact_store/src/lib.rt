@@ -22,5 +22,5 @@ mod store;
 mod texts;
 
 pub use derive::Derive;
-pub use given::{Answer, Gave, Given};
+pub use given::{Answer, Given, Input};
 pub use store::FactStore;

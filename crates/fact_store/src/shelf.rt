@@ -6,7 +6,7 @@ ghost use Rattle.fact_store.specs.Right as rules;
 ghost use Rattle.fact_store.specs.declared.slot.Slot.{Slot as SlotOf};
 
 use crate::given::Given;
-use crate::slot::{Kept, Slot, regive, retext};
+use crate::slot::{Kept, Slot, set_inputs, set_text};
 use indexmap::IndexMap;
 use slab::Slab;
 use std::alloc::Global;
@@ -92,22 +92,22 @@ impl<O: Drop, F: Drop> Shelf<O, F> {
     }
 
     /// Gives the slot at a place another text with its parts.
-    pub fn retext(&mut self, place: usize, bytes: List<u8>, own: O, needs: Option<List<Chars>>)
+    pub fn set_text(&mut self, place: usize, bytes: List<u8>, own: O, needs: Option<List<Chars>>)
         requires { place < length self.old }
         ensures { (slot : SlotOf O F) → slice_get self.old place ≡ Some slot → self.new ≡ slice_set self.old place (record { name = slot.name; bytes = bytes; own = own; needs = needs; kept = slots_of.kept_after slot.kept slot.bytes bytes }) }
     {
         let key = self.names[place];
-        retext(&mut self.slots[key], bytes, own, needs);
+        set_text(&mut self.slots[key], bytes, own, needs);
     }
 
     /// Puts what the needs of the slot at a place give now in the place of what they gave when its
     /// fact was made.
-    pub fn regive(&mut self, place: usize, given: Given<F>)
+    pub fn set_inputs(&mut self, place: usize, given: Given<F>)
         requires { place < length self.old }
         ensures { (slot : SlotOf O F) → slice_get self.old place ≡ Some slot → self.new ≡ slice_set self.old place (record slot { kept = rules.with_given slot.kept given }) }
     {
         let key = self.names[place];
-        regive(&mut self.slots[key], given);
+        set_inputs(&mut self.slots[key], given);
     }
 
     /// Gives the slot at a place another fact.

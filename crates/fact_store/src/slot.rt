@@ -59,7 +59,7 @@ fn kept_after<F: Drop>(kept: Option<Kept<F>>, before: List<u8>, bytes: &[u8]) ->
 }
 
 /// Gives a slot another text with its parts.
-pub fn retext<O: Drop, F: Drop>(
+pub fn set_text<O: Drop, F: Drop>(
     slot: &mut Slot<O, F>,
     bytes: List<u8>,
     own: O,
@@ -74,7 +74,7 @@ pub fn retext<O: Drop, F: Drop>(
 }
 
 /// Puts what the needs give now in the place of what they gave when the fact was made.
-pub fn regive<O: Drop, F: Drop>(slot: &mut Slot<O, F>, given: Given<F>)
+pub fn set_inputs<O: Drop, F: Drop>(slot: &mut Slot<O, F>, given: Given<F>)
     ensures { slot.new ≡ record slot.old { kept = rules.with_given slot.old.kept given } }
 {
     if let Some(kept) = &mut slot.kept {

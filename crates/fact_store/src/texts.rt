@@ -46,7 +46,7 @@ fn replace<O: Drop, F: Drop>(
     if !same_names(&slots.at(place).needs, &needs) {
         *plan = None;
     }
-    slots.retext(place, bytes, own, needs);
+    slots.set_text(place, bytes, own, needs);
 }
 
 // The slot of a text, with the parts that this text has.

@@ -6,7 +6,7 @@ use Rattle.fact_store.specs.Slots.{owed}
 use Rattle.fact_store.specs.Right.{outlines, IsRight}
 use Rattle.std.proofs.lemmas.List.{length-set}
 use Rattle.fact_store.proofs.Bringing.{brings_none}
-use Rattle.fact_store.proofs.GaveLemmas.{one_at}
+use Rattle.fact_store.proofs.InputLemmas.{one_at}
 use Rattle.fact_store.proofs.Rows.{slot_at}
 use Rattle.fact_store.proofs.Marks.{is_marked-set_same, marked_kept}
 use Rattle.fact_store.proofs.KeepLemmas.{outlines-set, IsRight-set, owed-kept, settled_from-fresh, comes_from-slot}

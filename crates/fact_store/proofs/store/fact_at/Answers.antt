@@ -5,7 +5,7 @@ use Rattle.fact_values.specs.States.{fact}
 use Rattle.fact_store.specs.Slots.{texts_of}
 use Rattle.fact_values.specs.Values.{value}
 use Rattle.fact_store.proofs.Gifts.{value-broken}
-use Rattle.fact_store.proofs.GaveLemmas.{done-kept, done-value, one_at}
+use Rattle.fact_store.proofs.InputLemmas.{done-kept, done-value, one_at}
 use Rattle.fact_store.proofs.store.fact_at.Goals as goal
 
 pub returns-then-is_none : goal.returns-then-is_none

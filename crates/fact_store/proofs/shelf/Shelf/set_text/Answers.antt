@@ -3,8 +3,8 @@ use Rattle.std.specs.Prelude.{slice_get, slice_set}
 use Rattle.fact_store.specs.declared.slot.Slot.{Slot}
 use Rattle.fact_store.specs.Shelf.{shelved}
 use Rattle.fact_store.proofs.ShelfLemmas.{length-shelved, has_key, stands_at, shelf-write, shelved-write}
-use Rattle.fact_store.proofs.PutLemmas.{retexted}
-use Rattle.fact_store.proofs.shelf.Shelf.retext.Goals as goal
+use Rattle.fact_store.proofs.PutLemmas.{with_text}
+use Rattle.fact_store.proofs.shelf.Shelf.set_text.Goals as goal
 
 pub index-key-requires : goal.index-key-requires
 index-key-requires g c = let s = c.self.inside in omega (arith, c.requires, ap length c.self.view_is, length-shelved s.slots s.names.entries c.self.invariant)
@@ -19,7 +19,7 @@ pub invariant_of-self : goal.invariant_of-self
 invariant_of-self g c =
     let s = c.self.inside in
     let l : c.args.place < length (shelved s.slots s.names.entries) = omega (arith, c.requires, ap length c.self.view_is) in
-    shelf-write s.slots s.names.entries c.self.invariant c.args.place c.index-key.result.now c.index_mut.result.now c.retext.new.slot l c.index-key.ensures c.index_mut.ensures.value (ap (λ (z : Slot g.row.O.Denot g.row.F.Denot). z.name) c.retext.ensures)
+    shelf-write s.slots s.names.entries c.self.invariant c.args.place c.index-key.result.now c.index_mut.result.now c.set_text.new.slot l c.index-key.ensures c.index_mut.ensures.value (ap (λ (z : Slot g.row.O.Denot g.row.F.Denot). z.name) c.set_text.ensures)
 
 pub returns : goal.returns
 returns g c = λ slot at.
@@ -28,5 +28,5 @@ returns g c = λ slot at.
     let here = stands_at s.slots s.names.entries c.self.invariant c.args.place c.index-key.result.now x l c.index-key.ensures c.index_mut.ensures.value in
     let k : ◌≡◌ {A = Option (Slot g.row.O.Denot g.row.F.Denot)} (Some x) (Some slot) = sym here ∙ ap (λ (ss : List (Slot g.row.O.Denot g.row.F.Denot)). slice_get ss c.args.place) c.self.view_is ∙ at in
     let same : x ≡ slot = cc in
-    shelved-write s.slots s.names.entries c.self.invariant c.args.place c.index-key.result.now x c.retext.new.slot l c.index-key.ensures c.index_mut.ensures.value (ap (λ (z : Slot g.row.O.Denot g.row.F.Denot). z.name) c.retext.ensures)
-    ∙ (λ j. slice_set (c.self.view_is j) c.args.place ((c.retext.ensures ∙ ap (λ (z : Slot g.row.O.Denot g.row.F.Denot). retexted z c.args.bytes c.args.own c.args.needs) same) j))
+    shelved-write s.slots s.names.entries c.self.invariant c.args.place c.index-key.result.now x c.set_text.new.slot l c.index-key.ensures c.index_mut.ensures.value (ap (λ (z : Slot g.row.O.Denot g.row.F.Denot). z.name) c.set_text.ensures)
+    ∙ (λ j. slice_set (c.self.view_is j) c.args.place ((c.set_text.ensures ∙ ap (λ (z : Slot g.row.O.Denot g.row.F.Denot). with_text z c.args.bytes c.args.own c.args.needs) same) j))

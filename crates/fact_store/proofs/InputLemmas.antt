@@ -31,8 +31,8 @@ module _ {Own F : Type 0} (own_of : List ℕ → List ℕ → Own) (needs_of : O
         rank_tells own_of needs_of fact_of slots right.sound plan.edges.items planned.edges plan.ranks.items planned.ranks i j x there.0 at there.1 (ap (has (needs_or_none x.needs)) there.2 ∙ need)
         ∙ ap (λ (m : List ℕ). reaches own_of needs_of fact_of (texts_of slots) m x.name) there.2
 
-    pub gave-cyclic : a ≡ b → cyclic ≡ gives own_of needs_of fact_of (texts_of slots) (value own_of needs_of fact_of (texts_of slots)) x.name n
-    gave-cyclic e =
+    pub input-cyclic : a ≡ b → cyclic ≡ gives own_of needs_of fact_of (texts_of slots) (value own_of needs_of fact_of (texts_of slots)) x.name n
+    input-cyclic e =
         sym (gives-cyclic own_of needs_of fact_of slots right.sound x.name n
         (sym tells ∙ eq-eqb _ _ (sym (rank_read plan.ranks.items j a (within j there.0 there.1) ra) ∙ e ∙ rank_read plan.ranks.items i b (within i x at) rb)))
 
@@ -42,12 +42,12 @@ module _ {Own F : Type 0} (own_of : List ℕ → List ℕ → Own) (needs_of : O
       | inr other ↦ other
     ]
 
-    gave-value : a ≢ b → (s : State F) → value own_of needs_of fact_of (texts_of slots) (there.0).name ≡ s → s ≡ gives own_of needs_of fact_of (texts_of slots) (value own_of needs_of fact_of (texts_of slots)) x.name n
-    gave-value ne s v =
+    input-value : a ≢ b → (s : State F) → value own_of needs_of fact_of (texts_of slots) (there.0).name ≡ s → s ≡ gives own_of needs_of fact_of (texts_of slots) (value own_of needs_of fact_of (texts_of slots)) x.name n
+    input-value ne s v =
         sym (gives-value own_of needs_of fact_of slots right.sound x.name n s (sym tells ∙ apart ne) (ap (value own_of needs_of fact_of (texts_of slots)) (sym there.2) ∙ v))
 
-    pub gave-broken : a ≢ b → (there.0).needs ≡ None → broken ≡ gives own_of needs_of fact_of (texts_of slots) (value own_of needs_of fact_of (texts_of slots)) x.name n
-    gave-broken ne none = gave-value ne broken (value-broken own_of needs_of fact_of slots right.sound j there.0 there.1 none)
+    pub input-broken : a ≢ b → (there.0).needs ≡ None → broken ≡ gives own_of needs_of fact_of (texts_of slots) (value own_of needs_of fact_of (texts_of slots)) x.name n
+    input-broken ne none = input-value ne broken (value-broken own_of needs_of fact_of slots right.sound j there.0 there.1 none)
 
     module _ (ready : IsReady slots plan.ranks.items current i) where
       settled : a ≢ b → (ns : List (List ℕ)) → (there.0).needs ≡ Some ns → is_settled own_of needs_of fact_of same (texts_of slots) there.0 ≡ true
@@ -56,11 +56,11 @@ module _ {Own F : Type 0} (own_of : List ℕ → List ℕ → Own) (needs_of : O
         | inr mark ↦ right.settled j there.0 there.1 mark
       ]
 
-      pub gave-kept : a ≢ b → (ns : List (List ℕ)) → (there.0).needs ≡ Some ns → (there.0).kept ≡ None → ⊥
-      gave-kept ne ns some none = settled-kept own_of needs_of fact_of slots right.sound same there.0 (settled ne ns some) none
+      pub input-kept : a ≢ b → (ns : List (List ℕ)) → (there.0).needs ≡ Some ns → (there.0).kept ≡ None → ⊥
+      input-kept ne ns some none = settled-kept own_of needs_of fact_of slots right.sound same there.0 (settled ne ns some) none
 
-      pub gave-fact : ((name : List ℕ) (own : Own) (xs ys : List (List ℕ × State F)) → same_given same xs ys ≡ true → fact_of name own xs ≡ fact_of name own ys) → a ≢ b → (ns : List (List ℕ)) (kept : Kept F) → (there.0).needs ≡ Some ns → (there.0).kept ≡ Some kept → fact (arc_value kept.fact) ≡ gives own_of needs_of fact_of (texts_of slots) (value own_of needs_of fact_of (texts_of slots)) x.name n
-      gave-fact respects ne ns kept some k = gave-value ne (fact (arc_value kept.fact)) (value-settled own_of needs_of fact_of slots right.sound same respects j there.0 ns kept there.1 some k (settled ne ns some))
+      pub input-fact : ((name : List ℕ) (own : Own) (xs ys : List (List ℕ × State F)) → same_given same xs ys ≡ true → fact_of name own xs ≡ fact_of name own ys) → a ≢ b → (ns : List (List ℕ)) (kept : Kept F) → (there.0).needs ≡ Some ns → (there.0).kept ≡ Some kept → fact (arc_value kept.fact) ≡ gives own_of needs_of fact_of (texts_of slots) (value own_of needs_of fact_of (texts_of slots)) x.name n
+      input-fact respects ne ns kept some k = input-value ne (fact (arc_value kept.fact)) (value-settled own_of needs_of fact_of slots right.sound same respects j there.0 ns kept there.1 some k (settled ne ns some))
 
 -- a slot that was read is the one that was found
 pub read_slot : {A : Type 0} (xs : List A) (k : ℕ) (x y : A) → slice_get xs k ≡ Some y → x ≡ get_or xs k x → x ≡ y

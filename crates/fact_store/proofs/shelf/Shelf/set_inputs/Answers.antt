@@ -4,7 +4,7 @@ use Rattle.fact_store.specs.declared.slot.Slot.{Slot}
 use Rattle.fact_store.specs.Shelf.{shelved}
 use Rattle.fact_store.proofs.ShelfLemmas.{length-shelved, has_key, stands_at, shelf-write, shelved-write}
 use Rattle.fact_store.specs.Right.{with_given}
-use Rattle.fact_store.proofs.shelf.Shelf.regive.Goals as goal
+use Rattle.fact_store.proofs.shelf.Shelf.set_inputs.Goals as goal
 
 pub index-key-requires : goal.index-key-requires
 index-key-requires g c = let s = c.self.inside in omega (arith, c.requires, ap length c.self.view_is, length-shelved s.slots s.names.entries c.self.invariant)
@@ -19,7 +19,7 @@ pub invariant_of-self : goal.invariant_of-self
 invariant_of-self g c =
     let s = c.self.inside in
     let l : c.args.place < length (shelved s.slots s.names.entries) = omega (arith, c.requires, ap length c.self.view_is) in
-    shelf-write s.slots s.names.entries c.self.invariant c.args.place c.index-key.result.now c.index_mut.result.now c.regive.new.slot l c.index-key.ensures c.index_mut.ensures.value (ap (λ (z : Slot g.row.O.Denot g.row.F.Denot). z.name) c.regive.ensures)
+    shelf-write s.slots s.names.entries c.self.invariant c.args.place c.index-key.result.now c.index_mut.result.now c.set_inputs.new.slot l c.index-key.ensures c.index_mut.ensures.value (ap (λ (z : Slot g.row.O.Denot g.row.F.Denot). z.name) c.set_inputs.ensures)
 
 pub returns : goal.returns
 returns g c = λ slot at.
@@ -28,5 +28,5 @@ returns g c = λ slot at.
     let here = stands_at s.slots s.names.entries c.self.invariant c.args.place c.index-key.result.now x l c.index-key.ensures c.index_mut.ensures.value in
     let k : ◌≡◌ {A = Option (Slot g.row.O.Denot g.row.F.Denot)} (Some x) (Some slot) = sym here ∙ ap (λ (ss : List (Slot g.row.O.Denot g.row.F.Denot)). slice_get ss c.args.place) c.self.view_is ∙ at in
     let same : x ≡ slot = cc in
-    shelved-write s.slots s.names.entries c.self.invariant c.args.place c.index-key.result.now x c.regive.new.slot l c.index-key.ensures c.index_mut.ensures.value (ap (λ (z : Slot g.row.O.Denot g.row.F.Denot). z.name) c.regive.ensures)
-    ∙ (λ j. slice_set (c.self.view_is j) c.args.place ((c.regive.ensures ∙ ap (λ (z : Slot g.row.O.Denot g.row.F.Denot). record z { kept = with_given z.kept c.args.given }) same) j))
+    shelved-write s.slots s.names.entries c.self.invariant c.args.place c.index-key.result.now x c.set_inputs.new.slot l c.index-key.ensures c.index_mut.ensures.value (ap (λ (z : Slot g.row.O.Denot g.row.F.Denot). z.name) c.set_inputs.ensures)
+    ∙ (λ j. slice_set (c.self.view_is j) c.args.place ((c.set_inputs.ensures ∙ ap (λ (z : Slot g.row.O.Denot g.row.F.Denot). record z { kept = with_given z.kept c.args.given }) same) j))
