@@ -1,0 +1,4 @@
+---- MODULE Accent ----
+\* café, from an editor that writes Latin-1
+VARIABLE open
+====

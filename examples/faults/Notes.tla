@@ -1,0 +1,3 @@
+-- MODULE Notes --
+VARIABLE page
+====

@@ -1,0 +1,4 @@
+---- MODULE Egg ----
+EXTENDS Hen
+VARIABLE egg
+====

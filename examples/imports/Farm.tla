@@ -1,0 +1,4 @@
+---- MODULE Farm ----
+EXTENDS Hen, Barn
+Fed == hen
+====

@@ -1,0 +1,4 @@
+---- MODULE Gallons ----
+EXTENDS Naturals
+Full == 3
+====

@@ -1,0 +1,4 @@
+---- MODULE Hen ----
+EXTENDS Egg
+VARIABLE hen
+====

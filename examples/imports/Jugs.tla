@@ -1,0 +1,5 @@
+---- MODULE Jugs ----
+EXTENDS Litres, Gallons
+VARIABLE jug
+Filled == jug = Full
+====

@@ -1,0 +1,4 @@
+---- MODULE Litres ----
+EXTENDS Naturals
+Full == 5
+====

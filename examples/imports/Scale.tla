@@ -1,0 +1,6 @@
+---- MODULE Scale ----
+EXTENDS Litres
+---- MODULE Inner ----
+EXTENDS Scale
+====
+====
