@@ -8,7 +8,8 @@ use Rattle.std.proofs.lemmas.Option.{slice_get-get_or}
 use Rattle.family_facts.specs.Verdicts.{AreDistinct}
 use Rattle.family_facts.specs.declared.verdict.File.{File}
 use Rattle.list_laws.proofs.Lists.{pushed-cases}
-use Rattle.sany_files.specs.Files.{is_identifier, module_of_file, modules_of_listing, with_read}
+use Rattle.tla_lexeme.specs.LexemeSets.{is_identifier}
+use Rattle.sany_files.specs.Files.{module_of_file, modules_of_listing, with_read}
 use Rattle.sany_files.specs.Reading.{AreNamed, AreNamesDistinct}
 use Rattle.sany_files.proofs.DistinctLemmas.{file-name, filter_map-apart, sorted-apart}
 

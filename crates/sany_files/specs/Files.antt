@@ -1,23 +1,10 @@
 -- The module files of a folder, and those that the words ask to check.
-use Rattle.std.specs.Prelude.{ℕ, ◌+◌, ◌-◌, ◌^◌, List, [], ◌∷◌, ◌++◌, length, Bool, false, ◌||◌, ◌&&◌, not, ◌==◌, nat_lt, nat_eq, Option, Some, None, if◌then◌else◌, codes, take, is_none, sum_by}
-use Rattle.std.specs.List.{list_all, list_any, filter_map, ends_with, starts_with}
-use Rattle.std.specs.Char.{is_ascii_alphanumeric, is_ascii_alphabetic}
+use Rattle.std.specs.Prelude.{ℕ, ◌+◌, ◌-◌, ◌^◌, List, [], ◌∷◌, ◌++◌, length, Bool, false, ◌||◌, ◌&&◌, nat_lt, nat_eq, Option, Some, None, if◌then◌else◌, codes, take, sum_by}
+use Rattle.std.specs.List.{filter_map, ends_with}
 use Rattle.tool_io.specs.Folder.{Told, after_call, names_at, read_at}
-use Rattle.tla_spelling.specs.Spellings.{word_of, op_of}
+use Rattle.tla_lexeme.specs.LexemeSets.{is_identifier}
 use Rattle.family_facts.specs.declared.verdict.File.{File}
 use Rattle.sany_files.specs.Words.{folder_of}
-
--- a letter, a digit or _
-abbrev pub is_word_byte : ℕ → Bool
-is_word_byte c = is_ascii_alphanumeric c || c == 95
-
--- WF_ and SF_, and whatever goes on with them
-abbrev pub is_fair : List ℕ → Bool
-is_fair run = starts_with nat_eq run (codes "WF_") || starts_with nat_eq run (codes "SF_")
-
--- an identifier: letters, digits and _ with a letter among them, and no reserved word
-unfoldable pub is_identifier : List ℕ → Bool
-is_identifier name = list_all is_word_byte name && list_any is_ascii_alphabetic name && not (is_fair name) && is_none (word_of name) && is_none (op_of name)
 
 -- the module that a file stands for, by its name
 abbrev pub module_of_file : List ℕ → Option (List ℕ)

@@ -9,10 +9,9 @@ ghost use Rattle.sany_files.specs.Calls as calls;
 ghost use Rattle.sany_files.specs.Files as files_in;
 ghost use Rattle.sany_files.specs.Reading as reading;
 
-use crate::bytes::{all_word_bytes, has_letter, is_fair};
 use family_facts::File;
 use std::alloc::Global;
-use tla_spelling::{op_of, word_of};
+use tla_lexeme::is_identifier;
 use tool_io::{Folder, IoFault};
 use tool_list::{Chars, List, Memory};
 
@@ -21,17 +20,6 @@ const MOST: u64 = (1 << 25) + 1;
 
 // The most bytes of all files of a folder.
 const MOST_BYTES: u64 = 1 << 25;
-
-#[tactic(auto, unfolding(crate::specs::Files::is_identifier))]
-fn is_identifier(name: &[u8]) -> bool
-    ensures { result ≡ files_in.is_identifier name.now }
-{
-    all_word_bytes(name)
-        && has_letter(name)
-        && !is_fair(name)
-        && word_of(name).is_none()
-        && op_of(name).is_none()
-}
 
 // The module that a file stands for, by its name.
 fn module_of_file(file: &str) -> Option<&str>

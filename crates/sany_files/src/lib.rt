@@ -3,7 +3,6 @@
 //! Knows nothing of what stands in a file, and of std's folders.
 #![tactic(auto)]
 
-mod bytes;
 mod files;
 mod folder;
 mod words;

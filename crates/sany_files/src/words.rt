@@ -4,7 +4,12 @@ ghost use Rattle.std.specs.Option.{option_copied};
 ghost use Rattle.sany_files.specs.Words as words_of;
 ghost use Rattle.sany_files.specs.Texts.{texts};
 
-use crate::bytes::begins_path;
+// Whether a folder's path may begin with a byte.
+fn begins_path(c: u8) -> bool
+    ensures { result ≡ words_of.begins_path c }
+{
+    c.is_ascii_alphanumeric() || c == b'.' || c == b'/' || c == b'_'
+}
 
 fn is_path(text: &[u8]) -> bool
     ensures { result ≡ words_of.is_path text.now }
