@@ -7,11 +7,11 @@ use Rattle.tla_model.specs.declared.Diagnostic.{Diagnostic}
 use Rattle.module_model.specs.declared.imported.Import.{Import}
 use Rattle.module_model.specs.Bindings.{AreInOrder, decls, faults, resolved}
 use Rattle.tla_model.specs.Entities.{declaring}
-use Rattle.module_model.specs.Exports.{behind_in, carried, exports_of, face_exports, face_outside, files_of, import_behind, import_outside, parameters_in, part_behind, part_exports, part_shows, parts_behind, under}
+use Rattle.module_model.specs.Exports.{behind_in, instantiable, exports_of, face_exports, face_outside, files_of, import_behind, import_outside, parameters_in, part_behind, part_exports, part_shows, parts_behind, under}
 use Rattle.module_model.specs.Imports.{Imports, import_of}
 use Rattle.tla_model.specs.Lexemes.{spelled}
 use Rattle.module_model.specs.Modules.{text_of}
-use Rattle.module_model.specs.Parts.{Held, last}
+use Rattle.module_model.specs.Parts.{PartView, last}
 use Rattle.module_model.specs.Resolution.{findings, outside_in}
 use Rattle.module_graph.specs.Imports.{imports_of}
 use Rattle.unit_grammar.specs.Units.{ModuleUnits}
@@ -39,12 +39,12 @@ files-given imports = fun_ext (λ name. outside-by (import_of imports name))
 
 -- ---- the own part is the last
 
-last-own : (parts : List Held) (own : Held) → last (parts ++ own ∷ []) ≡ Some own
+last-own : (parts : List PartView) (own : PartView) → last (parts ++ own ∷ []) ≡ Some own
 last-own [] own = refl
 last-own (part ∷ []) own = refl
 last-own (part ∷ other ∷ parts) own = last-own (other ∷ parts) own
 
-face-outside : (imports : Imports) (source : List ℕ) (units : ModuleUnits) (parts : List Held) → IsWithoutInstances imports units → IsFace imports source units parts → face_outside parts ≡ outside_in (files_of imports) source units
+face-outside : (imports : Imports) (source : List ℕ) (units : ModuleUnits) (parts : List PartView) → IsWithoutInstances imports units → IsFace imports source units parts → face_outside parts ≡ outside_in (files_of imports) source units
 face-outside imports source units parts without face =
     let shows : face_exports parts ≡ exports_of face.own.exports =
     ap face_exports face.are ∙ ap part_shows (last-own (with_imports imports source [] (imports_of source units)) (bare face.own))
@@ -56,7 +56,7 @@ face-outside imports source units parts without face =
 
 -- ---- the outcomes
 
-no-face : (imports : Imports) (source : List ℕ) (units : ModuleUnits) (all found : List Diagnostic) (parts : List Held) → (all ≡ [] → ⊥) → AreInOrder all found → parts ≡ [] → IsFaceOf imports source units found parts
+no-face : (imports : Imports) (source : List ℕ) (units : ModuleUnits) (all found : List Diagnostic) (parts : List PartView) → (all ≡ [] → ⊥) → AreInOrder all found → parts ≡ [] → IsFaceOf imports source units found parts
 no-face imports source units all [] parts some order none = absurd (some (none-at-all all order))
 no-face imports source units all (fault ∷ found) parts some order none = none
 

@@ -7,8 +7,8 @@ use Rattle.tla_tree.specs.FirstBad.{DerivesWhole, Begins}
 use Rattle.expr_grammar.specs.declared.wait.Wait.TheVariants as Wait
 use Rattle.expr_grammar.specs.Machine.{State, step, run, start, finish, parse}
 use Rattle.expr_laws.proofs.Asking.{operand}
-use Rattle.expr_laws.proofs.Reading.{part-parses}
-use Rattle.expr_laws.proofs.Generating.{gen}
+use Rattle.expr_laws.proofs.Completeness.{part-parses}
+use Rattle.expr_laws.proofs.TablesDerive.{gen}
 use Rattle.expr_laws.proofs.Starting.{derives-shape, all-waits}
 
 pub derives-parses : (tree : Tree) (lexemes : List Lexeme) → DerivesWhole tree lexemes → parse lexemes ≡ Some tree

@@ -9,7 +9,7 @@ use Rattle.expr_grammar.specs.declared.wait.Wait.{Wait}
 use Rattle.expr_grammar.specs.declared.wait.Mode.{Mode}
 use Rattle.expr_grammar.specs.Tables.{mode, list_of, shape}
 use Rattle.expr_grammar.specs.Machine.{Frame, frame, State, At, Have, inner, step, run, start, parse, start_bounds, parse_bounds}
-use Rattle.expr_laws.proofs.Reading.{left-false, outside}
+use Rattle.expr_laws.proofs.Completeness.{left-false, outside}
 use Rattle.expr_laws.proofs.Complete.{run-append}
 use Rattle.expr_laws.proofs.CompletingKinds as Kind
 use Rattle.expr_laws.proofs.CompletingKinds.{Goal, makes, wanted, meets-shows, meets-no_step}

@@ -7,7 +7,7 @@ use Rattle.expr_grammar.specs.Machine.{State, run, RefusesAt}
 use Rattle.expr_grammar.specs.BoundsAlone.{IsDerivableAsBounds, IsFirstBadOfBounds, RefusesBoundsAt}
 use Rattle.expr_laws.proofs.Complete.{derives-parses, run-none, run-append}
 use Rattle.expr_laws.proofs.Heading.{derives-bounds}
-use Rattle.expr_laws.proofs.Sounding.{accepted-derives, accepted-bounds}
+use Rattle.expr_laws.proofs.Soundness.{accepted-derives, accepted-bounds}
 use Rattle.expr_laws.proofs.CompletingKinds.{Goal}
 use Rattle.expr_laws.proofs.CompletingStates.{start_of}
 use Rattle.expr_laws.proofs.CompletingParts.{Answers}

@@ -20,7 +20,7 @@ use Rattle.expr_grammar.specs.Kinds.{is_with}
 use Rattle.expr_grammar.specs.Tables.{mode, list_of, begins, at_mark, endable, shape, is_expression, ends_with}
 use Rattle.expr_grammar.specs.Machine.{Frame, frame, State, At, Have, inner, complete, node, step, run}
 use Rattle.expr_laws.proofs.Tabled.{head_by_mark}
-use Rattle.expr_laws.proofs.Reading.{left-false, outside, ends-head}
+use Rattle.expr_laws.proofs.Completeness.{left-false, outside, ends-head}
 use Rattle.expr_laws.proofs.CompletingKinds.{Kind, Goal, binds, makes, wanted, meets, shows, rough, shows-form, meets-shows, meets-no_step, bottom-shows}
 use Rattle.expr_laws.proofs.CompletingTables.{to_bound}
 use Rattle.expr_laws.proofs.CompletingStates.{Under, is_due, grown}

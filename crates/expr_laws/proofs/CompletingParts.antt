@@ -17,7 +17,7 @@ use Rattle.expr_grammar.specs.declared.wait.Shape.{Shape}
 use Rattle.expr_grammar.specs.Tables.{mode, begins, endable, absorbs, role, shape, is_expression, converted, finishes, at_part}
 use Rattle.expr_grammar.specs.Machine.{Frame, frame, State, At, Have, inner, ready, complete, absorbed, node, node_with, moved, part_step, is_operator, begun, step, run, finish, finish_bounds}
 use Rattle.expr_laws.proofs.Tabled.{by_mark}
-use Rattle.expr_laws.proofs.Reading.{left-false, have-within, ends-round}
+use Rattle.expr_laws.proofs.Completeness.{left-false, have-within, ends-round}
 use Rattle.expr_laws.proofs.CompletingKinds.{Kind, Goal, bottom, makes, wanted, meets, shows, rough, shows-form, bottom-shows}
 use Rattle.expr_laws.proofs.CompletingStates.{Under}
 

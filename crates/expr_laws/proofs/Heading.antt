@@ -12,12 +12,12 @@ use Rattle.expr_grammar.specs.declared.wait.PartMove.{PartMove}
 use Rattle.expr_grammar.specs.Tables.{absorbs, shape, at_part}
 use Rattle.expr_grammar.specs.Machine.{Frame, frame, State, ready, moved, part_step, node_with, run, finish_bounds, close_bounds, parse_bounds}
 use Rattle.expr_laws.proofs.Tabled.{Part, closed, headed, finished, EndsHead, head_at_end, Ends, at_end as ends_at_end}
-use Rattle.expr_laws.proofs.Reading.{rest_part, tied-part, opened, reads-part, marked-part, complete-have, From-zero}
+use Rattle.expr_laws.proofs.Completeness.{rest_part, tied-part, opened, reads-part, marked-part, complete-have, From-zero}
 use Rattle.expr_laws.proofs.Asking.{mark-follows}
 use Rattle.expr_laws.proofs.Bounding.{Ended}
 use Rattle.expr_laws.proofs.Starting.{mark-role, trees-snoc, joined-snoc}
 use Rattle.expr_laws.proofs.Parting.{derives-bound-shape}
-use Rattle.expr_laws.proofs.Generating.{gen-bound}
+use Rattle.expr_laws.proofs.TablesDerive.{gen-bound}
 
 ends-round : (v : Wait) (ps : List Tree) (a : List Lexeme) (x : Tree) (b : List Lexeme) (f : Frame) (fs : List Frame) (form : Form) (i : ℕ) → Ends v x i form None → close_bounds (frame v ps a ∷ f ∷ fs) x b ≡ close_bounds (f ∷ fs) (built form (trees (ps ++ x ∷ [])) (a ++ b)) (a ++ b)
 ends-round v ps a x b f fs form i (ends_at_end e) = rw e

@@ -1,7 +1,7 @@
 pub mod KindTests
 mod Samples
 mod Tabled
-mod Reading
+mod Completeness
 mod Asking
 mod Starting
 mod Bounding
@@ -9,7 +9,7 @@ mod Naming
 mod Passing
 mod Membering
 pub mod Defining
-mod Generating
+mod TablesDerive
 pub mod Complete
 pub mod Following
 mod SampleTrees
@@ -20,7 +20,7 @@ mod Converting
 mod Parting
 mod Ending
 mod Joining
-pub mod Sounding
+pub mod Soundness
 pub mod Heading
 pub mod CompletingKinds
 mod CompletingTables

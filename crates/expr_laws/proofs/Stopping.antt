@@ -13,7 +13,7 @@ use Rattle.expr_grammar.specs.Following.{IsQuiet, stops, done_before, closes_bou
 use Rattle.expr_laws.proofs.Complete.{derives-parses}
 use Rattle.expr_laws.proofs.Following.{before-quiet, bounds-quiet}
 use Rattle.expr_laws.proofs.Heading.{derives-bounds}
-use Rattle.expr_laws.proofs.Sounding.{accepted-derives, accepted-bounds}
+use Rattle.expr_laws.proofs.Soundness.{accepted-derives, accepted-bounds}
 
 stops-apart : (k : LexKind) → stops k ≡ true → takes_left k ≡ false
 stops-apart (LexKind.Sym Op.Negative) h = refl

@@ -16,7 +16,7 @@ use Rattle.expr_grammar.specs.Machine.{State, At, Have, node, node_with, run, st
 use Rattle.expr_grammar.specs.Following.{closes_bounds, done_before, bounds_done_before}
 use Rattle.expr_grammar.specs.Counting.{made_run, made_step, made_finish}
 use Rattle.expr_laws.proofs.Complete.{run-append, refused-ends}
-use Rattle.expr_laws.proofs.Sounding.{accepted-derives, accepted-bounds}
+use Rattle.expr_laws.proofs.Soundness.{accepted-derives, accepted-bounds}
 use Rattle.expr_laws.proofs.Completing.{completes-expression, completes-bounds}
 use Rattle.expr_laws.proofs.CompletingKinds as Kinds
 use Rattle.expr_laws.proofs.CompletingFirst.{refused-begun}
@@ -31,8 +31,8 @@ use Rattle.expr_stack.specs.declared.stack.Stack.{Stack}
 use Rattle.expr_parse.specs.declared.turn.Turn.TheVariants as Turn
 use Rattle.tree_parts.specs.Parts.{parts_of, IsPart, Grows}
 use Rattle.expr_parse.specs.Goals.{stops, may_end, DerivesGoal, BeginsGoal, IsWhole, IsSame}
-use Rattle.expr_stack.specs.Standing.{Stands, Made}
-use Rattle.expr_parse.specs.Standing.{IsTurn, Turns, IsReady}
+use Rattle.expr_stack.specs.StackMeaning.{Stands, Made}
+use Rattle.expr_parse.specs.TurnMeaning.{IsTurn, Turns, IsReady}
 use Rattle.expr_parse.specs.Ending.{Outermost, on_outermost, closing, ending_of, takes_whole, is_whole, IsLeft, Closes, IsOf, IsGoal}
 use Rattle.expr_parse.specs.Reading.{start_of, StandsAt, HasRead, IsRefusing, IsAnswer, IsDone, IsStepTo, HasStepped}
 use Rattle.tree_parts.proofs.Growing.{grows-same, grows-on}

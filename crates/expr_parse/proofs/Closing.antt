@@ -21,8 +21,8 @@ use Rattle.tree_parts.specs.declared.part.Part.{Part}
 use Rattle.expr_stack.specs.declared.stack.Stack.{Stack}
 use Rattle.expr_parse.specs.declared.turn.Turn.TheVariants as Turn
 use Rattle.tree_parts.specs.Parts.{IsPart}
-use Rattle.expr_stack.specs.Standing.{AreFrames, Stands, IsWait, IsTop, Opens, Made}
-use Rattle.expr_parse.specs.Standing.{IsTurn, IsReady}
+use Rattle.expr_stack.specs.StackMeaning.{AreFrames, Stands, IsWait, IsTop, Opens, Made}
+use Rattle.expr_parse.specs.TurnMeaning.{IsTurn, IsReady}
 use Rattle.expr_parse.specs.Ending.{on_outermost, closing, ending, ending_of, takes_whole, is_whole, shape_of_form, on_ending, all_end, IsLeft, Closes}
 use Rattle.tree_parts.proofs.Growing.{grows-same, grows-on}
 use Rattle.expr_parse.proofs.Going.{Goes, AtTop, close-goes}

@@ -15,8 +15,8 @@ use Rattle.expr_stack.specs.declared.stack.Frame.{Frame}
 use Rattle.tree_parts.specs.declared.part.Part.{Part}
 use Rattle.expr_stack.specs.declared.stack.Stack.{Stack}
 use Rattle.expr_parse.specs.declared.turn.Turn.TheVariants as Turn
-use Rattle.expr_stack.specs.Standing.{Made}
-use Rattle.expr_parse.specs.Standing.{Turns}
+use Rattle.expr_stack.specs.StackMeaning.{Made}
+use Rattle.expr_parse.specs.TurnMeaning.{Turns}
 use Rattle.expr_parse.proofs.Going.{Step, Count, Goes, AtTop, end-turn, end-refused, close-goes}
 
 abbrev pub following : Lexeme → Step

@@ -15,8 +15,8 @@ use Rattle.tree_parts.specs.declared.part.Part.{Part}
 use Rattle.expr_stack.specs.declared.stack.Stack.{Stack}
 use Rattle.expr_parse.specs.declared.turn.Turn.TheVariants as Turn
 use Rattle.tree_parts.specs.Parts.{joined, IsPart, Grows, IsThere}
-use Rattle.expr_stack.specs.Standing.{Stands, Opens, IsTop, Made, IsOpen}
-use Rattle.expr_parse.specs.Standing.{IsTurn, Turns, IsBeside, CanTake}
+use Rattle.expr_stack.specs.StackMeaning.{Stands, Opens, IsTop, Made, IsOpen}
+use Rattle.expr_parse.specs.TurnMeaning.{IsTurn, Turns, IsBeside, CanTake}
 use Rattle.tree_parts.proofs.Growing.{grows-same, grows-on}
 use Rattle.expr_stack.proofs.Stacking.{opens-read}
 

@@ -18,7 +18,7 @@ use Rattle.expr_grammar.specs.Counting.{made_name, made_names, made_bound, made_
 use Rattle.expr_parse.specs.declared.convert.Operands.{Operands}
 use Rattle.tree_parts.specs.declared.part.Part.{Part}
 use Rattle.tree_parts.specs.Parts.{parts_of, place_of, joined, covered, IsPart}
-use Rattle.expr_parse.specs.Standing.{Becomes, Renamed, AreNames, AreOperands, AreTwo, Converts}
+use Rattle.expr_parse.specs.TurnMeaning.{Becomes, Renamed, AreNames, AreOperands, AreTwo, Converts}
 use Rattle.tree_parts.proofs.Places.{place-append, covered-place}
 use Rattle.tree_parts.proofs.Growing.{grows-same, grows-one, grows-on, grows-length, map-grows, there-longer, tree_at-grows, node_at-grows, new-node, map-append, there-append}
 

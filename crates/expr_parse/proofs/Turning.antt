@@ -20,8 +20,8 @@ use Rattle.tree_parts.specs.declared.part.Part.{Part}
 use Rattle.expr_stack.specs.declared.stack.Stack.{Stack}
 use Rattle.expr_parse.specs.declared.turn.Turn.TheVariants as Turn
 use Rattle.tree_parts.specs.Parts.{IsPart, Grows}
-use Rattle.expr_stack.specs.Standing.{Stands, Opens, IsTop, IsWait, IsOpen, Made}
-use Rattle.expr_parse.specs.Standing.{IsTurn, Turns}
+use Rattle.expr_stack.specs.StackMeaning.{Stands, Opens, IsTop, IsWait, IsOpen, Made}
+use Rattle.expr_parse.specs.TurnMeaning.{IsTurn, Turns}
 use Rattle.tree_parts.proofs.Growing.{grows-same, grows-on}
 
 pub goes-child : (nodes : List Node) (stack : Stack) (part : Wait) (fs : List Machine.Frame) (child : Option Child) → Some part ≡ option_map (λ c. c.wait) child → ((c : Child) → child ≡ Some c → Stands nodes stack (frame part [] c.read ∷ fs)) → IsTurn nodes stack Turn.Due (Some (with_child child fs))

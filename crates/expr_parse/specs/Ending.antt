@@ -16,7 +16,7 @@ use Rattle.expr_parse.specs.declared.goal.Goal.{Goal}
 use Rattle.expr_stack.specs.declared.stack.Frame.{Frame}
 use Rattle.tree_parts.specs.declared.part.Part.{Part}
 use Rattle.expr_stack.specs.declared.stack.Stack.{Stack}
-use Rattle.expr_stack.specs.Standing.{Stands}
+use Rattle.expr_stack.specs.StackMeaning.{Stands}
 
 -- the outermost frame, with a part beside it
 pub record Outermost : Type 0 where

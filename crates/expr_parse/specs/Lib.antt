@@ -1,4 +1,4 @@
 pub mod Goals
-pub mod Standing
+pub mod TurnMeaning
 pub mod Ending
 pub mod Reading

@@ -14,8 +14,8 @@ use Rattle.expr_parse.specs.declared.turn.Turn.TheVariants as Turn
 use Rattle.expr_parse.specs.Goals.{DerivesGoal, BeginsGoal, IsWhole, IsSame}
 use Rattle.expr_parse.specs.Ending.{Outermost, IsOf}
 use Rattle.tree_parts.specs.Parts.{Grows}
-use Rattle.expr_stack.specs.Standing.{Stands}
-use Rattle.expr_parse.specs.Standing.{IsTurn}
+use Rattle.expr_stack.specs.StackMeaning.{Stands}
+use Rattle.expr_parse.specs.TurnMeaning.{IsTurn}
 
 -- where the machine on lists begins for a goal
 abbrev pub start_of : Goal → State

@@ -8,8 +8,8 @@ ghost use Rattle.expr_grammar.specs.Machine as machine;
 ghost use Rattle.expr_grammar.specs.Counting as counting;
 ghost use Rattle.expr_grammar.specs.declared.wait.MarkMove.TheVariants as MarkMove;
 ghost use Rattle.tree_parts.specs.Parts.{IsPart, IsThere, place_of};
-ghost use Rattle.expr_stack.specs.Standing.{IsOpen, Stands, Opens};
-ghost use Rattle.expr_parse.specs.Standing.{IsDue, IsTurn, Turns};
+ghost use Rattle.expr_stack.specs.StackMeaning.{IsOpen, Stands, Opens};
+ghost use Rattle.expr_parse.specs.TurnMeaning.{IsDue, IsTurn, Turns};
 
 use crate::parts::have;
 use crate::turn::Turn;

@@ -11,8 +11,8 @@ ghost use Rattle.expr_grammar.specs.Machine as machine;
 ghost use Rattle.expr_grammar.specs.Counting as counting;
 ghost use Rattle.expr_grammar.specs.declared.wait.Conversion.TheVariants as Conversion;
 ghost use Rattle.tree_parts.specs.Parts.{parts_of, IsPart, IsThere, place_of};
-ghost use Rattle.expr_stack.specs.Standing.{IsOpen, Opens};
-ghost use Rattle.expr_parse.specs.Standing.{Becomes, Converts, Renamed, AreNames, AreOperands, AreTwo};
+ghost use Rattle.expr_stack.specs.StackMeaning.{IsOpen, Opens};
+ghost use Rattle.expr_parse.specs.TurnMeaning.{Becomes, Converts, Renamed, AreNames, AreOperands, AreTwo};
 
 use expr_grammar::{Conversion, Shape};
 use expr_parts::shape;

@@ -8,8 +8,8 @@ ghost use Rattle.expr_grammar.specs.Counting as counting;
 ghost use Rattle.expr_parse.specs.Ending as ends;
 ghost use Rattle.expr_parse.specs.Ending.{Closes, IsGoal};
 ghost use Rattle.tree_parts.specs.Parts.{IsPart};
-ghost use Rattle.expr_stack.specs.Standing.{Stands};
-ghost use Rattle.expr_parse.specs.Standing.{IsDue, IsReady, IsTurn, IsTurnReady};
+ghost use Rattle.expr_stack.specs.StackMeaning.{Stands};
+ghost use Rattle.expr_parse.specs.TurnMeaning.{IsDue, IsReady, IsTurn, IsTurnReady};
 
 use crate::goal::Goal;
 use crate::turn::Turn;

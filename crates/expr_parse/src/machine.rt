@@ -10,8 +10,8 @@ ghost use Rattle.expr_parse.specs.declared.turn.Turn.TheVariants as Turn;
 ghost use Rattle.expr_parse.specs.Goals as goals;
 ghost use Rattle.expr_parse.specs.Ending as ends;
 ghost use Rattle.tree_parts.specs.Parts.{Grows};
-ghost use Rattle.expr_stack.specs.Standing.{Stands};
-ghost use Rattle.expr_parse.specs.Standing.{IsTurn, IsTurnReady, Turns};
+ghost use Rattle.expr_stack.specs.StackMeaning.{Stands};
+ghost use Rattle.expr_parse.specs.TurnMeaning.{IsTurn, IsTurnReady, Turns};
 ghost use Rattle.expr_parse.specs.Reading.{StandsAt, HasRead, IsReady, IsRefusing, IsAnswer, IsDone, HasStepped, start_of};
 
 use crate::begins::{due, goes_on};

@@ -9,7 +9,7 @@ ghost use Rattle.expr_grammar.specs.Tables as tables;
 ghost use Rattle.expr_grammar.specs.Machine as machine;
 ghost use Rattle.expr_grammar.specs.Counting as counting;
 ghost use Rattle.tree_parts.specs.Parts.{IsPart};
-ghost use Rattle.expr_parse.specs.Standing.{IsReady, CanTake, Follows, FollowsFrame, continues};
+ghost use Rattle.expr_parse.specs.TurnMeaning.{IsReady, CanTake, Follows, FollowsFrame, continues};
 
 use crate::begins::{complete, goes_on as frame_goes_on};
 use crate::convert::{convert, name_of};

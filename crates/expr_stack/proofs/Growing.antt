@@ -9,7 +9,7 @@ use Rattle.tree_parts.proofs.Growing.{grows-length, there-longer, map-grows}
 use Rattle.expr_stack.specs.declared.stack.Frame.{Frame}
 use Rattle.expr_stack.specs.declared.stack.Opening.{Opening}
 use Rattle.expr_stack.specs.declared.stack.Stack.{Stack}
-use Rattle.expr_stack.specs.Standing.{IsOf, AreFrames, Stands, Opens}
+use Rattle.expr_stack.specs.StackMeaning.{IsOf, AreFrames, Stands, Opens}
 
 pub of-grows : (nodes more : List Node) (numbers : List ℕ) (span : _) (ps : List Tree) (a : List Lexeme) → Grows nodes more → IsOf nodes numbers span ps a → IsOf more numbers span ps a
 of-grows nodes more numbers span ps a g o = record {

@@ -16,7 +16,7 @@ use Rattle.expr_stack.specs.declared.stack.Opening.{Opening}
 use Rattle.tree_parts.specs.declared.part.Part.{Part}
 use Rattle.expr_stack.specs.declared.stack.Stack.{Stack}
 use Rattle.tree_parts.specs.Parts.{place_of, joined, covered, IsPart}
-use Rattle.expr_stack.specs.Standing.{IsOf, Stands, Opens, Made}
+use Rattle.expr_stack.specs.StackMeaning.{IsOf, Stands, Opens, Made}
 use Rattle.tree_parts.proofs.Places.{place-append, covered-place}
 use Rattle.tree_parts.proofs.Growing.{grows-one, new-node, there-append, map-append}
 use Rattle.expr_stack.proofs.Growing.{frames-grow}

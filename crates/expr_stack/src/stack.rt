@@ -8,7 +8,7 @@ ghost use Rattle.tla_tree.specs.Lexemes.{built};
 ghost use Rattle.expr_grammar.specs.Machine as machine;
 ghost use Rattle.tree_parts.specs.Parts as places;
 ghost use Rattle.tree_parts.specs.Parts.{IsPart, IsThere};
-ghost use Rattle.expr_stack.specs.Standing.{IsOpen, AreFrames, Stands, Opens, IsTop, IsWait, Made};
+ghost use Rattle.expr_stack.specs.StackMeaning.{IsOpen, AreFrames, Stands, Opens, IsTop, IsWait, Made};
 
 use expr_grammar::Wait;
 use expr_kinds::list_of;

@@ -9,12 +9,12 @@ use Rattle.tool_list.specs.declared.Memory.{Memory}
 use Rattle.tla_lexeme.specs.Spans.{IsPlaced}
 use Rattle.tla_symbols.specs.declared.lexeme.Lexeme.{Lexeme}
 use Rattle.tla_model.specs.declared.Diagnostic.{Diagnostic}
-use Rattle.module_model.specs.Exports.{Outside}
+use Rattle.module_model.specs.Exports.{ModuleView}
 use Rattle.tla_model.specs.Lexemes.{LexemesLie, module_lexemes}
 use Rattle.front_laws.specs.Fronts.{Front, Tree, Fault, IsFront, read}
 use Rattle.unit_grammar.specs.Units.{ModuleUnits}
 use Rattle.unit_grammar.specs.UnitNodes.{module_of}
-use Rattle.module_facts.specs.Checks.{Given, all_faults}
+use Rattle.module_facts.specs.Checks.{ImportStatus, all_faults}
 use Rattle.family_facts.specs.Family.{Member, Diagnosed}
 use Rattle.family_tables.specs.Modules.{Entry, IsEntry, IsReading, AreModules, tree_count, reading_holds_instance}
 use Rattle.family_tables.specs.Outcomes.{AreOutcomes, AreWithoutInstances, IsSaid, IsSomeModule, Says, after_ticks, faults_of, trees_in}
@@ -32,7 +32,7 @@ use Rattle.family_facts.proofs.Members.{AreOneEach, member-there}
 use Rattle.family_facts.proofs.Saying.{file-there}
 use Rattle.family_facts.proofs.OneVerdict.{HasNoOther, IsCheckedOf, Found, of_fault, of_tree, found-of, fault-same, tree-same, tree-no-fault}
 use Rattle.family_outcomes.proofs.Checking.{ticks-within}
-use Rattle.family_tables.proofs.Lying.{span-placed}
+use Rattle.family_tables.proofs.LexemesInText.{span-placed}
 use Rattle.family_tables.proofs.Holding.{all-by, any-here}
 
 pub modules-some : (family : List Member) (entries : List Entry) → AreModules family entries → All (λ (entry : Entry). IsSomeModule entry.0 entry.1) entries
@@ -46,7 +46,7 @@ zip-map R S [] (y ∷ ys) f h = absurd h
 zip-map R S (x ∷ xs) [] f h = absurd h
 zip-map R S (x ∷ xs) (y ∷ ys) f h = (f x y (here x xs) h.0, zip-map R S xs ys (λ a b c. f a b (behind x xs a c)) h.1)
 
-says-faults : (faults : List Diagnostic) (outside : Outside) (o : outcome.the_data) → Says faults outside o → faults_of (Some o) ≡ faults
+says-faults : (faults : List Diagnostic) (outside : ModuleView) (o : outcome.the_data) → Says faults outside o → faults_of (Some o) ≡ faults
 says-faults faults outside (outcome.Refused found) h = h.0
 says-faults faults outside (outcome.Accepted face) h = sym h.0
 
@@ -67,7 +67,7 @@ verdicts-are files outcomes verdicts are said = zip-map (IsSaid outcomes) (IsVer
 -- ---- places
 
 abbrev pub FaultsAtLexemes : Type 0
-FaultsAtLexemes = (given : List ℕ → Given) → (source : List ℕ) → (units : ModuleUnits) → All (λ fault. Contains (map (λ l. l.span) (module_lexemes units)) fault.span) (all_faults given source units)
+FaultsAtLexemes = (given : List ℕ → ImportStatus) → (source : List ℕ) → (units : ModuleUnits) → All (λ fault. Contains (map (λ l. l.span) (module_lexemes units)) fault.span) (all_faults given source units)
 
 tree-text : {name bytes : List ℕ} {found : ModuleUnits} → IsFront name bytes (Tree found) → text_of bytes ≡ bytes
 tree-text {name} {bytes} (read whole few part front) = ap (λ n. take n bytes) whole ∙ take-length bytes

@@ -9,7 +9,7 @@ use Rattle.module_model.specs.Resolution.{outside_in}
 use Rattle.module_graph.specs.Imports.{imports_of}
 use Rattle.front_laws.specs.Fronts.{Front, IsFront, Tree, Fault}
 use Rattle.unit_grammar.specs.Units.{ModuleUnits}
-use Rattle.module_facts.specs.Checks.{Given, Unknown, Accepted, all_faults, files_given}
+use Rattle.module_facts.specs.Checks.{ImportStatus, Unknown, Accepted, all_faults, files_given}
 use Rattle.family_facts.specs.Family.{Member, Needs, Diagnosed, IsGiven, unknown, cyclic, refused, accepted, IsDiagnosed, front_fault, checked}
 use Rattle.family_facts.proofs.Members.{AreOneEach}
 use Rattle.family_facts.proofs.Lists.{among-or-not}
@@ -60,7 +60,7 @@ module _ (one : HasNoOther) (family : List Member) (distinct : AreOneEach family
 
 -- what is found of a member with a tree
 pub record IsCheckedOf (family : List Member) (member : Member) (units : ModuleUnits) (d : Diagnosed) : Type 0 where
-  pub given : List ℕ → Given
+  pub given : List ℕ → ImportStatus
   pub list : List Diagnostic
   pub gives : (need : List ℕ) → Needs family member.name need → IsGiven family member.name need (given need)
   pub others : (need : List ℕ) → (Needs family member.name need → ⊥) → given need ≡ Unknown
@@ -78,7 +78,7 @@ found-of (checked {member = m} {found = units} {given = given} {faults = list} t
     of_tree m units there refl front (record { given = given; list = list; gives = gives; others = others; ordered = ordered; is = refl })
 
 -- modules that are given the same have the same faults, and are the same to others
-checked-same : OneOrder → (family : List Member) (bytes : List ℕ) (units : ModuleUnits) (given given' : List ℕ → Given) (list list' : List Diagnostic) → given ≡ given' → AreInOrder (all_faults given bytes units) list → AreInOrder (all_faults given' bytes units) list' →
+checked-same : OneOrder → (family : List Member) (bytes : List ℕ) (units : ModuleUnits) (given given' : List ℕ → ImportStatus) (list list' : List Diagnostic) → given ≡ given' → AreInOrder (all_faults given bytes units) list → AreInOrder (all_faults given' bytes units) list' →
     ◌≡◌ {A = Diagnosed} (record { faults = list; outside = outside_in (files_given given) bytes units }) (record { faults = list'; outside = outside_in (files_given given') bytes units })
 checked-same order family bytes units given given' list list' e o o' =
     let same : list ≡ list' = order (all_faults given bytes units) list list' o (subst (λ g. AreInOrder (all_faults g bytes units) list') (sym e) o') in
@@ -107,7 +107,7 @@ module _ (one : HasNoOther) (order : OneOrder) (family : List Member) (distinct 
       subst (λ (u : ModuleUnits). IsCheckedOf family m u other) f (subst (λ (x : Member). IsCheckedOf family x units' other) same is)
 
   mutual
-    given-one : {name need : List ℕ} {x y : Given} → IsGiven family name need x → IsGiven family name need y → x ≡ y
+    given-one : {name need : List ℕ} {x y : ImportStatus} → IsGiven family name need x → IsGiven family name need y → x ≡ y
     given-one (unknown f) (unknown g) = refl
     given-one (unknown f) (cyclic t c) = absurd (not-there f t)
     given-one (unknown f) (refused t n d e) = absurd (not-there f t)
@@ -139,5 +139,5 @@ module _ (one : HasNoOther) (order : OneOrder) (family : List Member) (distinct 
   one-verdict name found other d e = found-one d (found-of e)
 
   -- what a module is to one that needs it is one thing
-  pub one-given : (name need : List ℕ) (x y : Given) → IsGiven family name need x → IsGiven family name need y → x ≡ y
+  pub one-given : (name need : List ℕ) (x y : ImportStatus) → IsGiven family name need x → IsGiven family name need y → x ≡ y
   one-given name need x y g h = given-one g h

@@ -8,14 +8,14 @@ use Rattle.std.specs.Str.{bytes_eq}
 use Rattle.list_laws.proofs.Texts.{same-text, text-itself}
 use Rattle.tla_model.specs.declared.Diagnostic.{Diagnostic}
 use Rattle.module_model.specs.Bindings.{AreInOrder}
-use Rattle.module_model.specs.Exports.{Outside, nothing}
+use Rattle.module_model.specs.Exports.{ModuleView, nothing}
 use Rattle.tla_model.specs.Lexemes.{spelled}
 use Rattle.module_model.specs.Resolution.{outside_in}
 use Rattle.unit_grammar.specs.Units.{ModuleUnits}
 use Rattle.name_graph.specs.Family.{last, more}
 use Rattle.module_graph.specs.Imports.{imports_of}
 use Rattle.front_laws.specs.Fronts.{Front, IsFront, Tree, Fault}
-use Rattle.module_facts.specs.Checks.{Given, Unknown, Refused, Accepted, all_faults, files_given}
+use Rattle.module_facts.specs.Checks.{ImportStatus, Unknown, Refused, Accepted, all_faults, files_given}
 use Rattle.module_facts.specs.Ordered.{in_order}
 use Rattle.fact_values.specs.Names.{Texts, has, name_cmp, name_eq}
 use Rattle.fact_values.specs.Reach.{IsPath}
@@ -120,7 +120,7 @@ module _ (gives : List ℕ → State Diagnosed) where
       by rest true t = absurd (none (subst (λ z. Contains (x ∷ xs) z) (sym (same-text need x t)) (here x xs)))
       by rest false f = rest
 
-refused-by : (faults : List Diagnostic) (outside : Outside) → faults ≢ [] → given_by_faults faults outside ≡ Refused
+refused-by : (faults : List Diagnostic) (outside : ModuleView) → faults ≢ [] → given_by_faults faults outside ≡ Refused
 refused-by [] outside some = absurd (some refl)
 refused-by (fault ∷ faults) outside some = refl
 
@@ -267,7 +267,7 @@ module _ (one : HasNoOther) (order : (all found : List Diagnostic) → AreInOrde
   fault-meets : (m : Member) (fault : Diagnostic) → Contains family m → IsFront m.name m.bytes (Fault fault) → ◌≡◌ {A = Diagnosed} (record { faults = fault ∷ []; outside = nothing }) (diagnosed texts m.name)
   fault-meets m fault h is = sym (diagnosed-of-member m h ∙ ap (λ f. diagnosed_by m.bytes f (given_by_states (values.given_in own_of needs_of fact_of texts m.name))) (front-one m (Fault fault) is))
 
-  tree-meets : (m : Member) (found : ModuleUnits) (given : List ℕ → Given) (faults : List Diagnostic) → Contains family m → IsFront m.name m.bytes (Tree found) → AreInOrder (all_faults given m.bytes found) faults →
+  tree-meets : (m : Member) (found : ModuleUnits) (given : List ℕ → ImportStatus) (faults : List Diagnostic) → Contains family m → IsFront m.name m.bytes (Tree found) → AreInOrder (all_faults given m.bytes found) faults →
       given ≡ given_by_states (map (λ need. (need, gives m.name need)) (map (spelled m.bytes) (imports_of m.bytes found))) →
       ◌≡◌ {A = Diagnosed} (record { faults = faults; outside = outside_in (files_given given) m.bytes found }) (diagnosed texts m.name)
   tree-meets m found given faults h is ordered same =
@@ -279,7 +279,7 @@ module _ (one : HasNoOther) (order : (all found : List Diagnostic) → AreInOrde
       ∙ sym (diagnosed-of-member m h)
 
   mutual
-    given-meets : {name need : List ℕ} {given : Given} → is_there family name ≡ true → IsGiven family name need given → given ≡ given_by_state (gives name need)
+    given-meets : {name need : List ℕ} {given : ImportStatus} → is_there family name ≡ true → IsGiven family name need given → given ≡ given_by_state (gives name need)
     given-meets {name} {need} t (unknown f) = ap given_by_state (sym (gives-state name need (never-cyclic name need t f) ∙ state-unknown need f))
     given-meets {name} {need} t (families.cyclic u c) = ap given_by_state (sym (gives-cyclic name need c))
     given-meets {name} {need} t (refused {d = d} u ordered is some) = given-refused need d (has-state need u) (found-meets is) some ∙ ap given_by_state (sym (gives-state name need ordered))

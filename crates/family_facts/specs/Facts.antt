@@ -4,13 +4,13 @@ use Rattle.std.specs.FinMap.{from_entries, get}
 use Rattle.std.specs.List.{list_any}
 use Rattle.std.specs.Str.{bytes_eq}
 use Rattle.tla_model.specs.declared.Diagnostic.{Diagnostic}
-use Rattle.module_model.specs.Exports.{Outside, nothing}
+use Rattle.module_model.specs.Exports.{ModuleView, nothing}
 use Rattle.tla_model.specs.Lexemes.{spelled}
 use Rattle.tla_model.specs.ModuleNames.{holds_instance}
 use Rattle.module_model.specs.Resolution.{outside_in}
 use Rattle.module_graph.specs.Imports.{imports_of}
 use Rattle.front_laws.specs.Fronts.{Front, Tree, Fault}
-use Rattle.module_facts.specs.Checks.{Given, Unknown, Cyclic, Refused, Accepted, all_faults, files_given}
+use Rattle.module_facts.specs.Checks.{ImportStatus, Unknown, Cyclic, Refused, Accepted, all_faults, files_given}
 use Rattle.module_facts.specs.Ordered.{in_order}
 use Rattle.fact_values.specs.Names.{Texts}
 use Rattle.fact_values.specs.States.{State, no_text, cyclic, broken, fact}
@@ -37,24 +37,24 @@ abbrev pub needs_of : Own → Option (List (List ℕ))
 needs_of own = needs_by own.bytes own.front
 
 -- a module with faults is refused
-abbrev pub given_by_faults : List Diagnostic → Outside → Given
+abbrev pub given_by_faults : List Diagnostic → ModuleView → ImportStatus
 given_by_faults [] outside = Accepted outside
 given_by_faults (fault ∷ faults) outside = Refused
 
 -- what a module with this state is to one that needs it
-abbrev pub given_by_state : State Diagnosed → Given
+abbrev pub given_by_state : State Diagnosed → ImportStatus
 given_by_state no_text = Unknown
 given_by_state cyclic = Cyclic
 given_by_state broken = Refused
 given_by_state (fact found) = given_by_faults found.faults found.outside
 
 -- what the needs of a module are to it, under their names
-abbrev pub given_by_states : List (List ℕ × State Diagnosed) → List ℕ → Given
+abbrev pub given_by_states : List (List ℕ × State Diagnosed) → List ℕ → ImportStatus
 given_by_states [] name = Unknown
 given_by_states (need ∷ needs) name = if bytes_eq name need.0 then given_by_state need.1 else given_by_states needs name
 
 -- the one front fault, or what is found of the names by what the needs are
-abbrev pub diagnosed_by : List ℕ → Front → (List ℕ → Given) → Diagnosed
+abbrev pub diagnosed_by : List ℕ → Front → (List ℕ → ImportStatus) → Diagnosed
 diagnosed_by bytes (Tree found) given = record { faults = in_order (all_faults given bytes found); outside = outside_in (files_given given) bytes found }
 diagnosed_by bytes (Fault fault) given = record { faults = fault ∷ []; outside = nothing }
 

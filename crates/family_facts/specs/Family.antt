@@ -4,14 +4,14 @@ use Rattle.std.specs.List.{list_any}
 use Rattle.std.specs.Str.{bytes_eq}
 use Rattle.tla_model.specs.declared.Diagnostic.{Diagnostic}
 use Rattle.module_model.specs.Bindings.{AreInOrder}
-use Rattle.module_model.specs.Exports.{Outside, nothing}
+use Rattle.module_model.specs.Exports.{ModuleView, nothing}
 use Rattle.tla_model.specs.Lexemes.{spelled}
 use Rattle.module_model.specs.Resolution.{outside_in}
 use Rattle.name_graph.specs.Family.{Leads}
 use Rattle.module_graph.specs.Imports.{imports_of}
 use Rattle.front_laws.specs.Fronts.{IsFront, Tree, Fault}
 use Rattle.unit_grammar.specs.Units.{ModuleUnits}
-use Rattle.module_facts.specs.Checks.{Given, Unknown, Cyclic, Refused, Accepted, all_faults, files_given}
+use Rattle.module_facts.specs.Checks.{ImportStatus, Unknown, Cyclic, Refused, Accepted, all_faults, files_given}
 
 -- a module's text under its name
 pub record Member : Type 0 where
@@ -35,7 +35,7 @@ AreMembersDistinct family = (i j : ℕ) (a b : Member) → slice_get family i �
 -- all that is found of a module: its faults, and what it is to others where it has none
 pub record Diagnosed : Type 0 where
   pub faults : List Diagnostic
-  pub outside : Outside
+  pub outside : ModuleView
 
 module _ (family : List Member) where
   -- what a module needs; one with a front fault needs nothing
@@ -57,7 +57,7 @@ module _ (family : List Member) where
 
   mutual
     -- what one module is to another that needs it
-    pub data IsGiven : List ℕ → List ℕ → Given → Type 0 where
+    pub data IsGiven : List ℕ → List ℕ → ImportStatus → Type 0 where
       unknown : {name need : List ℕ} → is_there family need ≡ false → IsGiven name need Unknown
       cyclic : {name need : List ℕ} → is_there family need ≡ true → IsCyclic name need → IsGiven name need Cyclic
       refused : {name need : List ℕ} {d : Diagnosed} → is_there family need ≡ true → (IsCyclic name need → ⊥) → IsDiagnosed need d → d.faults ≢ [] → IsGiven name need Refused
@@ -68,7 +68,7 @@ module _ (family : List Member) where
       front_fault : {member : Member} {fault : Diagnostic}
           → Contains family member → IsFront member.name member.bytes (Fault fault)
           → IsDiagnosed member.name (record { faults = fault ∷ []; outside = nothing })
-      checked : {member : Member} {found : ModuleUnits} {given : List ℕ → Given} {faults : List Diagnostic}
+      checked : {member : Member} {found : ModuleUnits} {given : List ℕ → ImportStatus} {faults : List Diagnostic}
           → Contains family member → IsFront member.name member.bytes (Tree found)
           → ((need : List ℕ) → Needs member.name need → IsGiven member.name need (given need))
           → ((need : List ℕ) → (Needs member.name need → ⊥) → given need ≡ Unknown)

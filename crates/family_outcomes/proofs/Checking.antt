@@ -9,7 +9,7 @@ use Rattle.std.proofs.lemmas.List.Sums.{sum_by_more}
 use Rattle.std.proofs.lemmas.Option.{slice_get-get_or}
 use Rattle.tla_model.specs.declared.Diagnostic.{Diagnostic}
 use Rattle.module_model.specs.Bindings.{AreInOrder}
-use Rattle.module_model.specs.Exports.{Outside, face_outside, nothing}
+use Rattle.module_model.specs.Exports.{ModuleView, face_outside, nothing}
 use Rattle.module_model.specs.Imports.{Imports}
 use Rattle.module_model.specs.Resolution.{outside_in}
 use Rattle.tla_tree.specs.declared.unit.ModuleTree.{ModuleTree}
@@ -19,7 +19,7 @@ use Rattle.unit_grammar.specs.UnitNodes.{module_of}
 use Rattle.tool_list.specs.declared.Memory.{Memory}
 use Rattle.module_facts.proofs.Inserting.{in-order}
 use Rattle.module_facts.specs.Ordered.{in_order}
-use Rattle.module_facts.specs.Checks.{Given, CheckedModule, IsChecked, all_faults, files_given, given_in}
+use Rattle.module_facts.specs.Checks.{ImportStatus, CheckedModule, IsChecked, all_faults, files_given, given_in}
 use Rattle.list_laws.proofs.Lists.{contains-map}
 use Rattle.list_laws.proofs.Texts.{same-text, text-itself}
 use Rattle.family_facts.specs.Family as families
@@ -47,13 +47,13 @@ use Rattle.family_outcomes.proofs.Sums.{sum-map, sum-members}
 
 -- what is said of a module that was checked is found of it
 pub tree-outcome : (family : List Member) (name : List ℕ) (tree : ModuleTree) (needs : List (List ℕ)) (imports : Imports) (ch : CheckedModule) (r : Result outcome.the_data Memory) → IsMember family name (reading.Tree tree) needs → AreImports family name needs imports → IsChecked (given_in imports) tree.source (module_of tree) ch →
-    ((outside : Outside) → (ch.faults ≡ [] → face_outside ch.parts ≡ outside) → IfOk r (Says ch.faults outside)) → IfOk r (IsOutcome family name)
+    ((outside : ModuleView) → (ch.faults ≡ [] → face_outside ch.parts ≡ outside) → IfOk r (Says ch.faults outside)) → IfOk r (IsOutcome family name)
 tree-outcome family name tree needs imports ch (Err e) h imported k says = tt
 tree-outcome family name tree needs imports ch (Ok o) h imported k says =
     let m : Member = h.member in
     let units : ModuleUnits = module_of tree in
-    let given : List ℕ → Given = given_in imports in
-    let outside : Outside = outside_in (files_given given) m.bytes units in
+    let given : List ℕ → ImportStatus = given_in imports in
+    let outside : ModuleView = outside_in (files_given given) m.bytes units in
     let found : Diagnosed = record { faults = ch.faults; outside = outside } in
     let front : IsFront m.name m.bytes (Tree units) = subst (λ n. IsFront n m.bytes (Tree units)) (sym h.named) h.is.front in
     let listed : ch.faults ≡ in_order (all_faults given m.bytes units) = k.faults ∙ ap (λ s. in_order (all_faults given s units)) h.is.source in

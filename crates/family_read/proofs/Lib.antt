@@ -1,2 +1,2 @@
-mod Reading
+mod ModulesRead
 mod BuiltIn

@@ -10,7 +10,7 @@ use Rattle.std.proofs.lemmas.List.Elements.{Contains-append_left, Contains-appen
 use Rattle.module_model.specs.declared.imported.Import.{Import}
 use Rattle.module_model.specs.Exports.{face_outside, import_behind}
 use Rattle.module_model.specs.Imports.{Imports, import_of}
-use Rattle.module_facts.specs.Checks.{Given, Unknown, Cyclic, Refused, Accepted, given_by, given_in}
+use Rattle.module_facts.specs.Checks.{ImportStatus, Unknown, Cyclic, Refused, Accepted, given_by, given_in}
 use Rattle.list_laws.proofs.Texts.{same-text, text-itself}
 use Rattle.family_facts.specs.Family as families
 use Rattle.family_facts.specs.Family.{Member, IsGiven, unknown, cyclic, refused, accepted, is_there}
@@ -28,7 +28,7 @@ use Rattle.family_tables.proofs.Bridging.{cyclic-map, cyclic-there, diagnosed-th
 -- ---- one import
 
 -- what a module is by its outcome
-abbrev pub IsGivenBy : outcome.the_data → Given → Type 0
+abbrev pub IsGivenBy : outcome.the_data → ImportStatus → Type 0
 IsGivenBy (outcome.Refused faults) given = given ≡ Refused
 IsGivenBy (outcome.Accepted face) given = given ≡ Accepted (face_outside (arc_value face).parts)
 
@@ -52,7 +52,7 @@ module _ (family : List Member) (plan : Plan) (outcomes : List (List ℕ × Outc
       (λ (g : is_there family need ≡ false). unknown g)
       (cases_Bool (is_there family need))
 
-  pub import-found : answer ≡ false → (o : outcome.the_data) (given : Given) → entry_of outcomes need ≡ Some o → IsGivenBy o given → IsGiven family name need given
+  pub import-found : answer ≡ false → (o : outcome.the_data) (given : ImportStatus) → entry_of outcomes need ≡ Some o → IsGivenBy o given → IsGiven family name need given
   import-found f (outcome.Refused faults) given e is =
       let o : IsOutcome family need (outcome.Refused faults) = ready.found need (outcome.Refused faults) e in
       subst (λ g. IsGiven family name need g) (sym is) (refused (diagnosed-there family need o.found o.diagnosed) (not-cyclic f) o.diagnosed o.says.1)

@@ -1,6 +1,6 @@
 pub mod Graphs
 pub mod Tabling
-pub mod Lying
+pub mod LexemesInText
 pub mod Places
 pub mod Holding
 pub mod Texts

@@ -4,7 +4,7 @@ use Rattle.std.specs.List.{All}
 use Rattle.std.specs.Arc.{arc_value}
 use Rattle.tla_model.specs.declared.Diagnostic.{Diagnostic}
 use Rattle.module_model.specs.declared.imported.Import.{Import}
-use Rattle.module_model.specs.Exports.{Outside, face_outside, import_behind, parts_behind}
+use Rattle.module_model.specs.Exports.{ModuleView, face_outside, import_behind, parts_behind}
 use Rattle.module_model.specs.Imports.{Imports, import_of}
 use Rattle.module_facts.specs.Checks.{Unknown, given_by, given_in}
 use Rattle.family_facts.specs.Family as families
@@ -22,7 +22,7 @@ use Rattle.family_facts.specs.declared.verdict.File.{File}
 use Rattle.family_facts.specs.declared.verdict.Verdict.{Verdict}
 
 -- an outcome says these faults, and what the module is to others where there are none
-abbrev pub Says : List Diagnostic → Outside → Outcome → Type 0
+abbrev pub Says : List Diagnostic → ModuleView → Outcome → Type 0
 Says faults outside (Outcome.Refused found) = (found ≡ faults) × (faults ≢ [])
 Says faults outside (Outcome.Accepted face) = (faults ≡ []) × (face_outside (arc_value face).parts ≡ outside)
 

@@ -8,10 +8,10 @@ use Rattle.unit_grammar.specs.Units.{UnitTree, Variables, Constants, OperatorDef
 use Rattle.tla_model.specs.declared.names.Binder.{Binder}
 use Rattle.tla_model.specs.declared.names.Binding.TheVariants as as_binding
 use Rattle.tla_model.specs.Entities.{Binding, bound_as, binding_in, binding_of, placed, defined, follows_first, declared_in, declared_round, declared_among, declared_by, declaring, variables}
-use Rattle.tla_model.specs.Lexemes.{held, lexemes, all_lexemes, unit_lexemes, units_lexemes, module_lexemes}
+use Rattle.tla_model.specs.Lexemes.{form_lexemes, lexemes, all_lexemes, unit_lexemes, units_lexemes, module_lexemes}
 
 -- what a form declares or defines is what it holds
-own-few : (form : Form) (parts : Trees) → length (placed form) + length (defined form parts) ≤ length (held form)
+own-few : (form : Form) (parts : Trees) → length (placed form) + length (defined form parts) ≤ length (form_lexemes form)
 own-few (Form.Name l) parts = omega arith
 own-few (Form.OperatorParameter l places) parts = omega arith
 own-few (Form.PrefixParameter l) parts = omega arith
@@ -56,7 +56,7 @@ mutual
         whole,
         own-few form Nil,
         bound-length binding (placed form),
-        length-append (held form) (all_lexemes parts),
+        length-append (form_lexemes form) (all_lexemes parts),
         length-append (bound_as binding (placed form)) (if follows_first form then declared_round form parts else defined form parts ++ declared_among (binding_in binding form) parts),
       )
 

@@ -8,7 +8,7 @@ use Rattle.tla_tree.specs.Syntax.{Tree, Trees, Nil, Cons}
 use Rattle.tla_tree.specs.Lexemes.{then}
 use Rattle.tla_tree.specs.Headings as h
 use Rattle.tla_tree.specs.Derivation as d
-use Rattle.tla_model.specs.Lexemes.{held, lexemes, all_lexemes}
+use Rattle.tla_model.specs.Lexemes.{form_lexemes, lexemes, all_lexemes}
 use Rattle.front_laws.proofs.Held.{IsHeld, none, itself, other, next, both, later, between, swapped, before, last}
 
 -- behind the first
@@ -61,7 +61,7 @@ module _ {P : Lexeme → Type 0} where
     pub expression-in : {x : Tree} {a : List Lexeme} {i : ℕ} {o : Option Lexeme} → d.Derives x a i o → IsHeld P (lexemes x) a
     expression-in (d.node s) = form-in s
 
-    form-in : {form : Form} {xs : Trees} {a : List Lexeme} {i : ℕ} {o : Option Lexeme} → d.Spells form xs a i o → IsHeld P (held form ++ all_lexemes xs) a
+    form-in : {form : Form} {xs : Trees} {a : List Lexeme} {i : ℕ} {o : Option Lexeme} → d.Spells form xs a i o → IsHeld P (form_lexemes form ++ all_lexemes xs) a
     form-in (d.identifier xs) = segments-in xs
     form-in (d.number {t = t} k) = itself t
     form-in (d.text {t = t} k) = itself t

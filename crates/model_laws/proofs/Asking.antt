@@ -18,7 +18,7 @@ use Rattle.tla_model.specs.ModuleNames.{instances, instances_in, instantiated, m
 use Rattle.tla_model.specs.Scopes.{Finding, definition}
 use Rattle.module_scope.specs.Environments.{Environment, Scope, begun, first, inside, is_round, is_taken, meaning}
 use Rattle.module_scope.specs.Imports.{imports_from, imports_of, is_needed, scope_at}
-use Rattle.module_model.specs.Exports.{Exports, Outside, carried, exports_by, exports_of}
+use Rattle.module_model.specs.Exports.{Exports, ModuleView, instantiable, exports_by, exports_of}
 use Rattle.module_model.specs.Instances as i
 use Rattle.module_model.specs.Modules as m
 use Rattle.module_model.specs.Modules.{Reading, text_of}
@@ -62,7 +62,7 @@ module _ (P : Lexeme → Type 0) where
     all-instances-named (Cons x rest) all =
         all-both Names (i.named_instances x) (i.all_named_instances rest) (instances-named x (all-left P (instances x) (instances_in rest) all)) (all-instances-named rest (all-right P (instances x) (instances_in rest) all))
 
-module _ (text : Text) (files others : List ℕ → Outside) where
+module _ (text : Text) (files others : List ℕ → ModuleView) where
   abbrev Same : Lexeme → Type 0
   Same l = files (spelled text.source l) ≡ others (spelled text.source l)
 
@@ -81,7 +81,7 @@ module _ (text : Text) (files others : List ℕ → Outside) where
   -- ---- what a module brings
 
   under-same : (found : Option (Option Exports)) (name : List ℕ) → (is_some found ≡ false → files name ≡ others name) → m.exports_under (exports_by files) found name ≡ m.exports_under (exports_by others) found name
-  under-same None name same = ap (λ (o : Outside). o.exports) (same refl)
+  under-same None name same = ap (λ (o : ModuleView). o.exports) (same refl)
   under-same (Some None) name same = refl
   under-same (Some (Some exports)) name same = refl
 
@@ -166,10 +166,10 @@ module _ (text : Text) (files others : List ℕ → Outside) where
 
     -- what stands behind the instances that a unit names
     behind-same : (position : Position) (names : List (Lexeme × Lexeme)) → AllByRecursion (λ (instance : Lexeme × Lexeme). Means position instance.1) names
-        → map {B = DeclId × Exports} (λ instance. (declaration text instance.0, carried (r.module_named text files words position (spelled text.source instance.1)).exports)) names
-        ≡ map {B = DeclId × Exports} (λ instance. (declaration text instance.0, carried (r.module_named text others words position (spelled text.source instance.1)).exports)) names
+        → map {B = DeclId × Exports} (λ instance. (declaration text instance.0, instantiable (r.module_named text files words position (spelled text.source instance.1)).exports)) names
+        ≡ map {B = DeclId × Exports} (λ instance. (declaration text instance.0, instantiable (r.module_named text others words position (spelled text.source instance.1)).exports)) names
     behind-same position [] all = refl
-    behind-same position (instance ∷ names) all = λ k. (declaration text instance.0, carried (all.0 k).exports) ∷ behind-same position names all.1 k
+    behind-same position (instance ∷ names) all = λ k. (declaration text instance.0, instantiable (all.0 k).exports) ∷ behind-same position names all.1 k
 
     in-tree : (position : Position) (x : Tree) → AllByRecursion (Means position) (instances x) → AllByRecursion (Means position) (instances x ++ [])
     in-tree position x all = all-both (Means position) (instances x) [] all tt
@@ -246,7 +246,7 @@ module _ (text : Text) (files others : List ℕ → Outside) where
 
 -- ---- modules
 
-module _ (files others : List ℕ → Outside) (source : List ℕ) (units : ModuleUnits) (all : AllByRecursion (λ l. files (spelled source l) ≡ others (spelled source l)) (imports_of source units)) where
+module _ (files others : List ℕ → ModuleView) (source : List ℕ) (units : ModuleUnits) (all : AllByRecursion (λ l. files (spelled source l) ≡ others (spelled source l)) (imports_of source units)) where
   abbrev read : Text
   read = text_of source units
 

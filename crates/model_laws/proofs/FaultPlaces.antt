@@ -19,9 +19,9 @@ use Rattle.module_model.specs.Bindings.{faults}
 use Rattle.tla_model.specs.Contexts.{Context, bind, bind_all, meaning_of}
 use Rattle.tla_model.specs.declared.names.Binding.TheVariants as as_binding
 use Rattle.tla_model.specs.Entities.{Meaning, Binding, Text, binding_in, binding_of, bound_as, all_placed, placed, defined, follows_first, is_group, name_of, declared_in, declared_round, declared_among, variables}
-use Rattle.module_model.specs.Exports.{Exports, Outside, exports_by}
+use Rattle.module_model.specs.Exports.{Exports, ModuleView, exports_by}
 use Rattle.module_model.specs.Instances as i
-use Rattle.tla_model.specs.Lexemes.{held, lexemes, all_lexemes, unit_lexemes, units_lexemes, module_lexemes}
+use Rattle.tla_model.specs.Lexemes.{form_lexemes, lexemes, all_lexemes, unit_lexemes, units_lexemes, module_lexemes}
 use Rattle.module_model.specs.Modules as m
 use Rattle.module_model.specs.Modules.{Reading, text_of}
 use Rattle.module_model.specs.Resolution as r
@@ -57,7 +57,7 @@ module _ (P : Lexeme → Type 0) where
 
   -- ---- what forms declare and bind
 
-  placed-at : (form : Form.the_data) → AllByRecursion P (held form) → AllByRecursion Places (placed form)
+  placed-at : (form : Form.the_data) → AllByRecursion P (form_lexemes form) → AllByRecursion Places (placed form)
   placed-at (Form.Name l) all = all
   placed-at (Form.OperatorParameter l places) all = all
   placed-at (Form.PrefixParameter l) all = all
@@ -65,7 +65,7 @@ module _ (P : Lexeme → Type 0) where
   placed-at (Form.PostfixParameter l) all = all
   placed-at _ all = tt
 
-  defined-at : (form : Form.the_data) (parts : Trees) → AllByRecursion P (held form) → AllByRecursion Binds (defined form parts)
+  defined-at : (form : Form.the_data) (parts : Trees) → AllByRecursion P (form_lexemes form) → AllByRecursion Binds (defined form parts)
   defined-at (Form.OperatorDefinition l) parts all = all
   defined-at (Form.PrefixDefinition l) parts all = all
   defined-at (Form.InfixDefinition l) parts all = all
@@ -81,8 +81,8 @@ module _ (P : Lexeme → Type 0) where
   all-placed-at : (parts : Trees) → AllByRecursion P (all_lexemes parts) → AllByRecursion Places (all_placed parts)
   all-placed-at Nil all = tt
   all-placed-at (Cons (Node form span parts) rest) all =
-      let here : AllByRecursion P (held form ++ all_lexemes parts) = all-left P (held form ++ all_lexemes parts) (all_lexemes rest) all in
-      all-both Places (placed form) (all_placed rest) (placed-at form (all-left P (held form) (all_lexemes parts) here)) (all-placed-at rest (all-right P (held form ++ all_lexemes parts) (all_lexemes rest) all))
+      let here : AllByRecursion P (form_lexemes form ++ all_lexemes parts) = all-left P (form_lexemes form ++ all_lexemes parts) (all_lexemes rest) all in
+      all-both Places (placed form) (all_placed rest) (placed-at form (all-left P (form_lexemes form) (all_lexemes parts) here)) (all-placed-at rest (all-right P (form_lexemes form ++ all_lexemes parts) (all_lexemes rest) all))
 
   names-at : (group : Bool) (parts : Trees) → AllByRecursion P (all_lexemes parts) → AllByRecursion Places (s.names_in group parts)
   names-at true parts all = all-placed-at parts all
@@ -91,9 +91,9 @@ module _ (P : Lexeme → Type 0) where
   grouped-at : (parts : Trees) → AllByRecursion P (all_lexemes parts) → AllByRecursion Places (s.all_grouped parts)
   grouped-at Nil all = tt
   grouped-at (Cons (Node form span parts) rest) all =
-      let here : AllByRecursion P (held form ++ all_lexemes parts) = all-left P (held form ++ all_lexemes parts) (all_lexemes rest) all in
-      all-both Places (s.names_in (is_group form) parts) (s.all_grouped rest) (names-at (is_group form) parts (all-right P (held form) (all_lexemes parts) here))
-      (grouped-at rest (all-right P (held form ++ all_lexemes parts) (all_lexemes rest) all))
+      let here : AllByRecursion P (form_lexemes form ++ all_lexemes parts) = all-left P (form_lexemes form ++ all_lexemes parts) (all_lexemes rest) all in
+      all-both Places (s.names_in (is_group form) parts) (s.all_grouped rest) (names-at (is_group form) parts (all-right P (form_lexemes form) (all_lexemes parts) here))
+      (grouped-at rest (all-right P (form_lexemes form ++ all_lexemes parts) (all_lexemes rest) all))
 
   binders-at : (form : Form.the_data) (parts : Trees) → AllByRecursion P (all_lexemes parts) → AllByRecursion Binds (s.binders form parts)
   binders-at form parts all =
@@ -104,14 +104,14 @@ module _ (P : Lexeme → Type 0) where
   mutual
     declared-at : (binding : Binding) (x : Tree) → AllByRecursion P (lexemes x) → AllByRecursion Binds (declared_in binding x)
     declared-at binding (Node form span parts) all =
-        let own : AllByRecursion P (held form) = all-left P (held form) (all_lexemes parts) all in
-        let inner : AllByRecursion P (all_lexemes parts) = all-right P (held form) (all_lexemes parts) all in
+        let own : AllByRecursion P (form_lexemes form) = all-left P (form_lexemes form) (all_lexemes parts) all in
+        let inner : AllByRecursion P (all_lexemes parts) = all-right P (form_lexemes form) (all_lexemes parts) all in
         all-both Binds (bound_as binding (placed form)) (if follows_first form then declared_round form parts else defined form parts ++ declared_among (binding_in binding form) parts)
         (bound-at binding (placed form) (placed-at form own))
         (all-either Binds (follows_first form) (declared_round form parts) (defined form parts ++ declared_among (binding_in binding form) parts) (round-at form parts own inner)
         (all-both Binds (defined form parts) (declared_among (binding_in binding form) parts) (defined-at form parts own) (among-at (binding_in binding form) parts inner)))
 
-    round-at : (form : Form.the_data) (parts : Trees) → AllByRecursion P (held form) → AllByRecursion P (all_lexemes parts) → AllByRecursion Binds (declared_round form parts)
+    round-at : (form : Form.the_data) (parts : Trees) → AllByRecursion P (form_lexemes form) → AllByRecursion P (all_lexemes parts) → AllByRecursion Binds (declared_round form parts)
     round-at form Nil own all = defined-at form Nil own
     round-at form (Cons x rest) own all =
         all-three Binds (declared_in (binding_of form) x) (defined form (Cons x rest)) (declared_among (binding_of form) rest) (declared-at (binding_of form) x (all-left P (lexemes x) (all_lexemes rest) all)) (defined-at form (Cons x rest) own)
@@ -129,22 +129,22 @@ module _ (P : Lexeme → Type 0) where
   -- ---- what is found in trees
 
   module _ (text : Text) (around : Around) where
-    refused-at : (context : Context) (l : Lexeme) → P l → AllByRecursion Stands (s.refused text context l)
+    refused-at : (context : Context) (l : Lexeme) → P l → AllByRecursion Stands (s.taken_findings text context l)
     refused-at context l p = all-either Stands (has context (name_of text.source l)) (Taken l ∷ []) [] (p, tt) tt
 
     all-refused-at : (context : Context) (binders : List Binder) → AllByRecursion Binds binders → AllByRecursion Stands (s.all_refused text context binders)
     all-refused-at context [] all = tt
     all-refused-at context (binder ∷ rest) all =
-        all-both Stands (s.refused text context binder.name) (s.all_refused text (bind text context binder) rest) (refused-at context binder.name all.0) (all-refused-at (bind text context binder) rest all.1)
+        all-both Stands (s.taken_findings text context binder.name) (s.all_refused text (bind text context binder) rest) (refused-at context binder.name all.0) (all-refused-at (bind text context binder) rest all.1)
 
-    found-at : (l : Lexeme) (meaning : Option Meaning) → P l → AllByRecursion Stands (s.found l meaning)
+    found-at : (l : Lexeme) (meaning : Option Meaning) → P l → AllByRecursion Stands (s.use_findings l meaning)
     found-at l None p = (p, tt)
     found-at l (Some meaning) p = (p, tt)
 
     used-at : (context : Context) (l : Lexeme) (op : Op.the_data) → P l → AllByRecursion Stands (s.used_as context l op)
-    used-at context l op p = all-either Stands (s.is_free op) (s.found l (meaning_of context (Symbol op))) [] (found-at l (meaning_of context (Symbol op)) p) tt
+    used-at context l op p = all-either Stands (s.is_free op) (s.use_findings l (meaning_of context (Symbol op))) [] (found-at l (meaning_of context (Symbol op)) p) tt
 
-    symbol-at : (context : Context) (which : Op.the_data → Op.the_data) (l : Lexeme) (kind : LexKind.the_data) → P l → AllByRecursion Stands (s.symbol context which l kind)
+    symbol-at : (context : Context) (which : Op.the_data → Op.the_data) (l : Lexeme) (kind : LexKind.the_data) → P l → AllByRecursion Stands (s.symbol_findings context which l kind)
     symbol-at context which l (LexKind.Sym op) p = used-at context l (which op) p
     symbol-at context which l _ p = tt
 
@@ -163,7 +163,7 @@ module _ (P : Lexeme → Type 0) where
         (all-either Stands (is_among written parameter.0) [] (i.implied_as l parameter.1 (meaning_of context parameter.0)) tt (implied-as-at l parameter.1 (meaning_of context parameter.0) p)) (implied-at context l written rest p)
 
     -- a form that declares or binds names, by what is found in its parts
-    with-names : (context : Context) (form : Form.the_data) (parts : Trees) → AllByRecursion P (held form ++ all_lexemes parts)
+    with-names : (context : Context) (form : Form.the_data) (parts : Trees) → AllByRecursion P (form_lexemes form ++ all_lexemes parts)
         → AllByRecursion Stands (r.walk_sets text around (s.reserved text context form parts) parts) → AllByRecursion Stands (r.walk_rest text around (s.scope text context form parts) parts)
         → AllByRecursion Stands (s.all_refused text context (defined form parts) ++ r.walk_sets text around (s.reserved text context form parts) parts ++ s.all_refused text (s.inside text context form parts) (s.binders form parts) ++ r.walk_rest text around (s.scope text context form parts) parts)
     with-names context form parts all sets rest =
@@ -171,18 +171,18 @@ module _ (P : Lexeme → Type 0) where
         let among : List Finding = r.walk_sets text around (s.reserved text context form parts) parts in
         let bound : List Finding = s.all_refused text (s.inside text context form parts) (s.binders form parts) in
         all-three Stands (names ++ among) bound (r.walk_rest text around (s.scope text context form parts) parts)
-        (all-both Stands names among (all-refused-at context (defined form parts) (defined-at form parts (all-left P (held form) (all_lexemes parts) all))) sets)
-        (all-refused-at (s.inside text context form parts) (s.binders form parts) (binders-at form parts (all-right P (held form) (all_lexemes parts) all))) rest
+        (all-both Stands names among (all-refused-at context (defined form parts) (defined-at form parts (all-left P (form_lexemes form) (all_lexemes parts) all))) sets)
+        (all-refused-at (s.inside text context form parts) (s.binders form parts) (binders-at form parts (all-right P (form_lexemes form) (all_lexemes parts) all))) rest
 
     mutual
       walk-at : (context : Context) (x : Tree) → AllByRecursion P (lexemes x) → AllByRecursion Stands (r.walk text around context x)
       walk-at context (Node Form.Identifier span parts) all = segments-at context parts all
       walk-at context (Node (Form.Symbol l) span parts) all = symbol-at context (s.itself) l l.kind all.0
       walk-at context (Node (Form.Prefix l) span parts) all =
-          all-both Stands (s.symbol context s.prefixed l l.kind) (r.walk_each text around context parts) (symbol-at context s.prefixed l l.kind all.0) (each-at context parts all.1)
+          all-both Stands (s.symbol_findings context s.prefixed l l.kind) (r.walk_each text around context parts) (symbol-at context s.prefixed l l.kind all.0) (each-at context parts all.1)
       walk-at context (Node (Form.Infix l) span parts) all = round-walk-at context l parts all.0 all.1
       walk-at context (Node (Form.Postfix l) span parts) all =
-          all-both Stands (r.walk_each text around context parts) (s.symbol context s.itself l l.kind) (each-at context parts all.1) (symbol-at context s.itself l l.kind all.0)
+          all-both Stands (r.walk_each text around context parts) (s.symbol_findings context s.itself l l.kind) (each-at context parts all.1) (symbol-at context s.itself l l.kind all.0)
       walk-at context (Node Form.Let span parts) all = chain-at context parts all
       walk-at context (Node (Form.Instance l) span parts) all =
           all-both Stands (r.replaced text around context (r.replaceable text around l) [] parts) (i.implied context l (i.left_sides text.source parts) (r.replaceable text around l))
@@ -191,7 +191,7 @@ module _ (P : Lexeme → Type 0) where
           all-three Stands (s.all_refused text context (s.binders Form.SetImage parts)) (r.walk_rest text around (bind_all text context (s.binders Form.SetImage parts)) parts) (r.walk_sets text around context parts)
           (all-refused-at context (s.binders Form.SetImage parts) (binders-at Form.SetImage parts all)) (rest-at (bind_all text context (s.binders Form.SetImage parts)) parts all) (sets-at context parts all)
       walk-at context (Node form span parts) all =
-          with-names context form parts all (sets-at (s.reserved text context form parts) parts (all-right P (held form) (all_lexemes parts) all)) (rest-at (s.scope text context form parts) parts (all-right P (held form) (all_lexemes parts) all))
+          with-names context form parts all (sets-at (s.reserved text context form parts) parts (all-right P (form_lexemes form) (all_lexemes parts) all)) (rest-at (s.scope text context form parts) parts (all-right P (form_lexemes form) (all_lexemes parts) all))
 
       each-at : (context : Context) (parts : Trees) → AllByRecursion P (all_lexemes parts) → AllByRecursion Stands (r.walk_each text around context parts)
       each-at context Nil all = tt
@@ -201,7 +201,7 @@ module _ (P : Lexeme → Type 0) where
       round-walk-at : (context : Context) (l : Lexeme) (parts : Trees) → P l → AllByRecursion P (all_lexemes parts) → AllByRecursion Stands (r.walk_round text around context l parts)
       round-walk-at context l Nil p all = symbol-at context s.itself l l.kind p
       round-walk-at context l (Cons x rest) p all =
-          all-three Stands (r.walk text around context x) (s.symbol context s.itself l l.kind) (r.walk_each text around context rest) (walk-at context x (all-left P (lexemes x) (all_lexemes rest) all)) (symbol-at context s.itself l l.kind p)
+          all-three Stands (r.walk text around context x) (s.symbol_findings context s.itself l l.kind) (r.walk_each text around context rest) (walk-at context x (all-left P (lexemes x) (all_lexemes rest) all)) (symbol-at context s.itself l l.kind p)
           (each-at context rest (all-right P (lexemes x) (all_lexemes rest) all))
 
       chain-at : (context : Context) (parts : Trees) → AllByRecursion P (all_lexemes parts) → AllByRecursion Stands (r.walk_chain text around context parts)
@@ -231,14 +231,14 @@ module _ (P : Lexeme → Type 0) where
           (replaced-at l (is_among before (name_of text.source l)) (i.entry_of parameters (name_of text.source l)) all.0)
           (each-at context right (all-left P (all_lexemes right) (all_lexemes rest) all.1)) (replacements-at context parameters (name_of text.source l ∷ before) rest (all-right P (all_lexemes right) (all_lexemes rest) all.1))
       replacements-at context parameters before (Cons (Node form span parts) rest) all =
-          replacements-at context parameters before rest (all-right P (held form ++ all_lexemes parts) (all_lexemes rest) all)
+          replacements-at context parameters before rest (all-right P (form_lexemes form ++ all_lexemes parts) (all_lexemes rest) all)
 
       segments-at : (context : Context) (parts : Trees) → AllByRecursion P (all_lexemes parts) → AllByRecursion Stands (r.segments text around context parts)
       segments-at context Nil all = tt
       segments-at context (Cons (Node (Form.Segment l) span arguments) rest) all =
           let meaning : Option Meaning = meaning_of context (name_of text.source l) in
           let onward : List Finding = r.path text around context (r.path_number text around l) (r.behind_name text around meaning) rest in
-          all-three Stands (s.found l meaning) (r.walk_each text around context arguments) (if is_some meaning then onward else []) (found-at l meaning all.0)
+          all-three Stands (s.use_findings l meaning) (r.walk_each text around context arguments) (if is_some meaning then onward else []) (found-at l meaning all.0)
           (each-at context arguments (all-left P (all_lexemes arguments) (all_lexemes rest) all.1))
           (all-either Stands (is_some meaning) onward [] (path-at context (r.path_number text around l) (r.behind_name text around meaning) rest (all-right P (all_lexemes arguments) (all_lexemes rest) all.1)) tt)
       segments-at context (Cons (Node _ span arguments) rest) all = tt
@@ -248,14 +248,14 @@ module _ (P : Lexeme → Type 0) where
       path-at context number held_behind (Cons (Node (Form.Segment l) span arguments) rest) all =
           let meaning : Option Meaning = i.entry_of held_behind (name_of text.source l) in
           let onward : List Finding = r.path text around context number (r.behind_name text around meaning) rest in
-          all-three Stands (s.found l (i.called_by number rest meaning)) (r.walk_each text around context arguments) (if is_some meaning then onward else []) (found-at l (i.called_by number rest meaning) all.0)
+          all-three Stands (s.use_findings l (i.called_by number rest meaning)) (r.walk_each text around context arguments) (if is_some meaning then onward else []) (found-at l (i.called_by number rest meaning) all.0)
           (each-at context arguments (all-left P (all_lexemes arguments) (all_lexemes rest) all.1))
           (all-either Stands (is_some meaning) onward [] (path-at context number (r.behind_name text around meaning) rest (all-right P (all_lexemes arguments) (all_lexemes rest) all.1)) tt)
       path-at context number held_behind (Cons (Node _ span arguments) rest) all = tt
 
   -- ---- what is found in modules
 
-  module _ (text : Text) (files : List ℕ → Outside) where
+  module _ (text : Text) (files : List ℕ → ModuleView) where
     clashing-at : (reading : Reading) (names : List Lexeme) → AllByRecursion P names → AllByRecursion Stands (m.all_clashing text (exports_by files) reading names)
     clashing-at reading [] all = tt
     clashing-at reading (l ∷ rest) all =
@@ -295,7 +295,7 @@ module _ (P : Lexeme → Type 0) where
           all-both Stands (r.found_in text files words behind paths position unit) (r.found_from text files words behind paths (r.after text files words position unit) units) (unit-at position unit (all-left P (unit_lexemes unit) (units_lexemes units) all))
           (units-at (r.after text files words position unit) units (all-right P (unit_lexemes unit) (units_lexemes units) all))
 
-  pub findings-at : (files : List ℕ → Outside) (source : List ℕ) (units : ModuleUnits) → AllByRecursion P (module_lexemes units) → AllByRecursion Stands (findings files source units)
+  pub findings-at : (files : List ℕ → ModuleView) (source : List ℕ) (units : ModuleUnits) → AllByRecursion P (module_lexemes units) → AllByRecursion Stands (findings files source units)
   findings-at files source units all =
       let text : Text = text_of source units in
       let words : List ℕ = r.words_of units in
@@ -329,14 +329,14 @@ module _ (P : Span → Type 0) where
   by-place (f ∷ rest) all (suc k) d lt = by-place rest all.1 k d (omega (arith, lt))
 
   -- what holds of the places of a module's lexemes holds of those of its faults
-  pub faults-at : (files : List ℕ → Outside) (source : List ℕ) (units : ModuleUnits) → AllByRecursion At (module_lexemes units) → All (λ (f : Diagnostic). P f.span) (faults (findings files source units))
+  pub faults-at : (files : List ℕ → ModuleView) (source : List ℕ) (units : ModuleUnits) → AllByRecursion At (module_lexemes units) → All (λ (f : Diagnostic). P f.span) (faults (findings files source units))
   faults-at files source units all = by-place (faults (findings files source units)) (faults-of (findings files source units) (findings-at At files source units all))
 
 spans-there : (ls : List Lexeme) (spans : List Span) → All (Contains spans) (map (λ (l : Lexeme). l.span) ls) → AllByRecursion (λ (l : Lexeme). Contains spans l.span) ls
 spans-there [] spans all = tt
 spans-there (l ∷ ls) spans all = (all 0 l.span (omega arith), spans-there ls spans (λ k d lt. all (suc k) d (omega (arith, lt))))
 
-pub faults-there : (files : List ℕ → Outside) (source : List ℕ) (units : ModuleUnits) → All (λ f. Contains (map (λ l. l.span) (module_lexemes units)) f.span) (faults (findings files source units))
+pub faults-there : (files : List ℕ → ModuleView) (source : List ℕ) (units : ModuleUnits) → All (λ f. Contains (map (λ l. l.span) (module_lexemes units)) f.span) (faults (findings files source units))
 faults-there files source units =
     let spans : List Span = map (λ (l : Lexeme). l.span) (module_lexemes units) in
     faults-at (λ span. Contains spans span) files source units (spans-there (module_lexemes units) spans (All-contains_itself spans))

@@ -12,7 +12,7 @@ use Rattle.tla_model.specs.Lexemes.{spelled}
 use Rattle.tla_model.specs.Scopes.{definition}
 use Rattle.module_scope.specs.Environments.{Environment, Scope, is_taken}
 use Rattle.module_scope.specs.Imports.{scope_at}
-use Rattle.module_model.specs.Exports.{Exports, Outside, exports_by, exports_of}
+use Rattle.module_model.specs.Exports.{Exports, ModuleView, exports_by, exports_of}
 use Rattle.module_model.specs.Modules as m
 use Rattle.module_model.specs.Modules.{Place, Reading, clashes, with_entry}
 use Rattle.module_model.specs.Resolution as r
@@ -71,7 +71,7 @@ joined-keeps local reading (entry ∷ rest) =
     let next : Reading = cond (clashes reading.context entry) reading other in
     keeps-on reading next (m.joined local next rest) (keeps-either (clashes reading.context entry) reading other (record { name = refl; modules = refl })) (joined-keeps local next rest)
 
-module _ (text : Text) (files : List ℕ → Outside) (words : List ℕ) where
+module _ (text : Text) (files : List ℕ → ModuleView) (words : List ℕ) where
   pub extends-keep : (reading : Reading) (names : List Lexeme) → Keeps reading (m.extends_all text (exports_by files) reading names)
   extends-keep reading [] = keeps reading
   extends-keep reading (l ∷ rest) =

@@ -17,7 +17,7 @@ use Rattle.tla_model.specs.declared.Diagnostic.{Diagnostic}
 use Rattle.tla_model.specs.declared.entity.Entity.TheVariants as entity
 use Rattle.module_model.specs.Bindings.{faults, implied}
 use Rattle.tla_model.specs.Entities.{Meaning}
-use Rattle.module_model.specs.Exports.{behind_in, Exports, Outside, nothing}
+use Rattle.module_model.specs.Exports.{behind_in, Exports, ModuleView, nothing}
 use Rattle.module_model.specs.Resolution.{exports_in, findings, outside_in}
 use Rattle.tla_model.specs.Scopes.{Finding}
 use Rattle.tla_model.specs.Tables.{Word, Symbol}
@@ -37,7 +37,7 @@ of_p = (Word (codes "c"), there (codes "P") (entity.Constant 0) 0) ∷ (Word (co
 abbrev of_q : Exports
 of_q = (Word (codes "G"), there (codes "Q") value_of 0) ∷ []
 
-abbrev files : List ℕ → Outside
+abbrev files : List ℕ → ModuleView
 files file =
     if bytes_eq file (codes "P") then module_of of_p
     else if bytes_eq file (codes "Q") then module_of of_q
@@ -205,7 +205,7 @@ exported_by_one : exports_in files (codes "MQQ") (module_with [] (Instance (Some
 exported_by_one = refl
 
 -- EXTENDS R | CONSTANT d | I == INSTANCE Q
-abbrev to_others : Outside
+abbrev to_others : ModuleView
 to_others = outside_in files (codes "MRdIQ") (module_with (at 1 ∷ []) (constant 2 ∷ named_unit 3 (instance 4 Nil) ∷ []))
 
 -- what stands behind the instance at a place of a file

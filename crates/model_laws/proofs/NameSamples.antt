@@ -19,7 +19,7 @@ use Rattle.tla_model.specs.declared.entity.Entity.TheVariants as entity
 use Rattle.tla_model.specs.declared.ids.Callee.{Callee}
 use Rattle.module_model.specs.Bindings.{Resolved, faults, resolved}
 use Rattle.tla_model.specs.Entities.{Meaning, declaring}
-use Rattle.module_model.specs.Exports.{Exports, Outside, nothing, parameters_in}
+use Rattle.module_model.specs.Exports.{Exports, ModuleView, nothing, parameters_in}
 use Rattle.module_model.specs.Modules.{text_of}
 use Rattle.module_model.specs.Resolution.{exports_in, findings, first, read_all}
 use Rattle.tla_model.specs.Scopes.{Finding}
@@ -118,10 +118,10 @@ abbrev pub brought : List ℕ → Meaning
 brought file = Declared (entity.Constant 0) (callee file 0)
 
 -- a module that exports these, and no instance
-abbrev pub module_of : Exports → Outside
+abbrev pub module_of : Exports → ModuleView
 module_of exports = record { exports = exports; parameters = parameters_in exports; behind = λ decl. [] }
 
-abbrev files : List ℕ → Outside
+abbrev files : List ℕ → ModuleView
 files file =
     if bytes_eq file (codes "A") then module_of ((Word (codes "x"), brought (codes "A")) ∷ [])
     else if bytes_eq file (codes "C") then module_of ((Word (codes "x"), brought (codes "A")) ∷ [])

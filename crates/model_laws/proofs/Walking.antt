@@ -12,12 +12,12 @@ use Rattle.tla_model.specs.Entities.{Meaning, Text, defined, name_of}
 use Rattle.tla_model.specs.Lexemes.{spelled}
 use Rattle.tla_model.specs.Scopes as s
 use Rattle.tla_model.specs.Tables.{Named, is_among}
-use Rattle.module_model.specs.Exports.{Exports, Outside}
+use Rattle.module_model.specs.Exports.{Exports, ModuleView}
 use Rattle.module_model.specs.Instances as i
 use Rattle.module_model.specs.Resolution as r
 use Rattle.module_model.specs.Resolution.{Around}
 
-module _ (text : Text) (named others : List ℕ → Outside) (behind : DeclId → Exports) (paths : List ℕ) where
+module _ (text : Text) (named others : List ℕ → ModuleView) (behind : DeclId → Exports) (paths : List ℕ) where
   abbrev one : Around
   one = record { named = named; behind = behind; paths = paths }
 
@@ -47,9 +47,9 @@ module _ (text : Text) (named others : List ℕ → Outside) (behind : DeclId �
     pub walk-same : (context : Context) (x : Tree) → AllByRecursion Same (instances x) → r.walk text one context x ≡ r.walk text two context x
     walk-same context (Node Form.Identifier span parts) all = segments-same context parts all
     walk-same context (Node (Form.Symbol l) span parts) all = refl
-    walk-same context (Node (Form.Prefix l) span parts) all = ap (λ z. s.symbol context s.prefixed l l.kind ++ z) (each-same context parts all)
+    walk-same context (Node (Form.Prefix l) span parts) all = ap (λ z. s.symbol_findings context s.prefixed l l.kind ++ z) (each-same context parts all)
     walk-same context (Node (Form.Infix l) span parts) all = round-same context l parts all
-    walk-same context (Node (Form.Postfix l) span parts) all = ap (λ z. z ++ s.symbol context s.itself l l.kind) (each-same context parts all)
+    walk-same context (Node (Form.Postfix l) span parts) all = ap (λ z. z ++ s.symbol_findings context s.itself l l.kind) (each-same context parts all)
     walk-same context (Node Form.Let span parts) all = chain-same context parts all
     walk-same context (Node (Form.Instance l) span parts) all = λ k.
         replaced-same context ((all.0 k).parameters) [] parts all.1 k ++ i.implied context l (i.left_sides text.source parts) ((all.0 k).parameters)
@@ -65,7 +65,7 @@ module _ (text : Text) (named others : List ℕ → Outside) (behind : DeclId �
     round-same : (context : Context) (l : Lexeme) (parts : Trees) → AllByRecursion Same (instances_in parts) → r.walk_round text one context l parts ≡ r.walk_round text two context l parts
     round-same context l Nil all = refl
     round-same context l (Cons x rest) all = λ k.
-        walk-same context x (first-of x rest all) k ++ s.symbol context s.itself l l.kind ++ each-same context rest (rest-of x rest all) k
+        walk-same context x (first-of x rest all) k ++ s.symbol_findings context s.itself l l.kind ++ each-same context rest (rest-of x rest all) k
 
     chain-same : (context : Context) (parts : Trees) → AllByRecursion Same (instances_in parts) → r.walk_chain text one context parts ≡ r.walk_chain text two context parts
     chain-same context Nil all = refl
@@ -96,7 +96,7 @@ module _ (text : Text) (named others : List ℕ → Outside) (behind : DeclId �
     segments-same context Nil all = refl
     segments-same context (Cons (Node (Form.Segment l) span arguments) rest) all =
         let meaning : Option Meaning = meaning_of context (name_of text.source l) in λ k.
-        s.found l meaning ++ each-same context arguments (first-of (Node (Form.Segment l) span arguments) rest all) k
+        s.use_findings l meaning ++ each-same context arguments (first-of (Node (Form.Segment l) span arguments) rest all) k
         ++ (if is_some meaning then path-same context (r.path_number text one l) (r.behind_name text one meaning) rest (rest-of (Node (Form.Segment l) span arguments) rest all) k else [])
     segments-same context (Cons (Node _ span arguments) rest) all = refl
 
@@ -104,6 +104,6 @@ module _ (text : Text) (named others : List ℕ → Outside) (behind : DeclId �
     path-same context number held Nil all = refl
     path-same context number held (Cons (Node (Form.Segment l) span arguments) rest) all =
         let meaning : Option Meaning = i.entry_of held (name_of text.source l) in λ k.
-        s.found l (i.called_by number rest meaning) ++ each-same context arguments (first-of (Node (Form.Segment l) span arguments) rest all) k
+        s.use_findings l (i.called_by number rest meaning) ++ each-same context arguments (first-of (Node (Form.Segment l) span arguments) rest all) k
         ++ (if is_some meaning then path-same context number (r.behind_name text one meaning) rest (rest-of (Node (Form.Segment l) span arguments) rest all) k else [])
     path-same context number held (Cons (Node _ span arguments) rest) all = refl

@@ -5,11 +5,11 @@ use Rattle.tla_model.specs.declared.ids.DeclId.{DeclId}
 use Rattle.tla_model.specs.Lexemes.{spelled}
 use Rattle.unit_grammar.specs.Units.{ModuleUnits}
 use Rattle.module_scope.specs.Imports.{imports_of}
-use Rattle.module_model.specs.Exports.{Outside}
+use Rattle.module_model.specs.Exports.{ModuleView}
 use Rattle.module_model.specs.Resolution.{behind_all, exports_in, findings}
 
 abbrev pub Files : Type 0
-Files = List ℕ → Outside
+Files = List ℕ → ModuleView
 
 -- files that are the same under each name that a module needs
 abbrev pub AgreeFor : List ℕ → ModuleUnits → Files → Files → Type 0

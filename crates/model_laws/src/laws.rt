@@ -4,7 +4,7 @@ ghost use Rattle.std.specs.List.{All};
 ghost use Rattle.unit_grammar.specs.Units.{ModuleUnits};
 ghost use Rattle.module_model.specs.Bindings.{faults};
 ghost use Rattle.tla_model.specs.Entities.{Meaning};
-ghost use Rattle.module_model.specs.Exports.{Exports, Outside};
+ghost use Rattle.module_model.specs.Exports.{Exports, ModuleView};
 ghost use Rattle.tla_model.specs.Lexemes.{module_lexemes};
 ghost use Rattle.module_model.specs.Resolution.{findings};
 ghost use Rattle.model_laws.specs.Needed.{AsksNeeded};
@@ -15,7 +15,7 @@ ghost use Rattle.tla_model.specs.declared.ids.DeclId.{DeclId};
 
 /// Each fault of a module's names stands at a lexeme that the module holds.
 pub fn faults_at_lexemes()
-    ensures { (files : List ℕ → Outside) → (source : List ℕ) → (units : ModuleUnits) → All (λ f. Contains (map (λ l. l.span) (module_lexemes units)) f.span) (faults (findings files source units)) }
+    ensures { (files : List ℕ → ModuleView) → (source : List ℕ) → (units : ModuleUnits) → All (λ f. Contains (map (λ l. l.span) (module_lexemes units)) f.span) (faults (findings files source units)) }
 {}
 
 /// What stands for a parameter of an instantiated module is the replacement at the place of that

@@ -13,7 +13,7 @@ use Rattle.std.proofs.lemmas.Slice.Eq.{bytes_eq-Decides}
 use Rattle.std.proofs.lemmas.List.{append-nil, map-append}
 use Rattle.std.proofs.lemmas.List.Folds.{list_any-append}
 use Rattle.module_model.specs.declared.face.Part.{Part}
-use Rattle.module_model.specs.Parts.{Held, held, held_in, last, parts_in}
+use Rattle.module_model.specs.Parts.{PartView, views, held_in, last, parts_in}
 use Rattle.list_laws.proofs.Tests.{and-left, and-right}
 use Rattle.module_faces.specs.Faces.{Key, bare, is_among, key_in, keys_in, same_key, with_face, with_part, with_parts}
 use Rattle.module_faces.specs.Parts.{AreKept, AreKeysOf, first_parts, key_under, keys_under, with_key, with_keys}
@@ -98,14 +98,14 @@ noted-key keys keys' key is same put = ap keys_under put ∙ by (IsThere keys ke
     by false e = under-more keys key ∙ ap (λ b. if b then keys_under keys else keys_under keys ++ key_under key ∷ []) e
 
 -- the first parts are noted
-pub noted-first : (parts : List Held) → AreKeysOf (with_keys [] (keys_in parts)) parts
+pub noted-first : (parts : List PartView) → AreKeysOf (with_keys [] (keys_in parts)) parts
 noted-first parts key = among-all [] (keys_in parts) key
 
-keys-more : (parts : List Held) (part : Held) → keys_in (parts ++ part ∷ []) ≡ keys_in parts ++ key_in part ∷ []
+keys-more : (parts : List PartView) (part : PartView) → keys_in (parts ++ part ∷ []) ≡ keys_in parts ++ key_in part ∷ []
 keys-more parts part = map-append key_in parts (part ∷ [])
 
 -- one more part
-module _ (keys keys' : List Key) (parts : List Held) (part : Held) (are : AreKeysOf keys parts) (is : keys' ≡ with_key keys (key_in part)) where
+module _ (keys keys' : List Key) (parts : List PartView) (part : PartView) (are : AreKeysOf keys parts) (is : keys' ≡ with_key keys (key_in part)) where
   pub noted-more : is_among keys (key_in part) ≡ false → AreKeysOf keys' (parts ++ bare part.interface ∷ [])
   noted-more fresh key =
       ap (λ z. is_among z key) is ∙ among-with keys (key_in part) key ∙ ap (λ z. z || same_key key (key_in part)) (are key)
@@ -120,13 +120,13 @@ module _ (keys keys' : List Key) (parts : List Held) (part : Held) (are : AreKey
   pub held-again : is_among keys (key_in part) ≡ true → parts ≡ with_part parts part
   held-again there = ap (λ b. if b then parts else parts ++ bare part.interface ∷ []) (sym there ∙ are (key_in part))
 
-pub with-parts-append : (parts a b : List Held) → with_parts parts (a ++ b) ≡ with_parts (with_parts parts a) b
+pub with-parts-append : (parts a b : List PartView) → with_parts parts (a ++ b) ≡ with_parts (with_parts parts a) b
 with-parts-append parts [] b = refl
 with-parts-append parts (part ∷ a) b = with-parts-append (with_part parts part) a b
 
 -- ---- what is gathered
 
-key-there : (parts : List Held) (part : Held) (more : List Held) → is_among (keys_in (parts ++ part ∷ more)) (key_in part) ≡ true
+key-there : (parts : List PartView) (part : PartView) (more : List PartView) → is_among (keys_in (parts ++ part ∷ more)) (key_in part) ≡ true
 key-there [] part more = ap (λ z. z || is_among (keys_in more) (key_in part)) (key-itself (key_in part))
 key-there (first ∷ parts) part more = ap (λ z. same_key (key_in part) (key_in first) || z) (key-there parts part more) ∙ or-true (same_key (key_in part) (key_in first))
   where
@@ -138,23 +138,23 @@ true-false : true ≡ false → ⊥
 true-false e = cc
 
 -- noted parts are gathered
-pub noted-gathered : (keys : List Key) (first more : List Held) → AreKeysOf keys (first ++ more) → AreKept keys first more
+pub noted-gathered : (keys : List Key) (first more : List PartView) → AreKeysOf keys (first ++ more) → AreKept keys first more
 noted-gathered (key ∷ keys) first more are = are
 noted-gathered [] first [] are = refl
 noted-gathered [] first (part ∷ more) are = absurd (true-false (sym (are (key_in part) ∙ key-there first part more)))
 
 -- where there are modules, they are noted
-pub kept-noted : (keys : List Key) (first more : List Held) → (keys ≡ [] → ⊥) → AreKept keys first more → AreKeysOf keys (first ++ more)
+pub kept-noted : (keys : List Key) (first more : List PartView) → (keys ≡ [] → ⊥) → AreKept keys first more → AreKeysOf keys (first ++ more)
 kept-noted [] first more some kept = absurd (some refl)
 kept-noted (key ∷ keys) first more some kept = kept
 
 -- where there are none, there are no further parts
-pub none-further : (keys : List Key) (first more : List Held) → keys ≡ [] → AreKept keys first more → more ≡ []
+pub none-further : (keys : List Key) (first more : List PartView) → keys ≡ [] → AreKept keys first more → more ≡ []
 none-further [] first more none kept = kept
 none-further (key ∷ keys) first more none kept = cc
 
 -- where there are no parts, there are no modules
-pub none-kept : (keys : List Key) (first more other : List Held) → first ++ more ≡ [] → AreKept keys first more → AreKept keys other more
+pub none-kept : (keys : List Key) (first more other : List PartView) → first ++ more ≡ [] → AreKept keys first more → AreKept keys other more
 none-kept [] first more other none kept = kept
 none-kept (key ∷ keys) first more other none kept =
     absurd (true-false (sym (ap (λ z. z || is_among keys key) (key-itself key)) ∙ kept key ∙ ap (λ z. is_among (keys_in z) key) none))
@@ -168,22 +168,22 @@ right-nothing [] b none = none
 right-nothing (x ∷ a) b none = cc
 
 -- the first face
-pub first-face : (parts before more : List Held) → before ≡ [] → more ≡ [] → parts ++ more ≡ with_face before parts
+pub first-face : (parts before more : List PartView) → before ≡ [] → more ≡ [] → parts ++ more ≡ with_face before parts
 first-face parts before more none nothing = ap (λ z. parts ++ z) nothing ∙ append-nil parts ∙ ap (λ z. with_face z parts) (sym none)
 
 -- further ones
-pub further-face : (before parts : List Held) → (before ≡ [] → ⊥) → with_parts before parts ≡ with_face before parts
+pub further-face : (before parts : List PartView) → (before ≡ [] → ⊥) → with_parts before parts ≡ with_face before parts
 further-face [] parts some = absurd (some refl)
 further-face (part ∷ before) parts some = refl
 
 -- ---- whether there are parts
 
-last-none : (parts : List Held) → last parts ≡ None → parts ≡ []
+last-none : (parts : List PartView) → last parts ≡ None → parts ≡ []
 last-none [] none = refl
 last-none (part ∷ []) none = cc
 last-none (part ∷ other ∷ parts) none = let h : other ∷ parts ≡ [] = last-none (other ∷ parts) none in cc
 
-pub no-last : (first : Option (Bor (List Held))) (parts : Bor (List Held)) (found : Option (Bor Part)) (r : Bool) → first ≡ Some parts → option_map (λ part. held_in part.now) found ≡ last parts.now → is_some found ≡ not r → IsTrue r ↔ (first_parts first ≡ [])
+pub no-last : (first : Option (Bor (List PartView))) (parts : Bor (List PartView)) (found : Option (Bor Part)) (r : Bool) → first ≡ Some parts → option_map (λ part. held_in part.now) found ≡ last parts.now → is_some found ≡ not r → IsTrue r ↔ (first_parts first ≡ [])
 no-last first parts None r is at answer = (λ t. ap first_parts is ∙ last-none parts.now (sym at), λ none. not-false r (sym answer))
   where
     not-false : (b : Bool) → not b ≡ false → b ≡ true
@@ -191,57 +191,57 @@ no-last first parts None r is at answer = (λ t. ap first_parts is ∙ last-none
     not-false false e = sym e
 no-last first parts (Some part) r is at answer = (λ t. let h : true ≡ false = answer ∙ ap not t in cc, λ none. some (at ∙ ap last (ap first_parts (sym is) ∙ none)))
   where
-    some : ◌≡◌ {A = Option Held} (Some (held_in part.now)) None → r ≡ true
+    some : ◌≡◌ {A = Option PartView} (Some (held_in part.now)) None → r ≡ true
     some e = cc
 
-pub none-both : (first : List Held) (more : List Part) (r : Bool) → first ≡ [] → IsTrue r ↔ (length more ≡ 0) → IsTrue r ↔ (first ++ held more ≡ [])
+pub none-both : (first : List PartView) (more : List Part) (r : Bool) → first ≡ [] → IsTrue r ↔ (length more ≡ 0) → IsTrue r ↔ (first ++ views more ≡ [])
 none-both first [] r none are = (λ t. append-nil first ∙ none, λ both. are.1 refl)
 none-both first (part ∷ more) r none are =
-    (λ t. let h : length (part ∷ more) ≡ 0 = are.0 t in absurd (omega (arith, h)), λ both. let h : held (part ∷ more) ≡ [] = right-nothing first (held (part ∷ more)) both in cc)
+    (λ t. let h : length (part ∷ more) ≡ 0 = are.0 t in absurd (omega (arith, h)), λ both. let h : views (part ∷ more) ≡ [] = right-nothing first (views (part ∷ more)) both in cc)
 
-pub some-first : (first more : List Held) (r : Bool) → IsTrue r ↔ (first ≡ []) → r ≡ false → IsTrue r ↔ (first ++ more ≡ [])
+pub some-first : (first more : List PartView) (r : Bool) → IsTrue r ↔ (first ≡ []) → r ≡ false → IsTrue r ↔ (first ++ more ≡ [])
 some-first first more r are isnt = (λ t. let h : false ≡ true = sym isnt ∙ t in cc, λ both. are.1 (left-nothing first more both))
 
 -- ---- stretches
 
-at-front : {Z : Type 0} (stretches : List (Arc (List Part) Z)) (i : ℕ) (stretch : Arc (List Part) Z) (parts : List Part) → i < length stretches → stretch ≡ get_or stretches i stretch → parts ≡ arc_value stretch → parts_in (drop i stretches) ≡ held parts ++ parts_in (drop (i + 1) stretches)
+at-front : {Z : Type 0} (stretches : List (Arc (List Part) Z)) (i : ℕ) (stretch : Arc (List Part) Z) (parts : List Part) → i < length stretches → stretch ≡ get_or stretches i stretch → parts ≡ arc_value stretch → parts_in (drop i stretches) ≡ views parts ++ parts_in (drop (i + 1) stretches)
 at-front stretches i stretch parts less is are =
-    ap (λ z. parts_in z) (drop-cons stretches i stretch less) ∙ ap (λ z. held (arc_value z) ++ parts_in (drop (suc i) stretches)) (sym is)
-    ∙ ap (λ z. held z ++ parts_in (drop (suc i) stretches)) (sym are) ∙ ap (λ n. held parts ++ parts_in (drop n stretches)) (sym (add-one i))
+    ap (λ z. parts_in z) (drop-cons stretches i stretch less) ∙ ap (λ z. views (arc_value z) ++ parts_in (drop (suc i) stretches)) (sym is)
+    ∙ ap (λ z. views z ++ parts_in (drop (suc i) stretches)) (sym are) ∙ ap (λ n. views parts ++ parts_in (drop n stretches)) (sym (add-one i))
 
 pub note-stretch : {Z : Type 0} (keys keys' : List Key) (stretches : List (Arc (List Part) Z)) (i : ℕ) (stretch : Arc (List Part) Z) (parts : List Part)
-    → i < length stretches → stretch ≡ get_or stretches i stretch → parts ≡ arc_value stretch → keys' ≡ with_keys keys (keys_in (held parts))
+    → i < length stretches → stretch ≡ get_or stretches i stretch → parts ≡ arc_value stretch → keys' ≡ with_keys keys (keys_in (views parts))
     → with_keys keys' (keys_in (parts_in (drop (i + 1) stretches))) ≡ with_keys keys (keys_in (parts_in (drop i stretches)))
 note-stretch keys keys' stretches i stretch parts less is are noted =
-    let rest : List Held = parts_in (drop (i + 1) stretches) in
-    ap (λ z. with_keys z (keys_in rest)) noted ∙ sym (with-keys-append keys (keys_in (held parts)) (keys_in rest)) ∙ ap (λ z. with_keys keys z) (sym (map-append key_in (held parts) rest))
+    let rest : List PartView = parts_in (drop (i + 1) stretches) in
+    ap (λ z. with_keys z (keys_in rest)) noted ∙ sym (with-keys-append keys (keys_in (views parts)) (keys_in rest)) ∙ ap (λ z. with_keys keys z) (sym (map-append key_in (views parts) rest))
     ∙ ap (λ z. with_keys keys (keys_in z)) (sym (at-front stretches i stretch parts less is are))
 
-pub hold-stretch : {Z : Type 0} (before after : List Held) (stretches : List (Arc (List Part) Z)) (i : ℕ) (stretch : Arc (List Part) Z) (parts : List Part)
-    → i < length stretches → stretch ≡ get_or stretches i stretch → parts ≡ arc_value stretch → after ≡ with_parts before (held parts)
+pub hold-stretch : {Z : Type 0} (before after : List PartView) (stretches : List (Arc (List Part) Z)) (i : ℕ) (stretch : Arc (List Part) Z) (parts : List Part)
+    → i < length stretches → stretch ≡ get_or stretches i stretch → parts ≡ arc_value stretch → after ≡ with_parts before (views parts)
     → with_parts after (parts_in (drop (i + 1) stretches)) ≡ with_parts before (parts_in (drop i stretches))
 hold-stretch before after stretches i stretch parts less is are put =
-    let rest : List Held = parts_in (drop (i + 1) stretches) in
-    ap (λ z. with_parts z rest) put ∙ sym (with-parts-append before (held parts) rest) ∙ ap (λ z. with_parts before z) (sym (at-front stretches i stretch parts less is are))
+    let rest : List PartView = parts_in (drop (i + 1) stretches) in
+    ap (λ z. with_parts z rest) put ∙ sym (with-parts-append before (views parts) rest) ∙ ap (λ z. with_parts before z) (sym (at-front stretches i stretch parts less is are))
 
 -- ---- steps of the code
 
 -- a part is put behind the others
-pub noted-push : (keys keys' : List Key) (first : List Held) (more more' : List Part) (part put : Part) (fresh : Bool) → AreKeysOf keys (first ++ held more) → keys' ≡ with_key keys (key_in (held_in part)) → fresh ≡ not (is_among keys (key_in (held_in part))) → fresh ≡ true
-    → more' ≡ more ++ put ∷ [] → held_in put ≡ bare (arc_value part.interface) → AreKeysOf keys' (first ++ held more')
+pub noted-push : (keys keys' : List Key) (first : List PartView) (more more' : List Part) (part put : Part) (fresh : Bool) → AreKeysOf keys (first ++ views more) → keys' ≡ with_key keys (key_in (held_in part)) → fresh ≡ not (is_among keys (key_in (held_in part))) → fresh ≡ true
+    → more' ≡ more ++ put ∷ [] → held_in put ≡ bare (arc_value part.interface) → AreKeysOf keys' (first ++ views more')
 noted-push keys keys' first more more' part put fresh are noted new is_new pushed is =
-    let whole : first ++ held more' ≡ (first ++ held more) ++ bare (arc_value part.interface) ∷ [] =
-    ap (λ z. first ++ held z) pushed ∙ ap (λ z. first ++ z) (map-append held_in more (put ∷ [])) ∙ ap (λ z. first ++ (held more ++ z ∷ [])) is
-    ∙ sym (append_assoc first (held more) (bare (arc_value part.interface) ∷ []))
+    let whole : first ++ views more' ≡ (first ++ views more) ++ bare (arc_value part.interface) ∷ [] =
+    ap (λ z. first ++ views z) pushed ∙ ap (λ z. first ++ z) (map-append held_in more (put ∷ [])) ∙ ap (λ z. first ++ (views more ++ z ∷ [])) is
+    ∙ sym (append_assoc first (views more) (bare (arc_value part.interface) ∷ []))
     in
-    subst (λ z. AreKeysOf keys' z) (sym whole) (noted-more keys keys' (first ++ held more) (held_in part) are noted (not-true (is_among keys (key_in (held_in part))) (sym new ∙ is_new)))
+    subst (λ z. AreKeysOf keys' z) (sym whole) (noted-more keys keys' (first ++ views more) (held_in part) are noted (not-true (is_among keys (key_in (held_in part))) (sym new ∙ is_new)))
   where
     not-true : (b : Bool) → not b ≡ true → b ≡ false
     not-true false e = refl
     not-true true e = sym e
 
 -- the modules of the first parts are noted
-pub noted-one : (keys keys' : List Key) (first : Option (Bor (List Held))) (parts : Bor (List Held)) (more : List Held) → keys ≡ [] → AreKept keys (first_parts first) more → first ≡ Some parts → keys' ≡ with_keys keys (keys_in parts.now) → AreKeysOf keys' (first_parts first ++ more)
+pub noted-one : (keys keys' : List Key) (first : Option (Bor (List PartView))) (parts : Bor (List PartView)) (more : List PartView) → keys ≡ [] → AreKept keys (first_parts first) more → first ≡ Some parts → keys' ≡ with_keys keys (keys_in parts.now) → AreKeysOf keys' (first_parts first ++ more)
 noted-one keys keys' first parts more none kept is noted =
     let all : first_parts first ++ more ≡ parts.now = ap (λ z. first_parts first ++ z) (none-further keys (first_parts first) more none kept) ∙ append-nil (first_parts first) ∙ ap first_parts is in
     subst (λ z. AreKeysOf keys' z) (sym all) (subst (λ z. AreKeysOf z parts.now) (sym (noted ∙ ap (λ z. with_keys z (keys_in parts.now)) none)) (noted-first parts.now))

@@ -2,9 +2,9 @@
 use Rattle.std.specs.Prelude.{ℕ, List, [], Option, Some, None}
 use Rattle.tla_symbols.specs.declared.lexeme.Lexeme.{Lexeme}
 use Rattle.tla_model.specs.declared.Diagnostic.{Diagnostic}
-use Rattle.module_model.specs.Bindings.{at}
+use Rattle.module_model.specs.Bindings.{fault_at}
 
 -- the fault of this code at a name, if there is a code
 abbrev pub coded : Option ℕ → Lexeme → List Diagnostic
 coded None name = []
-coded (Some code) name = at code name
+coded (Some code) name = fault_at code name

@@ -1,18 +1,18 @@
 -- How the parts of a face are gathered: those of the first import as they are, and beside further ones a set of modules.
 use Rattle.std.specs.Prelude.{◌≡◌, ℕ, Option, None, Some, List, [], ◌∷◌, ◌++◌, if◌then◌else◌, map}
 use Rattle.std.specs.Borrow.{Bor}
-use Rattle.module_model.specs.Parts.{Held, held}
+use Rattle.module_model.specs.Parts.{PartView, views}
 use Rattle.module_faces.specs.declared.parts.Gathered.{Gathered}
 use Rattle.module_faces.specs.Faces.{Key, is_among, keys_in}
 
 -- those of the first import, if there is one
-abbrev pub first_parts : Option (Bor (List Held)) → List Held
+abbrev pub first_parts : Option (Bor (List PartView)) → List PartView
 first_parts None = []
 first_parts (Some parts) = parts.now
 
 -- what is held so far
-abbrev pub held_by : Gathered → List Held
-held_by gathered = first_parts gathered.first ++ held gathered.more
+abbrev pub held_by : Gathered → List PartView
+held_by gathered = first_parts gathered.first ++ views gathered.more
 
 -- ---- modules
 
@@ -34,7 +34,7 @@ with_keys keys [] = keys
 with_keys keys (key ∷ more) = with_keys (with_key keys key) more
 
 -- the keys are those of parts
-abbrev pub AreKeysOf : List Key → List Held → Type 0
+abbrev pub AreKeysOf : List Key → List PartView → Type 0
 AreKeysOf keys parts = (key : Key) → is_among keys key ≡ is_among (keys_in parts) key
 
 -- the set has the modules of all parts
@@ -42,10 +42,10 @@ abbrev pub IsNoted : Gathered → Type 0
 IsNoted gathered = AreKeysOf (keys_under gathered.modules.keys) (held_by gathered)
 
 -- with no modules there are no parts but those of the first import
-abbrev pub AreKept : List Key → List Held → List Held → Type 0
+abbrev pub AreKept : List Key → List PartView → List PartView → Type 0
 AreKept [] first more = more ≡ []
 AreKept (key ∷ keys) first more = AreKeysOf (key ∷ keys) (first ++ more)
 
 -- the set has the modules of all parts, unless only those of the first import are gathered
 abbrev pub AreGathered : Gathered → Type 0
-AreGathered gathered = AreKept (keys_under gathered.modules.keys) (first_parts gathered.first) (held gathered.more)
+AreGathered gathered = AreKept (keys_under gathered.modules.keys) (first_parts gathered.first) (views gathered.more)

@@ -1,7 +1,7 @@
 // The parts of a face: those of its first import, and of others the modules that are not there.
 ghost use Rattle.std.specs.Prelude.{◌≡◌, ◌↔◌, ◌++◌, ◌∷◌, [], not, IfOk, IsTrue, OnOk};
 ghost use Rattle.std.specs.Arc.{arc_value};
-ghost use Rattle.module_model.specs.Parts.{held, held_in};
+ghost use Rattle.module_model.specs.Parts.{views, held_in};
 ghost use Rattle.module_faces.specs.Faces.{bare, is_among, key_in, keys_in, with_face, with_part, with_parts};
 ghost use Rattle.module_faces.specs.Parts.{AreGathered, IsNoted, first_parts, held_by, keys_under, with_key, with_keys};
 
@@ -26,7 +26,7 @@ fn note<'a>(modules: &mut Modules<'a>, part: &'a Part) -> Result<bool, Memory>
 
 // Notes the modules of parts.
 fn note_stretch<'a>(modules: &mut Modules<'a>, parts: &'a [Part]) -> Result<(), Memory>
-    ensures { OnOk result (keys_under modules.new.keys ≡ with_keys (keys_under modules.old.keys) (keys_in (held parts.now))) }
+    ensures { OnOk result (keys_under modules.new.keys ≡ with_keys (keys_under modules.old.keys) (keys_in (views parts.now))) }
 {
     for part in parts {
         note(modules, part)?;
@@ -47,7 +47,7 @@ fn note_all<'a>(modules: &mut Modules<'a>, parts: &'a Parts) -> Result<(), Memor
 
 // Puts what a module holds behind parts, without places.
 fn push_bare(alloc: Global, parts: &mut List<Part>, interface: Arc<Interface>) -> Result<(), Memory>
-    ensures { OnOk result (held parts.new ≡ held parts.old ++ bare (arc_value interface) ∷ []) }
+    ensures { OnOk result (views parts.new ≡ views parts.old ++ bare (arc_value interface) ∷ []) }
 {
     parts.push(Part {
         interface,
@@ -68,7 +68,7 @@ fn has_none(first: Option<&Parts>) -> bool
 
 // The first parts, with more behind them.
 fn extended(alloc: Global, first: Option<&Parts>, more: List<Part>) -> Result<Parts, Memory>
-    ensures { IfOk result (λ parts. parts ≡ first_parts first.entry ++ held more) }
+    ensures { IfOk result (λ parts. parts ≡ first_parts first.entry ++ views more) }
 {
     match first {
         Some(parts) => parts.extended(alloc, more),
@@ -112,7 +112,7 @@ impl<'a> Gathered<'a> {
     fn note_first(&mut self) -> Result<(), Memory>
         requires { AreGathered self.old }
         ensures noted { OnOk result (IsNoted self.new) }
-        ensures held { OnOk result (held_by self.new ≡ held_by self.old) }
+        ensures views { OnOk result (held_by self.new ≡ held_by self.old) }
     {
         if !self.modules.is_empty() {
             return Ok(());
@@ -127,7 +127,7 @@ impl<'a> Gathered<'a> {
     fn add(&mut self, alloc: Global, part: &'a Part) -> Result<(), Memory>
         requires { IsNoted self.old }
         ensures noted { OnOk result (IsNoted self.new) }
-        ensures held { OnOk result (held_by self.new ≡ with_part (held_by self.old) (held_in part.now)) }
+        ensures views { OnOk result (held_by self.new ≡ with_part (held_by self.old) (held_in part.now)) }
     {
         if !note(&mut self.modules, part)? {
             return Ok(());
@@ -143,7 +143,7 @@ impl<'a> Gathered<'a> {
     fn add_stretch(&mut self, alloc: Global, parts: &'a [Part]) -> Result<(), Memory>
         requires { IsNoted self.old }
         ensures noted { OnOk result (IsNoted self.new) }
-        ensures held { OnOk result (held_by self.new ≡ with_parts (held_by self.old) (held parts.now)) }
+        ensures views { OnOk result (held_by self.new ≡ with_parts (held_by self.old) (views parts.now)) }
     {
         for part in parts {
             self.add(alloc, part)?;
@@ -155,7 +155,7 @@ impl<'a> Gathered<'a> {
     fn add_all(&mut self, alloc: Global, parts: &'a Parts) -> Result<(), Memory>
         requires { IsNoted self.old }
         ensures noted { OnOk result (IsNoted self.new) }
-        ensures held { OnOk result (held_by self.new ≡ with_parts (held_by self.old) parts.now) }
+        ensures views { OnOk result (held_by self.new ≡ with_parts (held_by self.old) parts.now) }
     {
         let stretches = parts.stretches();
         for stretch in stretches {
@@ -169,7 +169,7 @@ impl<'a> Gathered<'a> {
     pub fn add_face(&mut self, alloc: Global, parts: &'a Parts) -> Result<(), Memory>
         requires { AreGathered self.old }
         ensures valid { OnOk result (AreGathered self.new) }
-        ensures held { OnOk result (held_by self.new ≡ with_face (held_by self.old) parts.now) }
+        ensures views { OnOk result (held_by self.new ≡ with_face (held_by self.old) parts.now) }
     {
         if self.is_empty() {
             self.first = Some(parts);

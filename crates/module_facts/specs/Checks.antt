@@ -5,13 +5,13 @@ use Rattle.tla_model.specs.declared.Diagnostic.{Diagnostic}
 use Rattle.tla_model.specs.declared.entity.Decl.{Decl}
 use Rattle.tla_model.specs.declared.entity.Use.{Use}
 use Rattle.module_model.specs.declared.imported.Import.{Import}
-use Rattle.module_model.specs.Bindings.{at, decls, faults, resolved}
+use Rattle.module_model.specs.Bindings.{fault_at, decls, faults, resolved}
 use Rattle.tla_model.specs.Entities.{declaring}
-use Rattle.module_model.specs.Exports.{Outside, face_outside, nothing}
+use Rattle.module_model.specs.Exports.{ModuleView, face_outside, nothing}
 use Rattle.module_model.specs.Imports.{Imports, import_of}
 use Rattle.tla_model.specs.Lexemes.{spelled}
 use Rattle.module_model.specs.Modules.{text_of}
-use Rattle.module_model.specs.Parts.{Held}
+use Rattle.module_model.specs.Parts.{PartView}
 use Rattle.module_model.specs.Resolution.{findings, outside_in}
 use Rattle.module_graph.specs.Imports.{enclosing_of, imports_of}
 use Rattle.unit_grammar.specs.Units.{ModuleUnits}
@@ -19,14 +19,14 @@ use Rattle.std.specs.Arc.{arc_value}
 use Rattle.module_facts.specs.Ordered.{in_order}
 
 -- what a module is to one that names it
-pub data Given : Type 0 where
-  Unknown : Given
-  Cyclic : Given
-  Refused : Given
-  Accepted : (outside : Outside) → Given
+pub data ImportStatus : Type 0 where
+  Unknown : ImportStatus
+  Cyclic : ImportStatus
+  Refused : ImportStatus
+  Accepted : (outside : ModuleView) → ImportStatus
 
 -- what a module is by its import; without one it is unknown
-abbrev pub given_by : Option Import → Given
+abbrev pub given_by : Option Import → ImportStatus
 given_by None = Unknown
 given_by (Some Import.Unknown) = Unknown
 given_by (Some Import.Cyclic) = Cyclic
@@ -34,41 +34,41 @@ given_by (Some Import.Refused) = Refused
 given_by (Some (Import.Module face)) = Accepted (face_outside (arc_value face).parts)
 
 -- what the modules are that are imported under their names
-abbrev pub given_in : Imports → List ℕ → Given
+abbrev pub given_in : Imports → List ℕ → ImportStatus
 given_in imports name = given_by (import_of imports name)
 
 -- ---- faults of imports
 
 -- the fault at the name of a module that is not accepted
-abbrev pub import_fault : Given → Lexeme → List Diagnostic
-import_fault Unknown l = at 301 l
-import_fault Cyclic l = at 302 l
-import_fault Refused l = at 303 l
+abbrev pub import_fault : ImportStatus → Lexeme → List Diagnostic
+import_fault Unknown l = fault_at 301 l
+import_fault Cyclic l = fault_at 302 l
+import_fault Refused l = fault_at 303 l
 import_fault (Accepted outside) l = []
 
 -- the same of several names, in their order
-abbrev pub faults_of_imports : (List ℕ → Given) → List ℕ → List Lexeme → List Diagnostic
+abbrev pub faults_of_imports : (List ℕ → ImportStatus) → List ℕ → List Lexeme → List Diagnostic
 faults_of_imports given source [] = []
 faults_of_imports given source (l ∷ rest) = import_fault (given (spelled source l)) l ++ faults_of_imports given source rest
 
 -- at each of these names the fault of a cyclic import
 abbrev pub cyclic_at : List Lexeme → List Diagnostic
 cyclic_at [] = []
-cyclic_at (l ∷ rest) = at 302 l ++ cyclic_at rest
+cyclic_at (l ∷ rest) = fault_at 302 l ++ cyclic_at rest
 
 -- at the names of modules that are not accepted, and of nested modules round them
-abbrev pub import_faults : (List ℕ → Given) → List ℕ → ModuleUnits → List Diagnostic
+abbrev pub import_faults : (List ℕ → ImportStatus) → List ℕ → ModuleUnits → List Diagnostic
 import_faults given source units = faults_of_imports given source (imports_of source units) ++ cyclic_at (enclosing_of source units)
 
 -- ---- the check
 
 -- what an accepted module is to others; another one is nothing to them
-abbrev pub outside_by : Given → Outside
+abbrev pub outside_by : ImportStatus → ModuleView
 outside_by (Accepted outside) = outside
 outside_by _ = nothing
 
 -- the same of the modules of all names
-abbrev pub files_given : (List ℕ → Given) → List ℕ → Outside
+abbrev pub files_given : (List ℕ → ImportStatus) → List ℕ → ModuleView
 files_given given name = outside_by (given name)
 
 -- all faults of imports, or else all faults of names
@@ -77,7 +77,7 @@ or_else [] others = others
 or_else (fault ∷ rest) others = fault ∷ rest
 
 -- what is at fault in a module, by what the modules are that it names
-abbrev pub all_faults : (List ℕ → Given) → List ℕ → ModuleUnits → List Diagnostic
+abbrev pub all_faults : (List ℕ → ImportStatus) → List ℕ → ModuleUnits → List Diagnostic
 all_faults given source units = or_else (import_faults given source units) (faults (findings (files_given given) source units))
 
 -- uses and declarations, but for a module with faults of imports
@@ -86,11 +86,11 @@ unless_any [] items = items
 unless_any (fault ∷ rest) items = []
 
 -- the uses of names in a module, each with its declaration
-abbrev pub all_uses : (List ℕ → Given) → List ℕ → ModuleUnits → List Use
+abbrev pub all_uses : (List ℕ → ImportStatus) → List ℕ → ModuleUnits → List Use
 all_uses given source units = unless_any (import_faults given source units) (map (λ r. r.«use») (resolved (findings (files_given given) source units)))
 
 -- the declarations of a module's text
-abbrev pub all_decls : (List ℕ → Given) → List ℕ → ModuleUnits → List Decl
+abbrev pub all_decls : (List ℕ → ImportStatus) → List ℕ → ModuleUnits → List Decl
 all_decls given source units = unless_any (import_faults given source units) (decls (text_of source units) (declaring units.units))
 
 -- a module that was checked
@@ -98,10 +98,10 @@ pub record CheckedModule : Type 0 where
   pub faults : List Diagnostic
   pub uses : List Use
   pub decls : List Decl
-  pub parts : List Held
+  pub parts : List PartView
 
 -- a module that was checked, by what the modules are that it names; it is something to others where it is accepted
-pub record IsChecked (given : List ℕ → Given) (source : List ℕ) (units : ModuleUnits) (checked : CheckedModule) : Type 0 where
+pub record IsChecked (given : List ℕ → ImportStatus) (source : List ℕ) (units : ModuleUnits) (checked : CheckedModule) : Type 0 where
   pub faults : checked.faults ≡ in_order (all_faults given source units)
   pub uses : checked.uses ≡ all_uses given source units
   pub decls : checked.decls ≡ all_decls given source units

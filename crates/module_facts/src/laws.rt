@@ -5,7 +5,7 @@ ghost use Rattle.unit_grammar.specs.Units.{ModuleUnits};
 ghost use Rattle.tla_model.specs.declared.Diagnostic.{Diagnostic};
 ghost use Rattle.module_model.specs.Bindings.{AreInOrder};
 ghost use Rattle.tla_model.specs.Lexemes.{module_lexemes};
-ghost use Rattle.module_facts.specs.Checks.{Given, all_faults};
+ghost use Rattle.module_facts.specs.Checks.{ImportStatus, all_faults};
 ghost use Rattle.module_facts.specs.Ordered as ordered;
 
 use model_laws::faults_at_lexemes;
@@ -30,7 +30,7 @@ pub fn none_in_order()
 
 /// Each fault of a module stands at a name or a symbol that the module holds.
 pub fn faults_stand_at_lexemes()
-    ensures { (given : List ℕ → Given) → (source : List ℕ) → (units : ModuleUnits) → All (λ fault. Contains (map (λ l. l.span) (module_lexemes units)) fault.span) (all_faults given source units) }
+    ensures { (given : List ℕ → ImportStatus) → (source : List ℕ) → (units : ModuleUnits) → All (λ fault. Contains (map (λ l. l.span) (module_lexemes units)) fault.span) (all_faults given source units) }
 {
     imports_are_lexemes();
     enclosing_are_lexemes();

@@ -6,7 +6,7 @@ use Rattle.std.proofs.lemmas.List.Elements.{All-contains_itself, All-from_recurs
 use Rattle.tla_symbols.specs.declared.lexeme.Lexeme.{Lexeme}
 use Rattle.tla_tree.specs.declared.form.Form.TheVariants as Form
 use Rattle.tla_tree.specs.Syntax.{Tree, Trees, Node, Nil, Cons}
-use Rattle.tla_model.specs.Lexemes.{LexemesLie, held, lexemes, all_lexemes, unit_lexemes, units_lexemes, module_lexemes}
+use Rattle.tla_model.specs.Lexemes.{LexemesLie, form_lexemes, lexemes, all_lexemes, unit_lexemes, units_lexemes, module_lexemes}
 use Rattle.unit_grammar.specs.Units.{UnitTree, Variables, Constants, OperatorDefinition, FunctionDefinition, ModuleDefinition, Instance, Assumption, Theorem, Line, ModuleBegin, ModuleEnd, ModuleUnits}
 use Rattle.tla_model.specs.ModuleNames.{instantiated, instances, instances_in, module_names}
 use Rattle.list_laws.proofs.Lists.{all-both, all-left, all-right}
@@ -16,14 +16,14 @@ use Rattle.module_graph.specs.Imports.{LiesIn, AreNamesPlaced, compared, spelled
 use Rattle.module_graph.proofs.Needs.{names-compared}
 
 module _ (P : Lexeme → Type 0) where
-  held-instantiated : (form : Form.the_data) → AllByRecursion P (held form) → AllByRecursion P (instantiated form)
+  held-instantiated : (form : Form.the_data) → AllByRecursion P (form_lexemes form) → AllByRecursion P (instantiated form)
   held-instantiated (Form.Instance name) all = all
   held-instantiated _ all = tt
 
   mutual
     tree-instances : (x : Tree) → AllByRecursion P (lexemes x) → AllByRecursion P (instances x)
     tree-instances (Node form s parts) all =
-        all-both P (instantiated form) (instances_in parts) (held-instantiated form (all-left P (held form) (all_lexemes parts) all)) (trees-instances parts (all-right P (held form) (all_lexemes parts) all))
+        all-both P (instantiated form) (instances_in parts) (held-instantiated form (all-left P (form_lexemes form) (all_lexemes parts) all)) (trees-instances parts (all-right P (form_lexemes form) (all_lexemes parts) all))
 
     trees-instances : (xs : Trees) → AllByRecursion P (all_lexemes xs) → AllByRecursion P (instances_in xs)
     trees-instances Nil all = tt

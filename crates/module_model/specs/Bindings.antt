@@ -14,7 +14,7 @@ use Rattle.tla_model.specs.declared.ids.Callee.{Callee}
 use Rattle.tla_model.specs.declared.ids.DeclId.{DeclId}
 use Rattle.unit_grammar.specs.Units.{ModuleUnits}
 use Rattle.tla_model.specs.Entities.{Entity, Meaning, Text, declaration, declaring}
-use Rattle.module_model.specs.Exports.{Outside}
+use Rattle.module_model.specs.Exports.{ModuleView}
 use Rattle.module_model.specs.Modules.{text_of}
 use Rattle.module_model.specs.Resolution.{findings}
 use Rattle.tla_model.specs.Scopes.{Finding}
@@ -63,19 +63,19 @@ abbrev pub decls : Text → List Binder → List Decl
 decls text names = map (λ binder. record { id = declaration text binder.name; name = binder.name.span; entity = binder.entity }) names
 
 -- a fault of this code at the place of a lexeme
-abbrev pub at : ℕ → Lexeme → List Diagnostic
-at code l = record { code = code; span = l.span } ∷ []
+abbrev pub fault_at : ℕ → Lexeme → List Diagnostic
+fault_at code l = record { code = code; span = l.span } ∷ []
 
 -- a finding as a fault; a use that means something is none, nor is a replacement that is not written
 abbrev pub fault : Finding → List Diagnostic
 fault (Means l meaning) = []
-fault (Unknown l) = at 401 l
-fault (Taken l) = at 402 l
-fault (Clashes l) = at 403 l
-fault (InstanceClashes l) = at 404 l
-fault (NotReplaceable l) = at 405 l
-fault (ReplacedTwice l) = at 406 l
-fault (Unreplaced l) = at 407 l
+fault (Unknown l) = fault_at 401 l
+fault (Taken l) = fault_at 402 l
+fault (Clashes l) = fault_at 403 l
+fault (InstanceClashes l) = fault_at 404 l
+fault (NotReplaceable l) = fault_at 405 l
+fault (ReplacedTwice l) = fault_at 406 l
+fault (Unreplaced l) = fault_at 407 l
 fault (Implied l parameter meaning) = []
 
 -- the faults among findings, in their order
@@ -104,5 +104,5 @@ pub record IsBoundBy (found : List Finding) (source : List ℕ) (units : ModuleU
   pub faults : AreInOrder (faults found) bound.faults
 
 -- the same, by what the files are that the module names, and its source
-abbrev pub IsBound : (List ℕ → Outside) → List ℕ → ModuleUnits → Bound → Type 0
+abbrev pub IsBound : (List ℕ → ModuleView) → List ℕ → ModuleUnits → Bound → Type 0
 IsBound files source units bound = IsBoundBy (findings files source units) source units bound

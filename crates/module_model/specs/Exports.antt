@@ -7,7 +7,7 @@ use Rattle.module_model.specs.declared.face.Instance.{Instance}
 use Rattle.tla_model.specs.declared.ids.DeclId.{DeclId}
 use Rattle.module_model.specs.declared.imported.Import.{Import}
 use Rattle.module_model.specs.Imports.{Imports, import_of}
-use Rattle.module_model.specs.Parts.{Held, last}
+use Rattle.module_model.specs.Parts.{PartView, last}
 use Rattle.tla_model.specs.Tables.{Table, Named, Word, Symbol, lookup}
 use Rattle.tla_model.specs.Entities.{Entity, Meaning, same_decl}
 use Rattle.std.specs.Arc.{arc_value}
@@ -40,8 +40,8 @@ abbrev pub parameters_in : Exports → Exports
 parameters_in entries = filter (λ entry. is_meant stands_for_parameter entry.1) entries
 
 -- the definitions and instances among entries: they stand behind an instance, and INSTANCE without a name brings them
-abbrev pub carried : Exports → Exports
-carried entries = filter (λ entry. is_meant stands_behind entry.1) entries
+abbrev pub instantiable : Exports → Exports
+instantiable entries = filter (λ entry. is_meant stands_behind entry.1) entries
 
 -- ---- what a module is to one that names it
 
@@ -60,17 +60,17 @@ behind_in behind decl = or_none (lookup same_decl behind decl)
 
 -- what it exports, the constants and variables that it declares or extends, and what stands behind the instances that it
 -- reaches, by their declarations
-pub record Outside : Type 0 where
+pub record ModuleView : Type 0 where
   pub exports : Exports
   pub parameters : Exports
   pub behind : DeclId → Exports
 
 -- what a module that is not there, or not accepted, is to others
-abbrev pub nothing : Outside
+abbrev pub nothing : ModuleView
 nothing = record { exports = []; parameters = []; behind = λ decl. [] }
 
 -- what the modules export
-abbrev pub exports_by : (List ℕ → Outside) → List ℕ → Exports
+abbrev pub exports_by : (List ℕ → ModuleView) → List ℕ → Exports
 exports_by files name = (files name).exports
 
 -- ---- tables as lists
@@ -92,16 +92,16 @@ exports_of table = of_words table.words ++ of_symbols table.symbols
 -- ---- faces
 
 -- what a part exports, if there is one
-abbrev pub part_shows : Option Held → Exports
+abbrev pub part_shows : Option PartView → Exports
 part_shows None = []
 part_shows (Some part) = exports_of part.interface.exports
 
 -- the last part of a face is the module's own
-abbrev pub face_exports : List Held → Exports
+abbrev pub face_exports : List PartView → Exports
 face_exports parts = part_shows (last parts)
 
 -- what the part at a place exports
-abbrev pub part_exports : List Held → Option ℕ → Exports
+abbrev pub part_exports : List PartView → Option ℕ → Exports
 part_exports parts None = []
 part_exports parts (Some place) = part_shows (slice_get parts place)
 
@@ -111,21 +111,21 @@ under None exports = []
 under (Some decl) exports = (decl, exports) ∷ []
 
 -- behind the instances of a part, whose modules have these places among the parts
-abbrev pub part_behind : List Held → List ℕ → List Instance → Behind
+abbrev pub part_behind : List PartView → List ℕ → List Instance → Behind
 part_behind parts places [] = []
-part_behind parts places (instance ∷ rest) = under instance.name (carried (part_exports parts (slice_get places instance.«module»))) ++ part_behind parts places rest
+part_behind parts places (instance ∷ rest) = under instance.name (instantiable (part_exports parts (slice_get places instance.«module»))) ++ part_behind parts places rest
 
 -- behind the instances of these parts, whose modules have their places among all parts of the face
-abbrev pub parts_behind : List Held → List Held → Behind
+abbrev pub parts_behind : List PartView → List PartView → Behind
 parts_behind all [] = []
 parts_behind all (part ∷ rest) = part_behind all part.places part.interface.instances ++ parts_behind all rest
 
 -- what a module with this face is to one that names it
-abbrev pub face_outside : List Held → Outside
+abbrev pub face_outside : List PartView → ModuleView
 face_outside parts = record { exports = face_exports parts; parameters = parameters_in (face_exports parts); behind = behind_in (parts_behind parts parts) }
 
 -- what an import is to the module that names it; one at fault is nothing
-abbrev pub import_outside : Option Import → Outside
+abbrev pub import_outside : Option Import → ModuleView
 import_outside (Some (Import.Module face)) = face_outside (arc_value face).parts
 import_outside _ = nothing
 
@@ -135,5 +135,5 @@ import_behind (Some (Import.Module face)) = parts_behind (arc_value face).parts 
 import_behind _ = []
 
 -- the imported module of a name
-abbrev pub files_of : Imports → List ℕ → Outside
+abbrev pub files_of : Imports → List ℕ → ModuleView
 files_of imports name = import_outside (import_of imports name)

@@ -11,7 +11,7 @@ use Rattle.tla_model.specs.Tables.{Named, has, is_among, lookup, same_named}
 use Rattle.tla_model.specs.Entities.{Meaning, name_of}
 use Rattle.tla_model.specs.Contexts.{Context, meaning_of}
 use Rattle.tla_model.specs.declared.ids.DeclId.{DeclId}
-use Rattle.module_model.specs.Exports.{Exports, Outside, carried, parameters_in}
+use Rattle.module_model.specs.Exports.{Exports, ModuleView, instantiable, parameters_in}
 use Rattle.tla_model.specs.Scopes.{Finding}
 
 -- ---- replacements
@@ -78,8 +78,8 @@ passed unit [] entries = entries
 passed unit (parameter ∷ parameters) entries = map (λ entry. (entry.0, through unit entry.1)) entries
 
 -- what this INSTANCE without a name brings of a module: its definitions and instances
-abbrev pub brought_by : UnitId → Outside → Exports
-brought_by unit outside = passed unit outside.parameters (carried outside.exports)
+abbrev pub brought_by : UnitId → ModuleView → Exports
+brought_by unit outside = passed unit outside.parameters (instantiable outside.exports)
 
 -- of the entries of a nested module, its parameters: the constants and variables that the context round it does not hold
 abbrev pub own_parameters : Context → Exports → Exports

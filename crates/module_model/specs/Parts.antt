@@ -6,24 +6,24 @@ use Rattle.module_model.specs.declared.face.Interface.{Interface}
 use Rattle.module_model.specs.declared.face.Part.{Part}
 
 -- a part: what a module holds, and places among the parts of the face
-pub record Held : Type 0 where
+pub record PartView : Type 0 where
   pub interface : Interface
   pub places : List ℕ
 
 -- a part of a face, whoever shares its interface
-abbrev pub held_in : Part → Held
+abbrev pub held_in : Part → PartView
 held_in part = record { interface = arc_value part.interface; places = part.places }
 
 -- the parts of a face, in order
-abbrev pub held : List Part → List Held
-held parts = map held_in parts
+abbrev pub views : List Part → List PartView
+views parts = map held_in parts
 
 -- the parts of all stretches
-abbrev pub parts_in : {Z : Type 0} → List (Arc (List Part) Z) → List Held
-parts_in stretches = flat_map (λ stretch. held (arc_value stretch)) stretches
+abbrev pub parts_in : {Z : Type 0} → List (Arc (List Part) Z) → List PartView
+parts_in stretches = flat_map (λ stretch. views (arc_value stretch)) stretches
 
 -- the last one
-abbrev pub last : List Held → Option Held
+abbrev pub last : List PartView → Option PartView
 last [] = None
 last (part ∷ []) = Some part
 last (part ∷ other ∷ parts) = last (other ∷ parts)

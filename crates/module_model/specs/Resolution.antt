@@ -11,20 +11,20 @@ use Rattle.tla_model.specs.declared.ids.UnitId.{UnitId}
 use Rattle.tla_model.specs.Tables.{Named, is_among, lookup}
 use Rattle.tla_model.specs.Entities.{Meaning, Text, declaration, defined, name_of, place_in, same_decl, variables}
 use Rattle.tla_model.specs.Contexts.{Context, bind_all, meaning_of}
-use Rattle.module_model.specs.Exports.{Behind, Exports, Outside, carried, exports_by, exports_of, nothing, or_none, parameters_in}
+use Rattle.module_model.specs.Exports.{Behind, Exports, ModuleView, instantiable, exports_by, exports_of, nothing, or_none, parameters_in}
 use Rattle.module_model.specs.Instances.{all_named_instances, brought_by, called_by, either, entry_of, first_of, found_behind, implied, left_sides, own_parameters, paths_in, replaced_as, unit_trees}
 use Rattle.tla_model.specs.Lexemes.{spelled}
 use Rattle.tla_model.specs.ModuleNames.{instances_from}
 use Rattle.module_scope.specs.Environments.{is_taken, meaning}
 use Rattle.module_scope.specs.Imports.{imports_of}
 use Rattle.module_model.specs.Modules.{Place, Reading, all_clashing, begun, brings_clash, constants, declare_all, entered, is_named, joined, left, nested, text_of, unread}
-use Rattle.tla_model.specs.Scopes.{Finding, all_refused, behind, binders, definition, found, has_set, inside, itself, prefixed, reserved, scope, symbol}
+use Rattle.tla_model.specs.Scopes.{Finding, all_refused, behind, binders, definition, use_findings, has_set, inside, itself, prefixed, reserved, scope, symbol_findings}
 
 -- ---- expressions and definitions
 
 -- what is known round a unit: the modules by their names, what stands behind instances, and where paths begin
 pub record Around : Type 0 where
-  pub named : List ℕ → Outside
+  pub named : List ℕ → ModuleView
   pub behind : DeclId → Exports
   pub paths : List ℕ
 
@@ -44,10 +44,10 @@ module _ (text : Text) (around : Around) where
     -- what is found in a tree, in the order of the text
     pub walk : Context → Tree → List Finding
     walk context (Node Form.Identifier s parts) = segments context parts
-    walk context (Node (Form.Symbol l) s parts) = symbol context itself l l.kind
-    walk context (Node (Form.Prefix l) s parts) = symbol context prefixed l l.kind ++ walk_each context parts
+    walk context (Node (Form.Symbol l) s parts) = symbol_findings context itself l l.kind
+    walk context (Node (Form.Prefix l) s parts) = symbol_findings context prefixed l l.kind ++ walk_each context parts
     walk context (Node (Form.Infix l) s parts) = walk_round context l parts
-    walk context (Node (Form.Postfix l) s parts) = walk_each context parts ++ symbol context itself l l.kind
+    walk context (Node (Form.Postfix l) s parts) = walk_each context parts ++ symbol_findings context itself l l.kind
     walk context (Node Form.Let s parts) = walk_chain context parts
     walk context (Node (Form.Instance l) s parts) = replaced context (replaceable l) [] parts ++ implied context l (left_sides text.source parts) (replaceable l)
     walk context (Node Form.SetImage s parts) =
@@ -64,8 +64,8 @@ module _ (text : Text) (around : Around) where
 
     -- a symbol behind the first of its operands
     pub walk_round : Context → Lexeme → Trees → List Finding
-    walk_round context l Nil = symbol context itself l l.kind
-    walk_round context l (Cons x rest) = walk context x ++ symbol context itself l l.kind ++ walk_each context rest
+    walk_round context l Nil = symbol_findings context itself l l.kind
+    walk_round context l (Cons x rest) = walk context x ++ symbol_findings context itself l l.kind ++ walk_each context rest
 
     -- each definition is in the context behind it
     pub walk_chain : Context → Trees → List Finding
@@ -93,7 +93,7 @@ module _ (text : Text) (around : Around) where
     pub segments : Context → Trees → List Finding
     segments context Nil = []
     segments context (Cons (Node (Form.Segment l) s arguments) rest) =
-        found l (meaning_of context (name_of text.source l)) ++ walk_each context arguments
+        use_findings l (meaning_of context (name_of text.source l)) ++ walk_each context arguments
         ++ (if is_some (meaning_of context (name_of text.source l)) then path context (path_number l) (behind_name (meaning_of context (name_of text.source l))) rest else [])
     segments context (Cons _ rest) = []
 
@@ -101,7 +101,7 @@ module _ (text : Text) (around : Around) where
     pub path : Context → ℕ → Exports → Trees → List Finding
     path context number held Nil = []
     path context number held (Cons (Node (Form.Segment l) s arguments) rest) =
-        found l (called_by number rest (entry_of held (name_of text.source l))) ++ walk_each context arguments
+        use_findings l (called_by number rest (entry_of held (name_of text.source l))) ++ walk_each context arguments
         ++ (if is_some (entry_of held (name_of text.source l)) then path context number (behind_name (entry_of held (name_of text.source l))) rest else [])
     path context number held (Cons _ rest) = []
 
@@ -120,14 +120,14 @@ with_nested nested inner (outer ∷ round) =
     else (inner.name, own_parameters outer.context (exports_of inner.exports)) ∷ nested
 
 -- a module is read over files, and the words INSTANCE of its text stand before module names that begin here
-module _ (text : Text) (files : List ℕ → Outside) (words : List ℕ) where
+module _ (text : Text) (files : List ℕ → ModuleView) (words : List ℕ) where
   -- a nested module that can be named, or else the file; the name of a module round this place means none
-  abbrev pub module_under : List (List ℕ × Exports) → Option (Option Exports) → List ℕ → Outside
+  abbrev pub module_under : List (List ℕ × Exports) → Option (Option Exports) → List ℕ → ModuleView
   module_under nested None name = files name
   module_under nested (Some None) name = nothing
   module_under nested (Some (Some exports)) name = record { exports = exports; parameters = or_none (lookup bytes_eq nested name); behind = λ decl. [] }
 
-  abbrev pub module_named : Position → List ℕ → Outside
+  abbrev pub module_named : Position → List ℕ → ModuleView
   module_named position name = module_under position.nested (meaning position.place.here.modules name) name
 
   -- an INSTANCE, by the name of its module
@@ -166,7 +166,7 @@ module _ (text : Text) (files : List ℕ → Outside) (words : List ℕ) where
   -- what stands behind the instances that a unit names
   abbrev pub behind_unit : Position → UnitTree → Behind
   behind_unit position unit =
-      map (λ instance. (declaration text instance.0, carried (module_named position (spelled text.source instance.1)).exports)) (all_named_instances (unit_trees unit))
+      map (λ instance. (declaration text instance.0, instantiable (module_named position (spelled text.source instance.1)).exports)) (all_named_instances (unit_trees unit))
 
   abbrev pub behind_units : Position → List UnitTree → Behind
   behind_units position [] = []
@@ -200,7 +200,7 @@ module _ (text : Text) (files : List ℕ → Outside) (words : List ℕ) where
 abbrev pub words_of : ModuleUnits → List ℕ
 words_of units = map (λ l. l.span.start) (instances_from units.units)
 
-module _ (files : List ℕ → Outside) (source : List ℕ) (units : ModuleUnits) where
+module _ (files : List ℕ → ModuleView) (source : List ℕ) (units : ModuleUnits) where
   abbrev pub text : Text
   text = text_of source units
 
@@ -228,5 +228,5 @@ module _ (files : List ℕ → Outside) (source : List ℕ) (units : ModuleUnits
   exports_in = exports_of (read_all text files (words_of units) first units.units).place.here.exports
 
   -- what it is to others
-  abbrev pub outside_in : Outside
+  abbrev pub outside_in : ModuleView
   outside_in = record { exports = exports_in; parameters = parameters_in exports_in; behind = behind_all }

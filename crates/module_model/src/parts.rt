@@ -1,7 +1,7 @@
 // The parts of a face, in stretches that faces share.
 ghost use Rattle.std.specs.Prelude.{◌≡◌, ◌++◌, ◌∷◌, [], option_map, IfOk, IfNone, IfSome, OnOk};
 ghost use Rattle.module_model.specs.Parts as parts_of;
-ghost use Rattle.module_model.specs.Parts.{held, held_in, parts_in};
+ghost use Rattle.module_model.specs.Parts.{views, held_in, parts_in};
 
 use crate::face::Part;
 use std::alloc::Global;
@@ -20,9 +20,9 @@ pub struct Parts {
 
 impl Model for Parts {
     ghost use Rattle.std.specs.Prelude.{List};
-    ghost use Rattle.module_model.specs.Parts.{Held, parts_in};
+    ghost use Rattle.module_model.specs.Parts.{PartView, parts_in};
 
-    ghost Value = { List Held };
+    ghost Value = { List PartView };
 
     ghost view = { λ p. parts_in p.stretches };
 }
@@ -50,7 +50,7 @@ fn copied(alloc: Global, part: &Part) -> Result<Part, Memory>
 
 // Appends parts.
 fn append(alloc: Global, parts: &mut List<Part>, more: &[Part]) -> Result<(), Memory>
-    ensures { OnOk result (held parts.new ≡ held parts.old ++ held more.now) }
+    ensures { OnOk result (views parts.new ≡ views parts.old ++ views more.now) }
 {
     for part in more {
         parts.push(copied(alloc, part)?)?;
@@ -60,7 +60,7 @@ fn append(alloc: Global, parts: &mut List<Part>, more: &[Part]) -> Result<(), Me
 
 // Two stretches as one.
 fn joined(alloc: Global, first: &[Part], second: &[Part]) -> Result<List<Part>, Memory>
-    ensures { IfOk result (λ parts. held parts ≡ held first.now ++ held second.now) }
+    ensures { IfOk result (λ parts. views parts ≡ views first.now ++ views second.now) }
 {
     let mut parts = List::new(alloc);
     append(alloc, &mut parts, first)?;
@@ -94,7 +94,7 @@ fn push_stretch(
     stretches: &mut Vec<Arc<List<Part>>>,
     parts: List<Part>,
 ) -> Result<(), Memory>
-    ensures { OnOk result (parts_in stretches.new.items ≡ parts_in stretches.old.items ++ held parts) }
+    ensures { OnOk result (parts_in stretches.new.items ≡ parts_in stretches.old.items ++ views parts) }
 {
     let mut parts = parts;
     while let Some(before) = take_short(stretches, parts.len()) {
@@ -137,7 +137,7 @@ impl Parts {
     /// The parts with others behind them. They are shared as far as can be. `Memory` comes where there
     /// was no room.
     pub fn extended(&self, alloc: Global, more: List<Part>) -> Result<Parts, Memory>
-        ensures { IfOk result (λ parts. parts ≡ self.now ++ held more) }
+        ensures { IfOk result (λ parts. parts ≡ self.now ++ views more) }
     {
         let mut stretches = shared(alloc, self.stretches.as_slice())?;
         if !more.is_empty() {

@@ -7,7 +7,7 @@ use Rattle.name_graph.specs.declared.components.Mark.{Mark}
 use Rattle.name_graph.specs.declared.components.Group.{Group}
 use Rattle.name_graph.specs.Family.{Leads, last, more}
 use Rattle.name_graph.specs.Places.{Has, Edges, Edge, IsBehind}
-use Rattle.name_graph.specs.Walks.{InGroup, Followed, left, closed, pending, ahead, AreMarked, AreParted, AreOpen, AreClosed, IsWalk, closed_marks}
+use Rattle.name_graph.specs.SearchState.{InGroup, Followed, left, closed, pending, ahead, AreMarked, AreParted, AreOpen, AreClosed, IsWalk, closed_marks}
 use Rattle.name_graph.proofs.Lists.{at-within, at-same, at-left, at-either, at-last, at-pushed, at-taken, at-take, at-dropped, at-drop, at-set-same, at-set-other, has-left, has-right, has-either}
 use Rattle.name_graph.proofs.Walking.{cases, less-or, open-closed, open-open, new-closed}
 

@@ -6,7 +6,7 @@ use Rattle.list_laws.proofs.Tests.{same-or-other}
 use Rattle.name_graph.specs.declared.components.Mark.{Mark}
 use Rattle.name_graph.specs.declared.components.Group.{Group}
 use Rattle.name_graph.specs.Places.{Edges, Edge, Way}
-use Rattle.name_graph.specs.Walks.{InGroup, Followed, left, closed, pending, ahead, IsOwned, AreParted, AreOpen, IsWalk}
+use Rattle.name_graph.specs.SearchState.{InGroup, Followed, left, closed, pending, ahead, IsOwned, AreParted, AreOpen, IsWalk}
 use Rattle.name_graph.proofs.Lists.{at-within, at-there, at-same, at-left, at-one, at-last, at-pushed, at-taken, at-take}
 use Rattle.name_graph.proofs.Walking.{cases, less-or, GroupOf, group-of, to-last}
 use Rattle.name_graph.proofs.Ways.{edge-way, way-leads, way-way, way-edge}

@@ -8,7 +8,7 @@ use Rattle.name_graph.specs.declared.components.Mark.{Mark}
 use Rattle.name_graph.specs.declared.components.Group.{Group}
 use Rattle.name_graph.specs.declared.components.Walk.{Walk}
 use Rattle.name_graph.specs.Places.{Has, Edges, Way, HasPlaces, IsOrdered}
-use Rattle.name_graph.specs.Walks.{AreParted, IsWalk, AreWalk, IsTop, IsPopped, AreJoined, WentOn, closed_marks, unvisited, work, KeepsFound}
+use Rattle.name_graph.specs.SearchState.{AreParted, IsWalk, AreWalk, IsTop, IsPopped, AreJoined, WentOn, closed_marks, unvisited, work, KeepsFound}
 use Rattle.name_graph.proofs.Lists.{at-within, at-there, at-same, at-taken, at-last, at-set-same, at-set-other}
 use Rattle.name_graph.proofs.Ways.{way-edge}
 use Rattle.name_graph.proofs.Walking.{cases, less-or, new-open, to-last, walk-loose, walk-closed, walk-popped, walk-opened}

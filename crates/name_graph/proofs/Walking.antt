@@ -6,7 +6,7 @@ use Rattle.list_laws.proofs.Tests.{same-or-other}
 use Rattle.name_graph.specs.declared.components.Mark.{Mark}
 use Rattle.name_graph.specs.declared.components.Group.{Group}
 use Rattle.name_graph.specs.Places.{Has, Edges, Way}
-use Rattle.name_graph.specs.Walks.{InGroup, Followed, left, closed, pending, ahead, IsOwned, AreMarked, AreParted, AreOpen, IsWalk}
+use Rattle.name_graph.specs.SearchState.{InGroup, Followed, left, closed, pending, ahead, IsOwned, AreMarked, AreParted, AreOpen, IsWalk}
 use Rattle.name_graph.proofs.Lists.{at-within, at-there, at-same, at-left, at-right, at-either, at-one, at-last, at-pushed, at-set-same, at-set-other}
 use Rattle.name_graph.proofs.Ways.{way-way}
 

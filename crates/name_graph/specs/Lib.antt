@@ -1,4 +1,4 @@
 pub mod Family
 pub mod Places
 pub mod Rows
-pub mod Walks
+pub mod SearchState

@@ -4,7 +4,7 @@
 // the groups from there on. A group is closed once all its needs were followed: they are closed then.
 ghost use Rattle.std.specs.Prelude.{◌≡◌, ◌<◌, ◌≤◌, ◌+◌, ℕ, false, Some, List, [], ◌∷◌, ◌++◌, All, IfOk, OnOk, drop, take, if◌then◌else◌, length, slice_get, slice_set, vec_len};
 ghost use Rattle.name_graph.specs.Places.{HasPlaces, IsOrdered};
-ghost use Rattle.name_graph.specs.Walks.{AreWalk, AreJoined, IsPopped, IsTop, WentOn, KeepsFound, work, closed_marks};
+ghost use Rattle.name_graph.specs.SearchState.{AreWalk, AreJoined, IsPopped, IsTop, WentOn, KeepsFound, work, closed_marks};
 ghost use Rattle.name_graph.specs.declared.components.Mark.{Mark as MarkOf};
 ghost use Rattle.name_graph.specs.declared.components.Group.{Group as GroupOf};
 

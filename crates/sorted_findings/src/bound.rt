@@ -66,7 +66,7 @@ fn push_meaning(bound: &mut Bound, at: Lexeme, meaning: Meaning) -> Result<(), M
 
 // Appends a fault.
 fn push_fault(faults: &mut List<Diagnostic>, code: u16, at: Lexeme) -> Result<(), Memory>
-    ensures { OnOk result (faults.new ≡ faults.old ++ bindings.at code at) }
+    ensures { OnOk result (faults.new ≡ faults.old ++ bindings.fault_at code at) }
 {
     faults.push(Diagnostic {
         code,

@@ -15,7 +15,7 @@ use Rattle.symbol_scope.specs.declared.nesting.Outer.{Outer}
 use Rattle.name_context.specs.AsTables.{cut, mark_of}
 use Rattle.symbol_scope.specs.Readings.{Files}
 use Rattle.name_exports.specs.Brought.{ModuleNames, brought}
-use Rattle.symbol_scope.specs.Rounds.{AreRound, IsAt, IsOuter, begun_in, behind, left_by, outside_of}
+use Rattle.symbol_scope.specs.EnclosingReadings.{AreRound, IsAt, IsOuter, begun_in, behind, left_by, outside_of}
 use Rattle.symbol_scope.specs.declared.nesting.Nesting.{Nesting}
 
 pub record Grown {A : Type 0} (old new : List A) : Type 0 where

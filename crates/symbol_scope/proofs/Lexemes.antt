@@ -7,7 +7,7 @@ use Rattle.tla_tree.specs.declared.form.Form.TheVariants as Form
 use Rattle.tla_tree.specs.Syntax.{Tree, Trees, Node, Nil, Cons}
 use Rattle.tla_model.specs.declared.names.Binder.{Binder}
 use Rattle.tla_model.specs.Entities.{Binding, binding_in, binding_of, bound_as, declared_among, declared_in, declared_round, defined, follows_first, placed, variables}
-use Rattle.tla_model.specs.Lexemes.{all_lexemes, held, lexemes}
+use Rattle.tla_model.specs.Lexemes.{all_lexemes, form_lexemes, lexemes}
 use Rattle.tla_model.specs.Scopes.{definition}
 use Rattle.list_laws.proofs.Lists.{all-both, all-left, all-right}
 
@@ -15,7 +15,7 @@ module _ (P : Lexeme → Type 0) where
   abbrev Named : List Binder → Type 0
   Named binders = AllByRecursion (λ binder. P binder.name) binders
 
-  placed-held : (binding : Binding) (form : Form.the_data) → AllByRecursion P (held form) → Named (bound_as binding (placed form))
+  placed-held : (binding : Binding) (form : Form.the_data) → AllByRecursion P (form_lexemes form) → Named (bound_as binding (placed form))
   placed-held binding (Form.Name l) all = all
   placed-held binding (Form.OperatorParameter l places) all = all
   placed-held binding (Form.PrefixParameter l) all = all
@@ -23,7 +23,7 @@ module _ (P : Lexeme → Type 0) where
   placed-held binding (Form.PostfixParameter l) all = all
   placed-held binding _ all = tt
 
-  defined-held : (form : Form.the_data) (parts : Trees) → AllByRecursion P (held form) → Named (defined form parts)
+  defined-held : (form : Form.the_data) (parts : Trees) → AllByRecursion P (form_lexemes form) → Named (defined form parts)
   defined-held (Form.OperatorDefinition l) parts all = all
   defined-held (Form.PrefixDefinition l) parts all = all
   defined-held (Form.InfixDefinition l) parts all = all
@@ -33,7 +33,7 @@ module _ (P : Lexeme → Type 0) where
   defined-held _ parts all = tt
 
   pub definition-lies : (tree : Tree) → AllByRecursion P (lexemes tree) → Named (definition tree)
-  definition-lies (Node form s parts) all = defined-held form parts (all-left P (held form) (all_lexemes parts) all)
+  definition-lies (Node form s parts) all = defined-held form parts (all-left P (form_lexemes form) (all_lexemes parts) all)
 
   either : (form : Form.the_data) (b : Bool) (parts : Trees) (binding : Binding) → Named (declared_round form parts) → Named (defined form parts ++ declared_among binding parts) →
       Named (if b then declared_round form parts else defined form parts ++ declared_among binding parts)
@@ -43,12 +43,12 @@ module _ (P : Lexeme → Type 0) where
   mutual
     in-lies : (binding : Binding) (tree : Tree) → AllByRecursion P (lexemes tree) → Named (declared_in binding tree)
     in-lies binding (Node form s parts) all =
-        all-both _ (bound_as binding (placed form)) _ (placed-held binding form (all-left P (held form) (all_lexemes parts) all))
+        all-both _ (bound_as binding (placed form)) _ (placed-held binding form (all-left P (form_lexemes form) (all_lexemes parts) all))
         (either form (follows_first form) parts (binding_in binding form)
-        (round-lies form parts (all-left P (held form) (all_lexemes parts) all) (all-right P (held form) (all_lexemes parts) all))
-        (all-both _ (defined form parts) (declared_among (binding_in binding form) parts) (defined-held form parts (all-left P (held form) (all_lexemes parts) all)) (among-lies (binding_in binding form) parts (all-right P (held form) (all_lexemes parts) all))))
+        (round-lies form parts (all-left P (form_lexemes form) (all_lexemes parts) all) (all-right P (form_lexemes form) (all_lexemes parts) all))
+        (all-both _ (defined form parts) (declared_among (binding_in binding form) parts) (defined-held form parts (all-left P (form_lexemes form) (all_lexemes parts) all)) (among-lies (binding_in binding form) parts (all-right P (form_lexemes form) (all_lexemes parts) all))))
 
-    round-lies : (form : Form.the_data) (parts : Trees) → AllByRecursion P (held form) → AllByRecursion P (all_lexemes parts) → Named (declared_round form parts)
+    round-lies : (form : Form.the_data) (parts : Trees) → AllByRecursion P (form_lexemes form) → AllByRecursion P (all_lexemes parts) → Named (declared_round form parts)
     round-lies form Nil own all = defined-held form Nil own
     round-lies form (Cons x rest) own all =
         all-both _ (declared_in (binding_of form) x ++ defined form (Cons x rest)) (declared_among (binding_of form) rest)

@@ -22,7 +22,7 @@ use Rattle.symbol_scope.specs.declared.nesting.Nesting.{Nesting}
 use Rattle.symbol_scope.specs.Modules.{reading_of}
 use Rattle.symbol_scope.specs.Plain.{found_by, read_by}
 use Rattle.symbol_scope.specs.Readings.{Files, no_files}
-use Rattle.symbol_scope.specs.Rounds.{AreRound, IsAt, found_here}
+use Rattle.symbol_scope.specs.EnclosingReadings.{AreRound, IsAt, found_here}
 use Rattle.symbol_scope.proofs.Growing.{Went, round-went, waits, went-declares}
 use Rattle.symbol_scope.proofs.Lexemes.{among-lies, variables-lie}
 use Rattle.symbol_scope.proofs.Taking.{same-declared}

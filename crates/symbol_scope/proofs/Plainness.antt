@@ -11,7 +11,7 @@ use Rattle.module_model.specs.declared.imported.Import.{Import}
 use Rattle.tla_model.specs.Contexts.{Context, bind_all, meaning_of}
 use Rattle.tla_model.specs.declared.names.Meaning.TheVariants.{BuiltIn, Declared}
 use Rattle.tla_model.specs.Entities.{Meaning, Text, defined, name_of, same_decl}
-use Rattle.module_model.specs.Exports.{Exports, Outside, behind_in, exports_by, exports_of, import_behind, import_outside}
+use Rattle.module_model.specs.Exports.{Exports, ModuleView, behind_in, exports_by, exports_of, import_behind, import_outside}
 use Rattle.module_model.specs.Exports as given
 use Rattle.module_model.specs.Imports.{Imports, import_of}
 use Rattle.module_model.specs.Instances.{all_named_instances, called_by, either, first_of, named_instance, named_instances, paths_in, unit_trees}
@@ -20,7 +20,7 @@ use Rattle.tla_model.specs.ModuleNames.{holds_instance, instance_names, instance
 use Rattle.module_model.specs.Modules.{Place, all_clashing, text_of, unread}
 use Rattle.module_model.specs.Resolution as whole
 use Rattle.module_model.specs.Resolution.{Around, Position}
-use Rattle.tla_model.specs.Scopes.{all_refused, behind, binders, found, has_set, inside, itself, prefixed, reserved, scope, symbol}
+use Rattle.tla_model.specs.Scopes.{all_refused, behind, binders, use_findings, has_set, inside, itself, prefixed, reserved, scope, symbol_findings}
 use Rattle.tla_model.specs.declared.ids.DeclId.{DeclId}
 use Rattle.tla_model.specs.Tables.{lookup}
 use Rattle.module_model.specs.Given.{IsWithoutInstances}
@@ -112,9 +112,9 @@ module _ (text : Text) (around : Around) (none_behind : IsNone around.behind) wh
     walk-plain : (context : Context) (x : Tree) → instances x ≡ [] → whole.walk text around context x ≡ in_trees.walk text context x
     walk-plain context (Node Form.Identifier s parts) none = segments-plain context parts none
     walk-plain context (Node (Form.Symbol l) s parts) none = refl
-    walk-plain context (Node (Form.Prefix l) s parts) none = ap (λ z. symbol context prefixed l l.kind ++ z) (each-plain context parts none)
+    walk-plain context (Node (Form.Prefix l) s parts) none = ap (λ z. symbol_findings context prefixed l l.kind ++ z) (each-plain context parts none)
     walk-plain context (Node (Form.Infix l) s parts) none = round-plain context l parts none
-    walk-plain context (Node (Form.Postfix l) s parts) none = ap (λ z. z ++ symbol context itself l l.kind) (each-plain context parts none)
+    walk-plain context (Node (Form.Postfix l) s parts) none = ap (λ z. z ++ symbol_findings context itself l l.kind) (each-plain context parts none)
     walk-plain context (Node Form.Let s parts) none = chain-plain context parts none
     walk-plain context (Node (Form.Instance l) s parts) none = absurd (some-none l (instances_in parts) none)
     walk-plain context (Node Form.SetImage s parts) none =
@@ -136,7 +136,7 @@ module _ (text : Text) (around : Around) (none_behind : IsNone around.behind) wh
     round-plain context l (Cons x rest) none =
         let first = walk-plain context x (left-none (instances x) (instances_in rest) none) in
         let more = each-plain context rest (right-none (instances x) (instances_in rest) none) in
-        λ i. first i ++ symbol context itself l l.kind ++ more i
+        λ i. first i ++ symbol_findings context itself l l.kind ++ more i
 
     chain-plain : (context : Context) (parts : Trees) → instances_in parts ≡ [] → whole.walk_chain text around context parts ≡ in_trees.walk_chain text context parts
     chain-plain context Nil none = refl
@@ -165,20 +165,20 @@ module _ (text : Text) (around : Around) (none_behind : IsNone around.behind) wh
         let first = each-plain context arguments (left-none (instances_in arguments) (instances_in rest) none) in
         let onward = ap (λ held. whole.path text around context (whole.path_number text around l) held rest) (no-behind meaning)
         ∙ path-plain context (whole.path_number text around l) rest (right-none (instances_in arguments) (instances_in rest) none) in
-        λ i. found l meaning ++ first i ++ (if is_some meaning then onward i else [])
+        λ i. use_findings l meaning ++ first i ++ (if is_some meaning then onward i else [])
     segments-plain context (Cons (Node _ s arguments) rest) none = refl
 
     path-plain : (context : Context) (number : ℕ) (parts : Trees) → instances_in parts ≡ [] → whole.path text around context number [] parts ≡ in_trees.unfound text context parts
     path-plain context number Nil none = refl
     path-plain context number (Cons (Node (Form.Segment l) s arguments) rest) none =
         let first = each-plain context arguments (left-none (instances_in arguments) (instances_in rest) none) in
-        append-nil (found l (called_by number rest None) ++ whole.walk_each text around context arguments)
-        ∙ (λ i. found l (called-none number rest i) ++ first i)
+        append-nil (use_findings l (called_by number rest None) ++ whole.walk_each text around context arguments)
+        ∙ (λ i. use_findings l (called-none number rest i) ++ first i)
     path-plain context number (Cons (Node _ s arguments) rest) none = refl
 
 -- ---- units
 
-module _ (text : Text) (files : List ℕ → Outside) (words : List ℕ) where
+module _ (text : Text) (files : List ℕ → ModuleView) (words : List ℕ) where
   brings-none : (position : Position) (x : Tree) → instances x ≡ [] → whole.instance_brings text files words position x ≡ []
   brings-none position (Node (Form.Instance l) s parts) none = absurd (some-none l (instances_in parts) none)
   brings-none position (Node form s parts) none = refl
@@ -258,7 +258,7 @@ module _ (text : Text) (files : List ℕ → Outside) (words : List ℕ) where
 
 -- ---- modules
 
-module _ (files : List ℕ → Outside) (source : List ℕ) (units : ModuleUnits) (none : holds_instance units ≡ false) (nothing : (name : List ℕ) → IsNone (files name).behind) where
+module _ (files : List ℕ → ModuleView) (source : List ℕ) (units : ModuleUnits) (none : holds_instance units ≡ false) (nothing : (name : List ℕ) → IsNone (files name).behind) where
   files-none : (names : List Lexeme) → IsNone (whole.behind_files files source units names)
   files-none [] decl = refl
   files-none (l ∷ rest) decl = ap (λ z. first_of z (whole.behind_files files source units rest decl)) (nothing (spelled source l) decl) ∙ files-none rest decl

@@ -1,6 +1,6 @@
 pub mod Readings
 pub mod Modules
-pub mod Rounds
+pub mod EnclosingReadings
 pub mod Plain
 pub mod WithoutInstances
 pub mod Exporting

@@ -2,7 +2,7 @@
 ghost use Rattle.std.specs.Prelude.{◌≡◌, ◌∷◌, [], IfOk, OnOk};
 ghost use Rattle.module_model.specs.Modules.{Place, Reading as Read};
 ghost use Rattle.symbol_scope.specs.Modules.{reading_of};
-ghost use Rattle.symbol_scope.specs.Rounds.{IsAt, IsOuter, IsUnread, begun_in, behind, outside_of};
+ghost use Rattle.symbol_scope.specs.EnclosingReadings.{IsAt, IsOuter, IsUnread, begun_in, behind, outside_of};
 
 use crate::reading::Reading;
 use name_context::Mark;

@@ -14,7 +14,7 @@ ghost use Rattle.unit_grammar.specs.UnitNodes.{HasNodes, module_of};
 ghost use Rattle.symbol_scope.specs.Exporting.{AreExported};
 ghost use Rattle.module_model.specs.Given.{IsReadable, IsWithoutInstances};
 ghost use Rattle.symbol_scope.specs.Modules.{reading_of};
-ghost use Rattle.symbol_scope.specs.Rounds.{IsUnread};
+ghost use Rattle.symbol_scope.specs.EnclosingReadings.{IsUnread};
 ghost use Rattle.sorted_findings.specs.Sorting.{IsNothing, IsSorted};
 
 use crate::nesting::Nesting;

@@ -17,7 +17,7 @@ ghost use Rattle.tree_scope.specs.Lying.{BindersLie};
 ghost use Rattle.symbol_scope.specs.Modules.{reading_of};
 ghost use Rattle.symbol_scope.specs.Plain.{found_by, read_by};
 ghost use Rattle.symbol_scope.specs.Readings.{no_files};
-ghost use Rattle.symbol_scope.specs.Rounds.{IsAt, IsUnread, begin_found, found_here};
+ghost use Rattle.symbol_scope.specs.EnclosingReadings.{IsAt, IsUnread, begin_found, found_here};
 
 use crate::nesting::Nesting;
 use crate::reading::Reading;

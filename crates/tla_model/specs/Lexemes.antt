@@ -20,42 +20,42 @@ pub record LiesIn (text : List ℕ) (l : Lexeme) : Type 0 where
 -- ---- the lexemes of a module
 
 -- the lexeme that a form holds, if it holds one
-abbrev pub held : Form.the_data → List Lexeme
-held (Form.Number l) = l ∷ []
-held (Form.Text l) = l ∷ []
-held (Form.At l) = l ∷ []
-held (Form.Symbol l) = l ∷ []
-held (Form.Prefix l) = l ∷ []
-held (Form.Infix l) = l ∷ []
-held (Form.Postfix l) = l ∷ []
-held (Form.Quantifier l) = l ∷ []
-held (Form.BoundedQuantifier l) = l ∷ []
-held (Form.TemporalQuantifier l) = l ∷ []
-held (Form.FieldAccess l) = l ∷ []
-held (Form.Fairness l) = l ∷ []
-held (Form.JunctionList l) = l ∷ []
-held (Form.Segment l) = l ∷ []
-held (Form.Name l) = l ∷ []
-held (Form.Field l) = l ∷ []
-held (Form.FieldStep l) = l ∷ []
-held (Form.OperatorDefinition l) = l ∷ []
-held (Form.PrefixDefinition l) = l ∷ []
-held (Form.InfixDefinition l) = l ∷ []
-held (Form.PostfixDefinition l) = l ∷ []
-held (Form.FunctionDefinition l) = l ∷ []
-held (Form.ModuleDefinition l) = l ∷ []
-held (Form.Instance l) = l ∷ []
-held (Form.Replacement l) = l ∷ []
-held (Form.OperatorParameter l places) = l ∷ []
-held (Form.PrefixParameter l) = l ∷ []
-held (Form.InfixParameter l) = l ∷ []
-held (Form.PostfixParameter l) = l ∷ []
-held _ = []
+abbrev pub form_lexemes : Form.the_data → List Lexeme
+form_lexemes (Form.Number l) = l ∷ []
+form_lexemes (Form.Text l) = l ∷ []
+form_lexemes (Form.At l) = l ∷ []
+form_lexemes (Form.Symbol l) = l ∷ []
+form_lexemes (Form.Prefix l) = l ∷ []
+form_lexemes (Form.Infix l) = l ∷ []
+form_lexemes (Form.Postfix l) = l ∷ []
+form_lexemes (Form.Quantifier l) = l ∷ []
+form_lexemes (Form.BoundedQuantifier l) = l ∷ []
+form_lexemes (Form.TemporalQuantifier l) = l ∷ []
+form_lexemes (Form.FieldAccess l) = l ∷ []
+form_lexemes (Form.Fairness l) = l ∷ []
+form_lexemes (Form.JunctionList l) = l ∷ []
+form_lexemes (Form.Segment l) = l ∷ []
+form_lexemes (Form.Name l) = l ∷ []
+form_lexemes (Form.Field l) = l ∷ []
+form_lexemes (Form.FieldStep l) = l ∷ []
+form_lexemes (Form.OperatorDefinition l) = l ∷ []
+form_lexemes (Form.PrefixDefinition l) = l ∷ []
+form_lexemes (Form.InfixDefinition l) = l ∷ []
+form_lexemes (Form.PostfixDefinition l) = l ∷ []
+form_lexemes (Form.FunctionDefinition l) = l ∷ []
+form_lexemes (Form.ModuleDefinition l) = l ∷ []
+form_lexemes (Form.Instance l) = l ∷ []
+form_lexemes (Form.Replacement l) = l ∷ []
+form_lexemes (Form.OperatorParameter l places) = l ∷ []
+form_lexemes (Form.PrefixParameter l) = l ∷ []
+form_lexemes (Form.InfixParameter l) = l ∷ []
+form_lexemes (Form.PostfixParameter l) = l ∷ []
+form_lexemes _ = []
 
 abbrev mutual
   -- the lexemes that a tree holds
   pub lexemes : Tree → List Lexeme
-  lexemes (Node form s parts) = held form ++ all_lexemes parts
+  lexemes (Node form s parts) = form_lexemes form ++ all_lexemes parts
 
   -- the same of several trees, in their order
   pub all_lexemes : Trees → List Lexeme

@@ -56,28 +56,28 @@ abbrev pub itself : Op.the_data → Op.the_data
 itself op = op
 
 -- a use at the lexeme, by its meaning, which may be none
-abbrev pub found : Lexeme → Option Meaning → List Finding
-found l None = Unknown l ∷ []
-found l (Some meaning) = Means l meaning ∷ []
+abbrev pub use_findings : Lexeme → Option Meaning → List Finding
+use_findings l None = Unknown l ∷ []
+use_findings l (Some meaning) = Means l meaning ∷ []
 
 -- a use of this symbol; one that no module may define is built in and looked up nowhere
 abbrev pub used_as : Context → Lexeme → Op.the_data → List Finding
-used_as context l op = if is_free op then found l (meaning_of context (Symbol op)) else []
+used_as context l op = if is_free op then use_findings l (meaning_of context (Symbol op)) else []
 
 -- a use of a symbol, unless it is built in
-abbrev pub symbol : Context → (Op.the_data → Op.the_data) → Lexeme → LexKind.the_data → List Finding
-symbol context which l (LexKind.Sym op) = used_as context l (which op)
-symbol context which l _ = []
+abbrev pub symbol_findings : Context → (Op.the_data → Op.the_data) → Lexeme → LexKind.the_data → List Finding
+symbol_findings context which l (LexKind.Sym op) = used_as context l (which op)
+symbol_findings context which l _ = []
 
 module _ (text : Text) where
   -- a declaring name where it is taken
-  abbrev pub refused : Context → Lexeme → List Finding
-  refused context l = if has context (name_of text.source l) then Taken l ∷ [] else []
+  abbrev pub taken_findings : Context → Lexeme → List Finding
+  taken_findings context l = if has context (name_of text.source l) then Taken l ∷ [] else []
 
   -- the same of several names, each in the context behind those before it
   abbrev pub all_refused : Context → List Binder → List Finding
   all_refused context [] = []
-  all_refused context (binder ∷ rest) = refused context binder.name ++ all_refused (bind text context binder) rest
+  all_refused context (binder ∷ rest) = taken_findings context binder.name ++ all_refused (bind text context binder) rest
 
   -- the name being defined is taken in its parameters and its body
   abbrev pub reserved : Context → Form.the_data → Trees → Context

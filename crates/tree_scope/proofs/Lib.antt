@@ -1,8 +1,8 @@
 mod Running
 mod Scoping
 mod Shapes
-mod Doing
-mod Done
-mod Lies
+mod TaskFindings
+mod NodeTasks
+mod NamesInText
 mod Segments
 mod Placing

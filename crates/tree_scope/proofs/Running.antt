@@ -2,7 +2,7 @@
 use Rattle.std.proofs.Common.{◌≡◌, ℕ, List, [], ◌∷◌, ◌++◌, reverse, refl, ap, ◌∙◌}
 use Rattle.std.proofs.lemmas.List.{map-append, reverse-append}
 use Rattle.tree_scope.specs.declared.tasks.Task.TheVariants as task
-use Rattle.tree_scope.specs.Walking.{Task, chain, chain_back, stack, visits}
+use Rattle.tree_scope.specs.WalkTasks.{Task, chain, chain_back, stack, visits}
 
 pub chain-append : (a b : List ℕ) → chain_back (a ++ b) ≡ chain_back a ++ chain_back b
 chain-append [] b = refl

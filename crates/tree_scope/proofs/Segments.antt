@@ -11,15 +11,15 @@ use Rattle.tla_tree.proofs.Nodes.{tree_at-form}
 use Rattle.tla_model.specs.declared.names.Finding.TheVariants.{Unknown}
 use Rattle.tla_model.specs.Contexts.{Context, meaning_of}
 use Rattle.tla_model.specs.Entities.{Text, Meaning, name_of}
-use Rattle.tla_model.specs.Lexemes.{LiesIn, all_lexemes, held, lexemes}
-use Rattle.tla_model.specs.Scopes.{Finding, found}
+use Rattle.tla_model.specs.Lexemes.{LiesIn, all_lexemes, form_lexemes, lexemes}
+use Rattle.tla_model.specs.Scopes.{Finding, use_findings}
 use Rattle.list_laws.proofs.Lists.{all-left, all-right}
 use Rattle.tree_scope.specs.TreeFindings.{segments, unfound, walk_each}
 use Rattle.declared_names.specs.Nodes.{IsWhole, form_at, parts_at}
-use Rattle.tree_scope.specs.Walking.{Task, AreReady, AreSegments, IsFirstWhole, IsRest, all_size, emit, missing_tasks, run, second_tasks, segment_of, size, sizes, visits}
-use Rattle.tree_scope.proofs.Doing.{each-run, emit-append}
-use Rattle.tree_scope.proofs.Done.{ready-append, size-append, visits-ready, visits-size}
-use Rattle.tree_scope.proofs.Lies.{parts-lie}
+use Rattle.tree_scope.specs.WalkTasks.{Task, AreReady, AreSegments, IsFirstWhole, IsRest, all_size, emit, missing_tasks, run, second_tasks, segment_of, size, sizes, visits}
+use Rattle.tree_scope.proofs.TaskFindings.{each-run, emit-append}
+use Rattle.tree_scope.proofs.NodeTasks.{ready-append, size-append, visits-ready, visits-size}
+use Rattle.tree_scope.proofs.NamesInText.{parts-lie}
 
 is_named : Option Lexeme → Bool
 is_named None = false
@@ -47,12 +47,12 @@ module _ (text : Text) (nodes : List ArenaNode) (context : Context) where
   none-found _ s parts rest e = refl
 
   one-found : (form : Form.the_data) (s : Span) (parts rest : Trees) (l : Lexeme) → segment_of form ≡ Some l →
-      segments text context (Cons (Node form s parts) rest) ≡ found l (means l) ++ walk_each text context parts ++ (if is_some (means l) then unfound text context rest else [])
+      segments text context (Cons (Node form s parts) rest) ≡ use_findings l (means l) ++ walk_each text context parts ++ (if is_some (means l) then unfound text context rest else [])
   unfolding is_named or_else
-  one-found (Form.Segment n) s parts rest l e = ap (λ z. found z (means z) ++ walk_each text context parts ++ (if is_some (means z) then unfound text context rest else [])) (ap (or_else n) e)
+  one-found (Form.Segment n) s parts rest l e = ap (λ z. use_findings z (means z) ++ walk_each text context parts ++ (if is_some (means z) then unfound text context rest else [])) (ap (or_else n) e)
   one-found _ s parts rest l e = absurd (true≢false (sym (ap is_named e)))
 
-  pub segment-lies : (form : Form.the_data) (l : Lexeme) → segment_of form ≡ Some l → AllByRecursion L (held form) → L l
+  pub segment-lies : (form : Form.the_data) (l : Lexeme) → segment_of form ≡ Some l → AllByRecursion L (form_lexemes form) → L l
   unfolding is_named or_else
   segment-lies (Form.Segment n) l e lie = subst L (ap (or_else n) e) lie.0
   segment-lies _ l e lie = absurd (true≢false (sym (ap is_named e)))
@@ -103,12 +103,12 @@ module _ (text : Text) (nodes : List ArenaNode) (context : Context) where
 
   pub path-found : (first : ℕ) (numbers : List ℕ) (l : Lexeme) (known : Bool) (findings findings' : List Finding) (old middle new : List Task) → first < length nodes →
       IsWhole nodes first → AreThere nodes (node_at nodes first).children → AllByRecursion L (all_lexemes (at (first ∷ numbers))) → segment_of (form_at nodes first) ≡ Some l → known ≡ is_some (means l) →
-      findings' ≡ findings ++ found l (means l) → IsRest nodes known numbers old middle → new ≡ visits (node_at nodes first).children ++ middle →
+      findings' ≡ findings ++ use_findings l (means l) → IsRest nodes known numbers old middle → new ≡ visits (node_at nodes first).children ++ middle →
       AreSegments text nodes (first ∷ numbers) context findings findings' old new
   path-found first numbers l known findings findings' old middle new in_tree whole there lie named knows are rest is =
       let kids = (node_at nodes first).children in
       let mine = parts-lie text.source nodes first whole (all-left L (lexemes (tree_at nodes first)) (all_lexemes (at numbers)) lie) in
-      let here = found l (means l) in
+      let here = use_findings l (means l) in
       let below = walk_each text context (at kids) in
       let behind = if known then unfound text context (at numbers) else [] in
       record {

@@ -7,11 +7,11 @@ use Rattle.tla_tree.specs.Syntax.{Trees, Node}
 use Rattle.tla_model.specs.declared.names.Binding.TheVariants as binding
 use Rattle.tla_model.specs.Contexts.{Context, bind, bind_all}
 use Rattle.tla_model.specs.Entities.{Text, defined, entity_of}
-use Rattle.tla_model.specs.Lexemes.{held}
-use Rattle.tla_model.specs.Scopes.{all_refused, binders, itself, prefixed, reserved, symbol}
+use Rattle.tla_model.specs.Lexemes.{form_lexemes}
+use Rattle.tla_model.specs.Scopes.{all_refused, binders, itself, prefixed, reserved, symbol_findings}
 use Rattle.tree_scope.specs.TreeFindings.{segments, walk, walk_chain, walk_each, walk_rest, walk_round, walk_sets}
 use Rattle.tree_scope.specs.declared.tasks.Naming.TheVariants as how
-use Rattle.tree_scope.specs.Walking.{naming}
+use Rattle.tree_scope.specs.WalkTasks.{naming}
 
 abbrev is_Path : how.the_data → Bool
 is_Path how.Path = true
@@ -72,20 +72,20 @@ module _ (text : Text) (context : Context) (s : Span) (parts : Trees) where
   walk-order Form.Let e = refl
   walk-order _ e = absurd (true≢false (sym (ap is_InOrder e)))
 
-  pub walk-bare : (form : Form.the_data) (l : Lexeme) → naming form ≡ how.Bare l → walk text context (Node form s parts) ≡ symbol context itself l l.kind
-  walk-bare (Form.Symbol n) l e = ap (λ z. symbol context itself z z.kind) (ap (lexeme_in n) e)
+  pub walk-bare : (form : Form.the_data) (l : Lexeme) → naming form ≡ how.Bare l → walk text context (Node form s parts) ≡ symbol_findings context itself l l.kind
+  walk-bare (Form.Symbol n) l e = ap (λ z. symbol_findings context itself z z.kind) (ap (lexeme_in n) e)
   walk-bare _ l e = absurd (true≢false (sym (ap is_Bare e)))
 
-  pub walk-before : (form : Form.the_data) (l : Lexeme) → naming form ≡ how.Prefix l → walk text context (Node form s parts) ≡ symbol context prefixed l l.kind ++ walk_each text context parts
-  walk-before (Form.Prefix n) l e = ap (λ z. symbol context prefixed z z.kind ++ walk_each text context parts) (ap (lexeme_in n) e)
+  pub walk-before : (form : Form.the_data) (l : Lexeme) → naming form ≡ how.Prefix l → walk text context (Node form s parts) ≡ symbol_findings context prefixed l l.kind ++ walk_each text context parts
+  walk-before (Form.Prefix n) l e = ap (λ z. symbol_findings context prefixed z z.kind ++ walk_each text context parts) (ap (lexeme_in n) e)
   walk-before _ l e = absurd (true≢false (sym (ap is_Prefix e)))
 
   pub walk-between : (form : Form.the_data) (l : Lexeme) → naming form ≡ how.Infix l → walk text context (Node form s parts) ≡ walk_round text context l parts
   walk-between (Form.Infix n) l e = ap (λ z. walk_round text context z parts) (ap (lexeme_in n) e)
   walk-between _ l e = absurd (true≢false (sym (ap is_Infix e)))
 
-  pub walk-behind : (form : Form.the_data) (l : Lexeme) → naming form ≡ how.Postfix l → walk text context (Node form s parts) ≡ walk_each text context parts ++ symbol context itself l l.kind
-  walk-behind (Form.Postfix n) l e = ap (λ z. walk_each text context parts ++ symbol context itself z z.kind) (ap (lexeme_in n) e)
+  pub walk-behind : (form : Form.the_data) (l : Lexeme) → naming form ≡ how.Postfix l → walk text context (Node form s parts) ≡ walk_each text context parts ++ symbol_findings context itself l l.kind
+  walk-behind (Form.Postfix n) l e = ap (λ z. walk_each text context parts ++ symbol_findings context itself z z.kind) (ap (lexeme_in n) e)
   walk-behind _ l e = absurd (true≢false (sym (ap is_Postfix e)))
 
   pub walk-last : (form : Form.the_data) → naming form ≡ how.BoundsLast → walk text context (Node form s parts) ≡
@@ -115,6 +115,6 @@ module _ (text : Text) (context : Context) (s : Span) (parts : Trees) where
   walk-plain _ e = refl
 
 -- the name of a function is the lexeme that its form holds
-pub function-name : (form : Form.the_data) (l : Lexeme) → naming form ≡ how.Function l → held form ≡ l ∷ []
+pub function-name : (form : Form.the_data) (l : Lexeme) → naming form ≡ how.Function l → form_lexemes form ≡ l ∷ []
 function-name (Form.FunctionDefinition n) l e = ap (λ z. z ∷ []) (ap (lexeme_in n) e)
 function-name _ l e = absurd (true≢false (sym (ap is_Function e)))

@@ -1,4 +1,4 @@
 pub mod Lying
 pub mod Places
 pub mod TreeFindings
-pub mod Walking
+pub mod WalkTasks

@@ -6,17 +6,17 @@ use Rattle.tla_tree.specs.Syntax.{Tree, Trees, Node, Nil, Cons}
 use Rattle.tla_model.specs.Contexts.{Context, bind_all, meaning_of}
 use Rattle.tla_model.specs.Entities.{Text, defined, name_of}
 use Rattle.tla_model.specs.declared.names.Finding.TheVariants.{Unknown}
-use Rattle.tla_model.specs.Scopes.{Finding, all_refused, behind, binders, found, has_set, inside, itself, prefixed, reserved, scope, symbol}
+use Rattle.tla_model.specs.Scopes.{Finding, all_refused, behind, binders, use_findings, has_set, inside, itself, prefixed, reserved, scope, symbol_findings}
 
 module _ (text : Text) where
   abbrev mutual
     -- what is found in a tree, in the order of the text
     pub walk : Context → Tree → List Finding
     walk context (Node Form.Identifier s parts) = segments context parts
-    walk context (Node (Form.Symbol l) s parts) = symbol context itself l l.kind
-    walk context (Node (Form.Prefix l) s parts) = symbol context prefixed l l.kind ++ walk_each context parts
+    walk context (Node (Form.Symbol l) s parts) = symbol_findings context itself l l.kind
+    walk context (Node (Form.Prefix l) s parts) = symbol_findings context prefixed l l.kind ++ walk_each context parts
     walk context (Node (Form.Infix l) s parts) = walk_round context l parts
-    walk context (Node (Form.Postfix l) s parts) = walk_each context parts ++ symbol context itself l l.kind
+    walk context (Node (Form.Postfix l) s parts) = walk_each context parts ++ symbol_findings context itself l l.kind
     walk context (Node Form.Let s parts) = walk_chain context parts
     walk context (Node Form.SetImage s parts) =
         all_refused text context (binders Form.SetImage parts) ++ walk_rest (bind_all text context (binders Form.SetImage parts)) parts ++ walk_sets context parts
@@ -33,8 +33,8 @@ module _ (text : Text) where
 
     -- a symbol behind the first of its operands
     pub walk_round : Context → Lexeme → Trees → List Finding
-    walk_round context l Nil = symbol context itself l l.kind
-    walk_round context l (Cons x rest) = walk context x ++ symbol context itself l l.kind ++ walk_each context rest
+    walk_round context l Nil = symbol_findings context itself l l.kind
+    walk_round context l (Cons x rest) = walk context x ++ symbol_findings context itself l l.kind ++ walk_each context rest
 
     -- each definition is in the context behind it
     pub walk_chain : Context → Trees → List Finding
@@ -55,7 +55,7 @@ module _ (text : Text) where
     pub segments : Context → Trees → List Finding
     segments context Nil = []
     segments context (Cons (Node (Form.Segment l) s arguments) rest) =
-        found l (meaning_of context (name_of text.source l)) ++ walk_each context arguments
+        use_findings l (meaning_of context (name_of text.source l)) ++ walk_each context arguments
         ++ (if is_some (meaning_of context (name_of text.source l)) then unfound context rest else [])
     segments context (Cons _ rest) = []
 

@@ -1,8 +1,8 @@
 // What is due of a node, put on top.
 ghost use Rattle.std.specs.Prelude.{◌≡◌, ◌++◌, ◌∷◌, OnOk};
 ghost use Rattle.tla_tree.specs.Arena.{AreThere};
-ghost use Rattle.tree_scope.specs.Walking as walking;
-ghost use Rattle.tree_scope.specs.Walking.{stack};
+ghost use Rattle.tree_scope.specs.WalkTasks as walking;
+ghost use Rattle.tree_scope.specs.WalkTasks.{stack};
 
 use crate::tasks::{Task, push_chain, push_chosen, push_each, push_task};
 use name_context::Mark;

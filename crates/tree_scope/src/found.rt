@@ -8,8 +8,8 @@ ghost use Rattle.tla_model.specs.Scopes as scopes;
 ghost use Rattle.tree_scope.specs.TreeFindings as in_trees;
 ghost use Rattle.name_context.specs.AsTables.{context_of};
 ghost use Rattle.declared_names.specs.Nodes.{binders_at};
-ghost use Rattle.tree_scope.specs.Walking as walking;
-ghost use Rattle.tree_scope.specs.Walking.{AreReady, IsDone, IsNode, IsReady, stack};
+ghost use Rattle.tree_scope.specs.WalkTasks as walking;
+ghost use Rattle.tree_scope.specs.WalkTasks.{AreReady, IsDone, IsNode, IsReady, stack};
 
 use crate::scopes::{bind, bind_all};
 use crate::tasks::Task;

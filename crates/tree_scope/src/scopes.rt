@@ -24,7 +24,7 @@ pub fn refuse<'a>(
     findings: &mut List<Finding>,
 ) -> Result<(), Memory>
     requires { LiesIn text.now.source name }
-    ensures { OnOk result (findings.new ≡ findings.old ++ scopes.refused text.now (context_of context.now) name) }
+    ensures { OnOk result (findings.new ≡ findings.old ++ scopes.taken_findings text.now (context_of context.now) name) }
 {
     if context.get(text.name_of(name)).is_some() {
         findings.push(Finding::Taken { at: name })?;

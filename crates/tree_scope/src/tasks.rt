@@ -2,7 +2,7 @@
 ghost use Rattle.std.specs.Prelude.{◌≡◌, ◌++◌, ◌∷◌, IfOk, OnOk, filter, reverse};
 ghost use Rattle.tla_tree.specs.Arena.{AreThere};
 ghost use Rattle.tla_model.specs.Scopes as scopes;
-ghost use Rattle.tree_scope.specs.Walking as walking;
+ghost use Rattle.tree_scope.specs.WalkTasks as walking;
 
 use name_context::Mark;
 use std::alloc::Global;

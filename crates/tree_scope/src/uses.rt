@@ -7,7 +7,7 @@ ghost use Rattle.tla_model.specs.Lexemes.{LiesIn};
 ghost use Rattle.tla_model.specs.Scopes as scopes;
 ghost use Rattle.tla_model.specs.Tables.{Symbol};
 ghost use Rattle.name_context.specs.AsTables.{context_of, meant_by};
-ghost use Rattle.tree_scope.specs.Walking as walking;
+ghost use Rattle.tree_scope.specs.WalkTasks as walking;
 
 use crate::scopes::bind;
 use crate::text::ModuleText;
@@ -51,7 +51,7 @@ fn push_use(
     meaning: Option<Meaning>,
 ) -> Result<bool, Memory>
     ensures known { IfOk result (λ known. known ≡ is_some meaning) }
-    ensures findings { OnOk result (findings.new ≡ findings.old ++ scopes.found at meaning) }
+    ensures findings { OnOk result (findings.new ≡ findings.old ++ scopes.use_findings at meaning) }
 {
     match meaning {
         Some(meaning) => {
@@ -74,7 +74,7 @@ pub fn use_name<'a>(
 ) -> Result<bool, Memory>
     requires { LiesIn text.now.source at }
     ensures known { IfOk result (λ known. known ≡ is_some (contexts.meaning_of (context_of context.now) (entities.name_of text.now.source at))) }
-    ensures findings { OnOk result (findings.new ≡ findings.old ++ scopes.found at (contexts.meaning_of (context_of context.now) (entities.name_of text.now.source at))) }
+    ensures findings { OnOk result (findings.new ≡ findings.old ++ scopes.use_findings at (contexts.meaning_of (context_of context.now) (entities.name_of text.now.source at))) }
 {
     let meaning = meaning_of(context, text.name_of(at))?;
     push_use(findings, at, meaning)
@@ -102,7 +102,7 @@ pub fn use_symbol<'a>(
     at: Lexeme,
     findings: &mut List<Finding>,
 ) -> Result<(), Memory>
-    ensures { OnOk result (findings.new ≡ findings.old ++ scopes.symbol (context_of context.now) scopes.itself at at.kind) }
+    ensures { OnOk result (findings.new ≡ findings.old ++ scopes.symbol_findings (context_of context.now) scopes.itself at at.kind) }
 {
     match at.kind {
         LexKind::Sym(op) => use_op(context, at, op, findings),
@@ -116,7 +116,7 @@ pub fn use_prefix<'a>(
     at: Lexeme,
     findings: &mut List<Finding>,
 ) -> Result<(), Memory>
-    ensures { OnOk result (findings.new ≡ findings.old ++ scopes.symbol (context_of context.now) scopes.prefixed at at.kind) }
+    ensures { OnOk result (findings.new ≡ findings.old ++ scopes.symbol_findings (context_of context.now) scopes.prefixed at at.kind) }
 {
     match at.kind {
         LexKind::Sym(op) => use_op(context, at, prefixed(op), findings),

@@ -4,8 +4,8 @@ ghost use Rattle.tla_tree.specs.Arena.{AreThere, node_at};
 ghost use Rattle.tla_model.specs.Scopes as scopes;
 ghost use Rattle.name_context.specs.AsTables.{context_of};
 ghost use Rattle.declared_names.specs.Nodes.{defined_at, form_at, parts_at};
-ghost use Rattle.tree_scope.specs.Walking as walking;
-ghost use Rattle.tree_scope.specs.Walking.{AreReady, IsDone, IsNode, IsPath, stack, visited};
+ghost use Rattle.tree_scope.specs.WalkTasks as walking;
+ghost use Rattle.tree_scope.specs.WalkTasks.{AreReady, IsDone, IsNode, IsPath, stack, visited};
 
 use crate::due::{
     push_behind, push_between, push_definitions, push_function, push_image, push_rest, push_scope,

@@ -15,7 +15,7 @@ use Rattle.unit_frames.specs.declared.reached.Reached.{Reached}
 use Rattle.unit_frames.specs.declared.unfinished.Begun.{Begun}
 use Rattle.unit_frames.specs.declared.unfinished.Unfinished.{Unfinished}
 use Rattle.unit_grammar.specs.UnitNodes.{unit_at, nodes_in, AreUnits}
-use Rattle.unit_frames.specs.Standing.{AreParts, IsFrame, AreFrames, IsBegun, IsReached, IsUnder}
+use Rattle.unit_frames.specs.FrameMeaning.{AreParts, IsFrame, AreFrames, IsBegun, IsReached, IsUnder}
 
 pub there-grows : (nodes more : List Arena.Node) (numbers : List ℕ) → Grows nodes more → AreThere nodes numbers → AreThere more numbers
 there-grows nodes more numbers g t = there-longer 0 0 numbers nodes more (grows-length nodes more g) t

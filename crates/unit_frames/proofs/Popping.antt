@@ -7,7 +7,7 @@ use Rattle.unit_grammar.specs.Units.{UnitTree}
 use Rattle.unit_machine.specs.Machine as Machine
 use Rattle.unit_frames.specs.declared.frame.Frame.{Frame}
 use Rattle.unit_frames.specs.declared.unfinished.Unfinished.{Unfinished}
-use Rattle.unit_frames.specs.Standing.{IsFrame, AreFrames, IsUnder}
+use Rattle.unit_frames.specs.FrameMeaning.{IsFrame, AreFrames, IsUnder}
 
 pub popped : (old new : List Frame) (last : Frame) → old ≡ new ++ last ∷ [] → reverse old ≡ last ∷ reverse new
 popped old new last e = ap reverse e ∙ reverse-append new (last ∷ [])

@@ -19,7 +19,7 @@ use Rattle.tree_parts.proofs.Places.{place-append, covered-place}
 use Rattle.unit_machine.specs.declared.wait.Wait.{Wait}
 use Rattle.unit_machine.specs.Machine as Machine
 use Rattle.unit_frames.specs.declared.frame.Frame.{Frame}
-use Rattle.unit_frames.specs.Standing.{AreParts, IsFrame, Makes, Takes}
+use Rattle.unit_frames.specs.FrameMeaning.{AreParts, IsFrame, Makes, Takes}
 use Rattle.unit_frames.proofs.Growing.{frame-grows}
 
 pub parts-more : (nodes : List Arena.Node) (numbers more : List ℕ) (node : ℕ) (ps : Trees) (e : Tree) (b : List Lexeme) (part : Part) → more ≡ numbers ++ node ∷ [] → AreParts nodes numbers ps → part.node ≡ node → IsPart nodes part e b → AreParts nodes more (then ps e)

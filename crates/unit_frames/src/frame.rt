@@ -8,7 +8,7 @@ ghost use Rattle.tla_tree.specs.Lexemes as lexemes;
 ghost use Rattle.tla_tree.specs.Lexemes.{built};
 ghost use Rattle.tree_parts.specs.Parts.{IsPart, parts_of, place_of};
 ghost use Rattle.unit_machine.specs.Machine as machine;
-ghost use Rattle.unit_frames.specs.Standing.{AreParts, IsFrame, Makes, Takes};
+ghost use Rattle.unit_frames.specs.FrameMeaning.{AreParts, IsFrame, Makes, Takes};
 
 use std::alloc::Global;
 use tla_symbols::{Lexeme, Span};

@@ -3,7 +3,7 @@ ghost use Rattle.std.specs.Prelude.{◌<◌, ℕ, suc, List, [], ◌∷◌, ◌+
 ghost use Rattle.tla_tree.specs.Arena.{Node};
 ghost use Rattle.unit_grammar.specs.Units.{UnitTree};
 ghost use Rattle.unit_grammar.specs.UnitNodes.{AreUnits};
-ghost use Rattle.unit_frames.specs.Standing.{IsReached};
+ghost use Rattle.unit_frames.specs.FrameMeaning.{IsReached};
 
 use std::alloc::Global;
 use tla_tree::Unit;

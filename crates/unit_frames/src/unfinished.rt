@@ -3,7 +3,7 @@ ghost use Rattle.std.specs.Prelude.{◌≡◌, ℕ, List, [], ◌∷◌, OnOk};
 ghost use Rattle.tla_tree.specs.Arena as arena;
 ghost use Rattle.unit_grammar.specs.Units as units;
 ghost use Rattle.unit_machine.specs.Machine as machine;
-ghost use Rattle.unit_frames.specs.Standing.{IsFrame, IsUnder};
+ghost use Rattle.unit_frames.specs.FrameMeaning.{IsFrame, IsUnder};
 
 use crate::frame::Frame;
 use crate::reached::Reached;

@@ -13,7 +13,7 @@ use Rattle.tla_tree.specs.Derivation.{Derives, node, number, DerivesBounds, Deri
 use Rattle.expr_grammar.specs.Machine as Expressions
 use Rattle.expr_grammar.specs.Following.{IsQuiet}
 use Rattle.expr_laws.proofs.Following.{before-quiet}
-use Rattle.expr_laws.proofs.Sounding.{accepted-derives, accepted-bounds}
+use Rattle.expr_laws.proofs.Soundness.{accepted-derives, accepted-bounds}
 use Rattle.expr_laws.proofs.Completing.{completes-expression, completes-bounds}
 use Rattle.unit_grammar.specs.Units.{UnitTree, ModuleEnd}
 use Rattle.unit_grammar.specs.Derivation.{BeginsModule, alone, extending, kept, DerivesModule}
@@ -25,7 +25,7 @@ use Rattle.unit_laws.proofs.ReadingParts.{bounds-quiet}
 use Rattle.expr_grammar.specs.Tables.{name_leaf}
 use Rattle.unit_laws.proofs.Views.{Sort, Made, Defining, HasRead, declaration, declaration_name, places, places_read, prefix_place, symbol_place, infix_place, definition_name, parameters_read, define, body, prefix_name, prefix_define, infix_name, infix_define, postfix_define, bounds_read, bounds_define, right, instance_name, instance_read, replacements_read, replacement_start, replacement_arrow, replacement_right, complete, Stack, base, above, Under, claims, awaits, Opened, opened_definition, Wholes, Goes, Opens, FocusOk, at_opening, at_word, at_name, at_dashes, at_read, at_extends, at_extended, at_unit, at_line, at_local, at_variable, at_variables, at_closed, at_declared, at_part, at_expression, at_bounds}
 use Rattle.unit_laws.proofs.SoundingParts.{parameters-close, replacements-close}
-use Rattle.unit_laws.proofs.Sounding.{GoingOk, opening-sound, plain-goes, Finishes, by_part, by_claim, finish-goes, taking-sound, outermost-opens, nested-opens, names-close, replacement-quiet, made-quiet}
+use Rattle.unit_laws.proofs.Soundness.{GoingOk, opening-sound, plain-goes, Finishes, by_part, by_claim, finish-goes, taking-sound, outermost-opens, nested-opens, names-close, replacement-quiet, made-quiet}
 
 -- a lexeme of no place
 abbrev some : LexKind → Lexeme

@@ -21,7 +21,7 @@ use Rattle.unit_machine.specs.Machine.{Frame, frame, Begun, OfConstants, OfDefin
 use Rattle.unit_laws.proofs.Flat.{whole-derives}
 use Rattle.unit_laws.proofs.ReadingUnits.{run-nothing}
 use Rattle.unit_laws.proofs.Views.{Wholes, FocusOk, at_opening, at_word, at_name, at_dashes, at_read, at_extends, at_extended, at_unit, at_line, at_local, at_variable, at_variables, at_closed, at_declared, at_part, at_expression, at_bounds}
-use Rattle.unit_laws.proofs.Sounding.{GoingOk, opening-sound}
+use Rattle.unit_laws.proofs.Soundness.{GoingOk, opening-sound}
 use Rattle.unit_laws.proofs.FirstBad.{refused-first}
 use Rattle.unit_laws.proofs.Lasting.{Last, closing, ending, wrong, as_lexeme, last-refused}
 

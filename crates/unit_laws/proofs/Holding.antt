@@ -4,7 +4,7 @@ use Rattle.tla_symbols.specs.declared.lexeme.Lexeme.{Lexeme}
 use Rattle.unit_grammar.specs.Units.{UnitTree}
 use Rattle.unit_machine.specs.Machine.{Frame, Begun, Focus, State, held, run, opening}
 use Rattle.unit_laws.proofs.Views.{Sort, parameters, replacements, body_instance, Stack, base, above, Under, claims, awaits, FocusOk, at_opening, at_word, at_name, at_dashes, at_read, at_extends, at_extended, at_unit, at_line, at_local, at_variable, at_variables, at_closed, at_declared, at_part, at_expression, at_bounds}
-use Rattle.unit_laws.proofs.Sounding.{GoingOk, opening-sound}
+use Rattle.unit_laws.proofs.Soundness.{GoingOk, opening-sound}
 
 -- the frames that may stand below a part of a sort
 abbrev deep : Sort → ℕ

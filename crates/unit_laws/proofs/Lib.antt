@@ -6,7 +6,7 @@ mod ReadingParts
 pub mod ReadingUnits
 mod Views
 mod SoundingParts
-pub mod Sounding
+pub mod Soundness
 mod Completing
 pub mod FirstBad
 mod Lasting

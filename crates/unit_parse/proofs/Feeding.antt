@@ -20,7 +20,7 @@ use Rattle.expr_parse.proofs.Answering.{begins-of, begins-not}
 use Rattle.tree_parts.proofs.Places.{place-append}
 use Rattle.unit_parse.specs.declared.reader.ExprReader.{ExprReader}
 use Rattle.unit_parse.specs.declared.reader.Fed.{Fed}
-use Rattle.unit_parse.specs.Standing.{IsReading, IsUnfinished, IsWholeBefore, FeedsMore, Feeds}
+use Rattle.unit_parse.specs.ReaderMeaning.{IsReading, IsUnfinished, IsWholeBefore, FeedsMore, Feeds}
 
 pub reader-ready : {nodes : List Arena.Node} {reader : ExprReader} {aim : Goal} {st : Expressions.State} {read : List Lexeme} → IsReading nodes reader aim st read → IsReady nodes reader.machine
 reader-ready {reader = reader} {read = read} i = (run (Some (start_of reader.machine.goal)) read, i.has.stands)

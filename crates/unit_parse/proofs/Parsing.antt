@@ -12,15 +12,15 @@ use Rattle.unit_grammar.specs.FirstBad.{EndsOnce, IsFirstBad}
 use Rattle.unit_machine.specs.Machine as Machine
 use Rattle.unit_machine.specs.Machine.{run, opening, parse, whole, answer, RefusesAt}
 use Rattle.unit_laws.proofs.ReadingUnits.{run-append}
-use Rattle.unit_laws.proofs.Sounding.{accepted-derives}
+use Rattle.unit_laws.proofs.Soundness.{accepted-derives}
 use Rattle.unit_laws.proofs.FirstBad.{refused-first}
 use Rattle.unit_laws.proofs.Ending.{accepts-read}
 use Rattle.unit_frames.specs.declared.reached.Reached.{Reached}
 use Rattle.unit_steps.specs.declared.point.Point.{Point}
-use Rattle.unit_steps.specs.Standing as Steps
+use Rattle.unit_steps.specs.PointMeaning as Steps
 use Rattle.unit_parse.specs.declared.state.State.{State}
 use Rattle.unit_grammar.specs.UnitNodes.{AreUnits}
-use Rattle.unit_parse.specs.Standing.{IsFocus, IsState, IsMoved, Moves}
+use Rattle.unit_parse.specs.ReaderMeaning.{IsFocus, IsState, IsMoved, Moves}
 
 -- the lexemes so far led to the state
 pub record HasRead (nodes : List Arena.Node) (state : State) (lexemes : List Lexeme) : Type 0 where

@@ -21,15 +21,15 @@ use Rattle.unit_machine.specs.Machine as Machine
 use Rattle.unit_machine.specs.Machine.{part_step, given, expression_step, bounds_step, bounds_before}
 use Rattle.unit_frames.specs.declared.frame.Frame.{Frame}
 use Rattle.unit_frames.specs.declared.unfinished.Unfinished.{Unfinished}
-use Rattle.unit_frames.specs.Standing.{IsFrame, IsUnder}
+use Rattle.unit_frames.specs.FrameMeaning.{IsFrame, IsUnder}
 use Rattle.unit_frames.proofs.Growing.{frame-grows, under-grows}
 use Rattle.unit_steps.specs.declared.point.Point.{Point}
 use Rattle.unit_steps.specs.declared.point.Next.{Next}
-use Rattle.unit_steps.specs.Standing as Steps
+use Rattle.unit_steps.specs.PointMeaning as Steps
 use Rattle.unit_parse.specs.declared.reader.ExprReader.{ExprReader}
 use Rattle.unit_parse.specs.declared.reader.Fed.{Fed}
 use Rattle.unit_parse.specs.declared.state.State.{State}
-use Rattle.unit_parse.specs.Standing.{IsReading, IsFocus, IsState, IsMoved, Moves, IsFed, Feeds}
+use Rattle.unit_parse.specs.ReaderMeaning.{IsReading, IsFocus, IsState, IsMoved, Moves, IsFed, Feeds}
 
 -- nodes were added before
 pub moves-later : (nodes more most : List Arena.Node) (state : Option State) (st : Option Machine.State) → Grows nodes more → Moves more most state st → Moves nodes most state st

@@ -6,8 +6,8 @@ ghost use Rattle.expr_grammar.specs.Machine as expressions;
 ghost use Rattle.expr_parse.specs.declared.goal.Goal.TheVariants as goals;
 ghost use Rattle.unit_machine.specs.Machine as machine;
 ghost use Rattle.unit_steps.specs.declared.point.Next.TheVariants as leads;
-ghost use Rattle.unit_steps.specs.Standing as steps;
-ghost use Rattle.unit_parse.specs.Standing.{IsMoved, Moves, Feeds};
+ghost use Rattle.unit_steps.specs.PointMeaning as steps;
+ghost use Rattle.unit_parse.specs.ReaderMeaning.{IsMoved, Moves, Feeds};
 
 use crate::reader::{ExprReader, Fed};
 use crate::state::State;

@@ -5,7 +5,7 @@ ghost use Rattle.unit_grammar.specs.Derivation.{DerivesModule};
 ghost use Rattle.unit_grammar.specs.FirstBad.{EndsOnce};
 ghost use Rattle.unit_machine.specs.Machine as machine;
 ghost use Rattle.unit_parse.specs.Modules.{AreUnits, IsFault, IsModule};
-ghost use Rattle.unit_parse.specs.Standing.{IsState};
+ghost use Rattle.unit_parse.specs.ReaderMeaning.{IsState};
 
 use crate::state::State;
 use std::alloc::Global;

@@ -6,8 +6,8 @@ ghost use Rattle.expr_grammar.specs.Following.{done_before};
 ghost use Rattle.expr_parse.specs.declared.goal.Goal.TheVariants as goals;
 ghost use Rattle.unit_grammar.specs.Units as units;
 ghost use Rattle.unit_machine.specs.Machine as machine;
-ghost use Rattle.unit_frames.specs.Standing.{IsFrame, IsUnder};
-ghost use Rattle.unit_parse.specs.Standing.{IsReading, IsFed, HasFedExpression, HasFedBounds, Moves, IsReadyExpression, IsReadyBounds};
+ghost use Rattle.unit_frames.specs.FrameMeaning.{IsFrame, IsUnder};
+ghost use Rattle.unit_parse.specs.ReaderMeaning.{IsReading, IsFed, HasFedExpression, HasFedBounds, Moves, IsReadyExpression, IsReadyBounds};
 
 use crate::enter::enter;
 use crate::reader::{ExprReader, Fed};

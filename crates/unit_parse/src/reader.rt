@@ -4,7 +4,7 @@ ghost use Rattle.tla_symbols.specs.declared.lexeme.Lexeme.{Lexeme};
 ghost use Rattle.tla_tree.specs.Arena.{Node};
 ghost use Rattle.expr_grammar.specs.Machine as expressions;
 ghost use Rattle.expr_parse.specs.Reading.{IsReady, start_of};
-ghost use Rattle.unit_parse.specs.Standing.{IsReading, Feeds};
+ghost use Rattle.unit_parse.specs.ReaderMeaning.{IsReading, Feeds};
 
 use expr_parse::{ExprMachine, Goal, Step};
 use std::alloc::Global;

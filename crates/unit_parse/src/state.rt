@@ -2,7 +2,7 @@
 ghost use Rattle.std.specs.Prelude.{◌≡◌, List};
 ghost use Rattle.tla_tree.specs.Arena.{Node};
 ghost use Rattle.unit_machine.specs.Machine as machine;
-ghost use Rattle.unit_parse.specs.Standing.{IsState};
+ghost use Rattle.unit_parse.specs.ReaderMeaning.{IsState};
 
 use crate::reader::ExprReader;
 use std::alloc::Global;

@@ -1,7 +1,7 @@
 // One step of the machine: what a lexeme does where a module is read.
 ghost use Rattle.std.specs.Prelude.{IfOk};
 ghost use Rattle.unit_machine.specs.Machine as machine;
-ghost use Rattle.unit_parse.specs.Standing.{IsState, Moves, IsReadyState};
+ghost use Rattle.unit_parse.specs.ReaderMeaning.{IsState, Moves, IsReadyState};
 
 use crate::enter::enter;
 use crate::parts::{bounds_step, expression_step};

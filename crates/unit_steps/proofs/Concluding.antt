@@ -19,8 +19,8 @@ use Rattle.unit_frames.specs.declared.unfinished.Unfinished.{Unfinished}
 use Rattle.unit_steps.specs.declared.point.Point.{Point}
 use Rattle.unit_steps.specs.declared.point.Next.{Next}
 use Rattle.unit_grammar.specs.UnitNodes.{AreUnits}
-use Rattle.unit_frames.specs.Standing.{AreParts, IsFrame, IsBegun, IsReached, IsUnder}
-use Rattle.unit_steps.specs.Standing.{IsMoved}
+use Rattle.unit_frames.specs.FrameMeaning.{AreParts, IsFrame, IsBegun, IsReached, IsUnder}
+use Rattle.unit_steps.specs.PointMeaning.{IsMoved}
 use Rattle.unit_steps.proofs.Reaching.{units-one}
 use Rattle.unit_frames.proofs.Popping.{under-none, under-popped}
 

@@ -15,8 +15,8 @@ use Rattle.unit_frames.specs.declared.reached.Reached.{Reached}
 use Rattle.unit_steps.specs.declared.point.Point.{Point}
 use Rattle.unit_steps.specs.declared.point.Next.{Next}
 use Rattle.unit_grammar.specs.UnitNodes.{AreUnits}
-use Rattle.unit_frames.specs.Standing.{AreParts, IsReached}
-use Rattle.unit_steps.specs.Standing.{IsMoved}
+use Rattle.unit_frames.specs.FrameMeaning.{AreParts, IsReached}
+use Rattle.unit_steps.specs.PointMeaning.{IsMoved}
 
 pub no-parts : (nodes : List Arena.Node) (numbers : List ℕ) → numbers ≡ [] → AreParts nodes numbers Nil
 no-parts nodes numbers e = rw e (record { there = tt; are = refl })

@@ -22,8 +22,8 @@ use Rattle.unit_frames.specs.declared.reached.Reached.{Reached}
 use Rattle.unit_frames.specs.declared.unfinished.Unfinished.{Unfinished}
 use Rattle.unit_steps.specs.declared.point.Point.{Point}
 use Rattle.unit_steps.specs.declared.point.Next.{Next}
-use Rattle.unit_frames.specs.Standing.{AreParts, IsReached, IsFrame, AreFrames, IsUnder, Makes, Takes}
-use Rattle.unit_steps.specs.Standing.{IsFocus, IsPoint, IsMoved, Moves, EndsWhole, EndsMoving, IsEnded, Ends, TakesBelow, EndsFrame, form_of_end}
+use Rattle.unit_frames.specs.FrameMeaning.{AreParts, IsReached, IsFrame, AreFrames, IsUnder, Makes, Takes}
+use Rattle.unit_steps.specs.PointMeaning.{IsFocus, IsPoint, IsMoved, Moves, EndsWhole, EndsMoving, IsEnded, Ends, TakesBelow, EndsFrame, form_of_end}
 use Rattle.unit_frames.proofs.Growing.{frame-grows, frames-grow, under-grows}
 
 -- nothing was added

@@ -6,8 +6,8 @@ ghost use Rattle.expr_grammar.specs.Machine as expressions;
 ghost use Rattle.unit_grammar.specs.Units as units;
 ghost use Rattle.unit_machine.specs.Machine as machine;
 ghost use Rattle.unit_grammar.specs.UnitNodes.{AreUnits};
-ghost use Rattle.unit_frames.specs.Standing.{AreParts, IsFrame, IsBegun, IsReached};
-ghost use Rattle.unit_steps.specs.Standing.{IsMoved};
+ghost use Rattle.unit_frames.specs.FrameMeaning.{AreParts, IsFrame, IsBegun, IsReached};
+ghost use Rattle.unit_steps.specs.PointMeaning.{IsMoved};
 
 use crate::point::{Next, Point};
 use expr_kinds::is_comma;

@@ -3,8 +3,8 @@ ghost use Rattle.std.specs.Prelude.{◌≡◌, ◌↔◌, ◌-◌, ◌^◌, ◌<
 ghost use Rattle.tla_tree.specs.Arena.{AreThere};
 ghost use Rattle.unit_machine.specs.Tables as tables;
 ghost use Rattle.unit_machine.specs.Machine as machine;
-ghost use Rattle.unit_frames.specs.Standing.{AreFrames, IsFrame};
-ghost use Rattle.unit_steps.specs.Standing.{EndsFrame, Ends, form_of_end};
+ghost use Rattle.unit_frames.specs.FrameMeaning.{AreFrames, IsFrame};
+ghost use Rattle.unit_steps.specs.PointMeaning.{EndsFrame, Ends, form_of_end};
 
 use tla_symbols::Lexeme;
 use tla_tree::{Form, Tree};

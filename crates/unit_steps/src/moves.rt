@@ -8,8 +8,8 @@ ghost use Rattle.tree_parts.specs.Parts.{place_of};
 ghost use Rattle.unit_grammar.specs.Units as units;
 ghost use Rattle.unit_machine.specs.Machine as machine;
 ghost use Rattle.unit_machine.specs.declared.wait.Move.TheVariants as Move;
-ghost use Rattle.unit_frames.specs.Standing.{IsFrame, IsUnder};
-ghost use Rattle.unit_steps.specs.Standing.{IsMoved, Moves};
+ghost use Rattle.unit_frames.specs.FrameMeaning.{IsFrame, IsUnder};
+ghost use Rattle.unit_steps.specs.PointMeaning.{IsMoved, Moves};
 
 use crate::point::{Next, Point};
 use crate::whole::shut;

@@ -7,8 +7,8 @@ ghost use Rattle.tree_parts.specs.Parts.{IsPart, parts_of};
 ghost use Rattle.unit_grammar.specs.Units as units;
 ghost use Rattle.unit_machine.specs.Tables as tables;
 ghost use Rattle.unit_machine.specs.Machine as machine;
-ghost use Rattle.unit_frames.specs.Standing.{IsFrame, IsBegun, IsReached, IsUnder};
-ghost use Rattle.unit_steps.specs.Standing.{Moves, IsEnded, IsReadyEnded, IsReadyPart, IsReadyTaking, IsReadyWhole};
+ghost use Rattle.unit_frames.specs.FrameMeaning.{IsFrame, IsBegun, IsReached, IsUnder};
+ghost use Rattle.unit_steps.specs.PointMeaning.{Moves, IsEnded, IsReadyEnded, IsReadyPart, IsReadyTaking, IsReadyWhole};
 
 use crate::endings::{counts, end_frames};
 use crate::moves::move_frame;

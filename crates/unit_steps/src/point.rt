@@ -2,7 +2,7 @@
 ghost use Rattle.std.specs.Prelude.{◌≡◌, List};
 ghost use Rattle.tla_tree.specs.Arena.{Node};
 ghost use Rattle.unit_machine.specs.Machine as machine;
-ghost use Rattle.unit_steps.specs.Standing.{IsPoint};
+ghost use Rattle.unit_steps.specs.PointMeaning.{IsPoint};
 
 use std::alloc::Global;
 use tla_symbols::Lexeme;

@@ -1,7 +1,7 @@
 // One step of the machine where no expression is read.
 ghost use Rattle.std.specs.Prelude.{IfOk};
 ghost use Rattle.unit_machine.specs.Machine as machine;
-ghost use Rattle.unit_steps.specs.Standing.{IsPoint, Moves, IsReadyPoint};
+ghost use Rattle.unit_steps.specs.PointMeaning.{IsPoint, Moves, IsReadyPoint};
 
 use crate::due::{after_declared, move_due};
 use crate::parts::part_step;

@@ -9,8 +9,8 @@ ghost use Rattle.tree_parts.specs.Parts.{IsPart};
 ghost use Rattle.unit_grammar.specs.Units as units;
 ghost use Rattle.unit_machine.specs.Machine as machine;
 ghost use Rattle.unit_grammar.specs.UnitNodes.{AreUnits};
-ghost use Rattle.unit_frames.specs.Standing.{AreParts, IsBegun, IsReached, IsUnder};
-ghost use Rattle.unit_steps.specs.Standing.{IsMoved};
+ghost use Rattle.unit_frames.specs.FrameMeaning.{AreParts, IsBegun, IsReached, IsUnder};
+ghost use Rattle.unit_steps.specs.PointMeaning.{IsMoved};
 
 use crate::due::{after_declared, after_unit};
 use crate::point::{Next, Point};

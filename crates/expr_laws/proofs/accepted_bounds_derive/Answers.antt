@@ -1,4 +1,4 @@
-use Rattle.expr_laws.proofs.Sounding.{accepted-bounds}
+use Rattle.expr_laws.proofs.Soundness.{accepted-bounds}
 use Rattle.expr_laws.proofs.accepted_bounds_derive.Goals as goal
 
 pub returns : goal.returns

@@ -1,4 +1,4 @@
-use Rattle.unit_laws.proofs.Sounding.{accepted-derives}
+use Rattle.unit_laws.proofs.Soundness.{accepted-derives}
 use Rattle.unit_laws.proofs.accepted_derives.Goals as goal
 
 pub returns : goal.returns

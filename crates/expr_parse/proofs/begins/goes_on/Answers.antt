@@ -1,7 +1,7 @@
 use Rattle.std.proofs.Common.{[], ◌∷◌, subst}
 use Rattle.expr_grammar.specs.Tables as tables
 use Rattle.expr_grammar.specs.Machine as machine
-use Rattle.expr_stack.specs.Standing.{Stands}
+use Rattle.expr_stack.specs.StackMeaning.{Stands}
 use Rattle.expr_parse.proofs.Turning.{goes-child, goes-alone}
 use Rattle.expr_parse.proofs.begins.goes_on.Goals as goal
 

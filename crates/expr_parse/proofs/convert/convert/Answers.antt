@@ -1,6 +1,6 @@
 use Rattle.std.proofs.Common.{◌++◌, sym, subst, append-nil, arith}
 use Rattle.expr_grammar.specs.declared.wait.Conversion.TheVariants as Conversion
-use Rattle.expr_stack.specs.Standing.{Opens}
+use Rattle.expr_stack.specs.StackMeaning.{Opens}
 use Rattle.tree_parts.proofs.Growing.{grows-same}
 use Rattle.expr_stack.proofs.Growing.{opens-grow}
 use Rattle.expr_stack.proofs.Stacking.{opens-read}

@@ -2,7 +2,7 @@ use Rattle.std.proofs.Common.{◌≡◌, ◌-◌, ◌≤◌, take, length}
 use Rattle.std.specs.Prelude.{map}
 use Rattle.tla_tree.specs.Arena.{tree_at, node_at}
 use Rattle.tla_tree.specs.Syntax.{trees}
-use Rattle.expr_parse.specs.Standing.{AreNames}
+use Rattle.expr_parse.specs.TurnMeaning.{AreNames}
 use Rattle.expr_parse.proofs.convert.names_of.Given as goal
 
 abbrev pub invariant-loop-index : goal.invariant-loop-index

@@ -1,5 +1,5 @@
 use Rattle.std.proofs.Common.{subst}
-use Rattle.expr_parse.specs.Standing.{IsTurn}
+use Rattle.expr_parse.specs.TurnMeaning.{IsTurn}
 use Rattle.expr_parse.proofs.Closing.{read-closed, due-closed-state, refused-closes, turn-ready, turn-due}
 use Rattle.expr_parse.proofs.ending.close.Goals as goal
 

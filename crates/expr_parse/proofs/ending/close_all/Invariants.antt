@@ -5,7 +5,7 @@ use Rattle.expr_grammar.specs.Machine.{Frame}
 use Rattle.expr_grammar.specs.Counting.{made_close}
 use Rattle.expr_parse.specs.Ending.{closing}
 use Rattle.tree_parts.specs.Parts.{IsPart}
-use Rattle.expr_stack.specs.Standing.{Stands}
+use Rattle.expr_stack.specs.StackMeaning.{Stands}
 use Rattle.expr_parse.proofs.Going.{Goes}
 use Rattle.expr_parse.proofs.ending.close_all.Given as goal
 

@@ -1,7 +1,7 @@
 use Rattle.std.proofs.Common.{ap, subst, ◌∙◌}
 use Rattle.std.specs.Prelude.{reverse}
 use Rattle.expr_parse.specs.Ending.{all_end}
-use Rattle.expr_parse.specs.Standing.{IsTurn}
+use Rattle.expr_parse.specs.TurnMeaning.{IsTurn}
 use Rattle.expr_parse.proofs.Closing.{read-whole, due-whole-state, refused-whole, turn-ready}
 use Rattle.expr_parse.proofs.ending.is_whole.Goals as goal
 

@@ -1,5 +1,5 @@
 use Rattle.std.proofs.Common.{subst}
-use Rattle.expr_parse.specs.Standing.{IsTurn}
+use Rattle.expr_parse.specs.TurnMeaning.{IsTurn}
 use Rattle.expr_parse.proofs.Answering.{read-turns}
 use Rattle.expr_parse.proofs.Closing.{turn-ready}
 use Rattle.expr_parse.proofs.machine.advance.Goals as goal

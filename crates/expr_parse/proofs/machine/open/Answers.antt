@@ -1,6 +1,6 @@
 use Rattle.std.proofs.Common.{[], Some, refl, subst, sym}
 use Rattle.expr_parse.specs.declared.turn.Turn.TheVariants as Turn
-use Rattle.expr_parse.specs.Standing.{IsTurn}
+use Rattle.expr_parse.specs.TurnMeaning.{IsTurn}
 use Rattle.expr_parse.specs.Reading.{start_of}
 use Rattle.expr_parse.proofs.machine.open.Goals as goal
 

@@ -4,7 +4,7 @@ use Rattle.tla_tree.specs.Syntax.{Tree}
 use Rattle.expr_grammar.specs.Machine.{Frame, part_step}
 use Rattle.expr_grammar.specs.Counting.{made_part}
 use Rattle.tree_parts.specs.Parts.{IsPart}
-use Rattle.expr_stack.specs.Standing.{Stands}
+use Rattle.expr_stack.specs.StackMeaning.{Stands}
 use Rattle.expr_parse.proofs.Going.{Goes}
 use Rattle.expr_parse.proofs.parts.follow.Given as goal
 

@@ -2,7 +2,7 @@ use Rattle.std.proofs.Common.{[], ◌∷◌, ◌++◌, refl, sym, subst}
 use Rattle.expr_grammar.specs.Machine as machine
 use Rattle.expr_grammar.specs.Counting as counting
 use Rattle.expr_parse.specs.declared.turn.Turn.TheVariants as Turn
-use Rattle.expr_parse.specs.Standing.{Turns}
+use Rattle.expr_parse.specs.TurnMeaning.{Turns}
 use Rattle.expr_parse.proofs.Turning.{put-back, turns-still, turns-one}
 use Rattle.expr_parse.proofs.Going.{opens-then}
 use Rattle.expr_parse.proofs.parts.lead_on.Goals as goal

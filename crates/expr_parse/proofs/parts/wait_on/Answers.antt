@@ -2,7 +2,7 @@ use Rattle.std.proofs.Common.{ap, sym, subst, ◌∙◌}
 use Rattle.expr_grammar.specs.Tables as tables
 use Rattle.expr_grammar.specs.Machine as machine
 use Rattle.expr_grammar.specs.Counting as counting
-use Rattle.expr_parse.specs.Standing.{Turns}
+use Rattle.expr_parse.specs.TurnMeaning.{Turns}
 use Rattle.expr_parse.proofs.Going.{cond-turn-true}
 use Rattle.expr_parse.proofs.parts.wait_on.Goals as goal
 

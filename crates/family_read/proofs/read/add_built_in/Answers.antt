@@ -1,7 +1,7 @@
 use Rattle.std.proofs.Common.{◌≡◌, ◌∙◌, ap, refl, sym}
 use Rattle.std_modules.specs.StdTexts.{std_text}
 use Rattle.family_facts.specs.Verdicts.{text_or_none}
-use Rattle.family_read.proofs.Reading.{built-in-there, built-in-more, unwrapped}
+use Rattle.family_read.proofs.ModulesRead.{built-in-there, built-in-more, unwrapped}
 use Rattle.family_read.proofs.read.add_built_in.Goals as goal
 
 pub returns-then-is_some : goal.returns-then-is_some

@@ -2,7 +2,7 @@ use Rattle.std.proofs.Common.{◌∙◌, sym, subst}
 use Rattle.std.specs.List.{AllByRecursion}
 use Rattle.tla_model.specs.Lexemes.{LiesIn}
 use Rattle.unit_grammar.specs.UnitNodes.{module_of}
-use Rattle.family_tables.proofs.Lying.{imports-lie}
+use Rattle.family_tables.proofs.LexemesInText.{imports-lie}
 use Rattle.family_read.proofs.read.needs_of.Goals as goal
 
 pub named_modules-requires-clause-placed : goal.named_modules-requires-clause-placed

@@ -3,7 +3,7 @@ use Rattle.family_tables.specs.Modules.{AreModules}
 use Rattle.family_facts.specs.Verdicts.{member_of, built_in_names}
 use Rattle.family_read.proofs.BuiltIn.{built-in-small}
 use Rattle.family_facts.proofs.Once.{built-in-apart}
-use Rattle.family_read.proofs.Reading.{added-all}
+use Rattle.family_read.proofs.ModulesRead.{added-all}
 use Rattle.family_read.proofs.read.read_family.Goals as goal
 
 pub add_all-requires : goal.add_all-requires

@@ -1,6 +1,6 @@
 use Rattle.std.proofs.Common.{◌∙◌, ap}
 use Rattle.family_facts.specs.declared.verdict.File.{File}
-use Rattle.family_read.proofs.Reading.{file-fresh, file-more}
+use Rattle.family_read.proofs.ModulesRead.{file-fresh, file-more}
 use Rattle.family_read.proofs.read.read_files.Goals as goal
 
 pub add-requires : goal.add-requires

@@ -1,4 +1,4 @@
-use Rattle.family_read.proofs.Reading.{tree-of}
+use Rattle.family_read.proofs.ModulesRead.{tree-of}
 use Rattle.family_read.proofs.read.read_module.Goals as goal
 
 pub module_of_tree-requires : goal.module_of_tree-requires

@@ -1,7 +1,7 @@
 use Rattle.std.proofs.Common.{◌≡◌, ◌<◌, ℕ, Some, [], length}
 use Rattle.std.specs.Prelude.{slice_get}
 use Rattle.name_graph.specs.declared.components.Mark.{Mark}
-use Rattle.name_graph.specs.Walks.{AreWalk}
+use Rattle.name_graph.specs.SearchState.{AreWalk}
 use Rattle.name_graph.proofs.components.arrange.Given as goal
 
 abbrev pub invariant-loop-place : goal.invariant-loop-place

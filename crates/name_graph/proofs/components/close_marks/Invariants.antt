@@ -1,5 +1,5 @@
 use Rattle.std.proofs.Common.{◌≡◌, take, vec_len}
-use Rattle.name_graph.specs.Walks.{closed_marks}
+use Rattle.name_graph.specs.SearchState.{closed_marks}
 use Rattle.name_graph.proofs.components.close_marks.Given as goal
 
 abbrev pub invariant-loop-place : goal.invariant-loop-place

@@ -1,6 +1,6 @@
 use Rattle.std.proofs.Common.{◌≡◌, true, sym, subst, get_or}
 use Rattle.std.specs.Prelude.{slice_set}
-use Rattle.name_graph.specs.Walks.{AreJoined}
+use Rattle.name_graph.specs.SearchState.{AreJoined}
 use Rattle.name_graph.proofs.Moves.{joined-at}
 use Rattle.name_graph.proofs.components.join.Goals as goal
 

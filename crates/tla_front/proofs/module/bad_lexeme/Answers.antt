@@ -1,4 +1,4 @@
-use Rattle.tla_front.proofs.Reading.{fault-behind}
+use Rattle.tla_front.proofs.FrontSteps.{fault-behind}
 use Rattle.tla_front.proofs.module.bad_lexeme.Goals as goal
 
 pub returns : goal.returns

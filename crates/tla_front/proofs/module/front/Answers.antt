@@ -1,5 +1,5 @@
 use Rattle.front_laws.proofs.Readable.{longest-from}
-use Rattle.tla_front.proofs.Reading.{not_utf8-front, not_utf8-placed}
+use Rattle.tla_front.proofs.FrontSteps.{not_utf8-front, not_utf8-placed}
 use Rattle.tla_front.proofs.module.front.Goals as goal
 
 pub returns-in-Err-clause-fault : goal.returns-in-Err-clause-fault

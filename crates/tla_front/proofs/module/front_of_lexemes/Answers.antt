@@ -2,7 +2,7 @@ use Rattle.std.proofs.Common.{◌<◌, ◌^◌, length, arith, subst, sym}
 use Rattle.std.specs.List.{AllByRecursion}
 use Rattle.tla_model.specs.Lexemes.{LiesIn}
 use Rattle.unit_heights.specs.FirstHigh.{BeginsFurther}
-use Rattle.tla_front.proofs.Reading.{bad-front, bad-placed}
+use Rattle.tla_front.proofs.FrontSteps.{bad-front, bad-placed}
 use Rattle.front_laws.proofs.TextEnds.{text-ends}
 use Rattle.front_laws.proofs.TextGrows.{text-further, few-lexemes}
 use Rattle.front_laws.proofs.TextLies.{text-lies}

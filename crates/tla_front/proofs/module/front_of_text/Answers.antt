@@ -1,6 +1,6 @@
 use Rattle.std.proofs.Common.{◌≡◌, Some, None, subst}
 use Rattle.tla_lexeme.specs.ModulePart.{module_part}
-use Rattle.tla_front.proofs.Reading.{too_large-front, start-placed, no_header-front, read-tree, read-fault}
+use Rattle.tla_front.proofs.FrontSteps.{too_large-front, start-placed, no_header-front, read-tree, read-fault}
 use Rattle.tla_front.proofs.module.front_of_text.Goals as goal
 
 pub returns-then-source-gt-MOST_TEXT-clause-fault :

@@ -1,5 +1,5 @@
 use Rattle.std.proofs.lemmas.Bool.{both_ways}
-use Rattle.tla_front.proofs.Reading.{high-front, high-placed, misnamed-front, misnamed-placed, whole-front}
+use Rattle.tla_front.proofs.FrontSteps.{high-front, high-placed, misnamed-front, misnamed-placed, whole-front}
 use Rattle.front_laws.proofs.HeldUnits.{read-lie, read-few}
 use Rattle.tla_front.proofs.module.front_of_tree.Goals as goal
 

@@ -2,7 +2,7 @@ use Rattle.std.proofs.Common.{◌≡◌, ◌∙◌, ◌∷◌, ◌<◌, ap, subs
 use Rattle.std.specs.List.{AllByRecursion}
 use Rattle.tla_tree.specs.Arena.{AreThere, node_at}
 use Rattle.tla_tree.proofs.Nodes.{before-there}
-use Rattle.tree_scope.specs.Walking.{IsSecond, missing_tasks, stack}
+use Rattle.tree_scope.specs.WalkTasks.{IsSecond, missing_tasks, stack}
 use Rattle.declared_names.proofs.Nodewise.{tree-at}
 use Rattle.tree_scope.proofs.due.push_second.Goals as goal
 

@@ -1,5 +1,5 @@
 use Rattle.std.proofs.Common.{◌∷◌, [], ◌∙◌, ◌++◌, ap, append_assoc, sym}
-use Rattle.tree_scope.specs.Walking.{chain_back}
+use Rattle.tree_scope.specs.WalkTasks.{chain_back}
 use Rattle.tree_scope.specs.declared.tasks.Task.TheVariants as task
 use Rattle.tree_scope.proofs.Running.{chain-append}
 use Rattle.tree_scope.proofs.tasks.append_chain.Goals as goal

@@ -1,5 +1,5 @@
 use Rattle.std.proofs.Common.{◌≡◌, ◌++◌}
-use Rattle.tree_scope.specs.Walking.{chain_back}
+use Rattle.tree_scope.specs.WalkTasks.{chain_back}
 use Rattle.tree_scope.proofs.tasks.append_chain.Given as goal
 
 abbrev pub invariant-loop-node : goal.invariant-loop-node

@@ -1,5 +1,5 @@
 use Rattle.std.proofs.Common.{◌≡◌, ◌++◌}
-use Rattle.tree_scope.specs.Walking.{visits}
+use Rattle.tree_scope.specs.WalkTasks.{visits}
 use Rattle.tree_scope.proofs.tasks.append_visits.Given as goal
 
 abbrev pub invariant-loop-node : goal.invariant-loop-node

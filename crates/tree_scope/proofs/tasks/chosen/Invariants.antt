@@ -1,6 +1,6 @@
 use Rattle.std.proofs.Common.{◌≡◌, take}
 use Rattle.std.specs.Prelude.{filter}
-use Rattle.tree_scope.specs.Walking.{is_chosen}
+use Rattle.tree_scope.specs.WalkTasks.{is_chosen}
 use Rattle.tree_scope.proofs.tasks.chosen.Given as goal
 
 abbrev pub invariant-loop-node : goal.invariant-loop-node

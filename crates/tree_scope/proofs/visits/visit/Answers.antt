@@ -7,10 +7,10 @@ use Rattle.tla_tree.proofs.Nodes.{before-there}
 use Rattle.tla_model.specs.Lexemes.{LiesIn, all_lexemes}
 use Rattle.name_context.specs.AsTables.{context_of, mark_of}
 use Rattle.declared_names.specs.Nodes.{form_at}
-use Rattle.tree_scope.specs.Walking.{AreSegments, between_tasks, chain, function_tasks, image_tasks, leave, naming, scope_tasks, stack, used, visits}
+use Rattle.tree_scope.specs.WalkTasks.{AreSegments, between_tasks, chain, function_tasks, image_tasks, leave, naming, scope_tasks, stack, used, visits}
 use Rattle.declared_names.proofs.Nodewise.{tree-at}
-use Rattle.tree_scope.proofs.Lies.{held-lies, parts-lie}
-use Rattle.tree_scope.proofs.Done.{plain-done, function-done, function-lies, image-done, order-done, bare-done, before-done, behind-done, between-done, path-done}
+use Rattle.tree_scope.proofs.NamesInText.{held-lies, parts-lie}
+use Rattle.tree_scope.proofs.NodeTasks.{plain-done, function-done, function-lies, image-done, order-done, bare-done, before-done, behind-done, between-done, path-done}
 use Rattle.tree_scope.proofs.visits.visit.Goals as goal
 
 pub push_image-requires : goal.push_image-requires

@@ -4,12 +4,12 @@ use Rattle.std.specs.List.{AllByRecursion}
 use Rattle.tla_tree.specs.Arena.{AreThere, node_at, tree_at}
 use Rattle.tla_tree.specs.Syntax.{trees}
 use Rattle.tla_tree.proofs.Nodes.{before-there}
-use Rattle.tla_model.specs.Lexemes.{LiesIn, all_lexemes, held as held_by, lexemes}
+use Rattle.tla_model.specs.Lexemes.{LiesIn, all_lexemes, form_lexemes as held_by, lexemes}
 use Rattle.name_context.specs.AsTables.{context_of}
 use Rattle.list_laws.proofs.Lists.{all-left}
-use Rattle.tree_scope.specs.Walking.{AreSegments, segment_of, stack, visits}
+use Rattle.tree_scope.specs.WalkTasks.{AreSegments, segment_of, stack, visits}
 use Rattle.declared_names.proofs.Nodewise.{tree-at}
-use Rattle.tree_scope.proofs.Lies.{held-lies}
+use Rattle.tree_scope.proofs.NamesInText.{held-lies}
 use Rattle.tree_scope.proofs.Segments.{path-found, nothing-found, no-segment, segment-lies}
 use Rattle.tree_scope.proofs.visits.visit_segments.Goals as goal
 

@@ -1,7 +1,7 @@
 use Rattle.std.proofs.Common.{subst}
 use Rattle.std.specs.Prelude.{IfOk}
 use Rattle.std.proofs.lemmas.Result.{IfOk-weaker}
-use Rattle.unit_steps.specs.Standing as Steps
+use Rattle.unit_steps.specs.PointMeaning as Steps
 use Rattle.unit_parse.proofs.enter.enter.Goals as goal
 
 pub returns-in-Ok-Some : goal.returns-in-Ok-Some

@@ -1,7 +1,7 @@
 use Rattle.std.proofs.Common.{subst, ◌++◌, arith}
 use Rattle.tla_tree.specs.Lexemes.{then}
 use Rattle.unit_machine.specs.Machine.{frame}
-use Rattle.unit_frames.specs.Standing.{IsFrame}
+use Rattle.unit_frames.specs.FrameMeaning.{IsFrame}
 use Rattle.unit_frames.proofs.Popping.{popped, nothing-left}
 use Rattle.unit_steps.proofs.Stepping.{ended-alone, ended-below}
 use Rattle.unit_steps.proofs.endings.end_frame.Goals as goal

@@ -1,7 +1,7 @@
 use Rattle.std.proofs.Common.{List, length}
 use Rattle.std.specs.Prelude.{reverse}
 use Rattle.unit_machine.specs.Machine.{Frame}
-use Rattle.unit_frames.specs.Standing.{IsFrame, AreFrames}
+use Rattle.unit_frames.specs.FrameMeaning.{IsFrame, AreFrames}
 use Rattle.unit_steps.proofs.Stepping.{Goes}
 use Rattle.unit_steps.proofs.endings.end_frames.Given as goal
 

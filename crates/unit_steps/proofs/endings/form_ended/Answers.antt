@@ -1,5 +1,5 @@
 use Rattle.std.proofs.Common.{◌≡◌, true, false, ap, sym, ◌∙◌}
-use Rattle.unit_steps.specs.Standing.{form_of_end}
+use Rattle.unit_steps.specs.PointMeaning.{form_of_end}
 use Rattle.unit_steps.proofs.Stepping.{places-stay, not-ended}
 use Rattle.unit_steps.proofs.endings.form_ended.Goals as goal
 

@@ -1,5 +1,5 @@
 use Rattle.std.proofs.Common.{[]}
-use Rattle.name_graph.specs.Walks.{AreWalk, KeepsFound, work}
+use Rattle.name_graph.specs.SearchState.{AreWalk, KeepsFound, work}
 use Rattle.name_graph.proofs.components.Walk.run.Given as goal
 
 abbrev pub invariant-loop-top : goal.invariant-loop-top

@@ -1,5 +1,5 @@
 use Rattle.std.proofs.Common.{◌∙◌, ◌∷◌, ap, sym, subst}
-use Rattle.symbol_scope.specs.Rounds.{AreRound, IsOuter, begun_in}
+use Rattle.symbol_scope.specs.EnclosingReadings.{AreRound, IsOuter, begun_in}
 use Rattle.symbol_scope.proofs.Growing.{last-first}
 use Rattle.symbol_scope.proofs.nesting.Nesting.begin.Goals as goal
 

@@ -1,6 +1,6 @@
 use Rattle.std.proofs.Common.{◌∙◌, ap, reverse, subst, sym}
 use Rattle.symbol_scope.specs.Modules.{reading_of}
-use Rattle.symbol_scope.specs.Rounds.{AreRound, IsOuter, behind}
+use Rattle.symbol_scope.specs.EnclosingReadings.{AreRound, IsOuter, behind}
 use Rattle.symbol_scope.proofs.Growing.{last-first, outside-some}
 use Rattle.symbol_scope.proofs.nesting.Nesting.end.Goals as goal
 

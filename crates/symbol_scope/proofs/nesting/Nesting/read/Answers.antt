@@ -4,7 +4,7 @@ use Rattle.unit_grammar.specs.UnitNodes.{unit_at}
 use Rattle.symbol_scope.specs.declared.nesting.Nesting.{Nesting}
 use Rattle.symbol_scope.specs.Modules.{reading_of}
 use Rattle.symbol_scope.specs.Plain.{read_by}
-use Rattle.symbol_scope.specs.Rounds.{IsAt}
+use Rattle.symbol_scope.specs.EnclosingReadings.{IsAt}
 use Rattle.symbol_scope.proofs.Onward.{goes-on, plain-after, plain-found, went-by}
 use Rattle.symbol_scope.proofs.nesting.Nesting.read.Goals as goal
 

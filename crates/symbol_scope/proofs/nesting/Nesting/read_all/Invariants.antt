@@ -4,7 +4,7 @@ use Rattle.symbol_scope.specs.WithoutInstances.{files_of}
 use Rattle.module_model.specs.Modules.{Place}
 use Rattle.symbol_scope.specs.WithoutInstances.{found_from, read_all}
 use Rattle.unit_grammar.specs.UnitNodes.{unit_at}
-use Rattle.symbol_scope.specs.Rounds.{IsAt}
+use Rattle.symbol_scope.specs.EnclosingReadings.{IsAt}
 use Rattle.symbol_scope.proofs.nesting.Nesting.read_all.Given as goal
 
 abbrev pub invariant-loop-unit : goal.invariant-loop-unit

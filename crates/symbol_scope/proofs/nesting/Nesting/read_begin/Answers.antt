@@ -5,7 +5,7 @@ use Rattle.symbol_scope.specs.WithoutInstances.{files_of}
 use Rattle.module_model.specs.Modules.{all_clashing, extends_all, is_named, nested}
 use Rattle.symbol_scope.specs.Modules.{reading_of}
 use Rattle.symbol_scope.specs.Readings.{no_files}
-use Rattle.symbol_scope.specs.Rounds.{IsAt, begun_in}
+use Rattle.symbol_scope.specs.EnclosingReadings.{IsAt, begun_in}
 use Rattle.symbol_scope.proofs.Growing.{went-extends}
 use Rattle.symbol_scope.proofs.Onward.{goes-on}
 use Rattle.symbol_scope.proofs.nesting.Nesting.read_begin.Goals as goal

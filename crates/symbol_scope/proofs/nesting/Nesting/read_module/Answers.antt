@@ -1,7 +1,7 @@
 use Rattle.std.proofs.Common.{[], reverse, subst, sym}
 use Rattle.module_model.specs.Modules.{unread}
 use Rattle.symbol_scope.specs.Readings.{no_files}
-use Rattle.symbol_scope.specs.Rounds.{AreRound}
+use Rattle.symbol_scope.specs.EnclosingReadings.{AreRound}
 use Rattle.symbol_scope.proofs.nesting.Nesting.read_module.Goals as goal
 
 pub read_on-requires-clause-unread : goal.read_on-requires-clause-unread

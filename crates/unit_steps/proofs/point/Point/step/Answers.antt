@@ -1,7 +1,7 @@
 use Rattle.std.proofs.Common.{subst}
 use Rattle.std.proofs.lemmas.Result.{IfOk-weaker}
 use Rattle.unit_machine.specs.Machine as Machine
-use Rattle.unit_steps.specs.Standing.{IsMoved}
+use Rattle.unit_steps.specs.PointMeaning.{IsMoved}
 use Rattle.unit_steps.proofs.Stepping.{still, as-stands, as-declared, as-part, focus-moves}
 use Rattle.unit_steps.proofs.point.Point.step.Goals as goal
 

@@ -15,7 +15,7 @@ use Rattle.tree_scope.specs.TreeFindings.{walk, walk_chain, walk_each, walk_rest
 use Rattle.tree_scope.specs.declared.tasks.Task.TheVariants as task
 use Rattle.name_context.specs.AsTables.{mark_of}
 use Rattle.declared_names.specs.Nodes.{binders_at, form_at}
-use Rattle.tree_scope.specs.Walking.{Task, Outcome, chain, emit, is_chosen, run, visits}
+use Rattle.tree_scope.specs.WalkTasks.{Task, Outcome, chain, emit, is_chosen, run, visits}
 use Rattle.tree_scope.proofs.Scoping.{Grows, cut-grown, grows-bind, grows-bind_all, grows-refl, grows-trans}
 
 pub emit-append : (a b : List Finding) (o : Outcome) → emit (a ++ b) o ≡ emit a (emit b o)

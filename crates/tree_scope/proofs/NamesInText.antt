@@ -7,7 +7,7 @@ use Rattle.tla_tree.specs.Arena.{Node as ArenaNode, node_at, tree_at}
 use Rattle.tla_tree.specs.Syntax.{Trees, Node, Nil, Cons}
 use Rattle.tla_tree.proofs.Nodes.{tree_at-form}
 use Rattle.tla_model.specs.Entities.{Binding, all_placed, bound_as, defined, is_group, placed}
-use Rattle.tla_model.specs.Lexemes.{LiesIn, all_lexemes, held, lexemes}
+use Rattle.tla_model.specs.Lexemes.{LiesIn, all_lexemes, form_lexemes, lexemes}
 use Rattle.tla_model.specs.Scopes.{all_grouped, binders, names_in}
 use Rattle.list_laws.proofs.Lists.{all-both, all-left, all-right}
 use Rattle.tree_scope.specs.Lying.{BindersLie}
@@ -20,7 +20,7 @@ module _ (source : List ℕ) where
   abbrev P : Lexeme × ℕ → Type 0
   P name = LiesIn source name.0
 
-  placed-lies : (form : Form.the_data) → AllByRecursion L (held form) → AllByRecursion P (placed form)
+  placed-lies : (form : Form.the_data) → AllByRecursion L (form_lexemes form) → AllByRecursion P (placed form)
   placed-lies (Form.Name l) lie = lie
   placed-lies (Form.OperatorParameter l places) lie = lie
   placed-lies (Form.PrefixParameter l) lie = lie
@@ -31,8 +31,8 @@ module _ (source : List ℕ) where
   all-placed-lie : (parts : Trees) → AllByRecursion L (all_lexemes parts) → AllByRecursion P (all_placed parts)
   all-placed-lie Nil lie = tt
   all-placed-lie (Cons (Node f s parts) rest) lie =
-      let first = all-left L (held f ++ all_lexemes parts) (all_lexemes rest) lie in
-      all-both P (placed f) (all_placed rest) (placed-lies f (all-left L (held f) (all_lexemes parts) first)) (all-placed-lie rest (all-right L (held f ++ all_lexemes parts) (all_lexemes rest) lie))
+      let first = all-left L (form_lexemes f ++ all_lexemes parts) (all_lexemes rest) lie in
+      all-both P (placed f) (all_placed rest) (placed-lies f (all-left L (form_lexemes f) (all_lexemes parts) first)) (all-placed-lie rest (all-right L (form_lexemes f ++ all_lexemes parts) (all_lexemes rest) lie))
 
   names-in-lie : (b : Bool) (parts : Trees) → AllByRecursion L (all_lexemes parts) → AllByRecursion P (names_in b parts)
   names-in-lie true parts lie = all-placed-lie parts lie
@@ -41,8 +41,8 @@ module _ (source : List ℕ) where
   grouped-lie : (parts : Trees) → AllByRecursion L (all_lexemes parts) → AllByRecursion P (all_grouped parts)
   grouped-lie Nil lie = tt
   grouped-lie (Cons (Node f s parts) rest) lie =
-      let first = all-left L (held f ++ all_lexemes parts) (all_lexemes rest) lie in
-      all-both P (names_in (is_group f) parts) (all_grouped rest) (names-in-lie (is_group f) parts (all-right L (held f) (all_lexemes parts) first)) (grouped-lie rest (all-right L (held f ++ all_lexemes parts) (all_lexemes rest) lie))
+      let first = all-left L (form_lexemes f ++ all_lexemes parts) (all_lexemes rest) lie in
+      all-both P (names_in (is_group f) parts) (all_grouped rest) (names-in-lie (is_group f) parts (all-right L (form_lexemes f) (all_lexemes parts) first)) (grouped-lie rest (all-right L (form_lexemes f ++ all_lexemes parts) (all_lexemes rest) lie))
 
   bound-lie : (binding : Binding) (names : List (Lexeme × ℕ)) → AllByRecursion P names → BindersLie source (bound_as binding names)
   bound-lie binding [] lie = tt
@@ -55,7 +55,7 @@ module _ (source : List ℕ) where
   pub binders-lie : (form : Form.the_data) (parts : Trees) → AllByRecursion L (all_lexemes parts) → BindersLie source (binders form parts)
   binders-lie form parts lie = binders-by form parts (is_group form) refl lie
 
-  pub defined-lies : (form : Form.the_data) (parts : Trees) → AllByRecursion L (held form) → BindersLie source (defined form parts)
+  pub defined-lies : (form : Form.the_data) (parts : Trees) → AllByRecursion L (form_lexemes form) → BindersLie source (defined form parts)
   defined-lies (Form.OperatorDefinition l) parts lie = lie
   defined-lies (Form.PrefixDefinition l) parts lie = lie
   defined-lies (Form.InfixDefinition l) parts lie = lie
@@ -66,11 +66,11 @@ module _ (source : List ℕ) where
 
   module _ (nodes : List ArenaNode) (node : ℕ) where
     -- the lexeme that a node holds
-    pub held-lies : node < length nodes → AllByRecursion L (lexemes (tree_at nodes node)) → AllByRecursion L (held (form_at nodes node))
+    pub held-lies : node < length nodes → AllByRecursion L (lexemes (tree_at nodes node)) → AllByRecursion L (form_lexemes (form_at nodes node))
     held-lies there lie =
         let found = tree_at-form nodes node there in
-        all-left L (held (form_at nodes node)) (all_lexemes found.0) (subst (λ t. AllByRecursion L (lexemes t)) found.1 lie)
+        all-left L (form_lexemes (form_at nodes node)) (all_lexemes found.0) (subst (λ t. AllByRecursion L (lexemes t)) found.1 lie)
 
     -- those of its parts
     pub parts-lie : tree_at nodes node ≡ Node (form_at nodes node) (node_at nodes node).span (parts_at nodes node) → AllByRecursion L (lexemes (tree_at nodes node)) → AllByRecursion L (all_lexemes (parts_at nodes node))
-    parts-lie whole lie = all-right L (held (form_at nodes node)) (all_lexemes (parts_at nodes node)) (subst (λ t. AllByRecursion L (lexemes t)) whole lie)
+    parts-lie whole lie = all-right L (form_lexemes (form_at nodes node)) (all_lexemes (parts_at nodes node)) (subst (λ t. AllByRecursion L (lexemes t)) whole lie)

@@ -26,7 +26,7 @@ use Rattle.expr_grammar.specs.Machine.{start_bounds, whole_bounds, on_bounds, cl
 use Rattle.expr_laws.proofs.KindTests.{comma-is}
 use Rattle.expr_laws.proofs.Tabled.{promised, IsNoBullet}
 use Rattle.expr_laws.proofs.Asking.{AllFit}
-use Rattle.expr_laws.proofs.Reading.{outside}
+use Rattle.expr_laws.proofs.Completeness.{outside}
 use Rattle.expr_laws.proofs.Naming.{true-goes-on}
 use Rattle.expr_laws.proofs.Starting.{derives-shape, joined-snoc}
 use Rattle.expr_laws.proofs.Views.{Bounds, Sort, sort, binding, Stands, expression, symbol, instance, names, bound, arm, other_arm, segment, definition, parameter, replacement, update, step as of_step, Shut, HasRead, list_first, list_item, handing_segment, segment_name, binding_start, quantifier_first, quantifier_next, temporal_first, choose_first, image_bounds, square_first, function_names, function_bounds, except_updates, update_bang, step_first, step_next, case_arms, arm_guard, handing_definition, definition_name, prefix_name, definition_parameters, function_head_bounds, replacements, replacement_start, parameter_start, ItemsRead}

@@ -14,8 +14,8 @@ use Rattle.unit_grammar.specs.Units.{UnitTree}
 use Rattle.unit_machine.specs.Machine as Machine
 use Rattle.unit_frames.specs.declared.frame.Frame.{Frame}
 use Rattle.unit_frames.specs.declared.unfinished.Unfinished.{Unfinished}
-use Rattle.unit_frames.specs.Standing.{IsFrame, IsUnder}
-use Rattle.unit_steps.specs.Standing as Steps
+use Rattle.unit_frames.specs.FrameMeaning.{IsFrame, IsUnder}
+use Rattle.unit_steps.specs.PointMeaning as Steps
 use Rattle.unit_parse.specs.declared.reader.ExprReader.{ExprReader}
 use Rattle.unit_parse.specs.declared.reader.Fed.{Fed}
 use Rattle.unit_parse.specs.declared.state.State.{State}

@@ -19,7 +19,7 @@ use Rattle.expr_grammar.specs.Following.{IsQuiet, done_before}
 use Rattle.expr_laws.proofs.KindTests.{name-is, comma-is, right_bracket-is}
 use Rattle.expr_laws.proofs.Following.{before-quiet}
 use Rattle.expr_laws.proofs.Stopping.{done-derives}
-use Rattle.expr_laws.proofs.Sounding.{accepted-bounds}
+use Rattle.expr_laws.proofs.Soundness.{accepted-bounds}
 use Rattle.unit_grammar.specs.Units.{UnitTree, Constants, ModuleBegin, ModuleEnd, ModuleUnits}
 use Rattle.unit_grammar.specs.Derivation.{DeclaresConstants, SpellsNames, last_name, more_names, BeginsModule, alone, extending, SpellsLocal, exported, kept, DerivesModule}
 use Rattle.unit_machine.specs.declared.wait.Due.{Due}

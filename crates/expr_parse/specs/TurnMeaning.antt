@@ -18,7 +18,7 @@ use Rattle.tree_parts.specs.declared.part.Part.{Part}
 use Rattle.tree_parts.specs.Parts.{IsPart, Grows}
 use Rattle.expr_stack.specs.declared.stack.Stack.{Stack}
 use Rattle.expr_parse.specs.declared.turn.Turn.{Turn}
-use Rattle.expr_stack.specs.Standing.{Stands, Opens}
+use Rattle.expr_stack.specs.StackMeaning.{Stands, Opens}
 
 -- what a lexeme led to is the machine's state, or its refusal
 abbrev pub IsTurn : List Arena.Node → Stack → Turn → Option State → Type 0

@@ -15,7 +15,7 @@ use Rattle.unit_machine.specs.Machine as Machine
 use Rattle.unit_machine.specs.Machine.{node, taking, part_step, moved, finished, reading}
 use Rattle.unit_frames.specs.declared.frame.Frame.{Frame}
 use Rattle.unit_frames.specs.declared.unfinished.Unfinished.{Unfinished}
-use Rattle.unit_frames.specs.Standing.{AreParts, IsFrame, AreFrames, IsReached, IsUnder}
+use Rattle.unit_frames.specs.FrameMeaning.{AreParts, IsFrame, AreFrames, IsReached, IsUnder}
 use Rattle.unit_steps.specs.declared.point.Point.{Point}
 use Rattle.unit_steps.specs.declared.point.Next.{Next}
 

@@ -12,7 +12,7 @@ use Rattle.tla_model.specs.declared.names.Finding.TheVariants.{Unknown}
 use Rattle.tla_model.specs.Contexts.{Context, bind, bind_all}
 use Rattle.tla_model.specs.Entities.{Text, entity_of}
 use Rattle.tla_model.specs.Lexemes.{LiesIn, all_lexemes, lexemes}
-use Rattle.tla_model.specs.Scopes.{Finding, all_refused, has_set, itself, symbol}
+use Rattle.tla_model.specs.Scopes.{Finding, all_refused, has_set, itself, symbol_findings}
 use Rattle.tla_model.specs.Scopes.{definition}
 use Rattle.tree_scope.specs.TreeFindings.{segments, walk}
 use Rattle.tree_scope.specs.declared.tasks.Task.TheVariants as task
@@ -150,7 +150,7 @@ module _ (text : Text) (nodes : List Node) where
   abbrev pub run : Context → List Task → Outcome
   run context [] = record { findings = []; context = context }
   run context (task.Visit node ∷ tasks) = emit (walk text context (tree_at nodes node)) (run context tasks)
-  run context (task.Symbol l ∷ tasks) = emit (symbol context itself l l.kind) (run context tasks)
+  run context (task.Symbol l ∷ tasks) = emit (symbol_findings context itself l l.kind) (run context tasks)
   run context (task.Missing l ∷ tasks) = emit (Unknown l ∷ []) (run context tasks)
   run context (task.Bind node ∷ tasks) = emit (all_refused text context (binders_at nodes node)) (run (bind_all text context (binders_at nodes node)) tasks)
   run context (task.Define node ∷ tasks) = run (bind_all text context (definition (tree_at nodes node))) tasks

@@ -9,8 +9,8 @@ use Rattle.tla_tree.specs.Arena.{Node as ArenaNode, AreThere, node_at, tree_at}
 use Rattle.tla_tree.specs.Syntax.{Trees, Node, trees}
 use Rattle.tla_model.specs.Contexts.{Context, bind_all}
 use Rattle.tla_model.specs.Entities.{Text}
-use Rattle.tla_model.specs.Lexemes.{LiesIn, all_lexemes, held, lexemes}
-use Rattle.tla_model.specs.Scopes.{Finding, all_refused, has_set, itself, prefixed, reserved, symbol}
+use Rattle.tla_model.specs.Lexemes.{LiesIn, all_lexemes, form_lexemes, lexemes}
+use Rattle.tla_model.specs.Scopes.{Finding, all_refused, has_set, itself, prefixed, reserved, symbol_findings}
 use Rattle.list_laws.proofs.Lists.{all-both, all-left, all-right}
 use Rattle.tree_scope.specs.TreeFindings.{walk, walk_each, walk_rest, walk_round, walk_sets}
 use Rattle.tree_scope.specs.declared.tasks.Task.TheVariants as task
@@ -18,10 +18,10 @@ use Rattle.tree_scope.specs.declared.tasks.Naming.TheVariants as how
 use Rattle.name_context.specs.declared.context.Mark.{Mark}
 use Rattle.name_context.specs.AsTables.{mark_of}
 use Rattle.declared_names.specs.Nodes.{IsWhole, binders_at, defined_at, form_at, parts_at}
-use Rattle.tree_scope.specs.Walking.{Task, AreReady, AreSegments, IsDone, IsNode, IsReady, all_size, between_tasks, chain, emit, function_tasks, image_tasks, in_scope, is_chosen, naming, run, scope_tasks, size, size_of, sizes, visits, with_sets}
-use Rattle.tree_scope.proofs.Doing.{each-run, emit-append, first-run, function-run, order-run, scope-run, sets-run}
+use Rattle.tree_scope.specs.WalkTasks.{Task, AreReady, AreSegments, IsDone, IsNode, IsReady, all_size, between_tasks, chain, emit, function_tasks, image_tasks, in_scope, is_chosen, naming, run, scope_tasks, size, size_of, sizes, visits, with_sets}
+use Rattle.tree_scope.proofs.TaskFindings.{each-run, emit-append, first-run, function-run, order-run, scope-run, sets-run}
 use Rattle.tree_scope.proofs.Scoping.{grows-refl, grows-reserve_all}
-use Rattle.tree_scope.proofs.Lies.{parts-lie}
+use Rattle.tree_scope.proofs.NamesInText.{parts-lie}
 use Rattle.tree_scope.proofs.Shapes.{walk-bare, walk-before, walk-behind, walk-between, walk-function, walk-last, walk-order, walk-path, walk-plain, function-name}
 
 assoc4 : {A : Type 0} (d s b r : List A) → d ++ s ++ b ++ r ≡ d ++ (s ++ b ++ r)
@@ -169,16 +169,16 @@ module _ (text : Text) (nodes : List ArenaNode) where
         (ap (run text nodes context) is ∙ order-run text nodes context kids old)
         (rw (is, size-is, size-append (chain kids) (task.Leave (mark_of context) ∷ old), chain-size kids) (omega arith))
 
-    pub bare-done : (l : Lexeme) (context : Context) (findings findings' : List Finding) (old : List Task) → naming form ≡ how.Bare l → AreReady text nodes old → findings' ≡ findings ++ symbol context itself l l.kind →
+    pub bare-done : (l : Lexeme) (context : Context) (findings findings' : List Finding) (old : List Task) → naming form ≡ how.Bare l → AreReady text nodes old → findings' ≡ findings ++ symbol_findings context itself l l.kind →
         IsDone text nodes (task.Visit node) context context findings findings' old old
     bare-done l context findings findings' old named ready are =
-        done context context findings findings' (symbol context itself l l.kind) [] old old ready are
-        (walk-is context ∙ walk-bare text context (node_at nodes node).span parts form l named ∙ sym (append-nil (symbol context itself l l.kind))) refl (rw size-is (omega arith))
+        done context context findings findings' (symbol_findings context itself l l.kind) [] old old ready are
+        (walk-is context ∙ walk-bare text context (node_at nodes node).span parts form l named ∙ sym (append-nil (symbol_findings context itself l l.kind))) refl (rw size-is (omega arith))
 
-    pub before-done : (l : Lexeme) (context : Context) (findings findings' : List Finding) (old new : List Task) → naming form ≡ how.Prefix l → AreReady text nodes old → findings' ≡ findings ++ symbol context prefixed l l.kind → new ≡ visits kids ++ old →
+    pub before-done : (l : Lexeme) (context : Context) (findings findings' : List Finding) (old new : List Task) → naming form ≡ how.Prefix l → AreReady text nodes old → findings' ≡ findings ++ symbol_findings context prefixed l l.kind → new ≡ visits kids ++ old →
         IsDone text nodes (task.Visit node) context context findings findings' old new
     before-done l context findings findings' old new named ready are is =
-        done context context findings findings' (symbol context prefixed l l.kind) _ old new (subst (AreReady text nodes) (sym is) (ready-append (visits kids) old kids-ready ready)) are
+        done context context findings findings' (symbol_findings context prefixed l l.kind) _ old new (subst (AreReady text nodes) (sym is) (ready-append (visits kids) old kids-ready ready)) are
         (walk-is context ∙ walk-before text context (node_at nodes node).span parts form l named) (ap (run text nodes context) is ∙ each-run text nodes context kids old)
         (rw (is, size-is, size-append (visits kids) old) (omega (arith, visits-size kids)))
 
@@ -187,15 +187,15 @@ module _ (text : Text) (nodes : List ArenaNode) where
     behind-done l context findings old new named ready is =
         done context context findings findings [] _ old new (subst (AreReady text nodes) (sym is) (ready-append (visits kids) (task.Symbol l ∷ old) kids-ready (tt, ready))) (sym (append-nil findings))
         (walk-is context ∙ walk-behind text context (node_at nodes node).span parts form l named)
-        (ap (run text nodes context) is ∙ each-run text nodes context kids (task.Symbol l ∷ old) ∙ sym (emit-append (walk_each text context (at kids)) (symbol context itself l l.kind) (run text nodes context old)))
+        (ap (run text nodes context) is ∙ each-run text nodes context kids (task.Symbol l ∷ old) ∙ sym (emit-append (walk_each text context (at kids)) (symbol_findings context itself l l.kind) (run text nodes context old)))
         (rw (is, size-is, size-append (visits kids) (task.Symbol l ∷ old)) (omega (arith, visits-size kids)))
 
   between-run : (l : Lexeme) (context : Context) (numbers : List ℕ) (old : List Task) → run text nodes context (between_tasks l numbers old) ≡ emit (walk_round text context l (at numbers)) (run text nodes context old)
   between-run l context [] old = refl
   between-run l context (x ∷ numbers) old =
-      ap (λ z. emit (walk text context (tree_at nodes x)) (emit (symbol context itself l l.kind) z)) (each-run text nodes context numbers old)
-      ∙ sym (emit-append (walk text context (tree_at nodes x) ++ symbol context itself l l.kind) (walk_each text context (at numbers)) (run text nodes context old)
-      ∙ emit-append (walk text context (tree_at nodes x)) (symbol context itself l l.kind) (emit (walk_each text context (at numbers)) (run text nodes context old)))
+      ap (λ z. emit (walk text context (tree_at nodes x)) (emit (symbol_findings context itself l l.kind) z)) (each-run text nodes context numbers old)
+      ∙ sym (emit-append (walk text context (tree_at nodes x) ++ symbol_findings context itself l l.kind) (walk_each text context (at numbers)) (run text nodes context old)
+      ∙ emit-append (walk text context (tree_at nodes x)) (symbol_findings context itself l l.kind) (emit (walk_each text context (at numbers)) (run text nodes context old)))
 
   between-ready : (l : Lexeme) (numbers : List ℕ) (old : List Task) → AreReady text nodes (visits numbers) → AreReady text nodes old → AreReady text nodes (between_tasks l numbers old)
   between-ready l [] old all ready = (tt, ready)
@@ -222,7 +222,7 @@ module _ (text : Text) (nodes : List ArenaNode) where
       less = rw (size-is node one whole there) (omega (arith, found.less));
     }
 
-pub function-lies : (text : Text) (form : Form.the_data) (l : Lexeme) → naming form ≡ how.Function l → AllByRecursion (LiesIn text.source) (held form) → LiesIn text.source l
+pub function-lies : (text : Text) (form : Form.the_data) (l : Lexeme) → naming form ≡ how.Function l → AllByRecursion (LiesIn text.source) (form_lexemes form) → LiesIn text.source l
 function-lies text form l e lie = (subst (AllByRecursion (LiesIn text.source)) (function-name form l e) lie).0
 
 -- the other tasks
