@@ -122,7 +122,8 @@ fn resolved(
     requires instances { IsWithoutInstances imported.now (module_of tree.now) }
     requires name { spelled tree.now.source tree.now.name ≡ name.now }
     requires needed { needed.now ≡ imports_of tree.now.source (module_of tree.now) }
-    ensures { IfOk result (λ checked. IsResolved imported.now tree.now.source (module_of tree.now) checked) }
+    ensures { IfOk result
+        (λ checked. IsResolved imported.now tree.now.source (module_of tree.now) checked) }
 {
     let found = resolve(alloc, tree, imported)?;
     let Resolved { bound, exports } = found;
@@ -143,8 +144,11 @@ pub fn check_module<L>(
     requires readable { IsReadable tree.now }
     requires instances { IsWithoutInstances imported.now (module_of tree.now) }
     requires name { spelled tree.now.source tree.now.name ≡ name.now }
-    ensures checked { IfOk result (λ checked. IsChecked (given_in imported.now) tree.now.source (module_of tree.now) checked) }
-    ensures face { IfOk result (λ checked. IsFaceOf imported.now tree.now.source (module_of tree.now) checked.faults checked.parts) }
+    ensures checked { IfOk result (λ checked. IsChecked (given_in imported.now) tree.now.source
+        (module_of tree.now) checked) }
+    ensures face { IfOk result
+        (λ checked. IsFaceOf imported.now tree.now.source (module_of tree.now) checked.faults
+        checked.parts) }
     ensures behind { IfOk result (λ checked. parts_behind checked.parts checked.parts ≡ []) }
     ensures tick { steps.new ≡ min (steps.old + 1) (2 ^ 64 - 1) }
 {

@@ -25,7 +25,8 @@ pub enum Due {
 
 // Puts nodes on top of what is due, the first one last.
 fn push_nodes(todo: &mut Vec<Due>, binding: Binding, nodes: &[u32]) -> Result<(), Memory>
-    ensures { OnOk result (todo.new.items ≡ todo.old.items ++ due.names_of binding (reverse nodes.now)) }
+    ensures { OnOk result (todo.new.items
+        ≡ todo.old.items ++ due.names_of binding (reverse nodes.now)) }
 {
     for node in nodes.iter().rev().copied() {
         todo.push(Due::Names { node, binding })?;
@@ -48,7 +49,8 @@ fn lead(follows: bool, parts: &[u32]) -> usize
 fn push_parts(todo: &mut Vec<Due>, tree: &Tree, node: u32, binding: Binding) -> Result<(), Memory>
     requires there { node < length tree.now }
     requires due { due.AreDue tree.now (due.stack todo.old.items) }
-    ensures { OnOk result (due.IsOpened tree.now node binding (due.stack todo.old.items) (due.stack todo.new.items)) }
+    ensures { OnOk result (due.IsOpened tree.now node binding (due.stack todo.old.items)
+        (due.stack todo.new.items)) }
 {
     let form = tree.form(node);
     let binding = binding_in(binding, form);
@@ -87,7 +89,8 @@ fn take(
 ) -> Result<(), Memory>
     requires there { due.IsThere tree.now next }
     requires due { due.AreDue tree.now (due.stack todo.old.items) }
-    ensures { OnOk result (due.IsTaken tree.now next names.old names.new (due.stack todo.old.items) (due.stack todo.new.items)) }
+    ensures { OnOk result (due.IsTaken tree.now next names.old names.new (due.stack todo.old.items)
+        (due.stack todo.new.items)) }
 {
     match next {
         Due::Names { node, binding } => {
@@ -107,7 +110,8 @@ fn push_declared(
     nodes: &[u32],
 ) -> Result<(), Memory>
     requires { AreThere tree.now nodes.now }
-    ensures { OnOk result (names.new ≡ names.old ++ entities.declared_among binding (trees (map (tree_at tree.now) nodes.now))) }
+    ensures { OnOk result (names.new
+        ≡ names.old ++ entities.declared_among binding (trees (map (tree_at tree.now) nodes.now))) }
 {
     let mut todo = Vec::new(alloc);
     push_nodes(&mut todo, binding, nodes)?;
@@ -138,7 +142,8 @@ pub fn push_unit(
     unit: &Unit,
 ) -> Result<(), Memory>
     requires { AreThere tree.now (nodes_in unit.now) }
-    ensures { OnOk result (names.new ≡ names.old ++ entities.declared_by (unit_at tree.now unit.now)) }
+    ensures { OnOk result (names.new
+        ≡ names.old ++ entities.declared_by (unit_at tree.now unit.now)) }
 {
     let bound = Binding::Bound { state: false };
     match unit {

@@ -17,7 +17,8 @@ use tool_list::{List, Memory, SharedList};
 
 /// Appends the name at a form, as what it is bound.
 pub fn push_placed(names: &mut List<Binder>, binding: Binding, form: Form) -> Result<(), Memory>
-    ensures { OnOk result (names.new ≡ names.old ++ entities.bound_as binding (entities.placed form)) }
+    ensures { OnOk result (names.new
+        ≡ names.old ++ entities.bound_as binding (entities.placed form)) }
 {
     if let Some((name, places)) = placed(form) {
         names.push(Binder {
@@ -36,7 +37,10 @@ fn push_all_placed(
     nodes: &[u32],
 ) -> Result<(), Memory>
     requires { AreThere tree.now nodes.now }
-    ensures { OnOk result (names.new ≡ names.old ++ entities.bound_as binding (entities.all_placed (trees (map (tree_at tree.now) nodes.now)))) }
+    ensures { OnOk result (names.new
+        ≡ names.old
+        ++ entities.bound_as binding
+        (entities.all_placed (trees (map (tree_at tree.now) nodes.now)))) }
 {
     for node in nodes {
         push_placed(names, binding, tree.form(*node))?;
@@ -52,7 +56,9 @@ fn push_group(
     node: u32,
 ) -> Result<(), Memory>
     requires { node < length tree.now }
-    ensures { OnOk result (names.new ≡ names.old ++ entities.bound_as binding (scopes.all_grouped (trees (tree_at tree.now node ∷ [])))) }
+    ensures { OnOk result (names.new
+        ≡ names.old
+        ++ entities.bound_as binding (scopes.all_grouped (trees (tree_at tree.now node ∷ [])))) }
 {
     if is_group(tree.form(node)) {
         push_all_placed(names, binding, tree, tree.children(node))?;
@@ -68,7 +74,10 @@ fn push_groups(
     nodes: &[u32],
 ) -> Result<(), Memory>
     requires { AreThere tree.now nodes.now }
-    ensures { OnOk result (names.new ≡ names.old ++ entities.bound_as binding (scopes.all_grouped (trees (map (tree_at tree.now) nodes.now)))) }
+    ensures { OnOk result (names.new
+        ≡ names.old
+        ++ entities.bound_as binding
+        (scopes.all_grouped (trees (map (tree_at tree.now) nodes.now)))) }
 {
     for node in nodes {
         push_group(names, binding, tree, *node)?;
@@ -112,7 +121,8 @@ fn push_order(orders: &mut List<u32>, form: Form) -> Result<(), Memory>
 // The numbers of places of the names of nodes.
 fn orders(alloc: Global, tree: &Tree, nodes: &[u32]) -> Result<SharedList<u32>, Memory>
     requires { AreThere tree.now nodes.now }
-    ensures { IfOk result (λ orders. orders ≡ entities.orders (trees (map (tree_at tree.now) nodes.now))) }
+    ensures { IfOk result (λ orders. orders
+        ≡ entities.orders (trees (map (tree_at tree.now) nodes.now))) }
 {
     let mut orders = List::new(alloc);
     for node in nodes {

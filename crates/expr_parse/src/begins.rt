@@ -45,7 +45,11 @@ fn handed(wait: Wait) -> Option<Span>
 
 /// The frame goes on, waiting for this. A part with a frame of its own begins at once.
 pub(crate) fn goes_on(stack: &mut Stack, wait: Wait, opening: Opening) -> Result<Turn, Memory>
-    ensures { IfOk result (λ turn. (nodes : List Node) → (parts : List syntax.Tree) → (read : List Lexeme) → (below : List machine.Frame) → Opens nodes stack.old opening parts read below → IsTurn nodes stack.new turn (Some (machine.ready (machine.frame wait parts read ∷ below)))) }
+    ensures { IfOk result (λ turn. (nodes : List Node) → (parts : List syntax.Tree)
+        → (read : List Lexeme) → (below : List machine.Frame)
+        → Opens nodes stack.old opening parts read below
+        → IsTurn nodes stack.new turn
+        (Some (machine.ready (machine.frame wait parts read ∷ below)))) }
 {
     stack.put(entry(wait), opening)?;
     if let Some(part) = child(wait) {
@@ -57,7 +61,10 @@ pub(crate) fn goes_on(stack: &mut Stack, wait: Wait, opening: Opening) -> Result
 
 // A frame begins with the lexeme.
 fn push(stack: &mut Stack, wait: Wait, lexeme: Lexeme) -> Result<Turn, Memory>
-    ensures { IfOk result (λ turn. (nodes : List Node) → (frames : List machine.Frame) → Stands nodes stack.old frames → IsTurn nodes stack.new turn (Some (machine.ready (machine.frame wait [] (lexeme ∷ []) ∷ frames)))) }
+    ensures { IfOk result (λ turn. (nodes : List Node) → (frames : List machine.Frame)
+        → Stands nodes stack.old frames
+        → IsTurn nodes stack.new turn
+        (Some (machine.ready (machine.frame wait [] (lexeme ∷ []) ∷ frames)))) }
 {
     let opening = stack.opening(Some(lexeme.span));
     let turn = goes_on(stack, wait, opening)?;
@@ -66,7 +73,11 @@ fn push(stack: &mut Stack, wait: Wait, lexeme: Lexeme) -> Result<Turn, Memory>
 
 // A frame begins with the lexeme, and with a part that is made of it.
 fn push_part(stack: &mut Stack, wait: Wait, part: Part) -> Result<Turn, Memory>
-    ensures { IfOk result (λ turn. (nodes : List Node) → (frames : List machine.Frame) → (tree : syntax.Tree) → (spelled : List Lexeme) → Stands nodes stack.old frames → IsPart nodes part tree spelled → IsTurn nodes stack.new turn (Some (machine.ready (machine.frame wait (tree ∷ []) spelled ∷ frames)))) }
+    ensures { IfOk result (λ turn. (nodes : List Node) → (frames : List machine.Frame)
+        → (tree : syntax.Tree) → (spelled : List Lexeme) → Stands nodes stack.old frames
+        → IsPart nodes part tree spelled
+        → IsTurn nodes stack.new turn
+        (Some (machine.ready (machine.frame wait (tree ∷ []) spelled ∷ frames)))) }
 {
     let opening = stack.opening(None);
     let opening = stack.hold(opening, part)?;
@@ -84,7 +95,11 @@ fn take_leaf(
     lexeme: Lexeme,
     wait: Wait,
 ) -> Result<Turn, Memory>
-    ensures { IfOk result (λ turn. (parts : List syntax.Tree) → (read : List Lexeme) → (below : List machine.Frame) → Opens tree.old stack.old opening parts read below → Turns tree.old tree.new stack.new turn (machine.marked (MarkMove.LeafOf form name wait) (machine.frame wait parts read) below lexeme) 1) }
+    ensures { IfOk result (λ turn. (parts : List syntax.Tree) → (read : List Lexeme)
+        → (below : List machine.Frame) → Opens tree.old stack.old opening parts read below
+        → Turns tree.old tree.new stack.new turn
+        (machine.marked (MarkMove.LeafOf form name wait) (machine.frame wait parts read) below
+        lexeme) 1) }
 {
     let part = leaf(tree, form, name)?;
     let part = Part {
@@ -98,7 +113,10 @@ fn take_leaf(
 
 /// A part that ended with its own last lexeme. A frame may take it at once.
 pub(crate) fn complete(stack: &mut Stack, part: Part) -> Result<Turn, Memory>
-    ensures { IfOk result (λ turn. (nodes : List Node) → (frames : List machine.Frame) → (tree : syntax.Tree) → (spelled : List Lexeme) → Stands nodes stack.old frames → IsPart nodes part tree spelled → IsTurn nodes stack.new turn (Some (machine.complete frames tree spelled))) }
+    ensures { IfOk result (λ turn. (nodes : List Node) → (frames : List machine.Frame)
+        → (tree : syntax.Tree) → (spelled : List Lexeme) → Stands nodes stack.old frames
+        → IsPart nodes part tree spelled
+        → IsTurn nodes stack.new turn (Some (machine.complete frames tree spelled))) }
 {
     let Some(frame) = stack.pop() else {
         return Ok(Turn::Read(part));
@@ -125,7 +143,10 @@ fn close_with(
     lexeme: Lexeme,
 ) -> Result<Turn, Memory>
     requires { IsOpen tree.old stack.old opening }
-    ensures { IfOk result (λ turn. (frame : machine.Frame) → (below : List machine.Frame) → Opens tree.old stack.old opening frame.parts frame.read below → Turns tree.old tree.new stack.new turn (machine.marked (MarkMove.Close form) frame below lexeme) 1) }
+    ensures { IfOk result (λ turn. (frame : machine.Frame) → (below : List machine.Frame)
+        → Opens tree.old stack.old opening frame.parts frame.read below
+        → Turns tree.old tree.new stack.new turn
+        (machine.marked (MarkMove.Close form) frame below lexeme) 1) }
 {
     let part = stack.node(tree, form, opening.reads(Some(lexeme.span)))?;
     let turn = complete(stack, part)?;
@@ -135,7 +156,11 @@ fn close_with(
 // A frame ends before the lexeme, if it may end without a further part.
 fn end(stack: &mut Stack, tree: &mut Tree, frame: Frame, lexeme: Lexeme) -> Result<Turn, Memory>
     requires { IsOpen tree.old stack.old frame.opening }
-    ensures { IfOk result (λ turn. (top : machine.Frame) → (below : List machine.Frame) → frame.wait ≡ top.wait → Opens tree.old stack.old frame.opening top.parts top.read below → Turns tree.old tree.new stack.new turn (machine.ended (tables.endable top.wait (Some lexeme.kind)) top below lexeme) (counting.made_ended (tables.endable top.wait (Some lexeme.kind)) top below lexeme)) }
+    ensures { IfOk result (λ turn. (top : machine.Frame) → (below : List machine.Frame)
+        → frame.wait ≡ top.wait → Opens tree.old stack.old frame.opening top.parts top.read below
+        → Turns tree.old tree.new stack.new turn
+        (machine.ended (tables.endable top.wait (Some lexeme.kind)) top below lexeme)
+        (counting.made_ended (tables.endable top.wait (Some lexeme.kind)) top below lexeme)) }
 {
     let Some(form) = endable(frame.wait, Some(lexeme.kind)) else {
         return Ok(Turn::Refused);
@@ -158,7 +183,11 @@ fn counts(wait: Wait) -> bool
 // A lexeme of the frame's own form.
 fn mark(stack: &mut Stack, tree: &mut Tree, frame: Frame, lexeme: Lexeme) -> Result<Turn, Memory>
     requires { IsOpen tree.old stack.old frame.opening }
-    ensures { IfOk result (λ turn. (top : machine.Frame) → (below : List machine.Frame) → frame.wait ≡ top.wait → Opens tree.old stack.old frame.opening top.parts top.read below → Turns tree.old tree.new stack.new turn (machine.marked (tables.at_mark top.wait lexeme) top below lexeme) (counting.made_mark (tables.at_mark top.wait lexeme) top below lexeme)) }
+    ensures { IfOk result (λ turn. (top : machine.Frame) → (below : List machine.Frame)
+        → frame.wait ≡ top.wait → Opens tree.old stack.old frame.opening top.parts top.read below
+        → Turns tree.old tree.new stack.new turn
+        (machine.marked (tables.at_mark top.wait lexeme) top below lexeme)
+        (counting.made_mark (tables.at_mark top.wait lexeme) top below lexeme)) }
 {
     let opening = frame.opening;
     if !counts(frame.wait) {
@@ -200,7 +229,11 @@ fn mark(stack: &mut Stack, tree: &mut Tree, frame: Frame, lexeme: Lexeme) -> Res
 // A lexeme of the innermost frame's own form.
 fn mark_top(stack: &mut Stack, tree: &mut Tree, lexeme: Lexeme) -> Result<Turn, Memory>
     requires { IsDue tree.old stack.old }
-    ensures { IfOk result (λ turn. (top : machine.Frame) → (below : List machine.Frame) → Stands tree.old stack.old (top ∷ below) → Turns tree.old tree.new stack.new turn (machine.marked (tables.at_mark top.wait lexeme) top below lexeme) (counting.made_mark (tables.at_mark top.wait lexeme) top below lexeme)) }
+    ensures { IfOk result (λ turn. (top : machine.Frame) → (below : List machine.Frame)
+        → Stands tree.old stack.old (top ∷ below)
+        → Turns tree.old tree.new stack.new turn
+        (machine.marked (tables.at_mark top.wait lexeme) top below lexeme)
+        (counting.made_mark (tables.at_mark top.wait lexeme) top below lexeme)) }
 {
     let Some(frame) = stack.pop() else {
         return Ok(Turn::Refused);
@@ -212,7 +245,11 @@ fn mark_top(stack: &mut Stack, tree: &mut Tree, lexeme: Lexeme) -> Result<Turn, 
 // The innermost frame ends before the lexeme, if it may end without a further part.
 fn end_top(stack: &mut Stack, tree: &mut Tree, lexeme: Lexeme) -> Result<Turn, Memory>
     requires { IsDue tree.old stack.old }
-    ensures { IfOk result (λ turn. (top : machine.Frame) → (below : List machine.Frame) → Stands tree.old stack.old (top ∷ below) → Turns tree.old tree.new stack.new turn (machine.ended (tables.endable top.wait (Some lexeme.kind)) top below lexeme) (counting.made_ended (tables.endable top.wait (Some lexeme.kind)) top below lexeme)) }
+    ensures { IfOk result (λ turn. (top : machine.Frame) → (below : List machine.Frame)
+        → Stands tree.old stack.old (top ∷ below)
+        → Turns tree.old tree.new stack.new turn
+        (machine.ended (tables.endable top.wait (Some lexeme.kind)) top below lexeme)
+        (counting.made_ended (tables.endable top.wait (Some lexeme.kind)) top below lexeme)) }
 {
     let Some(frame) = stack.pop() else {
         return Ok(Turn::Refused);
@@ -224,7 +261,10 @@ fn end_top(stack: &mut Stack, tree: &mut Tree, lexeme: Lexeme) -> Result<Turn, M
 // What the lexeme begins, or else does to the innermost frame.
 fn begin(stack: &mut Stack, tree: &mut Tree, start: Start, lexeme: Lexeme) -> Result<Turn, Memory>
     requires { IsDue tree.old stack.old }
-    ensures { IfOk result (λ turn. (top : machine.Frame) → (below : List machine.Frame) → Stands tree.old stack.old (top ∷ below) → Turns tree.old tree.new stack.new turn (machine.begun start top below lexeme) (counting.made_begun start top below lexeme)) }
+    ensures { IfOk result (λ turn. (top : machine.Frame) → (below : List machine.Frame)
+        → Stands tree.old stack.old (top ∷ below)
+        → Turns tree.old tree.new stack.new turn (machine.begun start top below lexeme)
+        (counting.made_begun start top below lexeme)) }
 {
     match start {
         Start::Leaf(form) => {
@@ -256,7 +296,9 @@ fn begin(stack: &mut Stack, tree: &mut Tree, start: Start, lexeme: Lexeme) -> Re
 /// aligned list begins nothing inside it.
 pub(crate) fn due(stack: &mut Stack, tree: &mut Tree, lexeme: Lexeme) -> Result<Turn, Memory>
     requires { IsDue tree.old stack.old }
-    ensures { IfOk result (λ turn. (frames : List machine.Frame) → Stands tree.old stack.old frames → Turns tree.old tree.new stack.new turn (machine.due frames lexeme) (counting.made_due frames lexeme)) }
+    ensures { IfOk result (λ turn. (frames : List machine.Frame) → Stands tree.old stack.old frames
+        → Turns tree.old tree.new stack.new turn (machine.due frames lexeme)
+        (counting.made_due frames lexeme)) }
 {
     let Some(wait) = stack.wait() else {
         return Ok(Turn::Refused);

@@ -26,7 +26,9 @@ use tree_parts::{Part, add, covered, joined};
 // A name that was read as an expression and binds.
 fn name_node(tree: &mut Tree, node: u32) -> Result<u32, Memory>
     requires { node < length tree.old }
-    ensures { IfOk result (λ name. Renamed tree.old tree.new name (tables.name_of (tree_at tree.old node)) (counting.made_name (tree_at tree.old node))) }
+    ensures { IfOk result
+        (λ name. Renamed tree.old tree.new name (tables.name_of (tree_at tree.old node))
+        (counting.made_name (tree_at tree.old node))) }
 {
     let Shape::Plain(name) = shape(tree, node) else {
         return Ok(node);
@@ -38,7 +40,9 @@ fn name_node(tree: &mut Tree, node: u32) -> Result<u32, Memory>
 /// The same as a part.
 pub(crate) fn name_of(tree: &mut Tree, part: Part) -> Result<Part, Memory>
     requires { IsThere tree.old part }
-    ensures { IfOk result (λ name. (last : syntax.Tree) → (spelled : List Lexeme) → IsPart tree.old part last spelled → Becomes tree.old tree.new name (tables.name_of last) spelled (counting.made_name last)) }
+    ensures { IfOk result (λ name. (last : syntax.Tree) → (spelled : List Lexeme)
+        → IsPart tree.old part last spelled
+        → Becomes tree.old tree.new name (tables.name_of last) spelled (counting.made_name last)) }
 {
     let node = name_node(tree, part.node)?;
     Ok(Part {
@@ -50,7 +54,8 @@ pub(crate) fn name_of(tree: &mut Tree, part: Part) -> Result<Part, Memory>
 // The names of a tuple that was read as an expression and binds.
 fn names_of(alloc: Global, tree: &mut Tree, tuple: u32) -> Result<Vec<u32>, Memory>
     requires { tuple < length tree.old }
-    ensures { IfOk result (λ names. AreNames tree.old tree.new names.items (parts_of (tree_at tree.old tuple))) }
+    ensures { IfOk result
+        (λ names. AreNames tree.old tree.new names.items (parts_of (tree_at tree.old tuple))) }
 {
     let mut names = Vec::new(alloc);
     let count = tree.children(tuple).len();
@@ -110,7 +115,10 @@ fn bound_of(
 ) -> Result<u32, Memory>
     requires left { operands.left < length tree.old }
     requires right { operands.right < length tree.old }
-    ensures { IfOk result (λ bound. (spelled : List Lexeme) → place ≡ place_of spelled → Renamed tree.old tree.new bound (tables.bound_of (tree_at tree.old operands.left) (tree_at tree.old operands.right) spelled) (counting.made_bound (tree_at tree.old operands.left))) }
+    ensures { IfOk result (λ bound. (spelled : List Lexeme) → place ≡ place_of spelled
+        → Renamed tree.old tree.new bound
+        (tables.bound_of (tree_at tree.old operands.left) (tree_at tree.old operands.right) spelled)
+        (counting.made_bound (tree_at tree.old operands.left))) }
 {
     if is_tuple(tree.form(operands.left)) {
         let mut parts = names_of(alloc, tree, operands.left)?;
@@ -132,7 +140,10 @@ fn is_tuple(form: Form) -> bool
 // A bare form that turns out to be a bound.
 fn as_bound(alloc: Global, tree: &mut Tree, part: Part) -> Result<Part, Memory>
     requires { IsThere tree.old part }
-    ensures { IfOk result (λ bound. (last : syntax.Tree) → (spelled : List Lexeme) → IsPart tree.old part last spelled → Becomes tree.old tree.new bound (tables.as_bound last spelled) spelled (counting.made_converted Conversion.AsBound last)) }
+    ensures { IfOk result (λ bound. (last : syntax.Tree) → (spelled : List Lexeme)
+        → IsPart tree.old part last spelled
+        → Becomes tree.old tree.new bound (tables.as_bound last spelled) spelled
+        (counting.made_converted Conversion.AsBound last)) }
 {
     let Some(operands) = operands_of(tree, part.node) else {
         return Ok(part);
@@ -147,7 +158,10 @@ fn as_bound(alloc: Global, tree: &mut Tree, part: Part) -> Result<Part, Memory>
 // The value of a field, by the field's name and the mark after it, which were read before.
 fn as_field(tree: &mut Tree, part: Part, name: Lexeme, mark: Lexeme) -> Result<Part, Memory>
     requires { IsThere tree.old part }
-    ensures { IfOk result (λ field. (last : syntax.Tree) → (spelled : List Lexeme) → IsPart tree.old part last spelled → Becomes tree.old tree.new field (built (Form.Field name) (one last) (name ∷ mark ∷ spelled)) spelled 1) }
+    ensures { IfOk result (λ field. (last : syntax.Tree) → (spelled : List Lexeme)
+        → IsPart tree.old part last spelled
+        → Becomes tree.old tree.new field
+        (built (Form.Field name) (one last) (name ∷ mark ∷ spelled)) spelled 1) }
 {
     let place = joined(Some(name.span), joined(Some(mark.span), part.place));
     let node = add(tree, Form::Field(name), &[part.node], covered(place))?;
@@ -166,7 +180,12 @@ pub(crate) fn convert(
     part: Part,
 ) -> Result<Opening, Memory>
     requires { IsThere tree.old part }
-    ensures { IfOk result (λ more. (parts : List syntax.Tree) → (read : List Lexeme) → (below : List machine.Frame) → (last : syntax.Tree) → (spelled : List Lexeme) → Opens tree.old stack.old opening parts read below → IsPart tree.old part last spelled → Converts tree.old tree.new stack.new more (parts ++ tables.converted conversion last spelled) (read ++ spelled) below (counting.made_converted conversion last)) }
+    ensures { IfOk result (λ more. (parts : List syntax.Tree) → (read : List Lexeme)
+        → (below : List machine.Frame) → (last : syntax.Tree) → (spelled : List Lexeme)
+        → Opens tree.old stack.old opening parts read below → IsPart tree.old part last spelled
+        → Converts tree.old tree.new stack.new more
+        (parts ++ tables.converted conversion last spelled) (read ++ spelled) below
+        (counting.made_converted conversion last)) }
 {
     match conversion {
         Conversion::Keep => {

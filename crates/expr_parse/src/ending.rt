@@ -78,14 +78,17 @@ fn all_end(goal: Goal, frames: &[Frame], last: Shape) -> bool
 // The frames but the innermost.
 fn outer(frames: &[Frame]) -> &[Frame]
     requires { 0 < length frames.now }
-    ensures { (last : Frame) → (below : List Frame) → reverse frames.now ≡ last ∷ below → reverse result.now ≡ below }
+    ensures { (last : Frame) → (below : List Frame) → reverse frames.now ≡ last ∷ below
+        → reverse result.now ≡ below }
 {
     &frames[..frames.len() - 1]
 }
 
 // Whether what is read is whole after the frames.
 fn is_whole_due(stack: &Stack, goal: Goal) -> bool
-    ensures { (nodes : List Arena.Node) → (frames : List machine.Frame) → Stands nodes stack.now frames → result ≡ ends.is_whole goal (ends.ending (machine.At frames)) }
+    ensures { (nodes : List Arena.Node) → (frames : List machine.Frame)
+        → Stands nodes stack.now frames
+        → result ≡ ends.is_whole goal (ends.ending (machine.At frames)) }
 {
     let Some(wait) = stack.wait() else {
         return false;
@@ -99,7 +102,8 @@ fn is_whole_due(stack: &Stack, goal: Goal) -> bool
 /// Whether what is read is whole.
 pub(crate) fn is_whole(stack: &Stack, tree: &Tree, turn: Turn, goal: Goal) -> bool
     requires { IsTurnReady tree.now stack.now turn }
-    ensures { (state : Option machine.State) → IsTurn tree.now stack.now turn state → result ≡ ends.is_whole goal (ends.ending_of state) }
+    ensures { (state : Option machine.State) → IsTurn tree.now stack.now turn state
+        → result ≡ ends.is_whole goal (ends.ending_of state) }
 {
     match turn {
         Turn::Refused => false,
@@ -111,7 +115,11 @@ pub(crate) fn is_whole(stack: &Stack, tree: &Tree, turn: Turn, goal: Goal) -> bo
 // Ends all frames but the outermost one after a part. `None` where one may not end.
 fn close_all(stack: &mut Stack, tree: &mut Tree, operand: Part) -> Result<Option<Part>, Memory>
     requires { IsReady tree.old stack.old operand }
-    ensures { IfOk result (λ left. (frames : List machine.Frame) → (part : syntax.Tree) → (spelled : List Lexeme) → Stands tree.old stack.old frames → IsPart tree.old operand part spelled → Closes tree.old tree.new stack.new left (ends.closing frames part spelled) (counting.made_close frames part spelled)) }
+    ensures { IfOk result (λ left. (frames : List machine.Frame) → (part : syntax.Tree)
+        → (spelled : List Lexeme) → Stands tree.old stack.old frames
+        → IsPart tree.old operand part spelled
+        → Closes tree.old tree.new stack.new left (ends.closing frames part spelled)
+        (counting.made_close frames part spelled)) }
 {
     let mut part = operand;
     while stack.frames().len() > 1 {
@@ -132,7 +140,9 @@ fn close_all(stack: &mut Stack, tree: &mut Tree, operand: Part) -> Result<Option
 // The same where a part or a lexeme is due: the innermost frame ends first.
 fn close_due(stack: &mut Stack, tree: &mut Tree) -> Result<Option<Part>, Memory>
     requires { IsDue tree.old stack.old }
-    ensures { IfOk result (λ left. (frames : List machine.Frame) → Stands tree.old stack.old frames → Closes tree.old tree.new stack.new left (ends.ending (machine.At frames)) (counting.made_last frames)) }
+    ensures { IfOk result (λ left. (frames : List machine.Frame) → Stands tree.old stack.old frames
+        → Closes tree.old tree.new stack.new left (ends.ending (machine.At frames))
+        (counting.made_last frames)) }
 {
     let Some(frame) = stack.pop() else {
         return Ok(None);
@@ -148,7 +158,10 @@ fn close_due(stack: &mut Stack, tree: &mut Tree) -> Result<Option<Part>, Memory>
 /// Ends all frames but the outermost one. `None` where one may not end.
 pub(crate) fn close(stack: &mut Stack, tree: &mut Tree, turn: Turn) -> Result<Option<Part>, Memory>
     requires { IsTurnReady tree.old stack.old turn }
-    ensures { IfOk result (λ left. (state : Option machine.State) → IsTurn tree.old stack.old turn state → Closes tree.old tree.new stack.new left (ends.ending_of state) (counting.made_finish state)) }
+    ensures { IfOk result (λ left. (state : Option machine.State)
+        → IsTurn tree.old stack.old turn state
+        → Closes tree.old tree.new stack.new left (ends.ending_of state)
+        (counting.made_finish state)) }
 {
     match turn {
         Turn::Refused => Ok(None),
@@ -171,7 +184,9 @@ pub(crate) fn whole(
     goal: Goal,
 ) -> Result<u32, Memory>
     requires { IsReady tree.old stack.old part }
-    ensures { IfOk result (λ node. (frame : machine.Frame) → (last : syntax.Tree) → (spelled : List Lexeme) → Stands tree.old stack.old (frame ∷ []) → IsPart tree.old part last spelled → IsGoal tree.old tree.new node goal frame last) }
+    ensures { IfOk result (λ node. (frame : machine.Frame) → (last : syntax.Tree)
+        → (spelled : List Lexeme) → Stands tree.old stack.old (frame ∷ [])
+        → IsPart tree.old part last spelled → IsGoal tree.old tree.new node goal frame last) }
 {
     match goal {
         Goal::Expression => Ok(part.node),

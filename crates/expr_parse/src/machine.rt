@@ -47,7 +47,10 @@ pub struct ExprMachine {
 // What a lexeme leads to.
 fn advance(stack: &mut Stack, tree: &mut Tree, turn: Turn, lexeme: Lexeme) -> Result<Turn, Memory>
     requires { IsTurnReady tree.old stack.old turn }
-    ensures { IfOk result (λ next. (state : Option machine.State) → IsTurn tree.old stack.old turn state → Turns tree.old tree.new stack.new next (machine.run state (lexeme ∷ [])) (counting.made_run state (lexeme ∷ []))) }
+    ensures { IfOk result (λ next. (state : Option machine.State)
+        → IsTurn tree.old stack.old turn state
+        → Turns tree.old tree.new stack.new next (machine.run state (lexeme ∷ []))
+        (counting.made_run state (lexeme ∷ []))) }
 {
     match turn {
         Turn::Refused => Ok(Turn::Refused),
@@ -87,10 +90,15 @@ impl ExprMachine {
     /// and leave the nodes that were there.
     pub fn step(&mut self, lexeme: &Lexeme, _next: &Lexeme, tree: &mut Tree) -> Result<Step, Memory>
         requires { IsReady tree.old self.old }
-        ensures answer { IfOk result (λ step. (before : ℕ) → (lexemes : List Lexeme) → HasRead tree.old self.old before lexemes → IsAnswer tree.new self.new before lexemes lexeme.now step) }
-        ensures few { OnOk result ((before : ℕ) → (lexemes : List Lexeme) → HasRead tree.old self.old before lexemes → length tree.new ≤ before + 8 * (length lexemes + 1)) }
+        ensures answer { IfOk result (λ step. (before : ℕ) → (lexemes : List Lexeme)
+            → HasRead tree.old self.old before lexemes
+            → IsAnswer tree.new self.new before lexemes lexeme.now step) }
+        ensures few { OnOk result ((before : ℕ) → (lexemes : List Lexeme)
+            → HasRead tree.old self.old before lexemes
+            → length tree.new ≤ before + 8 * (length lexemes + 1)) }
         ensures grows { OnOk result (Grows tree.old tree.new) }
-        ensures refusing { IsRefusing self.old → IfOk result (λ step. (step ≡ Step.Refused) × IsRefusing self.new) }
+        ensures refusing { IsRefusing self.old
+            → IfOk result (λ step. (step ≡ Step.Refused) × IsRefusing self.new) }
         ensures memory { OnErr result (IsRefusing self.new) }
         ensures goal { self.new.goal ≡ self.old.goal }
         ensures ready { IsReady tree.new self.new }
@@ -106,10 +114,15 @@ impl ExprMachine {
 
     fn answer(&mut self, lexeme: Lexeme, tree: &mut Tree) -> Result<Step, Memory>
         requires { IsReady tree.old self.old }
-        ensures answer { IfOk result (λ step. (before : ℕ) → (lexemes : List Lexeme) → HasRead tree.old self.old before lexemes → IsAnswer tree.new self.new before lexemes lexeme step) }
-        ensures few { OnOk result ((before : ℕ) → (lexemes : List Lexeme) → HasRead tree.old self.old before lexemes → length tree.new ≤ before + 8 * (length lexemes + 1)) }
+        ensures answer { IfOk result (λ step. (before : ℕ) → (lexemes : List Lexeme)
+            → HasRead tree.old self.old before lexemes
+            → IsAnswer tree.new self.new before lexemes lexeme step) }
+        ensures few { OnOk result ((before : ℕ) → (lexemes : List Lexeme)
+            → HasRead tree.old self.old before lexemes
+            → length tree.new ≤ before + 8 * (length lexemes + 1)) }
         ensures grows { OnOk result (Grows tree.old tree.new) }
-        ensures refusing { IsRefusing self.old → IfOk result (λ step. (step ≡ Step.Refused) × IsRefusing self.new) }
+        ensures refusing { IsRefusing self.old
+            → IfOk result (λ step. (step ≡ Step.Refused) × IsRefusing self.new) }
         ensures goal { self.new.goal ≡ self.old.goal }
         ensures ready { OnOk result (IsReady tree.new self.new) }
     {
@@ -124,7 +137,9 @@ impl ExprMachine {
 
     // Where the machine stands, with its outermost frame on the stack.
     fn begun(&mut self) -> Result<Turn, Memory>
-        ensures turn { IfOk result (λ turn. (nodes : List Arena.Node) → (state : Option machine.State) → StandsAt nodes self.old self.old.stage state → IsTurn nodes self.new.stack turn state) }
+        ensures turn { IfOk result (λ turn. (nodes : List Arena.Node)
+            → (state : Option machine.State) → StandsAt nodes self.old self.old.stage state
+            → IsTurn nodes self.new.stack turn state) }
         ensures goal { self.new.goal ≡ self.old.goal }
     {
         match self.stage {
@@ -139,7 +154,10 @@ impl ExprMachine {
     // Whether what is read is whole, and a lexeme of this kind may follow.
     fn ends(&self, tree: &Tree, turn: Turn, kind: LexKind) -> bool
         requires { IsTurnReady tree.now self.now.stack turn }
-        ensures { (state : Option machine.State) → IsTurn tree.now self.now.stack turn state → result ≡ cond (goals.may_end self.now.goal kind) (ends.is_whole self.now.goal (ends.ending_of state)) false }
+        ensures { (state : Option machine.State) → IsTurn tree.now self.now.stack turn state
+            → result
+            ≡ cond (goals.may_end self.now.goal kind)
+            (ends.is_whole self.now.goal (ends.ending_of state)) false }
     {
         self.goal.may_end(kind) && is_whole(&self.stack, tree, turn, self.goal)
     }
@@ -147,7 +165,9 @@ impl ExprMachine {
     // Ends all frames: what is read is whole.
     fn finish(&mut self, tree: &mut Tree, turn: Turn) -> Result<Step, Memory>
         requires { IsTurnReady tree.old self.old.stack turn }
-        ensures done { IfOk result (λ step. (state : Option machine.State) → (last : ends.Outermost) → IsTurn tree.old self.old.stack turn state → ends.ending_of state ≡ Some last → IsDone tree.old tree.new self.old.goal step last (counting.made_finish state)) }
+        ensures done { IfOk result (λ step. (state : Option machine.State) → (last : ends.Outermost)
+            → IsTurn tree.old self.old.stack turn state → ends.ending_of state ≡ Some last
+            → IsDone tree.old tree.new self.old.goal step last (counting.made_finish state)) }
         ensures grows { OnOk result (Grows tree.old tree.new) }
         ensures goal { self.new.goal ≡ self.old.goal }
         ensures refused { OnOk result (self.new.stage ≡ Stage.Goes Turn.Refused) }
@@ -164,7 +184,9 @@ impl ExprMachine {
     // Reads the lexeme.
     fn read(&mut self, tree: &mut Tree, turn: Turn, lexeme: Lexeme) -> Result<Step, Memory>
         requires { IsTurnReady tree.old self.old.stack turn }
-        ensures read { IfOk result (λ step. (state : Option machine.State) → IsTurn tree.old self.old.stack turn state → HasStepped tree.old tree.new self.new step state lexeme) }
+        ensures read { IfOk result (λ step. (state : Option machine.State)
+            → IsTurn tree.old self.old.stack turn state
+            → HasStepped tree.old tree.new self.new step state lexeme) }
         ensures goal { self.new.goal ≡ self.old.goal }
     {
         let next = advance(&mut self.stack, tree, turn, lexeme)?;
@@ -179,7 +201,8 @@ impl ExprMachine {
 
 // Puts the outermost frame on the stack.
 fn open(stack: &mut Stack, goal: Goal) -> Result<Turn, Memory>
-    ensures { IfOk result (λ turn. (nodes : List Arena.Node) → Stands nodes stack.old [] → IsTurn nodes stack.new turn (Some (start_of goal))) }
+    ensures { IfOk result (λ turn. (nodes : List Arena.Node) → Stands nodes stack.old []
+        → IsTurn nodes stack.new turn (Some (start_of goal))) }
 {
     let opening = stack.opening(None);
     match goal {

@@ -34,7 +34,13 @@ fn take(
     wait: Wait,
     lexeme: Lexeme,
 ) -> Result<Turn, Memory>
-    ensures { IfOk result (λ turn. (nodes : List Node) → FollowsFrame (λ top below tree spelled. Some (machine.State.At (machine.frame wait (top.parts ++ tree ∷ []) (top.read ++ (spelled ++ lexeme ∷ [])) ∷ below))) (λ top below tree spelled. 0) nodes nodes stack.old stack.new frame part turn) }
+    ensures { IfOk result (λ turn. (nodes : List Node)
+        → FollowsFrame
+        (λ top below tree spelled.
+        Some
+        (machine.State.At
+        (machine.frame wait (top.parts ++ tree ∷ []) (top.read ++ (spelled ++ lexeme ∷ []))
+        ∷ below))) (λ top below tree spelled. 0) nodes nodes stack.old stack.new frame part turn) }
 {
     let opening = stack.hold(frame.opening, part)?;
     stack.put(wait, opening.reads(Some(lexeme.span)))?;
@@ -51,7 +57,11 @@ fn lead_on(
     lexeme: Lexeme,
 ) -> Result<Turn, Memory>
     requires { CanTake tree.old stack.old frame part }
-    ensures { IfOk result (λ turn. FollowsFrame (λ top below last spelled. machine.led lead top below last spelled lexeme) (λ top below last spelled. counting.made_led lead) tree.old tree.new stack.old stack.new frame part turn) }
+    ensures { IfOk result
+        (λ turn.
+        FollowsFrame (λ top below last spelled. machine.led lead top below last spelled lexeme)
+        (λ top below last spelled. counting.made_led lead) tree.old tree.new stack.old stack.new
+        frame part turn) }
 {
     stack.put(frame.wait, frame.opening)?;
     let opening = stack.opening(None);
@@ -79,7 +89,13 @@ fn wait_on(
     lexeme: Lexeme,
 ) -> Result<Turn, Memory>
     requires { CanTake tree.old stack.old frame part }
-    ensures { IfOk result (λ turn. FollowsFrame (λ top below last spelled. cond (tables.is_expression (tables.shape last)) (machine.led (tables.lead role lexeme) top below last spelled lexeme) None) (λ top below last spelled. cond (tables.is_expression (tables.shape last)) (counting.made_led (tables.lead role lexeme)) 0) tree.old tree.new stack.old stack.new frame part turn) }
+    ensures { IfOk result
+        (λ turn.
+        FollowsFrame (λ top below last spelled. cond (tables.is_expression (tables.shape last))
+        (machine.led (tables.lead role lexeme) top below last spelled lexeme) None)
+        (λ top below last spelled. cond (tables.is_expression (tables.shape last))
+        (counting.made_led (tables.lead role lexeme)) 0) tree.old tree.new stack.old stack.new frame
+        part turn) }
 {
     if !is_expression(shape(tree, part.node)) {
         return Ok(Turn::Refused);
@@ -97,7 +113,14 @@ fn take_factor(
     lexeme: Lexeme,
 ) -> Result<Turn, Memory>
     requires { CanTake tree.now stack.old frame part }
-    ensures { IfOk result (λ turn. FollowsFrame (λ top below last spelled. cond (tables.is_expression (tables.shape last)) (Some (machine.At (machine.frame Wait.Factor (top.parts ++ last ∷ []) (top.read ++ (spelled ++ lexeme ∷ [])) ∷ below))) None) (λ top below last spelled. 0) tree.now tree.now stack.old stack.new frame part turn) }
+    ensures { IfOk result
+        (λ turn.
+        FollowsFrame (λ top below last spelled. cond (tables.is_expression (tables.shape last))
+        (Some
+        (machine.At
+        (machine.frame Wait.Factor (top.parts ++ last ∷ []) (top.read ++ (spelled ++ lexeme ∷ []))
+        ∷ below))) None) (λ top below last spelled. 0) tree.now tree.now stack.old stack.new frame
+        part turn) }
 {
     if !is_expression(shape(tree, part.node)) {
         return Ok(Turn::Refused);
@@ -114,7 +137,10 @@ fn operate(
     lexeme: Lexeme,
 ) -> Result<Turn, Memory>
     requires { IsReady tree.old stack.old operand }
-    ensures { IfOk result (λ turn. Follows (λ frames part spelled. machine.operator_step frames part spelled lexeme) (λ frames part spelled. counting.made_operator frames part spelled lexeme) tree.old tree.new stack.old stack.new operand turn) }
+    ensures { IfOk result
+        (λ turn. Follows (λ frames part spelled. machine.operator_step frames part spelled lexeme)
+        (λ frames part spelled. counting.made_operator frames part spelled lexeme) tree.old tree.new
+        stack.old stack.new operand turn) }
 {
     let role = role(lexeme.kind);
     let mut part = operand;
@@ -151,7 +177,13 @@ fn done(
     lexeme: Lexeme,
 ) -> Result<Turn, Memory>
     requires { CanTake tree.old stack.old frame part }
-    ensures { IfOk result (λ turn. FollowsFrame (λ top below last spelled. machine.moved (PartMove.Done form conversion) top below last spelled lexeme (λ f. None)) (λ top below last spelled. counting.made_move (PartMove.Done form conversion) last (λ f. 0)) tree.old tree.new stack.old stack.new frame part turn) }
+    ensures { IfOk result
+        (λ turn.
+        FollowsFrame
+        (λ top below last spelled. machine.moved (PartMove.Done form conversion) top below last
+        spelled lexeme (λ f. None))
+        (λ top below last spelled. counting.made_move (PartMove.Done form conversion) last (λ f. 0))
+        tree.old tree.new stack.old stack.new frame part turn) }
 {
     let opening = convert(stack, tree, frame.opening, conversion, part)?;
     let whole = stack.node(tree, form, opening.reads(Some(lexeme.span)))?;
@@ -170,7 +202,13 @@ fn goes(
     lexeme: Lexeme,
 ) -> Result<Turn, Memory>
     requires { CanTake tree.old stack.old frame part }
-    ensures { IfOk result (λ turn. FollowsFrame (λ top below last spelled. machine.moved (PartMove.Goes wait conversion) top below last spelled lexeme (λ f. None)) (λ top below last spelled. counting.made_move (PartMove.Goes wait conversion) last (λ f. 0)) tree.old tree.new stack.old stack.new frame part turn) }
+    ensures { IfOk result
+        (λ turn.
+        FollowsFrame
+        (λ top below last spelled. machine.moved (PartMove.Goes wait conversion) top below last
+        spelled lexeme (λ f. None))
+        (λ top below last spelled. counting.made_move (PartMove.Goes wait conversion) last (λ f. 0))
+        tree.old tree.new stack.old stack.new frame part turn) }
 {
     let opening = convert(stack, tree, frame.opening, conversion, part)?;
     let turn = frame_goes_on(stack, wait, opening.reads(Some(lexeme.span)))?;
@@ -185,7 +223,11 @@ fn hand(
     kind: Handed,
     lexeme: Lexeme,
 ) -> Result<Turn, Memory>
-    ensures { IfOk result (λ turn. (nodes : List Node) → FollowsFrame (λ top below last spelled. machine.moved (PartMove.Hand kind) top below last spelled lexeme (λ f. None)) (λ top below last spelled. 0) nodes nodes stack.old stack.new frame part turn) }
+    ensures { IfOk result (λ turn. (nodes : List Node)
+        → FollowsFrame
+        (λ top below last spelled. machine.moved (PartMove.Hand kind) top below last spelled lexeme
+        (λ f. None)) (λ top below last spelled. 0) nodes nodes stack.old stack.new frame part
+        turn) }
 {
     let opening = stack.hold(frame.opening, part)?;
     let turn = frame_goes_on(stack, Wait::Handing(kind, lexeme), opening)?;
@@ -202,7 +244,12 @@ fn bind(
     lexeme: Lexeme,
 ) -> Result<Turn, Memory>
     requires { CanTake tree.old stack.old frame part }
-    ensures { IfOk result (λ turn. FollowsFrame (λ top below last spelled. machine.moved (PartMove.Convert actions) top below last spelled lexeme (λ f. None)) (λ top below last spelled. counting.made_name last) tree.old tree.new stack.old stack.new frame part turn) }
+    ensures { IfOk result
+        (λ turn.
+        FollowsFrame
+        (λ top below last spelled. machine.moved (PartMove.Convert actions) top below last spelled
+        lexeme (λ f. None)) (λ top below last spelled. counting.made_name last) tree.old tree.new
+        stack.old stack.new frame part turn) }
 {
     let name = name_of(tree, part)?;
     stack.put(Wait::FunctionNames(actions), frame.opening)?;
@@ -218,7 +265,10 @@ fn bind(
 // Another lexeme than an operator ends the frames that may end, and the next frame takes it.
 fn follow(stack: &mut Stack, tree: &mut Tree, operand: Part, lexeme: Lexeme) -> Result<Turn, Memory>
     requires { IsReady tree.old stack.old operand }
-    ensures { IfOk result (λ turn. Follows (λ frames part spelled. machine.part_step frames part spelled lexeme) (λ frames part spelled. counting.made_part frames part spelled lexeme) tree.old tree.new stack.old stack.new operand turn) }
+    ensures { IfOk result
+        (λ turn. Follows (λ frames part spelled. machine.part_step frames part spelled lexeme)
+        (λ frames part spelled. counting.made_part frames part spelled lexeme) tree.old tree.new
+        stack.old stack.new operand turn) }
 {
     let mut part = operand;
     while let Some(frame) = stack.pop() {
@@ -260,7 +310,10 @@ fn is_operator(role: Role) -> bool
 // A lexeme that ends no list.
 fn within(stack: &mut Stack, tree: &mut Tree, part: Part, lexeme: Lexeme) -> Result<Turn, Memory>
     requires { IsReady tree.old stack.old part }
-    ensures { IfOk result (λ turn. Follows (λ frames last spelled. machine.within frames last spelled lexeme) (λ frames last spelled. counting.made_within frames last spelled lexeme) tree.old tree.new stack.old stack.new part turn) }
+    ensures { IfOk result
+        (λ turn. Follows (λ frames last spelled. machine.within frames last spelled lexeme)
+        (λ frames last spelled. counting.made_within frames last spelled lexeme) tree.old tree.new
+        stack.old stack.new part turn) }
 {
     if is_operator(role(lexeme.kind)) {
         let turn = operate(stack, tree, part, lexeme)?;
@@ -292,7 +345,10 @@ fn next_item(wait: Wait, shape: Shape, lexeme: Lexeme) -> Option<Lexeme>
 // A lexeme that stands left of the innermost list's items ends that list, or is its bullet.
 fn leave(stack: &mut Stack, tree: &mut Tree, operand: Part, lexeme: Lexeme) -> Result<Turn, Memory>
     requires { IsReady tree.old stack.old operand }
-    ensures { IfOk result (λ turn. Follows (λ frames part spelled. machine.leave frames part spelled lexeme) (λ frames part spelled. counting.made_leave frames part spelled lexeme) tree.old tree.new stack.old stack.new operand turn) }
+    ensures { IfOk result
+        (λ turn. Follows (λ frames part spelled. machine.leave frames part spelled lexeme)
+        (λ frames part spelled. counting.made_leave frames part spelled lexeme) tree.old tree.new
+        stack.old stack.new operand turn) }
 {
     let mut part = operand;
     while let Some(frame) = stack.pop() {
@@ -321,7 +377,10 @@ pub(crate) fn have(
     lexeme: Lexeme,
 ) -> Result<Turn, Memory>
     requires { IsReady tree.old stack.old part }
-    ensures { IfOk result (λ turn. Follows (λ frames last spelled. machine.have frames last spelled lexeme) (λ frames last spelled. counting.made_have frames last spelled lexeme) tree.old tree.new stack.old stack.new part turn) }
+    ensures { IfOk result
+        (λ turn. Follows (λ frames last spelled. machine.have frames last spelled lexeme)
+        (λ frames last spelled. counting.made_have frames last spelled lexeme) tree.old tree.new
+        stack.old stack.new part turn) }
 {
     if (lexeme.col as u64) < stack.inner() {
         let turn = leave(stack, tree, part, lexeme)?;

@@ -91,7 +91,9 @@ impl Stack {
 
     /// The column from which lexemes stand inside all aligned lists.
     pub fn inner(&self) -> u64
-        ensures { (nodes : List Node) → (numbers : List ℕ) → (frames : List machine.Frame) → AreFrames nodes (reverse self.now.frames.items) numbers frames → result ≡ machine.inner frames }
+        ensures { (nodes : List Node) → (numbers : List ℕ) → (frames : List machine.Frame)
+            → AreFrames nodes (reverse self.now.frames.items) numbers frames
+            → result ≡ machine.inner frames }
     {
         match self.frames.last() {
             Some(frame) => frame.inner,
@@ -101,7 +103,8 @@ impl Stack {
 
     /// What the innermost frame waits for.
     pub fn wait(&self) -> Option<Wait>
-        ensures top { (nodes : List Node) → (frames : List machine.Frame) → Stands nodes self.now frames → IsWait result frames }
+        ensures top { (nodes : List Node) → (frames : List machine.Frame)
+            → Stands nodes self.now frames → IsWait result frames }
         ensures some { OnSome result (0 < length self.now.frames.items) }
     {
         match self.frames.last() {
@@ -112,15 +115,19 @@ impl Stack {
 
     /// Takes the innermost frame from the stack. Its parts stay.
     pub fn pop(&mut self) -> Option<Frame>
-        ensures top { (nodes : List Node) → (frames : List machine.Frame) → Stands nodes self.old frames → IsTop nodes self.new result frames }
-        ensures fewer { OnSome result (length self.new.frames.items + 1 ≡ length self.old.frames.items) }
+        ensures top { (nodes : List Node) → (frames : List machine.Frame)
+            → Stands nodes self.old frames → IsTop nodes self.new result frames }
+        ensures fewer { OnSome result (length self.new.frames.items + 1
+            ≡ length self.old.frames.items) }
     {
         self.frames.pop()
     }
 
     /// A frame that has read the lexemes of the place, and no part.
     pub fn opening(&self, place: Option<Span>) -> Opening
-        ensures { (nodes : List Node) → (frames : List machine.Frame) → (read : List Lexeme) → Stands nodes self.now frames → place ≡ places.place_of read → Opens nodes self.now result [] read frames }
+        ensures { (nodes : List Node) → (frames : List machine.Frame) → (read : List Lexeme)
+            → Stands nodes self.now frames → place ≡ places.place_of read
+            → Opens nodes self.now result [] read frames }
     {
         Opening {
             first: self.parts.len(),
@@ -130,7 +137,10 @@ impl Stack {
 
     /// Puts a frame on the stack.
     pub fn put(&mut self, wait: Wait, opening: Opening) -> Result<(), Memory>
-        ensures { OnOk result ((nodes : List Node) → (parts : List syntax.Tree) → (read : List Lexeme) → (below : List machine.Frame) → Opens nodes self.old opening parts read below → Stands nodes self.new (machine.frame wait parts read ∷ below)) }
+        ensures { OnOk result ((nodes : List Node) → (parts : List syntax.Tree)
+            → (read : List Lexeme) → (below : List machine.Frame)
+            → Opens nodes self.old opening parts read below
+            → Stands nodes self.new (machine.frame wait parts read ∷ below)) }
     {
         let inner = inside(wait, self.inner());
         let frame = Frame {
@@ -147,7 +157,11 @@ impl Stack {
     /// The frame takes a part.
     pub fn hold(&mut self, opening: Opening, part: Part) -> Result<Opening, Memory>
         ensures same { OnOk result (self.new.frames.items ≡ self.old.frames.items) }
-        ensures more { IfOk result (λ more. (nodes : List Node) → (parts : List syntax.Tree) → (read : List Lexeme) → (below : List machine.Frame) → (tree : syntax.Tree) → (spelled : List Lexeme) → Opens nodes self.old opening parts read below → IsPart nodes part tree spelled → Opens nodes self.new more (parts ++ tree ∷ []) (read ++ spelled) below) }
+        ensures more { IfOk result (λ more. (nodes : List Node) → (parts : List syntax.Tree)
+            → (read : List Lexeme) → (below : List machine.Frame) → (tree : syntax.Tree)
+            → (spelled : List Lexeme) → Opens nodes self.old opening parts read below
+            → IsPart nodes part tree spelled
+            → Opens nodes self.new more (parts ++ tree ∷ []) (read ++ spelled) below) }
     {
         self.parts.push(part.node)?;
         Ok(opening.reads(part.place))
@@ -157,7 +171,9 @@ impl Stack {
     pub fn node(&mut self, tree: &mut Tree, form: Form, opening: Opening) -> Result<Part, Memory>
         requires { IsOpen tree.old self.old opening }
         ensures same { OnOk result (self.new.frames.items ≡ self.old.frames.items) }
-        ensures made { IfOk result (λ part. (parts : List syntax.Tree) → (read : List Lexeme) → (below : List machine.Frame) → Opens tree.old self.old opening parts read below → Made tree.old tree.new self.new part (built form (trees parts) read) read below) }
+        ensures made { IfOk result (λ part. (parts : List syntax.Tree) → (read : List Lexeme)
+            → (below : List machine.Frame) → Opens tree.old self.old opening parts read below
+            → Made tree.old tree.new self.new part (built form (trees parts) read) read below) }
     {
         let children = from(self.parts.as_slice(), opening.first);
         let node = add(tree, form, children, covered(opening.place))?;
@@ -179,7 +195,11 @@ impl Stack {
         requires opened { IsOpen tree.old self.old opening }
         requires part { IsThere tree.old part }
         ensures same { OnOk result (self.new.frames.items ≡ self.old.frames.items) }
-        ensures made { IfOk result (λ whole. (parts : List syntax.Tree) → (read : List Lexeme) → (below : List machine.Frame) → (last : syntax.Tree) → (spelled : List Lexeme) → Opens tree.old self.old opening parts read below → IsPart tree.old part last spelled → Made tree.old tree.new self.new whole (built form (trees (parts ++ last ∷ [])) (read ++ spelled)) (read ++ spelled) below) }
+        ensures made { IfOk result (λ whole. (parts : List syntax.Tree) → (read : List Lexeme)
+            → (below : List machine.Frame) → (last : syntax.Tree) → (spelled : List Lexeme)
+            → Opens tree.old self.old opening parts read below → IsPart tree.old part last spelled
+            → Made tree.old tree.new self.new whole
+            (built form (trees (parts ++ last ∷ [])) (read ++ spelled)) (read ++ spelled) below) }
     {
         let opening = self.hold(opening, part)?;
         let whole = self.node(tree, form, opening)?;

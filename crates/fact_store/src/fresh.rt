@@ -33,8 +33,13 @@ fn input_of<D: Derive>(
     requires plan { IsPlan slots.now plan.now }
     requires ready { IsReady slots.now plan.now.ranks.items current.now place }
     requires place { place < length slots.now }
-    requires need { (slot : SlotOf D.Own D.Fact) → slice_get slots.now place ≡ Some slot → has (needs_or_none slot.needs) need.now ≡ true }
-    ensures { IfOk result (λ input. (slot : SlotOf D.Own D.Fact) → slice_get slots.now place ≡ Some slot → input_state input ≡ gives D.own_of D.needs_of D.fact_of (texts_of slots.now) (value D.own_of D.needs_of D.fact_of (texts_of slots.now)) slot.name need.now) }
+    requires need { (slot : SlotOf D.Own D.Fact) → slice_get slots.now place ≡ Some slot
+        → has (needs_or_none slot.needs) need.now ≡ true }
+    ensures { IfOk result (λ input. (slot : SlotOf D.Own D.Fact)
+        → slice_get slots.now place ≡ Some slot
+        → input_state input
+        ≡ gives D.own_of D.needs_of D.fact_of (texts_of slots.now)
+        (value D.own_of D.needs_of D.fact_of (texts_of slots.now)) slot.name need.now) }
 {
     let Some(other) = slots.place_of(need) else {
         return Ok(Input::NoText);
@@ -113,7 +118,9 @@ fn given_of<D: Derive>(
     requires plan { IsPlan slots.now plan.now }
     requires ready { IsReady slots.now plan.now.ranks.items current.now place }
     requires place { place < length slots.now }
-    ensures { IfOk result (λ given. (slot : SlotOf D.Own D.Fact) → slice_get slots.now place ≡ Some slot → states given ≡ given_in D.own_of D.needs_of D.fact_of (texts_of slots.now) slot.name) }
+    ensures { IfOk result (λ given. (slot : SlotOf D.Own D.Fact)
+        → slice_get slots.now place ≡ Some slot
+        → states given ≡ given_in D.own_of D.needs_of D.fact_of (texts_of slots.now) slot.name) }
 {
     let mut given = List::new(alloc);
     for name in needed(slots.at(place)) {
@@ -132,10 +139,12 @@ fn derive<D: Derive, L>(
     given: Given<D::Fact>,
     steps: &mut Steps<L>,
 ) -> Result<Kept<D::Fact>, Memory>
-    requires { ComesFromTexts D.own_of D.needs_of D.fact_of D.same slot.now.name slot.now.own (states given) }
+    requires { ComesFromTexts D.own_of D.needs_of D.fact_of D.same slot.now.name slot.now.own
+        (states given) }
     ensures from { IfOk result (λ kept. kept.from ≡ None) }
     ensures given { IfOk result (λ kept. kept.given ≡ given) }
-    ensures fact { IfOk result (λ kept. arc_value kept.fact ≡ D.fact_of slot.now.name slot.now.own (states given)) }
+    ensures fact { IfOk result (λ kept. arc_value kept.fact
+        ≡ D.fact_of slot.now.name slot.now.own (states given)) }
     ensures rises { steps.old ≤ steps.new }
     ensures once { steps.new ≤ steps.old + 1 }
 {
@@ -157,12 +166,19 @@ fn keep<D: Derive, L>(
     steps: &mut Steps<L>,
 ) -> Result<(), Memory>
     requires place { place < length slots.old }
-    requires sound { (slot : SlotOf D.Own D.Fact) → slice_get slots.old place ≡ Some slot → IsSound D.own_of D.needs_of D.fact_of slot }
-    requires comes { (slot : SlotOf D.Own D.Fact) → slice_get slots.old place ≡ Some slot → ComesFromTexts D.own_of D.needs_of D.fact_of D.same slot.name slot.own (states given) }
-    ensures kept { OnOk result ((slot : SlotOf D.Own D.Fact) → slice_get slots.old place ≡ Some slot → Keeps D.own_of D.needs_of D.fact_of D.same slots.old slots.new place slot (states given)) }
+    requires sound { (slot : SlotOf D.Own D.Fact) → slice_get slots.old place ≡ Some slot
+        → IsSound D.own_of D.needs_of D.fact_of slot }
+    requires comes { (slot : SlotOf D.Own D.Fact) → slice_get slots.old place ≡ Some slot
+        → ComesFromTexts D.own_of D.needs_of D.fact_of D.same slot.name slot.own (states given) }
+    ensures kept { OnOk result ((slot : SlotOf D.Own D.Fact) → slice_get slots.old place ≡ Some slot
+        → Keeps D.own_of D.needs_of D.fact_of D.same slots.old slots.new place slot
+        (states given)) }
     ensures err { OnErr result (slots.new ≡ slots.old) }
     ensures rises { steps.old ≤ steps.new }
-    ensures counted { OnOk result ((slot : SlotOf D.Own D.Fact) → slice_get slots.old place ≡ Some slot → steps.new ≤ steps.old + (if rules.is_fresh D.same slot.kept (states given) then 0 else 1)) }
+    ensures counted { OnOk result ((slot : SlotOf D.Own D.Fact)
+        → slice_get slots.old place ≡ Some slot
+        → steps.new ≤ steps.old + (if rules.is_fresh D.same slot.kept (states given) then 0
+        else 1)) }
 {
     if is_fresh(d, &slots.at(place).kept, &given) {
         slots.set_inputs(place, given);
@@ -188,9 +204,12 @@ pub fn bring<D: Derive, L>(
     requires ready { IsReady slots.old plan.now.ranks.items current.old.items place }
     requires place { place < length slots.old }
     requires marks { vec_len current.old ≡ length slots.old }
-    ensures brings { Brings D.own_of D.needs_of D.fact_of D.same slots.old slots.new current.old.items current.new.items steps.old steps.new }
-    ensures done { OnOk result ((slot : SlotOf D.Own D.Fact) → slice_get slots.new place ≡ Some slot → IsDone current.new.items place slot) }
-    ensures counted { OnOk result (steps.new + owed D.own_of D.needs_of D.fact_of D.same slots.new ≤ steps.old + owed D.own_of D.needs_of D.fact_of D.same slots.old) }
+    ensures brings { Brings D.own_of D.needs_of D.fact_of D.same slots.old slots.new
+        current.old.items current.new.items steps.old steps.new }
+    ensures done { OnOk result ((slot : SlotOf D.Own D.Fact) → slice_get slots.new place ≡ Some slot
+        → IsDone current.new.items place slot) }
+    ensures counted { OnOk result (steps.new + owed D.own_of D.needs_of D.fact_of D.same slots.new
+        ≤ steps.old + owed D.own_of D.needs_of D.fact_of D.same slots.old) }
 {
     if current[place] || slots.at(place).needs.is_none() {
         return Ok(());

@@ -51,7 +51,8 @@ pub fn cover(marks: &mut Vec<bool>, len: usize) -> Result<(), Memory>
 // Marks the places of a row, and queues those that were not marked.
 fn mark_row(row: &[usize], marks: &mut Vec<bool>, queue: &mut Vec<usize>) -> Result<(), Memory>
     requires { All (λ place. place < vec_len marks.old) row.now }
-    ensures { IfOk result (λ _. MarksRow row.now marks.old.items marks.new.items queue.old.items queue.new.items) }
+    ensures { IfOk result
+        (λ _. MarksRow row.now marks.old.items marks.new.items queue.old.items queue.new.items) }
 {
     for &place in row {
         if !marks[place] {

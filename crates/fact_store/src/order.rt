@@ -17,7 +17,8 @@ use tool_list::Memory;
 // Each of these places behind its rank.
 fn ranked(alloc: Global, ranks: &[usize], places: &[usize]) -> Result<Vec<(usize, usize)>, Memory>
     requires { All (λ place. place < length ranks.now) places.now }
-    ensures { IfOk result (λ order. order.items ≡ map (λ place. (slice_index ranks.now place, place)) places.now) }
+    ensures { IfOk result (λ order. order.items
+        ≡ map (λ place. (slice_index ranks.now place, place)) places.now) }
 {
     let mut order = Vec::new(alloc);
     for &place in places {
@@ -51,9 +52,12 @@ pub fn bring_all<D: Derive, L>(
     requires plan { IsPlan slots.old plan.now }
     requires place { place < length slots.old }
     requires marks { vec_len current.old ≡ length slots.old }
-    ensures brings { Brings D.own_of D.needs_of D.fact_of D.same slots.old slots.new current.old.items current.new.items steps.old steps.new }
-    ensures done { OnOk result ((slot : SlotOf D.Own D.Fact) → slice_get slots.new place ≡ Some slot → IsDone current.new.items place slot) }
-    ensures counted { OnOk result (steps.new + owed D.own_of D.needs_of D.fact_of D.same slots.new ≤ steps.old + owed D.own_of D.needs_of D.fact_of D.same slots.old) }
+    ensures brings { Brings D.own_of D.needs_of D.fact_of D.same slots.old slots.new
+        current.old.items current.new.items steps.old steps.new }
+    ensures done { OnOk result ((slot : SlotOf D.Own D.Fact) → slice_get slots.new place ≡ Some slot
+        → IsDone current.new.items place slot) }
+    ensures counted { OnOk result (steps.new + owed D.own_of D.needs_of D.fact_of D.same slots.new
+        ≤ steps.old + owed D.own_of D.needs_of D.fact_of D.same slots.old) }
 {
     let places = reached(alloc, &plan.grounds, place)?;
     let order = order_of(alloc, &plan.ranks, &places)?;

@@ -94,7 +94,17 @@ impl<O: Drop, F: Drop> Shelf<O, F> {
     /// Gives the slot at a place another text with its parts.
     pub fn set_text(&mut self, place: usize, bytes: List<u8>, own: O, needs: Option<List<Chars>>)
         requires { place < length self.old }
-        ensures { (slot : SlotOf O F) → slice_get self.old place ≡ Some slot → self.new ≡ slice_set self.old place (record { name = slot.name; bytes = bytes; own = own; needs = needs; kept = slots_of.kept_after slot.kept slot.bytes bytes }) }
+        ensures { (slot : SlotOf O F) → slice_get self.old place ≡ Some slot
+            → self.new
+            ≡ slice_set self.old place
+            (record {
+              name = slot.name;
+              bytes = bytes;
+              own = own;
+              needs = needs;
+              kept =
+                  slots_of.kept_after slot.kept slot.bytes bytes;
+            }) }
     {
         let key = self.names[place];
         set_text(&mut self.slots[key], bytes, own, needs);
@@ -104,7 +114,9 @@ impl<O: Drop, F: Drop> Shelf<O, F> {
     /// fact was made.
     pub fn set_inputs(&mut self, place: usize, given: Given<F>)
         requires { place < length self.old }
-        ensures { (slot : SlotOf O F) → slice_get self.old place ≡ Some slot → self.new ≡ slice_set self.old place (record slot { kept = rules.with_given slot.kept given }) }
+        ensures { (slot : SlotOf O F) → slice_get self.old place ≡ Some slot
+            → self.new
+            ≡ slice_set self.old place (record slot { kept = rules.with_given slot.kept given }) }
     {
         let key = self.names[place];
         set_inputs(&mut self.slots[key], given);
@@ -113,7 +125,8 @@ impl<O: Drop, F: Drop> Shelf<O, F> {
     /// Gives the slot at a place another fact.
     pub fn keep(&mut self, place: usize, kept: Kept<F>)
         requires { place < length self.old }
-        ensures { (slot : SlotOf O F) → slice_get self.old place ≡ Some slot → self.new ≡ slice_set self.old place (record slot { kept = Some kept }) }
+        ensures { (slot : SlotOf O F) → slice_get self.old place ≡ Some slot
+            → self.new ≡ slice_set self.old place (record slot { kept = Some kept }) }
     {
         let key = self.names[place];
         let slot = &mut self.slots[key];

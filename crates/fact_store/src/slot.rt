@@ -65,7 +65,15 @@ pub fn set_text<O: Drop, F: Drop>(
     own: O,
     needs: Option<List<Chars>>,
 )
-    ensures { slot.new ≡ record { name = slot.old.name; bytes = bytes; own = own; needs = needs; kept = slots_of.kept_after slot.old.kept slot.old.bytes bytes } }
+    ensures { slot.new
+        ≡ record {
+          name = slot.old.name;
+          bytes = bytes;
+          own = own;
+          needs = needs;
+          kept =
+              slots_of.kept_after slot.old.kept slot.old.bytes bytes;
+        } }
 {
     let before = std::mem::replace(&mut slot.bytes, bytes);
     slot.kept = kept_after(slot.kept.take(), before, slot.bytes.as_slice());

@@ -72,13 +72,17 @@ fn bring_up<D: Derive, L>(
     d: &mut D,
     steps: &mut Steps<L>,
 ) -> Result<(), Memory>
-    requires store { IsStore D.own_of D.needs_of D.fact_of D.same slots.old plan.old current.old.items }
+    requires store { IsStore D.own_of D.needs_of D.fact_of D.same slots.old plan.old
+        current.old.items }
     requires place { place < length slots.old }
     ensures outlines { outlines slots.new ≡ outlines slots.old }
-    ensures store { IsStore D.own_of D.needs_of D.fact_of D.same slots.new plan.new current.new.items }
-    ensures done { OnOk result ((slot : SlotOf D.Own D.Fact) → slice_get slots.new place ≡ Some slot → IsDone current.new.items place slot) }
+    ensures store { IsStore D.own_of D.needs_of D.fact_of D.same slots.new plan.new
+        current.new.items }
+    ensures done { OnOk result ((slot : SlotOf D.Own D.Fact) → slice_get slots.new place ≡ Some slot
+        → IsDone current.new.items place slot) }
     ensures rises { steps.old ≤ steps.new }
-    ensures counted { OnOk result (steps.new + owed D.own_of D.needs_of D.fact_of D.same slots.new ≤ steps.old + owed D.own_of D.needs_of D.fact_of D.same slots.old) }
+    ensures counted { OnOk result (steps.new + owed D.own_of D.needs_of D.fact_of D.same slots.new
+        ≤ steps.old + owed D.own_of D.needs_of D.fact_of D.same slots.old) }
 {
     cover(current, slots.len())?;
     make_plan(alloc, slots, plan)?;
@@ -96,8 +100,12 @@ fn fact_at<D: Derive>(
 ) -> Result<Answer<D::Fact>, Memory>
     requires right { IsRight D.own_of D.needs_of D.fact_of D.same slots.now current.now }
     requires place { place < length slots.now }
-    requires done { (slot : SlotOf D.Own D.Fact) → slice_get slots.now place ≡ Some slot → IsDone current.now place slot }
-    ensures { IfOk result (λ answer. (slot : SlotOf D.Own D.Fact) → slice_get slots.now place ≡ Some slot → answer_state answer ≡ value D.own_of D.needs_of D.fact_of (texts_of slots.now) slot.name) }
+    requires done { (slot : SlotOf D.Own D.Fact) → slice_get slots.now place ≡ Some slot
+        → IsDone current.now place slot }
+    ensures { IfOk result (λ answer. (slot : SlotOf D.Own D.Fact)
+        → slice_get slots.now place ≡ Some slot
+        → answer_state answer
+        ≡ value D.own_of D.needs_of D.fact_of (texts_of slots.now) slot.name) }
 {
     let slot = slots.at(place);
     if slot.needs.is_none() {
@@ -130,8 +138,11 @@ impl<D: Derive> FactStore<D> {
         bytes: Option<&[u8]>,
         d: &mut D,
     ) -> Result<(), Memory>
-        ensures texts { OnOk result (self.new.texts ≡ with_text self.old.texts name.now (option_copied bytes.entry)) }
-        ensures owed { OnOk result (self.new.owed ≤ self.old.owed + dirty D.own_of D.needs_of D.fact_of D.same self.old.texts self.new.texts) }
+        ensures texts { OnOk result (self.new.texts
+            ≡ with_text self.old.texts name.now (option_copied bytes.entry)) }
+        ensures owed { OnOk result (self.new.owed
+            ≤ self.old.owed + dirty D.own_of D.needs_of D.fact_of D.same self.old.texts
+            self.new.texts) }
         ensures err { OnErr result (self.new ≡ self.old) }
         ensures few { OnOk result (self.new.owed ≤ map.len self.new.texts) }
     {
@@ -153,7 +164,8 @@ impl<D: Derive> FactStore<D> {
         d: &mut D,
         steps: &mut Steps<L>,
     ) -> Result<Answer<D::Fact>, Memory>
-        ensures answer { IfOk result (λ answer. answer_state answer ≡ value D.own_of D.needs_of D.fact_of self.old.texts name.now) }
+        ensures answer { IfOk result (λ answer. answer_state answer
+            ≡ value D.own_of D.needs_of D.fact_of self.old.texts name.now) }
         ensures texts { self.new.texts ≡ self.old.texts }
         ensures rises { steps.old ≤ steps.new }
         ensures counted { OnOk result (steps.new + self.new.owed ≤ steps.old + self.old.owed) }

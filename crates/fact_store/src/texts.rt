@@ -34,7 +34,17 @@ fn replace<O: Drop, F: Drop>(
 )
     requires place { place < length slots.old }
     requires plan { HoldsPlan slots.old plan.old }
-    ensures slots { (before : SlotOf O F) → slice_get slots.old place ≡ Some before → slots.new ≡ slice_set slots.old place (record { name = before.name; bytes = slot.bytes; own = slot.own; needs = slot.needs; kept = slots_of.kept_after before.kept before.bytes slot.bytes }) }
+    ensures slots { (before : SlotOf O F) → slice_get slots.old place ≡ Some before
+        → slots.new
+        ≡ slice_set slots.old place
+        (record {
+          name = before.name;
+          bytes = slot.bytes;
+          own = slot.own;
+          needs = slot.needs;
+          kept =
+              slots_of.kept_after before.kept before.bytes slot.bytes;
+        }) }
     ensures plan { HoldsPlan slots.new plan.new }
 {
     let Slot {
@@ -56,7 +66,8 @@ fn slot_of<D: Derive>(
     bytes: &[u8],
     d: &mut D,
 ) -> Result<Slot<D::Own, D::Fact>, Memory>
-    ensures { IfOk result (λ slot. slot ≡ slots_of.new_slot D.own_of D.needs_of name.now bytes.now) }
+    ensures { IfOk result (λ slot. slot
+        ≡ slots_of.new_slot D.own_of D.needs_of name.now bytes.now) }
 {
     let text = List::from_vec(Vec::from_slice(alloc, bytes)?);
     let called = Chars::from_str(alloc, name)?;
@@ -84,8 +95,11 @@ pub fn put<D: Derive>(
     requires plan { HoldsPlan slots.old plan.old }
     ensures sound { AreSound D.own_of D.needs_of D.fact_of slots.new }
     ensures plan { HoldsPlan slots.new plan.new }
-    ensures texts { OnOk result (texts_of slots.new ≡ map.insert (texts_of slots.old) name.now bytes.now) }
-    ensures owed { OnOk result (owed D.own_of D.needs_of D.fact_of D.same slots.new ≤ owed D.own_of D.needs_of D.fact_of D.same slots.old + dirty D.own_of D.needs_of D.fact_of D.same (texts_of slots.old) (texts_of slots.new)) }
+    ensures texts { OnOk result (texts_of slots.new
+        ≡ map.insert (texts_of slots.old) name.now bytes.now) }
+    ensures owed { OnOk result (owed D.own_of D.needs_of D.fact_of D.same slots.new
+        ≤ owed D.own_of D.needs_of D.fact_of D.same slots.old + dirty D.own_of D.needs_of D.fact_of
+        D.same (texts_of slots.old) (texts_of slots.new)) }
     ensures err { OnErr result (slots.new ≡ slots.old) }
 {
     let slot = slot_of(alloc, name, bytes, d)?;
@@ -105,7 +119,9 @@ pub fn take_out<D: Derive>(slots: &mut Shelf<D::Own, D::Fact>, plan: &mut Option
     ensures sound { AreSound D.own_of D.needs_of D.fact_of slots.new }
     ensures plan { HoldsPlan slots.new plan.new }
     ensures texts { texts_of slots.new ≡ map.remove (texts_of slots.old) name.now }
-    ensures owed { owed D.own_of D.needs_of D.fact_of D.same slots.new ≤ owed D.own_of D.needs_of D.fact_of D.same slots.old + dirty D.own_of D.needs_of D.fact_of D.same (texts_of slots.old) (texts_of slots.new) }
+    ensures owed { owed D.own_of D.needs_of D.fact_of D.same slots.new
+        ≤ owed D.own_of D.needs_of D.fact_of D.same slots.old + dirty D.own_of D.needs_of D.fact_of
+        D.same (texts_of slots.old) (texts_of slots.new) }
 {
     let Some(place) = slots.place_of(name) else {
         return;

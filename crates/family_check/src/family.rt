@@ -52,7 +52,8 @@ pub fn check_family<L>(
     requires small { sum_by (λ file. length file.bytes) files.now < 2 ^ 31 }
     ensures verdicts { IfOk result (λ found. found ≡ verdicts_if_built files.now) }
     ensures placed { IfOk result (λ found. IfSome found (All IsVerdictPlaced)) }
-    ensures steps { IfOk result (λ found. IfSome found (λ _. steps.new ≡ after_checks (checks_of files.now) steps.old)) }
+    ensures steps { IfOk result
+        (λ found. IfSome found (λ _. steps.new ≡ after_checks (checks_of files.now) steps.old)) }
 {
     front_laws::one_front();
     let modules = read_family(alloc, files)?;

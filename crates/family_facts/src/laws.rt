@@ -13,7 +13,8 @@ use module_facts::{in_order, one_order};
 /// The front of some bytes is the one that the function gives, and no other.
 pub fn one_front_of()
     ensures is { (name bytes : List ℕ) → IsFront name bytes (front_of name bytes) }
-    ensures no_other { (name bytes : List ℕ) → (front : Front) → IsFront name bytes front → front ≡ front_of name bytes }
+    ensures no_other { (name bytes : List ℕ) → (front : Front) → IsFront name bytes front
+        → front ≡ front_of name bytes }
 {
     front_laws::one_front();
 }
@@ -25,7 +26,9 @@ pub fn names_differ()
 
 /// Of a module of a family in which no two have one name one thing is found, and no other.
 pub fn one_verdict()
-    ensures { (family : List Member) → AreMembersDistinct family → (name : List ℕ) → (found other : Diagnosed) → IsDiagnosed family name found → IsDiagnosed family name other → found ≡ other }
+    ensures { (family : List Member) → AreMembersDistinct family → (name : List ℕ)
+        → (found other : Diagnosed) → IsDiagnosed family name found → IsDiagnosed family name other
+        → found ≡ other }
 {
     front_laws::one_front();
     one_order();
@@ -33,8 +36,11 @@ pub fn one_verdict()
 
 /// What is found of each module of such a family is what the function of its texts gives, and nothing else.
 pub fn diagnosed_is()
-    ensures is { (family : List Member) → AreMembersDistinct family → (name : List ℕ) → is_there family name ≡ true → IsDiagnosed family name (diagnosed (texts_of family) name) }
-    ensures no_other { (family : List Member) → AreMembersDistinct family → (name : List ℕ) → (found : Diagnosed) → IsDiagnosed family name found → found ≡ diagnosed (texts_of family) name }
+    ensures is { (family : List Member) → AreMembersDistinct family → (name : List ℕ)
+        → is_there family name ≡ true → IsDiagnosed family name (diagnosed (texts_of family) name) }
+    ensures no_other { (family : List Member) → AreMembersDistinct family → (name : List ℕ)
+        → (found : Diagnosed) → IsDiagnosed family name found
+        → found ≡ diagnosed (texts_of family) name }
 {
     front_laws::one_front();
     in_order();
@@ -43,7 +49,8 @@ pub fn diagnosed_is()
 /// Files with names of their own have the verdicts that the function gives, and no others.
 pub fn verdicts_are()
     ensures are { (files : List File) → AreDistinct files → AreVerdicts files (verdicts_on files) }
-    ensures no_other { (files : List File) → AreDistinct files → (verdicts : List Verdict) → AreVerdicts files verdicts → verdicts ≡ verdicts_on files }
+    ensures no_other { (files : List File) → AreDistinct files → (verdicts : List Verdict)
+        → AreVerdicts files verdicts → verdicts ≡ verdicts_on files }
 {
     front_laws::one_front();
     in_order();

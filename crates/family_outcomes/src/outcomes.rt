@@ -31,7 +31,9 @@ fn lone_fault(alloc: Global, fault: Diagnostic) -> Result<List<Diagnostic>, Memo
 // What was found of a module that was checked.
 fn outcome_of(alloc: Global, checked: &Checked) -> Result<Outcome, Memory>
     requires { parts_behind checked.now.parts checked.now.parts ≡ [] }
-    ensures says { (outside : ModuleView) → (checked.now.faults ≡ [] → face_outside checked.now.parts ≡ outside) → IfOk result (outcomes_of.Says checked.now.faults outside) }
+    ensures says { (outside : ModuleView)
+        → (checked.now.faults ≡ [] → face_outside checked.now.parts ≡ outside)
+        → IfOk result (outcomes_of.Says checked.now.faults outside) }
     ensures bare { IfOk result outcomes_of.IsBare }
 {
     let faults = checked.faults();
@@ -54,7 +56,9 @@ fn check_tree<L>(
     requires tree { (bytes : ListOf ℕ) × modules_of.IsTreeOf name.now bytes tree.now }
     requires without { holds_instance (module_of tree.now) ≡ false }
     requires bare { outcomes_of.AreBare outcomes.now }
-    ensures outcome { (family : ListOf Member) → IsReady family plan.now outcomes.now name.now → outcomes_of.IsMember family name.now (reading.Tree tree.now) needs.now → IfOk result (outcomes_of.IsOutcome family name.now) }
+    ensures outcome { (family : ListOf Member) → IsReady family plan.now outcomes.now name.now
+        → outcomes_of.IsMember family name.now (reading.Tree tree.now) needs.now
+        → IfOk result (outcomes_of.IsOutcome family name.now) }
     ensures bare { IfOk result outcomes_of.IsBare }
     ensures steps { IfOk result (λ _. steps.new ≡ outcomes_of.after_ticks 1 steps.old) }
 {
@@ -75,9 +79,12 @@ fn check_one<L>(
     requires some { outcomes_of.IsSomeModule name.now module.now }
     requires without { modules_of.reading_holds_instance module.now.reading ≡ false }
     requires bare { outcomes_of.AreBare outcomes.now }
-    ensures outcome { (family : ListOf Member) → IsReady family plan.now outcomes.now name.now → outcomes_of.IsMember family name.now module.now.reading module.now.needs → IfOk result (outcomes_of.IsOutcome family name.now) }
+    ensures outcome { (family : ListOf Member) → IsReady family plan.now outcomes.now name.now
+        → outcomes_of.IsMember family name.now module.now.reading module.now.needs
+        → IfOk result (outcomes_of.IsOutcome family name.now) }
     ensures bare { IfOk result outcomes_of.IsBare }
-    ensures steps { IfOk result (λ _. steps.new ≡ outcomes_of.after_ticks (modules_of.tree_count module.now.reading) steps.old) }
+    ensures steps { IfOk result (λ _. steps.new
+        ≡ outcomes_of.after_ticks (modules_of.tree_count module.now.reading) steps.old) }
 {
     match &module.reading {
         Reading::Tree(tree) => {
@@ -101,8 +108,10 @@ pub fn check_all<L>(
     requires read { All (λ entry. outcomes_of.IsSomeModule entry.0 entry.1) modules.now }
     requires plan { IsPlan modules.now plan.now }
     requires without { outcomes_of.AreWithoutInstances modules.now }
-    ensures outcomes { (family : ListOf Member) → modules_of.AreModules family modules.now → IfOk result (outcomes_of.AreOutcomes family) }
-    ensures steps { IfOk result (λ _. steps.new ≡ outcomes_of.after_ticks (outcomes_of.trees_in modules.now) steps.old) }
+    ensures outcomes { (family : ListOf Member) → modules_of.AreModules family modules.now
+        → IfOk result (outcomes_of.AreOutcomes family) }
+    ensures steps { IfOk result (λ _. steps.new
+        ≡ outcomes_of.after_ticks (outcomes_of.trees_in modules.now) steps.old) }
 {
     front_laws::one_front();
     let mut outcomes = Table::new(alloc);

@@ -42,11 +42,13 @@ static BUILT_IN: [&str; 8] = [
 // The front of a module, with what is asked of its lexemes.
 fn read_front(alloc: Global, name: &str, bytes: &[u8]) -> Result<ModuleTree, FrontError>
     requires { length bytes.now < 2 ^ 31 }
-    ensures tree { IfOk result (λ tree. (found : ModuleUnits) × IsFront name.now bytes.now (fronts.Tree found) × IsTree tree found bytes.now) }
+    ensures tree { IfOk result (λ tree. (found : ModuleUnits)
+        × IsFront name.now bytes.now (fronts.Tree found) × IsTree tree found bytes.now) }
     ensures lexemes { IfOk result (λ tree. LexemesLie bytes.now (module_of tree)) }
     ensures few { IfOk result (λ tree. length (declaring (module_of tree).units) < 2 ^ 32) }
     ensures fault { IfErr result (λ error. IsFrontFault name.now bytes.now error) }
-    ensures placed { IfErr result (λ error. IsFaultPlaced (take (readable_len bytes.now) bytes.now) error) }
+    ensures placed { IfErr result
+        (λ error. IsFaultPlaced (take (readable_len bytes.now) bytes.now) error) }
 {
     front(alloc, name, bytes)
 }
@@ -76,7 +78,8 @@ fn needs_of(alloc: Global, tree: &ModuleTree) -> Result<List<Chars>, Memory>
 
 fn module_of_tree(alloc: Global, tree: ModuleTree) -> Result<Module, Memory>
     requires { (name bytes : ListOf ℕ) × IsTreeOf name bytes tree }
-    ensures { (name bytes : ListOf ℕ) → IsTreeOf name bytes tree → IfOk result (IsModule name bytes) }
+    ensures { (name bytes : ListOf ℕ) → IsTreeOf name bytes tree
+        → IfOk result (IsModule name bytes) }
 {
     let needs = needs_of(alloc, &tree)?;
     Ok(Module {
@@ -121,7 +124,8 @@ fn read_files(alloc: Global, files: &[File]) -> Result<Table<Module>, Memory>
 // Adds the built-in module of a name, unless a module has this name.
 fn add_built_in(alloc: Global, modules: &mut Table<Module>, name: &str) -> Result<(), Memory>
     requires { length (text_or_none (std_text name.now)) < 2 ^ 31 }
-    ensures { (members : ListOf Member) → AreModules members modules.old → OnOk result (AreModules (added members (built_in name.now)) modules.new) }
+    ensures { (members : ListOf Member) → AreModules members modules.old
+        → OnOk result (AreModules (added members (built_in name.now)) modules.new) }
 {
     if modules.get(name).is_some() {
         return Ok(());
@@ -134,8 +138,12 @@ fn add_built_in(alloc: Global, modules: &mut Table<Module>, name: &str) -> Resul
 
 // Adds the built-in modules of these names, but for those whose name a module has.
 fn add_all(alloc: Global, modules: &mut Table<Module>, names: &[&'static str]) -> Result<(), Memory>
-    requires { AllByRecursion (λ name. length (text_or_none (std_text name.now)) < 2 ^ 31) names.now }
-    ensures { (members : ListOf Member) → AreModules members modules.old → OnOk result (AreModules (fold (λ found name. added found (built_in name.now)) members names.now) modules.new) }
+    requires { AllByRecursion (λ name. length (text_or_none (std_text name.now))
+        < 2 ^ 31) names.now }
+    ensures { (members : ListOf Member) → AreModules members modules.old
+        → OnOk result
+        (AreModules (fold (λ found name. added found (built_in name.now)) members names.now)
+        modules.new) }
 {
     for name in names {
         add_built_in(alloc, modules, *name)?;

@@ -20,7 +20,9 @@ fn import_of(
     need: &str,
 ) -> Result<Import, Memory>
     requires { AreBare outcomes.now }
-    ensures given { (family : ListOf Member) → IsReady family plan.now outcomes.now name.now → families.Needs family name.now need.now → IfOk result (IsImport family name.now need.now) }
+    ensures given { (family : ListOf Member) → IsReady family plan.now outcomes.now name.now
+        → families.Needs family name.now need.now
+        → IfOk result (IsImport family name.now need.now) }
     ensures bare { IfOk result IsBareImport }
 {
     if plan.is_cyclic(alloc, name, need)? {
@@ -42,7 +44,9 @@ pub fn imports_of(
     needs: &[Chars],
 ) -> Result<Imported, Memory>
     requires { AreBare outcomes.now }
-    ensures given { (family : ListOf Member) → IsReady family plan.now outcomes.now name.now → ((need : ListOf ℕ) → Contains needs.now need → families.Needs family name.now need) → IfOk result (AreImports family name.now needs.now) }
+    ensures given { (family : ListOf Member) → IsReady family plan.now outcomes.now name.now
+        → ((need : ListOf ℕ) → Contains needs.now need → families.Needs family name.now need)
+        → IfOk result (AreImports family name.now needs.now) }
     ensures bare { IfOk result AreBareImports }
 {
     let mut imported = Imported::new(alloc);

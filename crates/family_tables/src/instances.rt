@@ -24,7 +24,8 @@ fn module_holds_instance(alloc: Global, module: &Module) -> Result<bool, Memory>
 /// Whether the word INSTANCE stands in one of these modules.
 pub fn some_instance(alloc: Global, modules: &Table<Module>) -> Result<bool, Memory>
     requires { All (λ entry. IsSomeModule entry.0 entry.1) modules.now }
-    ensures { IfOk result (λ some. some ≡ list_any (λ entry. reading_holds_instance entry.1.reading) modules.now) }
+    ensures { IfOk result (λ some. some
+        ≡ list_any (λ entry. reading_holds_instance entry.1.reading) modules.now) }
 {
     for place in 0..modules.len() {
         let (_, module) = modules.at(place);

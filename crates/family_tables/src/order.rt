@@ -129,7 +129,9 @@ pub fn plan_of(alloc: Global, modules: &Table<Module>) -> Result<Plan, Memory>
 impl Plan {
     /// Whether a need of a module is that module or reaches it.
     pub fn is_cyclic(&self, alloc: Global, name: &str, need: &str) -> Result<bool, Memory>
-        ensures { (modules : ListOf Entry) → IsPlan modules self.now → plans.Needs modules name.now need.now → IfOk result (λ answer. IsTrue answer ↔ plans.IsCyclic modules name.now need.now) }
+        ensures { (modules : ListOf Entry) → IsPlan modules self.now
+            → plans.Needs modules name.now need.now
+            → IfOk result (λ answer. IsTrue answer ↔ plans.IsCyclic modules name.now need.now) }
     {
         match &self.cycles {
             Some(graph) => is_cyclic_in(alloc, graph, name, need),

@@ -47,7 +47,8 @@ fn faults_of(
     outcomes: &Table<Outcome>,
     name: &str,
 ) -> Result<List<Diagnostic>, Memory>
-    ensures { IfOk result (λ faults. faults ≡ outcomes_of.faults_of (entry_of outcomes.now name.now)) }
+    ensures { IfOk result (λ faults. faults
+        ≡ outcomes_of.faults_of (entry_of outcomes.now name.now)) }
 {
     match outcomes.get(name) {
         Some(Outcome::Refused(faults)) => Ok(copied(alloc, faults.as_slice())?),

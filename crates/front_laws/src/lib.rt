@@ -11,7 +11,8 @@ ghost use Rattle.front_laws.specs.Fronts.{Front, IsFront};
 /// Bytes have one front, and no other.
 pub fn one_front()
     ensures some { (name bytes : List ℕ) → (front : Front) × IsFront name bytes front }
-    ensures same { (name bytes : List ℕ) → (front other : Front) → IsFront name bytes front → IsFront name bytes other → front ≡ other }
+    ensures same { (name bytes : List ℕ) → (front other : Front) → IsFront name bytes front
+        → IsFront name bytes other → front ≡ other }
 {
     tla_lexeme::reads_longest();
     unit_laws::one_module();

@@ -53,7 +53,8 @@ impl ListStack {
     pub fn open(&mut self, bullet: Op, col: u32) -> Result<(), Memory>
         requires above { inner self.old ≤ col }
         requires below { col < 2 ^ 32 - 1 }
-        ensures ok { OnOk result (self.new ≡ self.old ++ record { bullet = bullet; col = col } ∷ []) }
+        ensures ok { OnOk result (self.new ≡ self.old ++ record { bullet = bullet; col = col }
+            ∷ []) }
         ensures err { OnErr result (self.new ≡ self.old) }
     {
         self.lists.push(OpenList { bullet, col })?;

@@ -22,7 +22,8 @@ pub struct Breaks {
 pub fn apply(rule: Rule, operands: &[Kind]) -> Result<Kind, Breaks>
     requires { kinds.HasOperands rule (length operands.now) }
     ensures kind { IfOk result (λ kind. kinds.applied rule operands.now ≡ Some kind) }
-    ensures breaks { IfErr result (λ breaks. kinds.first_refused rule 0 operands.now ≡ Some breaks.operand) }
+    ensures breaks { IfErr result (λ breaks. kinds.first_refused rule 0 operands.now
+        ≡ Some breaks.operand) }
 {
     for (place, kind) in operands.iter().enumerate() {
         if !takes(rule, place, *kind) {

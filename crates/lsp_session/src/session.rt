@@ -109,7 +109,8 @@ fn read_and_handle<A: Answers, L>(
 impl<A: Answers> Session<A> {
     /// A session to which no message came. It takes no memory.
     pub fn new(answers: A) -> Session<A>
-        ensures { result ≡ record { answers = answers; phase = Phase.Uninitialized; spent = false } }
+        ensures { result
+            ≡ record { answers = answers; phase = Phase.Uninitialized; spent = false } }
     {
         Session {
             answers,

@@ -152,7 +152,8 @@ fn notes_around(alloc: Global, items: &str, uri: &str) -> Result<String, AllocEr
 
 /// The JSON of a document's diagnostics.
 pub fn notes_text(alloc: Global, uri: &str, notes: &[Note]) -> Result<String, AllocError>
-    ensures { IfOk result (λ json. string_bytes json ≡ compact_text (notes_data uri.now notes.now)) }
+    ensures { IfOk result (λ json. string_bytes json
+        ≡ compact_text (notes_data uri.now notes.now)) }
 {
     let items = note_texts(alloc, notes)?;
     let uri = quoted_text(alloc, uri)?;

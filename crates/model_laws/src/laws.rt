@@ -15,13 +15,18 @@ ghost use Rattle.tla_model.specs.declared.ids.DeclId.{DeclId};
 
 /// Each fault of a module's names stands at a lexeme that the module holds.
 pub fn faults_at_lexemes()
-    ensures { (files : List ℕ → ModuleView) → (source : List ℕ) → (units : ModuleUnits) → All (λ f. Contains (map (λ l. l.span) (module_lexemes units)) f.span) (faults (findings files source units)) }
+    ensures { (files : List ℕ → ModuleView) → (source : List ℕ) → (units : ModuleUnits)
+        → All (λ f. Contains (map (λ l. l.span) (module_lexemes units)) f.span)
+        (faults (findings files source units)) }
 {}
 
 /// What stands for a parameter of an instantiated module is the replacement at the place of that
 /// parameter, and so the one under its declaration.
 pub fn replaced_by_declaration()
-    ensures { (parameters : Exports) → (replacements : List Replacement) → (i : ℕ) → (p : Named × Meaning) → (r : Replacement) → (decl : DeclId) → AreApart parameters → slice_get parameters i ≡ Some p → slice_get replacements i ≡ Some r → is_declared p.1 decl ≡ true → replacement_of parameters replacements decl ≡ Some r }
+    ensures { (parameters : Exports) → (replacements : List Replacement) → (i : ℕ)
+        → (p : Named × Meaning) → (r : Replacement) → (decl : DeclId) → AreApart parameters
+        → slice_get parameters i ≡ Some p → slice_get replacements i ≡ Some r
+        → is_declared p.1 decl ≡ true → replacement_of parameters replacements decl ≡ Some r }
 {}
 
 /// What the names of a module mean is told by the files that it needs: over others that agree on these,

@@ -55,7 +55,8 @@ fn add_import<'a>(
 ) -> Result<(), Memory>
     requires { AreGathered parts.old }
     ensures valid { OnOk result (AreGathered parts.new) }
-    ensures held { OnOk result (held_by parts.new ≡ with_import (held_by parts.old) (option_copied import.entry)) }
+    ensures held { OnOk result (held_by parts.new
+        ≡ with_import (held_by parts.old) (option_copied import.entry)) }
 {
     match import {
         Some(Import::Module(face)) => {
@@ -77,7 +78,8 @@ fn add_imports<'a>(
     requires valid { AreGathered parts.old }
     requires lie { AllByRecursion (LiesIn source.now) names.now }
     ensures valid { OnOk result (AreGathered parts.new) }
-    ensures held { OnOk result (held_by parts.new ≡ with_imports imported.now source.now (held_by parts.old) names.now) }
+    ensures held { OnOk result (held_by parts.new
+        ≡ with_imports imported.now source.now (held_by parts.old) names.now) }
 {
     for name in names {
         add_import(alloc, parts, imported.get(spelled(source, name)))?;
@@ -94,7 +96,8 @@ fn reached(
     own: Arc<Interface>,
 ) -> Result<Parts, Memory>
     requires { AllByRecursion (LiesIn source.now) needed.now }
-    ensures { IfOk result (λ parts. parts ≡ with_imports imported.now source.now [] needed.now ++ bare (arc_value own) ∷ []) }
+    ensures { IfOk result (λ parts. parts ≡ with_imports imported.now source.now [] needed.now
+        ++ bare (arc_value own) ∷ []) }
 {
     let mut parts = Gathered::new(alloc);
     add_imports(alloc, &mut parts, imported, source, needed)?;
@@ -122,7 +125,8 @@ fn face(
     requires readable { IsReadable tree.now }
     requires name { spelled tree.now.source tree.now.name ≡ name.now }
     requires needed { needed.now ≡ imports_of tree.now.source (module_of tree.now) }
-    ensures { IfOk result (λ face. IsFaceWith imported.now tree.now.source (module_of tree.now) (exports_of exports) face.parts) }
+    ensures { IfOk result (λ face. IsFaceWith imported.now tree.now.source (module_of tree.now)
+        (exports_of exports) face.parts) }
 {
     imports_are_lexemes();
     let own = own(alloc, name, exports)?;
@@ -142,7 +146,8 @@ fn face_by(
     requires readable { IsReadable tree.now }
     requires name { spelled tree.now.source tree.now.name ≡ name.now }
     requires needed { needed.now ≡ imports_of tree.now.source (module_of tree.now) }
-    ensures { IfOk result (λ face. IsFaceBy imported.now tree.now.source (module_of tree.now) exports face.parts) }
+    ensures { IfOk result
+        (λ face. IsFaceBy imported.now tree.now.source (module_of tree.now) exports face.parts) }
 {
     match exports {
         Some(table) => face(alloc, name, tree, imported, needed, table),
@@ -170,7 +175,9 @@ pub fn shared_face(
     requires readable { IsReadable tree.now }
     requires name { spelled tree.now.source tree.now.name ≡ name.now }
     requires needed { needed.now ≡ imports_of tree.now.source (module_of tree.now) }
-    ensures { IfOk result (λ face. IsFaceBy imported.now tree.now.source (module_of tree.now) exports (arc_value face).parts) }
+    ensures { IfOk result
+        (λ face. IsFaceBy imported.now tree.now.source (module_of tree.now) exports
+        (arc_value face).parts) }
 {
     let face = face_by(alloc, name, tree, imported, needed, exports)?;
     let shared = Arc::new(alloc, face)?;

@@ -20,7 +20,8 @@ use tool_list::{List, Memory};
 
 // The code of the fault of an import, if it has one.
 fn code_of(import: Option<&Import>) -> Option<u16>
-    ensures { (name : Name) → coded result name ≡ import_fault (given_by (option_copied import.entry)) name }
+    ensures { (name : Name)
+        → coded result name ≡ import_fault (given_by (option_copied import.entry)) name }
 {
     match import {
         None | Some(Import::Unknown) => Some(301),
@@ -38,7 +39,8 @@ fn push_faults(
     names: &[Lexeme],
 ) -> Result<(), Memory>
     requires { AllByRecursion (LiesIn source.now) names.now }
-    ensures { OnOk result (faults.new ≡ faults.old ++ faults_of_imports (given_in imported.now) source.now names.now) }
+    ensures { OnOk result (faults.new
+        ≡ faults.old ++ faults_of_imports (given_in imported.now) source.now names.now) }
 {
     for name in names {
         if let Some(code) = code_of(imported.get(spelled(source, name))) {
@@ -75,7 +77,8 @@ pub fn import_faults(
 ) -> Result<List<Diagnostic>, Memory>
     requires readable { IsReadable tree.now }
     requires named { AreNamed tree.now.source (module_of tree.now) named.now }
-    ensures { IfOk result (λ faults. faults ≡ faults_of.import_faults (given_in imported.now) tree.now.source (module_of tree.now)) }
+    ensures { IfOk result (λ faults. faults
+        ≡ faults_of.import_faults (given_in imported.now) tree.now.source (module_of tree.now)) }
 {
     imports_are_lexemes();
     let mut faults = List::new(alloc);

@@ -16,8 +16,10 @@ type Modules<'a> = IndexSet<(&'a str, Option<u32>)>;
 
 // Notes the module of a part. It answers whether it was not there.
 fn note<'a>(modules: &mut Modules<'a>, part: &'a Part) -> Result<bool, Memory>
-    ensures fresh { IfOk result (λ fresh. fresh ≡ not (is_among (keys_under modules.old.keys) (key_in (held_in part.now)))) }
-    ensures noted { OnOk result (keys_under modules.new.keys ≡ with_key (keys_under modules.old.keys) (key_in (held_in part.now))) }
+    ensures fresh { IfOk result (λ fresh. fresh
+        ≡ not (is_among (keys_under modules.old.keys) (key_in (held_in part.now)))) }
+    ensures noted { OnOk result (keys_under modules.new.keys
+        ≡ with_key (keys_under modules.old.keys) (key_in (held_in part.now))) }
 {
     let module = &part.interface.module;
     let fresh = modules.insert((module.module.as_str(), module.nested))?;
@@ -26,7 +28,8 @@ fn note<'a>(modules: &mut Modules<'a>, part: &'a Part) -> Result<bool, Memory>
 
 // Notes the modules of parts.
 fn note_stretch<'a>(modules: &mut Modules<'a>, parts: &'a [Part]) -> Result<(), Memory>
-    ensures { OnOk result (keys_under modules.new.keys ≡ with_keys (keys_under modules.old.keys) (keys_in (views parts.now))) }
+    ensures { OnOk result (keys_under modules.new.keys
+        ≡ with_keys (keys_under modules.old.keys) (keys_in (views parts.now))) }
 {
     for part in parts {
         note(modules, part)?;
@@ -36,7 +39,8 @@ fn note_stretch<'a>(modules: &mut Modules<'a>, parts: &'a [Part]) -> Result<(), 
 
 // Notes the modules of all parts of a face.
 fn note_all<'a>(modules: &mut Modules<'a>, parts: &'a Parts) -> Result<(), Memory>
-    ensures { OnOk result (keys_under modules.new.keys ≡ with_keys (keys_under modules.old.keys) (keys_in parts.now)) }
+    ensures { OnOk result (keys_under modules.new.keys
+        ≡ with_keys (keys_under modules.old.keys) (keys_in parts.now)) }
 {
     let stretches = parts.stretches();
     for stretch in stretches {
@@ -112,7 +116,7 @@ impl<'a> Gathered<'a> {
     fn note_first(&mut self) -> Result<(), Memory>
         requires { AreGathered self.old }
         ensures noted { OnOk result (IsNoted self.new) }
-        ensures views { OnOk result (held_by self.new ≡ held_by self.old) }
+        ensures held { OnOk result (held_by self.new ≡ held_by self.old) }
     {
         if !self.modules.is_empty() {
             return Ok(());
@@ -127,7 +131,8 @@ impl<'a> Gathered<'a> {
     fn add(&mut self, alloc: Global, part: &'a Part) -> Result<(), Memory>
         requires { IsNoted self.old }
         ensures noted { OnOk result (IsNoted self.new) }
-        ensures views { OnOk result (held_by self.new ≡ with_part (held_by self.old) (held_in part.now)) }
+        ensures held { OnOk result (held_by self.new
+            ≡ with_part (held_by self.old) (held_in part.now)) }
     {
         if !note(&mut self.modules, part)? {
             return Ok(());
@@ -143,7 +148,8 @@ impl<'a> Gathered<'a> {
     fn add_stretch(&mut self, alloc: Global, parts: &'a [Part]) -> Result<(), Memory>
         requires { IsNoted self.old }
         ensures noted { OnOk result (IsNoted self.new) }
-        ensures views { OnOk result (held_by self.new ≡ with_parts (held_by self.old) (views parts.now)) }
+        ensures held { OnOk result (held_by self.new
+            ≡ with_parts (held_by self.old) (views parts.now)) }
     {
         for part in parts {
             self.add(alloc, part)?;
@@ -155,7 +161,7 @@ impl<'a> Gathered<'a> {
     fn add_all(&mut self, alloc: Global, parts: &'a Parts) -> Result<(), Memory>
         requires { IsNoted self.old }
         ensures noted { OnOk result (IsNoted self.new) }
-        ensures views { OnOk result (held_by self.new ≡ with_parts (held_by self.old) parts.now) }
+        ensures held { OnOk result (held_by self.new ≡ with_parts (held_by self.old) parts.now) }
     {
         let stretches = parts.stretches();
         for stretch in stretches {
@@ -169,7 +175,7 @@ impl<'a> Gathered<'a> {
     pub fn add_face(&mut self, alloc: Global, parts: &'a Parts) -> Result<(), Memory>
         requires { AreGathered self.old }
         ensures valid { OnOk result (AreGathered self.new) }
-        ensures views { OnOk result (held_by self.new ≡ with_face (held_by self.old) parts.now) }
+        ensures held { OnOk result (held_by self.new ≡ with_face (held_by self.old) parts.now) }
     {
         if self.is_empty() {
             self.first = Some(parts);

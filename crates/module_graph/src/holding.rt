@@ -14,7 +14,8 @@ use tool_list::Memory;
 // Whether the word stands in a unit.
 fn unit_holds(alloc: Global, tree: &Tree, unit: &Unit) -> Result<bool, Memory>
     requires { AreThere tree.now (nodes_in unit.now) }
-    ensures { IfOk result (λ holds. holds ≡ is_some_name (instance_names (unit_at tree.now unit.now))) }
+    ensures { IfOk result (λ holds. holds
+        ≡ is_some_name (instance_names (unit_at tree.now unit.now))) }
 {
     match node_of(unit) {
         Some(node) => {

@@ -18,26 +18,32 @@ pub fn passes_nested()
 
 /// What a module needs stands in its lexemes, in their order.
 pub fn needs_in_order()
-    ensures { (text : List ℕ) → (found : ModuleUnits) → (lexemes : List Lexeme) → DerivesModule found lexemes → IsWithin (imports_of text found) lexemes }
+    ensures { (text : List ℕ) → (found : ModuleUnits) → (lexemes : List Lexeme)
+        → DerivesModule found lexemes → IsWithin (imports_of text found) lexemes }
 {}
 
 /// Where the lexemes of a module lie in a text, so do the names that `named_modules` compares.
 pub fn names_lie()
-    ensures { (text : List ℕ) → (found : ModuleUnits) → (lexemes : List Lexeme) → DerivesModule found lexemes → AllByRecursion (LiesIn text) lexemes → AreNamesPlaced text found }
+    ensures { (text : List ℕ) → (found : ModuleUnits) → (lexemes : List Lexeme)
+        → DerivesModule found lexemes → AllByRecursion (LiesIn text) lexemes
+        → AreNamesPlaced text found }
 {}
 
 /// Where the names and symbols of a module lie in a text, so do the names that `named_modules` compares.
 pub fn lexemes_lie_names()
-    ensures { (source : List ℕ) → (units : ModuleUnits) → LexemesLie source units → AreNamesPlaced source units }
+    ensures { (source : List ℕ) → (units : ModuleUnits) → LexemesLie source units
+        → AreNamesPlaced source units }
 {}
 
 /// What a module needs stands among its names and symbols.
 pub fn imports_are_lexemes()
-    ensures { (source : List ℕ) → (units : ModuleUnits) → All (Contains (module_lexemes units)) (imports_of source units) }
+    ensures { (source : List ℕ) → (units : ModuleUnits)
+        → All (Contains (module_lexemes units)) (imports_of source units) }
 {}
 
 /// The module names that are those of nested modules round them stand among the names and symbols of
 /// the module.
 pub fn enclosing_are_lexemes()
-    ensures { (source : List ℕ) → (units : ModuleUnits) → All (Contains (module_lexemes units)) (enclosing_of source units) }
+    ensures { (source : List ℕ) → (units : ModuleUnits)
+        → All (Contains (module_lexemes units)) (enclosing_of source units) }
 {}

@@ -47,7 +47,8 @@ fn pass<'a>(modules: &mut Nesting<'a, ()>, source: &'a str, unit: &Unit) -> Resu
 
 // Whether a module name is that of a module that is needed.
 fn needs(at: &Nesting<'_, ()>, title: &str, name: &str) -> bool
-    ensures { (scope : Scope ⊤) → IsAt at.now scope → result ≡ names_of.needs title.now scope name.now }
+    ensures { (scope : Scope ⊤) → IsAt at.now scope
+        → result ≡ names_of.needs title.now scope name.now }
 {
     !at.is_taken(name) || (name == title && !at.is_round(name))
 }

@@ -78,7 +78,8 @@ fn is_short(stretches: &[Arc<List<Part>>], next: usize) -> bool {
 
 // Takes the last stretch out where it is short of one that is to follow it.
 fn take_short(stretches: &mut Vec<Arc<List<Part>>>, next: usize) -> Option<Arc<List<Part>>>
-    ensures taken { IfSome result (λ stretch. stretches.old.items ≡ stretches.new.items ++ stretch ∷ []) }
+    ensures taken { IfSome result (λ stretch. stretches.old.items ≡ stretches.new.items ++ stretch
+        ∷ []) }
     ensures none { IfNone result (stretches.new.items ≡ stretches.old.items) }
 {
     if is_short(stretches.as_slice(), next) {
@@ -94,7 +95,8 @@ fn push_stretch(
     stretches: &mut Vec<Arc<List<Part>>>,
     parts: List<Part>,
 ) -> Result<(), Memory>
-    ensures { OnOk result (parts_in stretches.new.items ≡ parts_in stretches.old.items ++ views parts) }
+    ensures { OnOk result (parts_in stretches.new.items
+        ≡ parts_in stretches.old.items ++ views parts) }
 {
     let mut parts = parts;
     while let Some(before) = take_short(stretches, parts.len()) {

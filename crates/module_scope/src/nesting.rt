@@ -43,7 +43,8 @@ impl<'a, T: Drop> Nesting<'a, T> {
 
     /// Goes into a nested module of this name.
     pub fn enter(&mut self, name: &'a str) -> Result<(), Memory>
-        ensures { OnOk result ((scope : Scope T) → IsAt self.old scope → IsAt self.new (begun scope name.now)) }
+        ensures { OnOk result ((scope : Scope T) → IsAt self.old scope
+            → IsAt self.new (begun scope name.now)) }
     {
         let nested = Nested {
             name,
@@ -58,7 +59,8 @@ impl<'a, T: Drop> Nesting<'a, T> {
 
     /// Goes out of the innermost nested module, of which this is known.
     pub fn leave(&mut self, known: T) -> Result<(), Memory>
-        ensures { OnOk result ((scope : Scope T) → IsAt self.old scope → IsAt self.new (ended known scope.here scope.round)) }
+        ensures { OnOk result ((scope : Scope T) → IsAt self.old scope
+            → IsAt self.new (ended known scope.here scope.round)) }
     {
         let Some(nested) = self.round.pop() else {
             return Ok(());

@@ -65,7 +65,8 @@ fn meaning_in<'b>(
     words: &'b IndexMap<&str, Option<Meaning>>,
     word: &str,
 ) -> Option<Option<&'b Meaning>>
-    ensures { option_map option_copied result ≡ tables.lookup bytes_eq (words_of words.now.entries) word.now }
+    ensures { option_map option_copied result
+        ≡ tables.lookup bytes_eq (words_of words.now.entries) word.now }
 {
     seen(words.get(word))
 }
@@ -104,7 +105,8 @@ fn are_apart(words: &IndexMap<&str, Option<Meaning>>, table: &NameTable) -> bool
 
 // Which word stands at a place of those that were taken over, and what it means.
 fn taken_at(taken: Option<&NameTable>, index: usize) -> Option<(&str, &Meaning)>
-    ensures { IfSome result (λ found. slice_get (taken_words taken.entry) index ≡ Some (shown found)) }
+    ensures { IfSome result (λ found. slice_get (taken_words taken.entry) index
+        ≡ Some (shown found)) }
 {
     match taken {
         Some(table) => table.word_at(index),
@@ -117,7 +119,8 @@ fn usable_at<'b>(
     words: &'b IndexMap<&str, Option<Meaning>>,
     index: usize,
 ) -> Option<(&'b str, &'b Meaning)>
-    ensures { IfSome result (λ found. slice_get (words_of words.now.entries) index ≡ Some (usable (shown found))) }
+    ensures { IfSome result (λ found. slice_get (words_of words.now.entries) index
+        ≡ Some (usable (shown found))) }
 {
     match words.get_index(index) {
         Some((word, Some(meaning))) => Some((*word, meaning)),
@@ -141,7 +144,9 @@ impl<'a> Context<'a> {
 
     // What a word means among those that were taken over.
     fn taken_word(&self, word: &str) -> Option<&Meaning>
-        ensures { option_copied result ≡ tables.lookup bytes_eq (take self.now.shared_len (taken_words self.now.taken)) word.now }
+        ensures { option_copied result
+            ≡ tables.lookup bytes_eq (take self.now.shared_len (taken_words self.now.taken))
+            word.now }
     {
         match self.taken {
             Some(table) => table.word_among(self.shared_len, word),
@@ -189,7 +194,8 @@ impl<'a> Context<'a> {
 
     // What a word means.
     fn word(&self, word: &str) -> Option<Option<&Meaning>>
-        ensures { option_map option_copied result ≡ tables.lookup bytes_eq (context_of self.now).words word.now }
+        ensures { option_map option_copied result
+            ≡ tables.lookup bytes_eq (context_of self.now).words word.now }
     {
         if let Some(meaning) = meaning_in(&self.before, word) {
             return Some(meaning);
@@ -202,7 +208,8 @@ impl<'a> Context<'a> {
 
     /// What a name means.
     pub fn get(&self, name: Named<'_>) -> Option<Option<&Meaning>>
-        ensures { option_map option_copied result ≡ tables.find (context_of self.now) (meant_by name.entry) }
+        ensures { option_map option_copied result
+            ≡ tables.find (context_of self.now) (meant_by name.entry) }
     {
         match name {
             Named::Word(word) => self.word(word),
@@ -212,7 +219,8 @@ impl<'a> Context<'a> {
 
     /// Puts a name behind the others, unless it is there. `Memory` comes where there was no room.
     pub fn put(&mut self, name: Named<'a>, meaning: Option<Meaning>) -> Result<(), Memory>
-        ensures { OnOk result (context_of self.new ≡ tables.put (context_of self.old) (meant_by name.entry) meaning) }
+        ensures { OnOk result (context_of self.new
+            ≡ tables.put (context_of self.old) (meant_by name.entry) meaning) }
     {
         match name {
             Named::Word(word) => self.put_word(word, meaning),
@@ -221,7 +229,8 @@ impl<'a> Context<'a> {
     }
 
     fn put_word(&mut self, word: &'a str, meaning: Option<Meaning>) -> Result<(), Memory>
-        ensures { OnOk result (context_of self.new ≡ tables.put (context_of self.old) (tables.Word word.entry.now) meaning) }
+        ensures { OnOk result (context_of self.new
+            ≡ tables.put (context_of self.old) (tables.Word word.entry.now) meaning) }
     {
         if self.word(word).is_some() {
             return Ok(());
@@ -231,7 +240,8 @@ impl<'a> Context<'a> {
     }
 
     fn put_symbol(&mut self, op: Op, meaning: Option<Meaning>) -> Result<(), Memory>
-        ensures { OnOk result (context_of self.new ≡ tables.put (context_of self.old) (tables.Symbol op) meaning) }
+        ensures { OnOk result (context_of self.new
+            ≡ tables.put (context_of self.old) (tables.Symbol op) meaning) }
     {
         if symbol_in(self.symbols.as_slice(), op).is_some() {
             return Ok(());
@@ -253,7 +263,8 @@ impl<'a> Context<'a> {
 
     /// Which word stands at a place of those behind the first ones, and what it means, if it can be used.
     pub fn word_behind(&self, index: usize) -> Option<(&str, &Meaning)>
-        ensures { IfSome result (λ found. slice_get (behind self.now) index ≡ Some (usable (shown found))) }
+        ensures { IfSome result (λ found. slice_get (behind self.now) index
+            ≡ Some (usable (shown found))) }
     {
         let shared_len = self.shared_len();
         if index < shared_len {
@@ -280,7 +291,12 @@ impl<'a> Context<'a> {
 
     /// Takes over the words of a table, in place of those behind the first ones.
     pub fn take_instead(&mut self, table: &'a NameTable)
-        ensures { context_of self.new ≡ record { words = first_words self.old ++ usable_words table.now.words; symbols = (context_of self.old).symbols } }
+        ensures { context_of self.new
+            ≡ record {
+              words = first_words self.old ++ usable_words table.now.words;
+              symbols =
+                  (context_of self.old).symbols;
+            } }
     {
         self.words.truncate(0);
         self.taken = Some(table);
@@ -290,7 +306,12 @@ impl<'a> Context<'a> {
     /// Takes over the words of a table, behind those that are there.
     pub fn take(&mut self, table: &'a NameTable)
         requires { as_tables.CanTake self.old table.now.words }
-        ensures { context_of self.new ≡ record { words = (context_of self.old).words ++ usable_words table.now.words; symbols = (context_of self.old).symbols } }
+        ensures { context_of self.new
+            ≡ record {
+              words = (context_of self.old).words
+                  ++ usable_words table.now.words;
+              symbols = (context_of self.old).symbols;
+            } }
     {
         mem::swap(&mut self.before, &mut self.words);
         self.taken = Some(table);

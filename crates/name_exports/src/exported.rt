@@ -77,14 +77,17 @@ fn is_taken_at(taken: Option<&NameTable>, index: usize, given: (&str, &Meaning))
 
 // Whether a word is there: one that was taken over, or one behind these.
 fn has_word(taken: Option<&NameTable>, words: &IndexMap<&str, Meaning>, word: &str) -> bool
-    ensures { result ≡ is_some (tables.lookup bytes_eq (taken_words taken.entry ++ words_of words.now.entries) word.now) }
+    ensures { result
+        ≡ is_some
+        (tables.lookup bytes_eq (taken_words taken.entry ++ words_of words.now.entries) word.now) }
 {
     is_taken(taken, word) || words.contains_key(word)
 }
 
 // Whether a word stands at a place of these, and means this there.
 fn is_own_at(words: &IndexMap<&str, Meaning>, index: usize, given: (&str, &Meaning)) -> bool
-    ensures { IsTrue result → slice_get (words_of words.now.entries) index ≡ Some (shown given.entry) }
+    ensures { IsTrue result
+        → slice_get (words_of words.now.entries) index ≡ Some (shown given.entry) }
 {
     match words.get_index(index) {
         Some((word, meaning)) => equal_entries((*word, meaning), given),
@@ -95,7 +98,8 @@ fn is_own_at(words: &IndexMap<&str, Meaning>, index: usize, given: (&str, &Meani
 // Puts a word that is not there behind the others, with a spelling of its own.
 fn put_copy(alloc: Global, copies: &mut Words, word: &str, meaning: &Meaning) -> Result<(), Memory>
     requires { tables.lookup bytes_eq (stretch_words copies.old.entries) word.now ≡ None }
-    ensures { OnOk result (stretch_words copies.new.entries ≡ stretch_words copies.old.entries ++ (word.now, meaning.now) ∷ []) }
+    ensures { OnOk result (stretch_words copies.new.entries ≡ stretch_words copies.old.entries
+        ++ (word.now, meaning.now) ∷ []) }
 {
     let word = String::from_str(alloc, word)?;
     let meaning = meaning.copied()?;
@@ -152,7 +156,8 @@ impl<'a> Exported<'a> {
     }
 
     fn put_word(&mut self, word: &'a str, meaning: Meaning) -> Result<(), Memory>
-        ensures { OnOk result (self.new ≡ tables.put self.old (tables.Word word.entry.now) meaning) }
+        ensures { OnOk result (self.new
+            ≡ tables.put self.old (tables.Word word.entry.now) meaning) }
     {
         if has_word(self.taken, &self.words, word) {
             return Ok(());
@@ -251,7 +256,9 @@ fn export<'a>(
     name: Named<'a>,
     meaning: &Meaning,
 ) -> Result<(), Memory>
-    ensures { OnOk result (exports.new ≡ (if local then exports.old else tables.put exports.old (meant_by name.entry) meaning.now)) }
+    ensures { OnOk result (exports.new
+        ≡ (if local then exports.old
+        else tables.put exports.old (meant_by name.entry) meaning.now)) }
 {
     if local {
         return Ok(());
@@ -268,7 +275,10 @@ impl<'a> Names<'a> {
         name: Named<'a>,
         meaning: Meaning,
     ) -> Result<(), Memory>
-        ensures { OnOk result ((title : ListOf ℕ) → (modules : ModuleNames) → as_read title modules self.new ≡ in_modules.with_entry local (as_read title modules self.old) (meant_by name.entry) meaning) }
+        ensures { OnOk result ((title : ListOf ℕ) → (modules : ModuleNames)
+            → as_read title modules self.new
+            ≡ in_modules.with_entry local (as_read title modules self.old)
+            (meant_by name.entry) meaning) }
     {
         export(alloc, &mut self.exports, local, name, &meaning)?;
         self.context.put(name, Some(meaning))
@@ -277,7 +287,8 @@ impl<'a> Names<'a> {
     /// Takes over the words of a module that is extended where that can be done, and answers whether it
     /// was: all of them are new then, so that none clashes.
     pub fn take_words(&mut self, table: &'a NameTable) -> bool
-        ensures taken { IsTrue result → IsBrought self.old self.new false (of_words table.now.words) }
+        ensures taken { IsTrue result
+            → IsBrought self.old self.new false (of_words table.now.words) }
         ensures left { result ≡ false → self.new ≡ self.old }
     {
         if !self.exports.has_no_word() || !self.context.can_take(table) {
@@ -291,8 +302,10 @@ impl<'a> Names<'a> {
     // Whether a word stands at a place of those that are exported, and of those behind the first ones
     // of the context, and means this there.
     fn has_at(&self, index: usize, given: (&str, &Meaning)) -> bool
-        ensures shown { IsTrue result → slice_get self.now.exports.words index ≡ Some (shown given.entry) }
-        ensures seen { IsTrue result → slice_get (behind self.now.context) index ≡ Some (usable (shown given.entry)) }
+        ensures shown { IsTrue result
+            → slice_get self.now.exports.words index ≡ Some (shown given.entry) }
+        ensures seen { IsTrue result
+            → slice_get (behind self.now.context) index ≡ Some (usable (shown given.entry)) }
     {
         let Some(found) = self.context.word_behind(index) else {
             return false;
@@ -305,7 +318,8 @@ impl<'a> Names<'a> {
     fn first_len(&self, table: &NameTable) -> usize
         ensures once { AreNew bytes_eq [] table.now.words }
         ensures shown { take result self.now.exports.words ≡ take result table.now.words }
-        ensures seen { take result (behind self.now.context) ≡ usable_words (take result table.now.words) }
+        ensures seen { take result (behind self.now.context)
+            ≡ usable_words (take result table.now.words) }
     {
         let len = table.len();
         for index in 0..len {
@@ -335,7 +349,8 @@ impl<'a> Names<'a> {
     /// no others, and answers whether it was: then none clashes.
     pub fn take_longer(&mut self, table: &'a NameTable, count: usize) -> bool
         requires { AreFirst self.old table.now.words count }
-        ensures taken { IsTrue result → IsBrought self.old self.new false (of_words table.now.words) }
+        ensures taken { IsTrue result
+            → IsBrought self.old self.new false (of_words table.now.words) }
         ensures left { result ≡ false → self.new ≡ self.old }
     {
         if !self.exports.has_at_most(count) || !self.context.has_at_most_behind(count) {

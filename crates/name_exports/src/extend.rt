@@ -25,8 +25,11 @@ fn bring<'a>(
     name: Named<'a>,
     meaning: &Meaning,
 ) -> Result<bool, Memory>
-    ensures clash { IfOk result (λ clash. clash ≡ clashes (context_of names.old.context) (meant_by name.entry, meaning.now)) }
-    ensures names { OnOk result ((title : ListOf ℕ) → (taken : ModuleNames) → as_read title taken names.new ≡ brought (as_read title taken names.old) (meant_by name.entry, meaning.now)) }
+    ensures clash { IfOk result (λ clash. clash
+        ≡ clashes (context_of names.old.context) (meant_by name.entry, meaning.now)) }
+    ensures names { OnOk result ((title : ListOf ℕ) → (taken : ModuleNames)
+        → as_read title taken names.new
+        ≡ brought (as_read title taken names.old) (meant_by name.entry, meaning.now)) }
 {
     if differs(names.context.get(name), meaning) {
         return Ok(true);
@@ -49,7 +52,8 @@ fn bring_words<'a>(
     table: &'a NameTable,
     first: usize,
 ) -> Result<bool, Memory>
-    ensures { IfOk result (λ clash. IsBrought names.old names.new clash (of_words (drop first table.now.words))) }
+    ensures { IfOk result
+        (λ clash. IsBrought names.old names.new clash (of_words (drop first table.now.words))) }
 {
     let mut clash = false;
     for index in first..table.len() {
@@ -71,7 +75,8 @@ fn bring_longer<'a>(
     count: usize,
 ) -> Result<bool, Memory>
     requires { AreFirst names.old table.now.words count }
-    ensures { IfOk result (λ clash. IsBrought names.old names.new clash (of_words table.now.words)) }
+    ensures { IfOk result
+        (λ clash. IsBrought names.old names.new clash (of_words table.now.words)) }
 {
     if names.take_longer(table, count) {
         return Ok(false);
@@ -87,7 +92,8 @@ fn bring_table_words<'a>(
     names: &mut Names<'a>,
     table: &'a NameTable,
 ) -> Result<bool, Memory>
-    ensures { IfOk result (λ clash. IsBrought names.old names.new clash (of_words table.now.words)) }
+    ensures { IfOk result
+        (λ clash. IsBrought names.old names.new clash (of_words table.now.words)) }
 {
     if names.take_words(table) {
         return Ok(false);
@@ -104,7 +110,8 @@ fn bring_own_words<'a>(
     names: &mut Names<'a>,
     words: &IndexMap<&'a str, Meaning>,
 ) -> Result<bool, Memory>
-    ensures { IfOk result (λ clash. IsBrought names.old names.new clash (of_words (words_of words.now.entries))) }
+    ensures { IfOk result
+        (λ clash. IsBrought names.old names.new clash (of_words (words_of words.now.entries))) }
 {
     let mut clash = false;
     for index in 0..words.len() {
@@ -139,7 +146,8 @@ fn bring_taken<'a>(
     names: &mut Names<'a>,
     taken: Option<&'a NameTable>,
 ) -> Result<bool, Memory>
-    ensures { IfOk result (λ clash. IsBrought names.old names.new clash (of_words (taken_words taken.entry))) }
+    ensures { IfOk result
+        (λ clash. IsBrought names.old names.new clash (of_words (taken_words taken.entry))) }
 {
     match taken {
         Some(table) => {
@@ -204,7 +212,9 @@ pub fn bring_import<'a>(
     names: &mut Names<'a>,
     import: Option<&'a Import>,
 ) -> Result<bool, Memory>
-    ensures { IfOk result (λ clash. IsBrought names.old names.new clash (import_exports (option_copied import.entry))) }
+    ensures { IfOk result
+        (λ clash. IsBrought names.old names.new clash
+        (import_exports (option_copied import.entry))) }
 {
     match exports_of_import(import) {
         Some(table) => {

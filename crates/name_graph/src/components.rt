@@ -49,7 +49,8 @@ pub struct Walk {
 /// Joins the groups from that of the open place at this index on.
 fn join(groups: &mut Vec<Group>, index: usize)
     requires some { 0 < vec_len groups.old }
-    requires base { (group : GroupOf) → slice_get groups.old.items 0 ≡ Some group → group.first ≡ 0 }
+    requires base { (group : GroupOf) → slice_get groups.old.items 0 ≡ Some group
+        → group.first ≡ 0 }
     ensures { AreJoined groups.old.items index groups.new.items }
 {
     let mut top = groups.len() - 1;
@@ -72,9 +73,11 @@ fn close_marks(marks: &mut Vec<Mark>, places: &[usize])
 
 impl Walk {
     fn new(alloc: Global, len: usize) -> Result<Walk, Memory>
-        ensures marks { IfOk result (λ walk. (place : ℕ) (mark : MarkOf) → slice_get walk.marks.items place ≡ Some mark → mark ≡ Mark.New) }
+        ensures marks { IfOk result (λ walk. (place : ℕ) (mark : MarkOf)
+            → slice_get walk.marks.items place ≡ Some mark → mark ≡ Mark.New) }
         ensures long { IfOk result (λ walk. vec_len walk.marks ≡ len) }
-        ensures rest { IfOk result (λ walk. (walk.path.items ≡ []) × (walk.todo.items ≡ []) × (walk.groups.items ≡ []) × (walk.order.items ≡ []) × (walk.cyclic.items ≡ [])) }
+        ensures rest { IfOk result (λ walk. (walk.path.items ≡ []) × (walk.todo.items ≡ [])
+            × (walk.groups.items ≡ []) × (walk.order.items ≡ []) × (walk.cyclic.items ≡ [])) }
     {
         let mut marks = Vec::with_capacity(alloc, len)?;
         for _ in 0..len {
@@ -94,10 +97,18 @@ impl Walk {
     fn open(&mut self, edges: &[List<usize>], place: usize) -> Result<(), Memory>
         requires place { place < length edges.now }
         requires long { vec_len self.old.marks ≡ length edges.now }
-        ensures marks { OnOk result (self.new.marks.items ≡ slice_set self.old.marks.items place (Mark.Open (length self.old.path.items))) }
+        ensures marks { OnOk result (self.new.marks.items
+            ≡ slice_set self.old.marks.items place (Mark.Open (length self.old.path.items))) }
         ensures path { OnOk result (self.new.path.items ≡ self.old.path.items ++ place ∷ []) }
-        ensures todo { OnOk result ((row : List ℕ) → slice_get edges.now place ≡ Some row → self.new.todo.items ≡ self.old.todo.items ++ row) }
-        ensures groups { OnOk result (self.new.groups.items ≡ self.old.groups.items ++ record { first = length self.old.path.items; pending = length self.old.todo.items; cyclic = false } ∷ []) }
+        ensures todo { OnOk result ((row : List ℕ) → slice_get edges.now place ≡ Some row
+            → self.new.todo.items ≡ self.old.todo.items ++ row) }
+        ensures groups { OnOk result (self.new.groups.items
+            ≡ self.old.groups.items
+            ++ record {
+              first = length self.old.path.items;
+              pending = length self.old.todo.items;
+              cyclic = false;
+            } ∷ []) }
         ensures order { self.new.order.items ≡ self.old.order.items }
         ensures cyclic { self.new.cyclic.items ≡ self.old.cyclic.items }
     {
@@ -118,12 +129,16 @@ impl Walk {
     fn close(&mut self, group: Group) -> Result<(), Memory>
         requires first { group.first ≤ length self.old.path.items }
         requires marks { All (λ place. place < length self.old.marks.items) self.old.path.items }
-        ensures marks { OnOk result (self.new.marks.items ≡ closed_marks self.old.marks.items (drop group.first self.old.path.items)) }
+        ensures marks { OnOk result (self.new.marks.items
+            ≡ closed_marks self.old.marks.items (drop group.first self.old.path.items)) }
         ensures path { OnOk result (self.new.path.items ≡ take group.first self.old.path.items) }
         ensures todo { self.new.todo.items ≡ self.old.todo.items }
         ensures groups { self.new.groups.items ≡ self.old.groups.items }
-        ensures order { OnOk result (self.new.order.items ≡ self.old.order.items ++ drop group.first self.old.path.items) }
-        ensures cyclic { OnOk result (self.new.cyclic.items ≡ (if group.cyclic then self.old.cyclic.items ++ drop group.first self.old.path.items else self.old.cyclic.items)) }
+        ensures order { OnOk result (self.new.order.items
+            ≡ self.old.order.items ++ drop group.first self.old.path.items) }
+        ensures cyclic { OnOk result (self.new.cyclic.items
+            ≡ (if group.cyclic then self.old.cyclic.items ++ drop group.first self.old.path.items
+            else self.old.cyclic.items)) }
     {
         close_marks(&mut self.marks, &self.path[group.first..]);
         self.order.extend_from_slice(&self.path[group.first..])?;

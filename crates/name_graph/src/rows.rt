@@ -70,7 +70,8 @@ pub fn name_at(rows: &Rows, place: usize) -> &str
 /// Of these places the one whose name is the first in byte order.
 pub fn first_of(rows: &Rows, places: &[usize]) -> Option<usize>
     requires { All (λ place. place < length rows.now.entries) places.now }
-    ensures { MatchOption result (length places.now ≡ 0) (rows_of.IsFirst rows.now.entries places.now) }
+    ensures { MatchOption result (length places.now
+        ≡ 0) (rows_of.IsFirst rows.now.entries places.now) }
 {
     let mut first = *places.first()?;
     for &place in places {

@@ -27,7 +27,8 @@ fn see(
     requires place { place < length edges.now }
     requires long { vec_len seen.old ≡ length edges.now }
     ensures seen { seen.new.items ≡ slice_set seen.old.items place true }
-    ensures todo { OnOk result ((row : List ℕ) → slice_get edges.now place ≡ Some row → todo.new.items ≡ todo.old.items ++ row) }
+    ensures todo { OnOk result ((row : List ℕ) → slice_get edges.now place ≡ Some row
+        → todo.new.items ≡ todo.old.items ++ row) }
 {
     seen[place] = true;
     todo.extend_from_slice(edges[place].as_slice())?;

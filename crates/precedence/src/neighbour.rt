@@ -52,7 +52,9 @@ pub fn range_on(neighbour: Neighbour) -> Range
 
 /// What becomes of the operator that waits, at the one that comes.
 pub fn choose(waiting: Operator, coming: Operator) -> Choice
-    ensures { result ≡ choices.choose (edges.Operator waiting.op waiting.fix) (edges.Operator coming.op coming.fix) }
+    ensures { result
+        ≡ choices.choose (edges.Operator waiting.op waiting.fix)
+        (edges.Operator coming.op coming.fix) }
 {
     choose_neighbour(Neighbour::Operator(waiting), Neighbour::Operator(coming))
 }

@@ -76,7 +76,8 @@ impl OpStack {
     pub fn push(&mut self, op: Op, fix: Fix) -> Result<(), OpError>
         ensures ok { OnOk result (self.new ≡ self.old ++ record { op = op; fix = fix } ∷ []) }
         ensures depth { IsErrOf result (OpError.Depth stack.most) ↔ (length self.old ≡ stack.most) }
-        ensures only { IfErr result (λ error. (error ≡ OpError.Memory) ⊎ (error ≡ OpError.Depth stack.most)) }
+        ensures only { IfErr result (λ error. (error ≡ OpError.Memory)
+            ⊎ (error ≡ OpError.Depth stack.most)) }
         ensures err { OnErr result (self.new ≡ self.old) }
     {
         let held = self.waiting.as_slice().len();
@@ -92,8 +93,10 @@ impl OpStack {
     /// where neither order is good at the operator at which closing stops. After it the stack is as
     /// before.
     pub fn reduce(&mut self, op: Op, fix: Fix) -> Result<u32, Clash>
-        ensures ok { IfOk result (λ count. (closed : List Operator) × (length closed ≡ count) × stack.Closes self.old (record { op = op; fix = fix }) self.new closed Waits) }
-        ensures clash { OnErr result ((kept closed : List Operator) × stack.Closes self.old (record { op = op; fix = fix }) kept closed Clashes) }
+        ensures ok { IfOk result (λ count. (closed : List Operator) × (length closed ≡ count)
+            × stack.Closes self.old (record { op = op; fix = fix }) self.new closed Waits) }
+        ensures clash { OnErr result ((kept closed : List Operator)
+            × stack.Closes self.old (record { op = op; fix = fix }) kept closed Clashes) }
         ensures err { OnErr result (self.new ≡ self.old) }
     {
         let coming = Operator { op, fix };
@@ -124,7 +127,10 @@ impl OpStack {
 /// Closing has one outcome: no other operators are kept where it stops, and it does not both go
 /// well and clash.
 pub fn one_closing()
-    ensures { (waiting kept closed other further : List Operator) → (coming : Operator) → (stop halt : Choice) → stack.Closes waiting coming kept closed stop → stack.Closes waiting coming other further halt → (stop ≡ Ends → ⊥) → (halt ≡ Ends → ⊥) → (kept ≡ other) × (stop ≡ halt) }
+    ensures { (waiting kept closed other further : List Operator) → (coming : Operator)
+        → (stop halt : Choice) → stack.Closes waiting coming kept closed stop
+        → stack.Closes waiting coming other further halt → (stop ≡ Ends → ⊥) → (halt ≡ Ends → ⊥)
+        → (kept ≡ other) × (stop ≡ halt) }
 {}
 
 // How many operators are left where closing stops.

@@ -62,8 +62,10 @@ fn read_module<F: Folder>(
     name: &str,
 ) -> Result<Option<List<u8>>, IoFault>
     ensures goes { OnOk result (F.told folder.new ≡ option_map after_call (F.told folder.old)) }
-    ensures part { OnErr result (IfSome (F.told folder.old) (λ t. IsLeftAfter 0 1 t (F.told folder.new))) }
-    ensures bytes { IfOk result (λ bytes. IfSome (F.told folder.new) (λ t. bytes ≡ read_at t path.now (files_in.file_of name.now) files_in.MOST)) }
+    ensures part { OnErr result
+        (IfSome (F.told folder.old) (λ t. IsLeftAfter 0 1 t (F.told folder.new))) }
+    ensures bytes { IfOk result (λ bytes. IfSome (F.told folder.new) (λ t. bytes
+        ≡ read_at t path.now (files_in.file_of name.now) files_in.MOST)) }
     ensures cause { HasCause (F.fault_count folder.old) (F.fault_count folder.new) result }
 {
     let Ok(file) = format!(in alloc; "{name}.tla") else {
@@ -111,11 +113,16 @@ pub fn read_files<F: Folder>(
     names: &[Chars],
 ) -> Result<Option<List<File>>, IoFault>
     requires { reading.AreNamesDistinct names.now }
-    ensures files { IfOk result (λ found. IfSome (F.told folder.old) (λ t. found ≡ reading.within (files_in.reads t path.now names.now))) }
+    ensures files { IfOk result (λ found. IfSome (F.told folder.old) (λ t. found
+        ≡ reading.within (files_in.reads t path.now names.now))) }
     ensures distinct { IfOk result (λ found. IfSome found AreDistinct) }
-    ensures small { IfOk result (λ found. IfSome found (λ files. files_in.byte_count files ≤ files_in.MOST_BYTES)) }
-    ensures told { IfOk result (λ found. F.told folder.new ≡ option_map (reading.after_reads path.now names.now) (F.told folder.old)) }
-    ensures part { OnErr result (IfSome (F.told folder.old) (λ t. IsLeftAfter 0 (calls.reads_made 0 t path.now names.now) t (F.told folder.new))) }
+    ensures small { IfOk result (λ found. IfSome found (λ files. files_in.byte_count files
+        ≤ files_in.MOST_BYTES)) }
+    ensures told { IfOk result (λ found. F.told folder.new
+        ≡ option_map (reading.after_reads path.now names.now) (F.told folder.old)) }
+    ensures part { OnErr result
+        (IfSome (F.told folder.old) (λ t. IsLeftAfter 0 (calls.reads_made 0 t path.now names.now) t
+        (F.told folder.new))) }
     ensures cause { HasCause (F.fault_count folder.old) (F.fault_count folder.new) result }
 {
     let mut files = List::new(alloc);

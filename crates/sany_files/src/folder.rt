@@ -24,11 +24,16 @@ pub fn files_of_folder<F: Folder>(
     folder: &mut F,
     path: &str,
 ) -> Result<Option<List<File>>, IoFault>
-    ensures files { IfOk result (λ found. IfSome (F.told folder.old) (λ t. found ≡ reading.files_within t path.now)) }
+    ensures files { IfOk result (λ found. IfSome (F.told folder.old) (λ t. found
+        ≡ reading.files_within t path.now)) }
     ensures distinct { IfOk result (λ found. IfSome found AreDistinct) }
-    ensures small { IfOk result (λ found. IfSome found (λ files. files_in.byte_count files ≤ files_in.MOST_BYTES)) }
-    ensures told { IfOk result (λ found. F.told folder.new ≡ option_map (reading.after_folder path.now) (F.told folder.old)) }
-    ensures part { OnErr result (IfSome (F.told folder.old) (λ t. IsLeftAfter 1 (calls.calls_of_folder t path.now) t (F.told folder.new))) }
+    ensures small { IfOk result (λ found. IfSome found (λ files. files_in.byte_count files
+        ≤ files_in.MOST_BYTES)) }
+    ensures told { IfOk result (λ found. F.told folder.new
+        ≡ option_map (reading.after_folder path.now) (F.told folder.old)) }
+    ensures part { OnErr result
+        (IfSome (F.told folder.old) (λ t. IsLeftAfter 1 (calls.calls_of_folder t path.now) t
+        (F.told folder.new))) }
     ensures cause { HasCause (F.fault_count folder.old) (F.fault_count folder.new) result }
 {
     let listed = folder.names(alloc, path)?;

@@ -113,7 +113,8 @@ fn refusal(
     faults: &[Diagnostic],
 ) -> Result<String, AllocError>
     requires { FaultsPlaced text.now faults.now }
-    ensures { IfOk result (λ lines. string_bytes lines ≡ report.refusal name.now text.now faults.now) }
+    ensures { IfOk result (λ lines. string_bytes lines
+        ≡ report.refusal name.now text.now faults.now) }
 {
     let lines = fault_lines(alloc, text, faults)?;
     format!(in alloc; "{name} refused\n{lines}")
@@ -121,7 +122,8 @@ fn refusal(
 
 fn module_lines(alloc: Global, verdict: &Verdict) -> Result<String, AllocError>
     requires { FaultsPlaced verdict.now.text verdict.now.faults }
-    ensures { IfOk result (λ lines. string_bytes lines ≡ report.module_lines verdict.now.name verdict.now.text verdict.now.faults) }
+    ensures { IfOk result (λ lines. string_bytes lines
+        ≡ report.module_lines verdict.now.name verdict.now.text verdict.now.faults) }
 {
     let faults = verdict.faults.as_slice();
     match faults {

@@ -59,7 +59,8 @@ fn outcome_of_files<L>(
     requires small { files_in.byte_count files.now ≤ files_in.MOST_BYTES }
     ensures outcome { IfOk result (λ outcome. outcome ≡ program.outcome_of_files files.now) }
     ensures done { IfOk result (λ outcome. is_done outcome.status ≡ true) }
-    ensures ticks { IfOk result (λ outcome. OnTrue (nat_le outcome.status 1) (steps.new ≡ after_checks (checks_of files.now) steps.old)) }
+    ensures ticks { IfOk result (λ outcome. OnTrue (nat_le outcome.status 1) (steps.new
+        ≡ after_checks (checks_of files.now) steps.old)) }
 {
     match check_family(alloc, files, steps)? {
         Some(verdicts) => reported(alloc, verdicts.as_slice()),
@@ -74,12 +75,25 @@ pub fn outcome_of_folder<F: Folder, L>(
     path: &str,
     steps: &mut Steps<L>,
 ) -> Result<Option<Outcome>, IoFault>
-    ensures outcome { IfOk result (λ outcome. IfSome outcome (λ o. IfSome (F.told folder.old) (λ t. o ≡ program.outcome_of_files (files_in.files_of t path.now)))) }
-    ensures limit { IfOk result (λ outcome. IfSome (F.told folder.old) (λ t. files_in.is_over_folder t path.now ≡ is_none outcome)) }
+    ensures outcome { IfOk result
+        (λ outcome.
+        IfSome outcome
+        (λ o. IfSome (F.told folder.old) (λ t. o
+        ≡ program.outcome_of_files (files_in.files_of t path.now)))) }
+    ensures limit { IfOk result
+        (λ outcome. IfSome (F.told folder.old) (λ t. files_in.is_over_folder t path.now
+        ≡ is_none outcome)) }
     ensures done { IfOk result (λ outcome. IfSome outcome (λ o. is_done o.status ≡ true)) }
-    ensures ticks { IfOk result (λ outcome. IfSome outcome (λ o. IfSome (F.told folder.old) (λ t. OnTrue (nat_le o.status 1) (steps.new ≡ after_checks (checks_of (files_in.files_of t path.now)) steps.old)))) }
-    ensures told { IfOk result (λ outcome. F.told folder.new ≡ option_map (reading.after_folder path.now) (F.told folder.old)) }
-    ensures part { OnErr result (IfSome (F.told folder.old) (λ t. IsLeftAfter 1 (calls.calls_of_folder t path.now) t (F.told folder.new))) }
+    ensures ticks { IfOk result
+        (λ outcome.
+        IfSome outcome
+        (λ o. IfSome (F.told folder.old) (λ t. OnTrue (nat_le o.status 1) (steps.new
+        ≡ after_checks (checks_of (files_in.files_of t path.now)) steps.old)))) }
+    ensures told { IfOk result (λ outcome. F.told folder.new
+        ≡ option_map (reading.after_folder path.now) (F.told folder.old)) }
+    ensures part { OnErr result
+        (IfSome (F.told folder.old) (λ t. IsLeftAfter 1 (calls.calls_of_folder t path.now) t
+        (F.told folder.new))) }
     ensures cause { HasCause (F.fault_count folder.old) (F.fault_count folder.new) result }
 {
     let Some(files) = files_of_folder(alloc, folder, path)? else {

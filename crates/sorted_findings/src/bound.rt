@@ -46,7 +46,8 @@ fn push_declared(
     entity: Entity,
     callee: Callee,
 ) -> Result<(), Memory>
-    ensures { OnOk result (HasMore (bindings.meant_by at (means.Declared entity callee)) [] [] bound.old bound.new) }
+    ensures { OnOk result
+        (HasMore (bindings.meant_by at (means.Declared entity callee)) [] [] bound.old bound.new) }
 {
     push_use(&mut bound.uses, at, &callee.decl)?;
     bound.entities.push(entity)?;
@@ -81,7 +82,9 @@ fn push_replaced(
     parameter: Entity,
     meaning: Meaning,
 ) -> Result<(), Memory>
-    ensures { OnOk result ((callee : Called) → implied.new ≡ implied.old ++ bindings.replaced_by at (means.Declared parameter callee) meaning) }
+    ensures { OnOk result ((callee : Called)
+        → implied.new
+        ≡ implied.old ++ bindings.replaced_by at (means.Declared parameter callee) meaning) }
 {
     match meaning {
         Meaning::BuiltIn => Ok(()),
@@ -114,7 +117,8 @@ fn push_implied(
 
 // Appends what is found at a name.
 fn push(bound: &mut Bound, finding: Finding) -> Result<(), Memory>
-    ensures { OnOk result (HasMore (bindings.resolved_at finding) (bindings.implied_at finding) (bindings.fault finding) bound.old bound.new) }
+    ensures { OnOk result (HasMore (bindings.resolved_at finding) (bindings.implied_at finding)
+        (bindings.fault finding) bound.old bound.new) }
 {
     match finding {
         Finding::Means { at, meaning } => push_meaning(bound, at, meaning),
@@ -136,7 +140,8 @@ fn push(bound: &mut Bound, finding: Finding) -> Result<(), Memory>
 /// Appends the uses, the replacements that are not written, and the faults among what is found, in its
 /// order.
 pub fn sort_out(findings: List<Finding>, bound: &mut Bound) -> Result<(), Memory>
-    ensures { OnOk result (HasMore (bindings.resolved findings) (bindings.implied findings) (bindings.faults findings) bound.old bound.new) }
+    ensures { OnOk result (HasMore (bindings.resolved findings) (bindings.implied findings)
+        (bindings.faults findings) bound.old bound.new) }
 {
     for finding in findings.into_vec() {
         push(bound, finding)?;

@@ -23,7 +23,8 @@ static TEXTS: [(&str, &str); 8] = [
 
 // The text of the first entry with a name.
 fn text_in(texts: &[(&'static str, &'static str)], name: &str) -> Option<&'static str>
-    ensures { option_copied result ≡ std_texts.text_in (λ e. e.0.now) (λ e. e.1.now) texts.now name.now }
+    ensures { option_copied result
+        ≡ std_texts.text_in (λ e. e.0.now) (λ e. e.1.now) texts.now name.now }
 {
     for text in texts {
         if text.0 == name {

@@ -55,7 +55,8 @@ pub fn measure(alloc: Global, input: &[u8]) -> Result<Found, Fault>
 
 // Steps a machine over the lexemes behind the first `==` of a module.
 fn found_in(alloc: Global, lexemes: &[Lexeme]) -> Result<Found, Fault>
-    ensures { (text : ListOf ℕ) → IsLexed text lexemes.now → MatchResult result (HasFound text) (IsFault text) }
+    ensures { (text : ListOf ℕ) → IsLexed text lexemes.now
+        → MatchResult result (HasFound text) (IsFault text) }
 {
     let Some(at) = body_at(lexemes) else {
         return Err(Fault::NoDefinition);

@@ -33,8 +33,11 @@ pub struct Nesting<'a> {
 impl<'a> Reading<'a> {
     // Goes into a nested module.
     fn enter(&mut self, alloc: Global, name: &'a str) -> Result<Outer<'a>, Memory>
-        ensures reading { OnOk result (reading_of self.new ≡ begun_in (reading_of self.old) name.now) }
-        ensures outer { IfOk result (λ outer. IsOuter (begun_in (reading_of self.old) name.now).context (begun_in (reading_of self.old) name.now).modules outer (reading_of self.old)) }
+        ensures reading { OnOk result (reading_of self.new
+            ≡ begun_in (reading_of self.old) name.now) }
+        ensures outer { IfOk result
+            (λ outer. IsOuter (begun_in (reading_of self.old) name.now).context
+            (begun_in (reading_of self.old) name.now).modules outer (reading_of self.old)) }
     {
         let mark = self.names.context.mark()?;
         let modules = self.modules.len();
@@ -52,7 +55,9 @@ impl<'a> Reading<'a> {
 
     // Goes out of a nested module.
     fn leave(&mut self, outer: Outer<'a>) -> Result<(), Memory>
-        ensures { OnOk result ((reading : Read) → IsOuter (reading_of self.old).context (reading_of self.old).modules outer.entry reading → reading_of self.new ≡ behind (reading_of self.old) reading) }
+        ensures { OnOk result ((reading : Read)
+            → IsOuter (reading_of self.old).context (reading_of self.old).modules outer.entry
+            reading → reading_of self.new ≡ behind (reading_of self.old) reading) }
     {
         let Outer {
             name,
@@ -82,8 +87,11 @@ impl<'a> Nesting<'a> {
 
     /// Goes into a nested module.
     pub fn begin(&mut self, alloc: Global, name: &'a str) -> Result<(), Memory>
-        ensures reading { OnOk result (reading_of self.new.here ≡ begun_in (reading_of self.old.here) name.now) }
-        ensures place { OnOk result ((place : Place) → IsAt self.old place → IsAt self.new (record { here = begun_in place.here name.now; round = place.here ∷ place.round })) }
+        ensures reading { OnOk result (reading_of self.new.here
+            ≡ begun_in (reading_of self.old.here) name.now) }
+        ensures place { OnOk result ((place : Place) → IsAt self.old place
+            → IsAt self.new
+            (record { here = begun_in place.here name.now; round = place.here ∷ place.round })) }
     {
         let outer = self.here.enter(alloc, name)?;
         self.round.push(outer)?;
@@ -92,7 +100,8 @@ impl<'a> Nesting<'a> {
 
     /// Goes out of a nested module, which can then be named unless its name is taken.
     pub fn end(&mut self) -> Result<(), Memory>
-        ensures { OnOk result ((place : Place) → IsAt self.old place → IsAt self.new (outside_of place)) }
+        ensures { OnOk result ((place : Place) → IsAt self.old place
+            → IsAt self.new (outside_of place)) }
     {
         let Some(outer) = self.round.pop() else {
             return Ok(());

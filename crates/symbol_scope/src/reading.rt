@@ -61,7 +61,10 @@ fn bring<'a>(
     imported: &'a Imported,
     name: &str,
 ) -> Result<bool, Memory>
-    ensures { IfOk result (λ clash. IsBrought names.old names.new clash (in_modules.exports_under (files_of imported.now) (meaning (modules_of modules.now) name.now) name.now)) }
+    ensures { IfOk result
+        (λ clash. IsBrought names.old names.new clash
+        (in_modules.exports_under (files_of imported.now)
+        (meaning (modules_of modules.now) name.now) name.now)) }
 {
     match modules.meaning(name) {
         Some(Some(exports)) => {
@@ -121,8 +124,12 @@ impl<'a> Reading<'a> {
         findings: &mut List<Finding>,
     ) -> Result<(), Memory>
         requires { LiesIn text.now.source name }
-        ensures reading { OnOk result (reading_of self.new ≡ in_modules.extended (reading_of self.old) (in_modules.brings text.now (files_of imported.now) (reading_of self.old) name)) }
-        ensures findings { OnOk result (findings.new ≡ findings.old ++ readings.clash_at text.now (files_of imported.now) (reading_of self.old) name) }
+        ensures reading { OnOk result (reading_of self.new
+            ≡ in_modules.extended (reading_of self.old)
+            (in_modules.brings text.now (files_of imported.now) (reading_of self.old) name)) }
+        ensures findings { OnOk result (findings.new
+            ≡ findings.old ++ readings.clash_at text.now (files_of imported.now)
+            (reading_of self.old) name) }
     {
         let clash = bring(
             alloc,
@@ -147,8 +154,12 @@ impl<'a> Reading<'a> {
         findings: &mut List<Finding>,
     ) -> Result<(), Memory>
         requires { AllByRecursion (LiesIn text.now.source) names.now }
-        ensures reading { OnOk result (reading_of self.new ≡ in_modules.extends_all text.now (files_of imported.now) (reading_of self.old) names.now) }
-        ensures findings { OnOk result (findings.new ≡ findings.old ++ in_modules.all_clashing text.now (files_of imported.now) (reading_of self.old) names.now) }
+        ensures reading { OnOk result (reading_of self.new
+            ≡ in_modules.extends_all text.now (files_of imported.now)
+            (reading_of self.old) names.now) }
+        ensures findings { OnOk result (findings.new
+            ≡ findings.old ++ in_modules.all_clashing text.now (files_of imported.now)
+            (reading_of self.old) names.now) }
     {
         for name in names {
             self.extend(alloc, text, imported, *name, findings)?;
@@ -165,8 +176,10 @@ impl<'a> Reading<'a> {
         binder: Binder,
     ) -> Result<(), Memory>
         requires { LiesIn text.now.source binder.name }
-        ensures reading { OnOk result (reading_of self.new ≡ in_modules.declare text.now no_files local (reading_of self.old) binder) }
-        ensures context { OnOk result (context_of self.new.names.context ≡ contexts.bind text.now (context_of self.old.names.context) binder) }
+        ensures reading { OnOk result (reading_of self.new
+            ≡ in_modules.declare text.now no_files local (reading_of self.old) binder) }
+        ensures context { OnOk result (context_of self.new.names.context
+            ≡ contexts.bind text.now (context_of self.old.names.context) binder) }
     {
         let name = text.name_of(binder.name);
         if self.names.context.get(name).is_some() {
@@ -187,8 +200,11 @@ impl<'a> Reading<'a> {
         findings: &mut List<Finding>,
     ) -> Result<(), Memory>
         requires { BindersLie text.now.source binders }
-        ensures reading { OnOk result (reading_of self.new ≡ in_modules.declare_all text.now no_files false (reading_of self.old) binders) }
-        ensures findings { OnOk result (findings.new ≡ findings.old ++ scopes.all_refused text.now (context_of self.old.names.context) binders) }
+        ensures reading { OnOk result (reading_of self.new
+            ≡ in_modules.declare_all text.now no_files false (reading_of self.old) binders) }
+        ensures findings { OnOk result (findings.new
+            ≡ findings.old ++ scopes.all_refused text.now (context_of self.old.names.context)
+            binders) }
     {
         for binder in binders.into_vec() {
             refuse(text, &self.names.context, binder.name, findings)?;
@@ -208,7 +224,9 @@ impl<'a> Reading<'a> {
     ) -> Result<(), Memory>
         requires node { node < length tree.now }
         requires lie { AllByRecursion (LiesIn text.now.source) (lexemes (tree_at tree.now node)) }
-        ensures { OnOk result (reading_of self.new ≡ in_modules.declare_all text.now no_files local (reading_of self.old) (scopes.definition (tree_at tree.now node))) }
+        ensures { OnOk result (reading_of self.new
+            ≡ in_modules.declare_all text.now no_files local (reading_of self.old)
+            (scopes.definition (tree_at tree.now node))) }
     {
         if let Some(binder) = definition(alloc, tree, node)? {
             self.declare(alloc, text, local, binder)?;

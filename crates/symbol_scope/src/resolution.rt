@@ -54,8 +54,10 @@ fn found_in<'a>(
     requires nodes { HasNodes tree.now }
     requires lie { LexemesLie text.now.source (module_of tree.now) }
     requires unread { IsUnread nesting.old text.now.file }
-    ensures reading { OnOk result (reading_of nesting.new.here ≡ plain.read_within text.now (files_of imported.now) (module_of tree.now)) }
-    ensures findings { IfOk result (λ findings. findings ≡ plain.found_within text.now (files_of imported.now) (module_of tree.now)) }
+    ensures reading { OnOk result (reading_of nesting.new.here
+        ≡ plain.read_within text.now (files_of imported.now) (module_of tree.now)) }
+    ensures findings { IfOk result (λ findings. findings
+        ≡ plain.found_within text.now (files_of imported.now) (module_of tree.now)) }
 {
     let mut findings = List::new(alloc);
     nesting.read_module(alloc, text, imported, tree, &mut findings)?;
@@ -75,8 +77,11 @@ fn bind_uses<'a>(
     requires lie { LexemesLie text.now.source (module_of tree.now) }
     requires unread { IsUnread nesting.old text.now.file }
     requires nothing { IsNothing bound.old }
-    ensures reading { OnOk result (reading_of nesting.new.here ≡ plain.read_within text.now (files_of imported.now) (module_of tree.now)) }
-    ensures sorted { OnOk result (IsSorted (plain.found_within text.now (files_of imported.now) (module_of tree.now)) bound.new) }
+    ensures reading { OnOk result (reading_of nesting.new.here
+        ≡ plain.read_within text.now (files_of imported.now) (module_of tree.now)) }
+    ensures sorted { OnOk result
+        (IsSorted (plain.found_within text.now (files_of imported.now) (module_of tree.now))
+        bound.new) }
 {
     let findings = found_in(alloc, text, tree, imported, nesting)?;
     sort_out(findings, bound)?;
@@ -113,8 +118,13 @@ fn bind_module<'a>(
     requires lie { LexemesLie text.now.source (module_of tree.now) }
     requires unread { IsUnread nesting.old text.now.file }
     requires nothing { IsNothing bound.old }
-    ensures sorted { OnOk result (IsSorted (plain.found_within text.now (files_of imported.now) (module_of tree.now)) bound.new) }
-    ensures exports { IfOk result (AreExported bound.new.faults (exports_of (plain.read_within text.now (files_of imported.now) (module_of tree.now)).exports)) }
+    ensures sorted { OnOk result
+        (IsSorted (plain.found_within text.now (files_of imported.now) (module_of tree.now))
+        bound.new) }
+    ensures exports { IfOk result
+        (AreExported bound.new.faults
+        (exports_of
+        (plain.read_within text.now (files_of imported.now) (module_of tree.now)).exports)) }
 {
     bind_uses(alloc, text, tree, imported, nesting, bound)?;
     exported(alloc, &nesting.here, bound.faults.as_slice())
@@ -132,8 +142,13 @@ fn bind_text<'a>(
     requires nodes { HasNodes tree.now }
     requires lie { LexemesLie text.now.source (module_of tree.now) }
     requires nothing { IsNothing bound.old }
-    ensures sorted { OnOk result (IsSorted (plain.found_within text.now (files_of imported.now) (module_of tree.now)) bound.new) }
-    ensures exports { IfOk result (AreExported bound.new.faults (exports_of (plain.read_within text.now (files_of imported.now) (module_of tree.now)).exports)) }
+    ensures sorted { OnOk result
+        (IsSorted (plain.found_within text.now (files_of imported.now) (module_of tree.now))
+        bound.new) }
+    ensures exports { IfOk result
+        (AreExported bound.new.faults
+        (exports_of
+        (plain.read_within text.now (files_of imported.now) (module_of tree.now)).exports)) }
 {
     let mut nesting = Nesting::new(alloc, text);
     bind_module(alloc, text, tree, imported, &mut nesting, bound)
@@ -182,8 +197,12 @@ fn bind(
 ) -> Result<Option<NameTable>, Memory>
     requires readable { IsReadable tree.now }
     requires nothing { IsNothing bound.old }
-    ensures bound { OnOk result (IsBoundBy (plain.findings (files_of imported.now) tree.now.source (module_of tree.now)) tree.now.source (module_of tree.now) bound.new) }
-    ensures exports { IfOk result (AreExported bound.new.faults (plain.exports_in (files_of imported.now) tree.now.source (module_of tree.now))) }
+    ensures bound { OnOk result
+        (IsBoundBy (plain.findings (files_of imported.now) tree.now.source (module_of tree.now))
+        tree.now.source (module_of tree.now) bound.new) }
+    ensures exports { IfOk result
+        (AreExported bound.new.faults (plain.exports_in (files_of imported.now) tree.now.source
+        (module_of tree.now))) }
 {
     let names = declaring(alloc, tree)?;
     let text = text_of(alloc, tree, names.as_slice())?;
@@ -206,8 +225,12 @@ pub struct Resolved {
 pub fn resolve(alloc: Global, tree: &ModuleTree, imported: &Imported) -> Result<Resolved, Memory>
     requires readable { IsReadable tree.now }
     requires instances { IsWithoutInstances imported.now (module_of tree.now) }
-    ensures bound { IfOk result (λ resolved. IsBound (imports.files_of imported.now) tree.now.source (module_of tree.now) resolved.bound) }
-    ensures exports { IfOk result (λ resolved. AreExported resolved.bound.faults (exports_in (imports.files_of imported.now) tree.now.source (module_of tree.now)) resolved.exports) }
+    ensures bound { IfOk result (λ resolved. IsBound (imports.files_of imported.now) tree.now.source
+        (module_of tree.now) resolved.bound) }
+    ensures exports { IfOk result
+        (λ resolved. AreExported resolved.bound.faults
+        (exports_in (imports.files_of imported.now) tree.now.source (module_of tree.now))
+        resolved.exports) }
 {
     let mut bound = nothing(alloc);
     let exports = bind(alloc, tree, imported, &mut bound)?;

@@ -43,8 +43,12 @@ impl<'a> Reading<'a> {
     ) -> Result<(), Memory>
         requires there { node < length tree.now }
         requires lie { AllByRecursion (LiesIn text.now.source) (lexemes (tree_at tree.now node)) }
-        ensures reading { OnOk result (reading_of self.new ≡ in_modules.declare_all text.now no_files local (reading_of self.old) (scopes.definition (tree_at tree.now node))) }
-        ensures findings { OnOk result (findings.new ≡ findings.old ++ in_trees.walk text.now (context_of self.old.names.context) (tree_at tree.now node)) }
+        ensures reading { OnOk result (reading_of self.new
+            ≡ in_modules.declare_all text.now no_files local (reading_of self.old)
+            (scopes.definition (tree_at tree.now node))) }
+        ensures findings { OnOk result (findings.new
+            ≡ findings.old ++ in_trees.walk text.now (context_of self.old.names.context)
+            (tree_at tree.now node)) }
     {
         walk(alloc, text, tree, node, &mut self.names.context, findings)?;
         self.define(alloc, text, local, tree, node)?;
@@ -63,7 +67,9 @@ impl<'a> Reading<'a> {
         requires there { node < length tree.now }
         requires lie { AllByRecursion (LiesIn text.now.source) (lexemes (tree_at tree.now node)) }
         ensures reading { OnOk result (reading_of self.new ≡ reading_of self.old) }
-        ensures findings { OnOk result (findings.new ≡ findings.old ++ in_trees.walk text.now (context_of self.old.names.context) (tree_at tree.now node)) }
+        ensures findings { OnOk result (findings.new
+            ≡ findings.old ++ in_trees.walk text.now (context_of self.old.names.context)
+            (tree_at tree.now node)) }
     {
         walk(alloc, text, tree, node, &mut self.names.context, findings)?;
         Ok(())
@@ -80,8 +86,12 @@ impl<'a> Reading<'a> {
     ) -> Result<(), Memory>
         requires there { AreThere tree.now (nodes_in unit.now) }
         requires lie { BindersLie text.now.source (declared_by (unit_at tree.now unit.now)) }
-        ensures reading { OnOk result (reading_of self.new ≡ in_modules.declare_all text.now no_files false (reading_of self.old) (declared_by (unit_at tree.now unit.now))) }
-        ensures findings { OnOk result (findings.new ≡ findings.old ++ scopes.all_refused text.now (context_of self.old.names.context) (declared_by (unit_at tree.now unit.now))) }
+        ensures reading { OnOk result (reading_of self.new
+            ≡ in_modules.declare_all text.now no_files false (reading_of self.old)
+            (declared_by (unit_at tree.now unit.now))) }
+        ensures findings { OnOk result (findings.new
+            ≡ findings.old ++ scopes.all_refused text.now (context_of self.old.names.context)
+            (declared_by (unit_at tree.now unit.now))) }
     {
         let mut binders = List::new(alloc);
         push_unit(alloc, &mut binders, tree, unit)?;
@@ -97,7 +107,9 @@ impl<'a> Reading<'a> {
         findings: &mut List<Finding>,
     ) -> Result<(), Memory>
         requires { LiesIn text.now.source name }
-        ensures { OnOk result (findings.new ≡ findings.old ++ (if in_modules.is_named text.now no_files (reading_of self.now) name then Taken name ∷ [] else [])) }
+        ensures { OnOk result (findings.new
+            ≡ findings.old ++ (if in_modules.is_named text.now no_files (reading_of self.now) name
+            then Taken name ∷ [] else [])) }
     {
         if self.is_named(text, name) {
             findings.push(Finding::Taken { at: name })?;
@@ -115,9 +127,12 @@ impl<'a> Reading<'a> {
         findings: &mut List<Finding>,
     ) -> Result<(), Memory>
         requires there { AreThere tree.now (nodes_in unit.now) }
-        requires lie { AllByRecursion (LiesIn text.now.source) (unit_lexemes (unit_at tree.now unit.now)) }
-        ensures reading { OnOk result (reading_of self.new ≡ read_by text.now (reading_of self.old) (unit_at tree.now unit.now)) }
-        ensures findings { OnOk result (findings.new ≡ findings.old ++ found_by text.now (reading_of self.old) (unit_at tree.now unit.now)) }
+        requires lie { AllByRecursion (LiesIn text.now.source)
+            (unit_lexemes (unit_at tree.now unit.now)) }
+        ensures reading { OnOk result (reading_of self.new
+            ≡ read_by text.now (reading_of self.old) (unit_at tree.now unit.now)) }
+        ensures findings { OnOk result (findings.new
+            ≡ findings.old ++ found_by text.now (reading_of self.old) (unit_at tree.now unit.now)) }
     {
         match unit {
             Unit::Variables { .. } => self.read_declarations(alloc, text, tree, unit, findings),
@@ -154,8 +169,12 @@ impl<'a> Nesting<'a> {
     ) -> Result<(), Memory>
         requires name { LiesIn text.now.source name }
         requires extends { AllByRecursion (LiesIn text.now.source) extends.now }
-        ensures place { OnOk result ((place : Place) → IsAt self.old place → IsAt self.new (in_modules.entered text.now (files_of imported.now) place name extends.now)) }
-        ensures findings { OnOk result (findings.new ≡ findings.old ++ begin_found text.now (files_of imported.now) (reading_of self.old.here) name extends.now) }
+        ensures place { OnOk result ((place : Place) → IsAt self.old place
+            → IsAt self.new
+            (in_modules.entered text.now (files_of imported.now) place name extends.now)) }
+        ensures findings { OnOk result (findings.new
+            ≡ findings.old ++ begin_found text.now (files_of imported.now)
+            (reading_of self.old.here) name extends.now) }
     {
         self.here.refuse_module(text, name, findings)?;
         self.begin(alloc, text.spelled(name))?;
@@ -175,9 +194,14 @@ impl<'a> Nesting<'a> {
         findings: &mut List<Finding>,
     ) -> Result<(), Memory>
         requires there { AreThere tree.now (nodes_in unit.now) }
-        requires lie { AllByRecursion (LiesIn text.now.source) (unit_lexemes (unit_at tree.now unit.now)) }
-        ensures place { OnOk result ((place : Place) → IsAt self.old place → IsAt self.new (plain.after text.now (files_of imported.now) place (unit_at tree.now unit.now))) }
-        ensures findings { OnOk result (findings.new ≡ findings.old ++ found_here text.now (files_of imported.now) (reading_of self.old.here) (unit_at tree.now unit.now)) }
+        requires lie { AllByRecursion (LiesIn text.now.source)
+            (unit_lexemes (unit_at tree.now unit.now)) }
+        ensures place { OnOk result ((place : Place) → IsAt self.old place
+            → IsAt self.new
+            (plain.after text.now (files_of imported.now) place (unit_at tree.now unit.now))) }
+        ensures findings { OnOk result (findings.new
+            ≡ findings.old ++ found_here text.now (files_of imported.now) (reading_of self.old.here)
+            (unit_at tree.now unit.now)) }
     {
         match unit {
             Unit::ModuleBegin { name, extends } => {
@@ -202,9 +226,15 @@ impl<'a> Nesting<'a> {
         findings: &mut List<Finding>,
     ) -> Result<(), Memory>
         requires there { AllByRecursion (λ unit. AreThere tree.now (nodes_in unit)) units.now }
-        requires lie { AllByRecursion (λ unit. AllByRecursion (LiesIn text.now.source) (unit_lexemes (unit_at tree.now unit))) units.now }
-        ensures place { OnOk result ((place : Place) → IsAt self.old place → IsAt self.new (plain.read_all text.now (files_of imported.now) place (map (unit_at tree.now) units.now))) }
-        ensures findings { OnOk result ((place : Place) → IsAt self.old place → findings.new ≡ findings.old ++ plain.found_from text.now (files_of imported.now) place (map (unit_at tree.now) units.now)) }
+        requires lie { AllByRecursion
+            (λ unit. AllByRecursion (LiesIn text.now.source) (unit_lexemes (unit_at tree.now unit)))
+            units.now }
+        ensures place { OnOk result ((place : Place) → IsAt self.old place
+            → IsAt self.new (plain.read_all text.now (files_of imported.now) place
+            (map (unit_at tree.now) units.now))) }
+        ensures findings { OnOk result ((place : Place) → IsAt self.old place
+            → findings.new ≡ findings.old ++ plain.found_from text.now (files_of imported.now) place
+            (map (unit_at tree.now) units.now)) }
     {
         for unit in units {
             self.read(alloc, text, imported, tree, unit, findings)?;
@@ -224,9 +254,13 @@ impl<'a> Nesting<'a> {
     ) -> Result<(), Memory>
         requires nodes { HasNodes tree.now }
         requires lie { LexemesLie text.now.source (module_of tree.now) }
-        requires unread { IsAt self.old (record { here = in_modules.unread text.now (files_of imported.now); round = [] }) }
-        ensures reading { OnOk result (reading_of self.new.here ≡ plain.read_within text.now (files_of imported.now) (module_of tree.now)) }
-        ensures findings { OnOk result (findings.new ≡ findings.old ++ plain.found_within text.now (files_of imported.now) (module_of tree.now)) }
+        requires unread { IsAt self.old
+            (record { here = in_modules.unread text.now (files_of imported.now); round = [] }) }
+        ensures reading { OnOk result (reading_of self.new.here
+            ≡ plain.read_within text.now (files_of imported.now) (module_of tree.now)) }
+        ensures findings { OnOk result (findings.new
+            ≡ findings.old ++ plain.found_within text.now (files_of imported.now)
+            (module_of tree.now)) }
     {
         self.here
             .extend_all(alloc, text, imported, tree.extends.as_slice(), findings)?;
@@ -253,8 +287,11 @@ impl<'a> Nesting<'a> {
         requires nodes { HasNodes tree.now }
         requires lie { LexemesLie text.now.source (module_of tree.now) }
         requires unread { IsUnread self.old text.now.file }
-        ensures reading { OnOk result (reading_of self.new.here ≡ plain.read_within text.now (files_of imported.now) (module_of tree.now)) }
-        ensures findings { OnOk result (findings.new ≡ findings.old ++ plain.found_within text.now (files_of imported.now) (module_of tree.now)) }
+        ensures reading { OnOk result (reading_of self.new.here
+            ≡ plain.read_within text.now (files_of imported.now) (module_of tree.now)) }
+        ensures findings { OnOk result (findings.new
+            ≡ findings.old ++ plain.found_within text.now (files_of imported.now)
+            (module_of tree.now)) }
     {
         self.here.put_first(text)?;
         self.read_on(alloc, text, imported, tree, findings)

@@ -58,11 +58,13 @@ impl From<Memory> for FrontError {
 /// The names and symbols of a tree lie in the bytes, and it declares fewer than 2^32 names.
 pub fn front(alloc: Global, name: &str, bytes: &[u8]) -> Result<ModuleTree, FrontError>
     requires { length bytes.now < 2 ^ 31 }
-    ensures tree { IfOk result (λ tree. (found : ModuleUnits) × IsFront name.now bytes.now (Front.Tree found) × IsTree tree found bytes.now) }
+    ensures tree { IfOk result (λ tree. (found : ModuleUnits)
+        × IsFront name.now bytes.now (Front.Tree found) × IsTree tree found bytes.now) }
     ensures lexemes { IfOk result (λ tree. LexemesLie bytes.now (module_of tree)) }
     ensures few { IfOk result (λ tree. length (declaring (module_of tree).units) < 2 ^ 32) }
     ensures fault { IfErr result (λ error. IsFrontFault name.now bytes.now error) }
-    ensures placed { IfErr result (λ error. IsFaultPlaced (take (readable_len bytes.now) bytes.now) error) }
+    ensures placed { IfErr result
+        (λ error. IsFaultPlaced (take (readable_len bytes.now) bytes.now) error) }
 {
     match std::str::from_utf8(bytes) {
         Ok(source) => front_of_text(alloc, name, source),
@@ -84,7 +86,8 @@ fn text_of(alloc: Global, source: &str) -> Result<Text, Memory>
 
 fn front_of_text(alloc: Global, name: &str, source: &str) -> Result<ModuleTree, FrontError>
     requires { length source.now < 2 ^ 31 }
-    ensures tree { IfOk result (λ tree. (found : ModuleUnits) × IsFront name.now source.now (Front.Tree found) × IsTree tree found source.now) }
+    ensures tree { IfOk result (λ tree. (found : ModuleUnits)
+        × IsFront name.now source.now (Front.Tree found) × IsTree tree found source.now) }
     ensures lexemes { IfOk result (λ tree. LexemesLie source.now (module_of tree)) }
     ensures few { IfOk result (λ tree. length (declaring (module_of tree).units) < 2 ^ 32) }
     ensures fault { IfErr result (λ error. IsFrontFault name.now source.now error) }

@@ -73,7 +73,8 @@ fn lexeme_at(text: &[u8], bare: usize) -> Option<Member>
 
 fn lexeme(first: u8, text: &[u8], bare: usize) -> Begin
     requires { bare ≡ bare_len text.now }
-    ensures { result ≡ lexing.longest_or_fault (lexing.lexeme_at text.now) (1 + continuation_len first) }
+    ensures { result
+        ≡ lexing.longest_or_fault (lexing.lexeme_at text.now) (1 + continuation_len first) }
 {
     match lexeme_at(text, bare) {
         Some(member) => Begin::Longest(member),

@@ -59,7 +59,8 @@ impl From<Memory> for LexError {
 /// begins. `NoHeader` comes exactly where the text has no header.
 pub fn lex(alloc: Global, text: &Text) -> Result<List<Lexeme>, LexError>
     requires { length text.now ≤ 2 ^ 27 }
-    ensures part { MatchResult result (λ lexemes. module_part text.now ≡ Some lexemes) (IsLexError text.now) }
+    ensures part { MatchResult result (λ lexemes. module_part text.now ≡ Some lexemes)
+        (IsLexError text.now) }
     ensures placed { IfOk result (λ lexemes. All (λ l. IsPlaced text.now l.span) lexemes) }
 {
     let Some(at) = header_of(text.bytes()) else {

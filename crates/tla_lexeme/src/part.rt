@@ -36,8 +36,10 @@ impl Counts {
     fn after(self, kind: LexKind) -> Counts
         requires runs { self.runs + 1 < 2 ^ 32 }
         requires words { self.words + 1 < 2 ^ 32 }
-        ensures words { result.words ≡ (if module_part.is_module_word kind then self.words + 1 else self.words) }
-        ensures runs { result.runs ≡ (if module_part.is_equals kind then self.runs + 1 else self.runs) }
+        ensures words { result.words
+            ≡ (if module_part.is_module_word kind then self.words + 1 else self.words) }
+        ensures runs { result.runs
+            ≡ (if module_part.is_equals kind then self.runs + 1 else self.runs) }
     {
         match kind {
             LexKind::Equals => Counts {
@@ -69,7 +71,14 @@ fn kind_in(closes: bool, kind: LexKind) -> LexKind
 // A lexeme of so many bytes at an offset that has this place.
 fn lexeme_of(at: u32, place: Place, kind: LexKind, len: u32) -> Lexeme
     requires { at + len < 2 ^ 32 }
-    ensures { result ≡ record { kind = kind; span = record { start = at; end = at + len }; line = place.line; col = place.column } }
+    ensures { result
+        ≡ record {
+          kind = kind;
+          span = record { start = at; end = at + len };
+          line = place.line;
+          col
+              = place.column;
+        } }
 {
     Lexeme {
         kind,
@@ -101,7 +110,8 @@ fn behind_gap(text: &[u8], start: usize, known: usize) -> Behind
     ensures bare { result.bare ≡ lengths.bare_len (drop result.at text.now) }
     ensures at_char { IsCharBoundary text.now result.at }
     ensures further { start ≤ result.at }
-    ensures lexemes { lexing.lexemes_after text.now start 0 (drop start text.now) ≡ lexing.lexemes_after text.now result.at 0 (drop result.at text.now) }
+    ensures lexemes { lexing.lexemes_after text.now start 0 (drop start text.now)
+        ≡ lexing.lexemes_after text.now result.at 0 (drop result.at text.now) }
 {
     let mut at = start;
     let mut bare = known;
@@ -138,11 +148,14 @@ fn next_lexeme(text: &[u8], start: usize, known: usize) -> Next
     requires utf8 { IsUtf8 text.now }
     requires at_char { IsCharBoundary text.now start }
     requires known { 0 < known → known ≡ lengths.bare_len (drop start text.now) }
-    ensures lexemes { lexing.lexemes_after text.now start 0 (drop start text.now) ≡ lexing.lexeme_of text.now result.at result.member.kind result.member.len ∷ lengths.lexemes_behind text.now result.is_last (result.at + result.member.len) }
+    ensures lexemes { lexing.lexemes_after text.now start 0 (drop start text.now)
+        ≡ lexing.lexeme_of text.now result.at result.member.kind result.member.len
+        ∷ lengths.lexemes_behind text.now result.is_last (result.at + result.member.len) }
     ensures at_char { IsCharBoundary text.now result.at }
     ensures further { start ≤ result.at }
     ensures short { result.at + result.member.len ≤ length text.now + 4 }
-    ensures behind { OnFalse result.is_last (lengths.IsBehind text.now result.at (result.at + result.member.len) result.bare) }
+    ensures behind { OnFalse result.is_last
+        (lengths.IsBehind text.now result.at (result.at + result.member.len) result.bare) }
     ensures end_at_char { IsCharBoundary text.now (result.at + result.member.len) }
 {
     let Behind { at, bare, begin } = behind_gap(text, start, known);

@@ -59,7 +59,8 @@ fn shared(alloc: Global, stretches: &[Arc<Words>]) -> Result<Vec<Arc<Words>>, Me
 // Appends words, none of which is there.
 fn append(alloc: Global, words: &mut Words, more: &Words) -> Result<(), Memory>
     requires { AreNew bytes_eq (words_of words.old.entries) (words_of more.now.entries) }
-    ensures { OnOk result (words_of words.new.entries ≡ words_of words.old.entries ++ words_of more.now.entries) }
+    ensures { OnOk result (words_of words.new.entries
+        ≡ words_of words.old.entries ++ words_of more.now.entries) }
 {
     for index in 0..more.len() {
         let Some((word, meaning)) = more.get_index(index) else {
@@ -74,7 +75,8 @@ fn append(alloc: Global, words: &mut Words, more: &Words) -> Result<(), Memory>
 // Two stretches as one.
 fn joined(alloc: Global, first: &Words, second: &Words) -> Result<Words, Memory>
     requires { AreNew bytes_eq [] (words_of first.now.entries ++ words_of second.now.entries) }
-    ensures { IfOk result (λ words. words_of words.entries ≡ words_of first.now.entries ++ words_of second.now.entries) }
+    ensures { IfOk result (λ words. words_of words.entries
+        ≡ words_of first.now.entries ++ words_of second.now.entries) }
 {
     let mut words = IndexMap::new(alloc);
     append(alloc, &mut words, first)?;
@@ -92,7 +94,8 @@ fn is_short(stretches: &[Arc<Words>], next: usize) -> bool {
 
 // Takes the last stretch out where it is short of one that is to follow it.
 fn take_short(stretches: &mut Vec<Arc<Words>>, next: usize) -> Option<Arc<Words>>
-    ensures taken { IfSome result (λ stretch. stretches.old.items ≡ stretches.new.items ++ stretch ∷ []) }
+    ensures taken { IfSome result (λ stretch. stretches.old.items ≡ stretches.new.items ++ stretch
+        ∷ []) }
     ensures none { IfNone result (stretches.new.items ≡ stretches.old.items) }
 {
     if is_short(stretches.as_slice(), next) {
@@ -105,7 +108,8 @@ fn take_short(stretches: &mut Vec<Arc<Words>>, next: usize) -> Option<Arc<Words>
 // Puts a stretch behind others, joined with those before it that are short.
 fn push_stretch(alloc: Global, stretches: &mut Vec<Arc<Words>>, words: Words) -> Result<(), Memory>
     requires { AreNew bytes_eq [] (all_words stretches.old.items ++ words_of words.entries) }
-    ensures { OnOk result (all_words stretches.new.items ≡ all_words stretches.old.items ++ words_of words.entries) }
+    ensures { OnOk result (all_words stretches.new.items
+        ≡ all_words stretches.old.items ++ words_of words.entries) }
 {
     let mut words = words;
     while let Some(before) = take_short(stretches, words.len()) {
@@ -117,7 +121,8 @@ fn push_stretch(alloc: Global, stretches: &mut Vec<Arc<Words>>, words: Words) ->
 
 // What stands under a word among the first so many of a stretch.
 fn word_in<'a>(words: &'a Words, count: usize, word: &str) -> Option<&'a Meaning>
-    ensures { option_copied result ≡ tables.lookup bytes_eq (take count (words_of words.now.entries)) word.now }
+    ensures { option_copied result
+        ≡ tables.lookup bytes_eq (take count (words_of words.now.entries)) word.now }
 {
     match words.get_full(word) {
         Some((index, _, meaning)) => { if index < count { Some(meaning) } else { None } }
@@ -157,7 +162,8 @@ impl NameTable {
 
     /// What stands under a word among the first so many.
     pub fn word_among(&self, count: usize, word: &str) -> Option<&Meaning>
-        ensures { option_copied result ≡ tables.lookup bytes_eq (take count self.now.words) word.now }
+        ensures { option_copied result
+            ≡ tables.lookup bytes_eq (take count self.now.words) word.now }
     {
         let mut left = count;
         for stretch in self.stretches.as_slice() {
@@ -206,7 +212,8 @@ impl NameTable {
         symbols: List<(Op, Meaning)>,
     ) -> Result<NameTable, Memory>
         requires { AreNew bytes_eq [] (self.now.words ++ words_of words.entries) }
-        ensures { IfOk result (λ table. table ≡ record { words = self.now.words ++ words_of words.entries; symbols = symbols }) }
+        ensures { IfOk result (λ table. table
+            ≡ record { words = self.now.words ++ words_of words.entries; symbols = symbols }) }
     {
         let Some(len) = self.len.checked_add(words.len()) else {
             return Err(Memory);

@@ -265,7 +265,9 @@ fn meaning_of<E: Copy>(entries: &[(&str, E)], spelling: &[u8]) -> Option<E>
 
 // What a spelling means that begins with a byte, in the first group of that byte.
 fn meaning_from<E: Copy>(groups: &[(u8, &[(&str, E)])], first: u8, spelling: &[u8]) -> Option<E>
-    ensures { result ≡ grouped.meaning_from (λ e. e.0.now) (λ e. e.1) (λ g. g.0) (λ g. g.1.now) groups.now first spelling.now }
+    ensures { result
+        ≡ grouped.meaning_from (λ e. e.0.now) (λ e. e.1) (λ g. g.0)
+        (λ g. g.1.now) groups.now first spelling.now }
 {
     for group in groups {
         if group.0 == first {
@@ -277,7 +279,9 @@ fn meaning_from<E: Copy>(groups: &[(u8, &[(&str, E)])], first: u8, spelling: &[u
 
 // What a spelling means in a table whose entries stand in groups, each of one first byte.
 fn meaning_in<E: Copy>(groups: &[(u8, &[(&str, E)])], spelling: &[u8]) -> Option<E>
-    ensures { result ≡ grouped.meaning_in (λ e. e.0.now) (λ e. e.1) (λ g. g.0) (λ g. g.1.now) groups.now spelling.now }
+    ensures { result
+        ≡ grouped.meaning_in (λ e. e.0.now) (λ e. e.1) (λ g. g.0)
+        (λ g. g.1.now) groups.now spelling.now }
 {
     match spelling {
         [first, ..] => meaning_from(groups, *first, spelling),

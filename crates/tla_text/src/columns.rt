@@ -38,7 +38,8 @@ fn utf16_len(c: char) -> u32
 
 // The first character of a text, and what follows it.
 fn first_char(text: &str) -> Option<(char, &str)>
-    ensures { MatchOption result (text.now ≡ []) (λ p. (text.now ≡ encode_utf8 p.0 ++ p.1.now) × IsUtf8 p.1.now) }
+    ensures { MatchOption result (text.now ≡ []) (λ p. (text.now ≡ encode_utf8 p.0 ++ p.1.now)
+        × IsUtf8 p.1.now) }
 {
     let mut chars = text.chars();
     let first = chars.next()?;

@@ -85,7 +85,8 @@ impl Text {
     /// The text that these bytes are. `NotUtf8` comes exactly where they are not UTF-8.
     pub fn read(alloc: Global, bytes: &[u8]) -> Result<Text, TextError>
         requires { length bytes.now < 2 ^ 31 }
-        ensures { MatchResult result (λ text. (text ≡ bytes.now) × IsUtf8 bytes.now) (IsTextError bytes.now) }
+        ensures { MatchResult result (λ text. (text ≡ bytes.now)
+            × IsUtf8 bytes.now) (IsTextError bytes.now) }
     {
         match std::str::from_utf8(bytes) {
             Ok(text) => Ok(Text::from_str(alloc, text)?),
@@ -267,7 +268,9 @@ impl Text {
         requires at_char { IsCharBoundary self.now offset }
         requires of_line { IsLineOf line offset (starts_after 0 self.now) }
         ensures within { length result.now ≤ offset }
-        ensures place { (measure : Measure) → place_at measure self.now offset ≡ record { line = line; column = lines.column_after measure 0 (chars result.now) } }
+        ensures place { (measure : Measure)
+            → place_at measure self.now offset
+            ≡ record { line = line; column = lines.column_after measure 0 (chars result.now) } }
     {
         let start = self.start_of(line);
         &self.text.as_str()[start as usize..offset as usize]

@@ -25,7 +25,9 @@ pub(crate) fn begins_with_line_feed(text: &[u8]) -> bool
 
 // The first byte that may end a line: how many bytes stand before it, the byte, and what follows.
 fn next_line_byte(text: &[u8]) -> Option<(usize, u8, &[u8])>
-    ensures starts { (at : ℕ) → MatchOption result (starts_after at text.now ≡ []) (λ p. starts_after at text.now ≡ starts_after (at + p.0) (p.1 ∷ p.2.now)) }
+    ensures starts { (at : ℕ)
+        → MatchOption result (starts_after at text.now ≡ []) (λ p. starts_after at text.now
+        ≡ starts_after (at + p.0) (p.1 ∷ p.2.now)) }
     ensures length { IfSome result (λ p. length text.now ≡ p.0 + (1 + length p.2.now)) }
 {
     let Some(before) = memchr2(b'\n', b'\r', text) else {

@@ -72,7 +72,8 @@ impl Tree {
         requires there { AreThere self.old children.now }
         requires room { length self.old < 2 ^ 32 - 1 }
         ensures number { IfOk result (λ number. number ≡ length self.old) }
-        ensures ok { OnOk result (self.new ≡ self.old ++ record { form = form; span = span; children = children.now } ∷ []) }
+        ensures ok { OnOk result (self.new
+            ≡ self.old ++ record { form = form; span = span; children = children.now } ∷ []) }
         ensures err { OnErr result (self.new ≡ self.old) }
     {
         let nodes = self.nodes.as_slice();

@@ -26,7 +26,8 @@ pub trait Folder {
     fn names(&mut self, alloc: Global, folder: &str) -> Result<List<Chars>, IoFault>
         ensures goes { told self.new ≡ option_map after_call (told self.old) }
         ensures order { IfOk result (λ names. IsStrictlySortedBy (slice_cmp nat_cmp) names) }
-        ensures names { IfOk result (λ names. IfSome (told self.new) (λ t. names ≡ names_at t folder.now)) }
+        ensures names { IfOk result (λ names. IfSome (told self.new) (λ t. names
+            ≡ names_at t folder.now)) }
         ensures cause { HasCause (fault_count self.old) (fault_count self.new) result };
 
     /// The first bytes of a file, at most `most`. None where it is not there. `Failed` comes as in
@@ -39,7 +40,8 @@ pub trait Folder {
         most: u64,
     ) -> Result<Option<List<u8>>, IoFault>
         ensures goes { told self.new ≡ option_map after_call (told self.old) }
-        ensures bytes { IfOk result (λ bytes. IfSome (told self.new) (λ t. bytes ≡ read_at t folder.now file.now most)) }
+        ensures bytes { IfOk result (λ bytes. IfSome (told self.new) (λ t. bytes
+            ≡ read_at t folder.now file.now most)) }
         ensures cause { HasCause (fault_count self.old) (fault_count self.new) result };
 
     /// How often it has failed. The count never falls.

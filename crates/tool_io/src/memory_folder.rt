@@ -116,7 +116,8 @@ impl Folder for MemoryFolder {
         most: u64,
     ) -> Result<Option<List<u8>>, IoFault>
         ensures goes { held self.new ≡ after_call (held self.old) }
-        ensures bytes { IfOk result (λ bytes. bytes ≡ read_at (held self.new) folder.now file.now most) }
+        ensures bytes { IfOk result (λ bytes. bytes
+            ≡ read_at (held self.new) folder.now file.now most) }
         ensures cause { HasCause self.old.failures.faults self.new.failures.faults result }
         ensures failed { HasFailed result ↔ IsTrue (fails_next self.old) }
         ensures counts { CountsCall self.old.failures self.new.failures }

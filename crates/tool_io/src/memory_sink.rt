@@ -31,7 +31,8 @@ impl MemorySink {
         ensures bytes { IfOk result (λ sink. sink_bytes sink ≡ []) }
         ensures room { IfOk result (λ sink. sink_room sink ≡ room) }
         ensures most { IfOk result (λ sink. sink_most sink ≡ most) }
-        ensures failures { IfOk result (λ sink. sink.failures ≡ record { fails = fails; calls = 0; faults = 0 }) }
+        ensures failures { IfOk result (λ sink. sink.failures
+            ≡ record { fails = fails; calls = 0; faults = 0 }) }
         ensures count { IfOk result (λ sink. ⟦<MemorySink as Sink>⟧.fault_count sink ≡ 0) }
     {
         let room = room as usize;
@@ -64,7 +65,8 @@ impl Sink for MemorySink {
         ensures bound { IfOk result (λ n. n ≤ length piece.now) }
         ensures portion { IfOk result (λ n. n ≤ sink_most self.old) }
         ensures some { IfOk result (λ n. 0 < length piece.now → 0 < n) }
-        ensures bytes { WriteAppends (Some self.old.bytes.items) (Some self.new.bytes.items) result piece.now }
+        ensures bytes { WriteAppends (Some self.old.bytes.items) (Some self.new.bytes.items) result
+            piece.now }
         ensures cause { HasOneCause self.old.failures.faults self.new.failures.faults result }
         ensures fault { OnErr result (result ≡ Err IoFault.Failed) }
         ensures refused { IsErr result ↔ IsTrue (refuses self.old piece.now) }

@@ -28,7 +28,9 @@ impl<W: Write> StdSink<W> {
     fn put(&mut self, piece: &[u8]) -> Option<usize>
         ensures kept { self.new.faults ≡ self.old.faults }
         ensures bound { IfSome result (λ n. n ≤ length piece.now) }
-        ensures written { IfSome result (λ n. Appends (W.contents self.old.inner) (W.contents self.new.inner) (take n piece.now)) }
+        ensures written { IfSome result
+            (λ n. Appends (W.contents self.old.inner) (W.contents self.new.inner)
+            (take n piece.now)) }
     {
         let count = self.inner.write(piece).ok()?;
         self.inner.flush().ok()?;
@@ -49,7 +51,9 @@ impl<W: Write> Sink for StdSink<W> {
         ensures bytes { WriteAppends None None result piece.now }
         ensures cause { HasOneCause self.old.faults self.new.faults result }
         ensures fault { OnErr result (result ≡ Err IoFault.Failed) }
-        ensures writer { IfOk result (λ n. Appends (W.contents self.old.inner) (W.contents self.new.inner) (take n piece.now)) }
+        ensures writer { IfOk result
+            (λ n. Appends (W.contents self.old.inner) (W.contents self.new.inner)
+            (take n piece.now)) }
     {
         match self.put(piece) {
             Some(count) if count > 0 || piece.is_empty() => Ok(count),

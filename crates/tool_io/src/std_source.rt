@@ -34,7 +34,8 @@ impl<R: Read> Source for StdSource<R> {
         ensures bound { ReadsAtMost result buf.new }
         ensures bytes { ReadConsumes None None result buf.new }
         ensures cause { HasOneCause self.old.faults self.new.faults result }
-        ensures reader { ReadConsumes (R.remaining self.old.inner) (R.remaining self.new.inner) result buf.new }
+        ensures reader { ReadConsumes (R.remaining self.old.inner)
+            (R.remaining self.new.inner) result buf.new }
     {
         match self.inner.read(buf) {
             Ok(count) => Ok(count),

@@ -48,7 +48,8 @@ pub fn covered(place: Option<Span>) -> Span
 pub fn add(tree: &mut Tree, form: Form, children: &[u32], span: Span) -> Result<u32, Memory>
     requires there { AreThere tree.old children.now }
     ensures number { IfOk result (λ number. number ≡ length tree.old) }
-    ensures ok { OnOk result (tree.new ≡ tree.old ++ record { form = form; span = span; children = children.now } ∷ []) }
+    ensures ok { OnOk result (tree.new
+        ≡ tree.old ++ record { form = form; span = span; children = children.now } ∷ []) }
 {
     if tree.len() >= u32::MAX as usize {
         return Err(Memory);
@@ -58,7 +59,8 @@ pub fn add(tree: &mut Tree, form: Form, children: &[u32], span: Span) -> Result<
 
 /// Adds a node of one lexeme. `Memory` as in [`add`].
 pub fn leaf(tree: &mut Tree, form: Form, lexeme: Lexeme) -> Result<Part, Memory>
-    ensures { IfOk result (λ part. Adds tree.old tree.new part (built form Nil (lexeme ∷ [])) (lexeme ∷ [])) }
+    ensures { IfOk result (λ part. Adds tree.old tree.new part (built form Nil (lexeme ∷ []))
+        (lexeme ∷ [])) }
 {
     let node = add(tree, form, &[], lexeme.span)?;
     Ok(Part {

@@ -21,7 +21,8 @@ fn push_inside(
     mark: Mark,
 ) -> Result<(), Memory>
     requires { AreThere tree.now children.now }
-    ensures { OnOk result (stack tasks.new.items ≡ walking.in_scope tree.now node children.now mark (stack tasks.old.items)) }
+    ensures { OnOk result (stack tasks.new.items
+        ≡ walking.in_scope tree.now node children.now mark (stack tasks.old.items)) }
 {
     push_task(tasks, Task::Leave { mark })?;
     push_chosen(alloc, tasks, tree, children, false)?;
@@ -39,7 +40,8 @@ pub fn push_scope(
     mark: Mark,
 ) -> Result<(), Memory>
     requires { AreThere tree.now children.now }
-    ensures { OnOk result (stack tasks.new.items ≡ walking.scope_tasks tree.now node children.now mark (stack tasks.old.items)) }
+    ensures { OnOk result (stack tasks.new.items
+        ≡ walking.scope_tasks tree.now node children.now mark (stack tasks.old.items)) }
 {
     push_inside(alloc, tasks, tree, node, children, mark)?;
     push_chosen(alloc, tasks, tree, children, true)
@@ -56,7 +58,8 @@ pub fn push_function(
     mark: Mark,
 ) -> Result<(), Memory>
     requires { AreThere tree.now children.now }
-    ensures { OnOk result (stack tasks.new.items ≡ walking.function_tasks tree.now node name children.now mark (stack tasks.old.items)) }
+    ensures { OnOk result (stack tasks.new.items
+        ≡ walking.function_tasks tree.now node name children.now mark (stack tasks.old.items)) }
 {
     push_inside(alloc, tasks, tree, node, children, mark)?;
     push_task(tasks, Task::Function { name })?;
@@ -74,7 +77,8 @@ pub fn push_image(
     mark: Mark,
 ) -> Result<(), Memory>
     requires { AreThere tree.now children.now }
-    ensures { OnOk result (stack tasks.new.items ≡ walking.image_tasks tree.now node children.now mark (stack tasks.old.items)) }
+    ensures { OnOk result (stack tasks.new.items
+        ≡ walking.image_tasks tree.now node children.now mark (stack tasks.old.items)) }
 {
     push_chosen(alloc, tasks, tree, children, true)?;
     push_inside(alloc, tasks, tree, node, children, mark)
@@ -82,7 +86,8 @@ pub fn push_image(
 
 /// Definitions one after another, with what is in their scope, and the end of the scope.
 pub fn push_definitions(tasks: &mut Vec<Task>, children: &[u32], mark: Mark) -> Result<(), Memory>
-    ensures { OnOk result (stack tasks.new.items ≡ walking.chain children.now ++ (walking.leave mark ∷ stack tasks.old.items)) }
+    ensures { OnOk result (stack tasks.new.items
+        ≡ walking.chain children.now ++ (walking.leave mark ∷ stack tasks.old.items)) }
 {
     push_task(tasks, Task::Leave { mark })?;
     push_chain(tasks, children)
@@ -90,7 +95,8 @@ pub fn push_definitions(tasks: &mut Vec<Task>, children: &[u32], mark: Mark) -> 
 
 /// Operands, with a symbol behind the first of them.
 pub fn push_between(tasks: &mut Vec<Task>, children: &[u32], at: Lexeme) -> Result<(), Memory>
-    ensures { OnOk result (stack tasks.new.items ≡ walking.between_tasks at children.now (stack tasks.old.items)) }
+    ensures { OnOk result (stack tasks.new.items
+        ≡ walking.between_tasks at children.now (stack tasks.old.items)) }
 {
     let Some((&first, rest)) = children.split_first() else {
         push_task(tasks, Task::Symbol { at })?;
@@ -104,7 +110,8 @@ pub fn push_between(tasks: &mut Vec<Task>, children: &[u32], at: Lexeme) -> Resu
 
 /// Operands, and a symbol behind them.
 pub fn push_behind(tasks: &mut Vec<Task>, children: &[u32], at: Lexeme) -> Result<(), Memory>
-    ensures { OnOk result (stack tasks.new.items ≡ walking.visits children.now ++ (walking.used at ∷ stack tasks.old.items)) }
+    ensures { OnOk result (stack tasks.new.items
+        ≡ walking.visits children.now ++ (walking.used at ∷ stack tasks.old.items)) }
 {
     push_task(tasks, Task::Symbol { at })?;
     push_each(tasks, children)
@@ -112,7 +119,8 @@ pub fn push_behind(tasks: &mut Vec<Task>, children: &[u32], at: Lexeme) -> Resul
 
 // A segment that is found in no instance, with its arguments.
 fn push_missing(tasks: &mut Vec<Task>, form: Form, arguments: &[u32]) -> Result<(), Memory>
-    ensures { OnOk result (stack tasks.new.items ≡ walking.missing_tasks form arguments.now (stack tasks.old.items)) }
+    ensures { OnOk result (stack tasks.new.items
+        ≡ walking.missing_tasks form arguments.now (stack tasks.old.items)) }
 {
     let Form::Segment(at) = form else {
         return Ok(());
@@ -125,7 +133,8 @@ fn push_missing(tasks: &mut Vec<Task>, form: Form, arguments: &[u32]) -> Result<
 // The second segment of an identifier, of which the first is no instance: later ones are not looked at.
 fn push_second(tasks: &mut Vec<Task>, tree: &Tree, segments: &[u32]) -> Result<(), Memory>
     requires { AreThere tree.now segments.now }
-    ensures { OnOk result (walking.IsSecond tree.now segments.now (stack tasks.old.items) (stack tasks.new.items)) }
+    ensures { OnOk result (walking.IsSecond tree.now segments.now (stack tasks.old.items)
+        (stack tasks.new.items)) }
 {
     let Some((&second, _)) = segments.split_first() else {
         return Ok(());
@@ -142,7 +151,8 @@ pub fn push_rest(
     known: bool,
 ) -> Result<(), Memory>
     requires { AreThere tree.now segments.now }
-    ensures { OnOk result (walking.IsRest tree.now known segments.now (stack tasks.old.items) (stack tasks.new.items)) }
+    ensures { OnOk result (walking.IsRest tree.now known segments.now (stack tasks.old.items)
+        (stack tasks.new.items)) }
 {
     if !known {
         return Ok(());

@@ -33,8 +33,11 @@ fn bind_names<'a>(
     findings: &mut List<Finding>,
 ) -> Result<(), Memory>
     requires { IsNode text.now tree.now node }
-    ensures context { OnOk result (context_of context.new ≡ contexts.bind_all text.now (context_of context.old) (binders_at tree.now node)) }
-    ensures findings { OnOk result (findings.new ≡ findings.old ++ scopes.all_refused text.now (context_of context.old) (binders_at tree.now node)) }
+    ensures context { OnOk result (context_of context.new
+        ≡ contexts.bind_all text.now (context_of context.old) (binders_at tree.now node)) }
+    ensures findings { OnOk result (findings.new
+        ≡ findings.old ++ scopes.all_refused text.now (context_of context.old)
+        (binders_at tree.now node)) }
 {
     let names = binders(alloc, tree, node, tree.children(node))?;
     bind_all(alloc, text, context, names, findings)
@@ -49,7 +52,9 @@ fn define<'a>(
     context: &mut Context<'a>,
 ) -> Result<(), Memory>
     requires { IsNode text.now tree.now node }
-    ensures { OnOk result (context_of context.new ≡ contexts.bind_all text.now (context_of context.old) (scopes.definition (tree_at tree.now node))) }
+    ensures { OnOk result (context_of context.new
+        ≡ contexts.bind_all text.now (context_of context.old)
+        (scopes.definition (tree_at tree.now node))) }
 {
     if let Some(binder) = defined(alloc, tree, node, tree.children(node))? {
         bind(alloc, text, context, binder)?;
@@ -69,7 +74,9 @@ fn perform<'a>(
 ) -> Result<(), Memory>
     requires next { IsReady text.now tree.now next }
     requires tasks { AreReady text.now tree.now (stack tasks.old.items) }
-    ensures { OnOk result (IsDone text.now tree.now next (context_of context.old) (context_of context.new) findings.old findings.new (stack tasks.old.items) (stack tasks.new.items)) }
+    ensures { OnOk result (IsDone text.now tree.now next (context_of context.old)
+        (context_of context.new) findings.old findings.new (stack tasks.old.items)
+        (stack tasks.new.items)) }
 {
     match next {
         Task::Visit { node } => {
@@ -116,7 +123,8 @@ pub fn walk<'a>(
     requires there { node < length tree.now }
     requires lie { AllByRecursion (LiesIn text.now.source) (lexemes (tree_at tree.now node)) }
     ensures context { OnOk result (context_of context.new ≡ context_of context.old) }
-    ensures findings { OnOk result (findings.new ≡ findings.old ++ in_trees.walk text.now (context_of context.old) (tree_at tree.now node)) }
+    ensures findings { OnOk result (findings.new
+        ≡ findings.old ++ in_trees.walk text.now (context_of context.old) (tree_at tree.now node)) }
 {
     let mut tasks = Vec::new(alloc);
     tasks.push(Task::Visit { node })?;

@@ -24,7 +24,8 @@ pub fn refuse<'a>(
     findings: &mut List<Finding>,
 ) -> Result<(), Memory>
     requires { LiesIn text.now.source name }
-    ensures { OnOk result (findings.new ≡ findings.old ++ scopes.taken_findings text.now (context_of context.now) name) }
+    ensures { OnOk result (findings.new
+        ≡ findings.old ++ scopes.taken_findings text.now (context_of context.now) name) }
 {
     if context.get(text.name_of(name)).is_some() {
         findings.push(Finding::Taken { at: name })?;
@@ -40,7 +41,8 @@ pub fn bind<'a>(
     binder: Binder,
 ) -> Result<(), Memory>
     requires { LiesIn text.now.source binder.name }
-    ensures { OnOk result (context_of context.new ≡ contexts.bind text.now (context_of context.old) binder) }
+    ensures { OnOk result (context_of context.new
+        ≡ contexts.bind text.now (context_of context.old) binder) }
 {
     let name = text.name_of(binder.name);
     let meaning = text.meaning(alloc, binder)?;
@@ -54,7 +56,8 @@ pub fn reserve<'a>(
     name: Lexeme,
 ) -> Result<(), Memory>
     requires { LiesIn text.now.source name }
-    ensures { OnOk result (context_of context.new ≡ tables.put (context_of context.old) (entities.name_of text.now.source name) None) }
+    ensures { OnOk result (context_of context.new
+        ≡ tables.put (context_of context.old) (entities.name_of text.now.source name) None) }
 {
     context.put(text.name_of(name), None)
 }
@@ -68,8 +71,10 @@ pub fn bind_all<'a>(
     findings: &mut List<Finding>,
 ) -> Result<(), Memory>
     requires { BindersLie text.now.source binders }
-    ensures context { OnOk result (context_of context.new ≡ contexts.bind_all text.now (context_of context.old) binders) }
-    ensures findings { OnOk result (findings.new ≡ findings.old ++ scopes.all_refused text.now (context_of context.old) binders) }
+    ensures context { OnOk result (context_of context.new
+        ≡ contexts.bind_all text.now (context_of context.old) binders) }
+    ensures findings { OnOk result (findings.new
+        ≡ findings.old ++ scopes.all_refused text.now (context_of context.old) binders) }
 {
     for binder in binders.into_vec() {
         refuse(text, context, binder.name, findings)?;

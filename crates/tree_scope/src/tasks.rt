@@ -78,7 +78,8 @@ pub fn naming_of(form: Form) -> Naming
 
 // Appends visits, the last one first.
 fn append_visits(tasks: &mut Vec<Task>, nodes: &[u32]) -> Result<(), Memory>
-    ensures { OnOk result (tasks.new.items ≡ tasks.old.items ++ walking.visits (reverse nodes.now)) }
+    ensures { OnOk result (tasks.new.items
+        ≡ tasks.old.items ++ walking.visits (reverse nodes.now)) }
 {
     for node in nodes.iter().rev().copied() {
         tasks.push(Task::Visit { node })?;
@@ -96,7 +97,8 @@ pub fn push_task(tasks: &mut Vec<Task>, task: Task) -> Result<(), Memory>
 
 /// Puts visits on top of what is due, the first one uppermost.
 pub fn push_each(tasks: &mut Vec<Task>, nodes: &[u32]) -> Result<(), Memory>
-    ensures { OnOk result (walking.stack tasks.new.items ≡ walking.visits nodes.now ++ walking.stack tasks.old.items) }
+    ensures { OnOk result (walking.stack tasks.new.items
+        ≡ walking.visits nodes.now ++ walking.stack tasks.old.items) }
 {
     append_visits(tasks, nodes)?;
     Ok(())
@@ -132,7 +134,8 @@ pub fn push_chosen(
     sets: bool,
 ) -> Result<(), Memory>
     requires { AreThere tree.now nodes.now }
-    ensures { OnOk result (walking.stack tasks.new.items ≡ walking.with_sets tree.now sets nodes.now ++ walking.stack tasks.old.items) }
+    ensures { OnOk result (walking.stack tasks.new.items ≡ walking.with_sets tree.now sets nodes.now
+        ++ walking.stack tasks.old.items) }
 {
     let chosen = chosen(alloc, tree, nodes, sets)?;
     push_each(tasks, chosen.as_slice())
@@ -140,7 +143,8 @@ pub fn push_chosen(
 
 // Appends visits, each behind the definition of its name, the last one first.
 fn append_chain(tasks: &mut Vec<Task>, nodes: &[u32]) -> Result<(), Memory>
-    ensures { OnOk result (tasks.new.items ≡ tasks.old.items ++ walking.chain_back (reverse nodes.now)) }
+    ensures { OnOk result (tasks.new.items
+        ≡ tasks.old.items ++ walking.chain_back (reverse nodes.now)) }
 {
     for node in nodes.iter().rev().copied() {
         tasks.push(Task::Define { node })?;
@@ -151,7 +155,8 @@ fn append_chain(tasks: &mut Vec<Task>, nodes: &[u32]) -> Result<(), Memory>
 
 /// Puts visits on top, each with the definition of its name behind it, the first one uppermost.
 pub fn push_chain(tasks: &mut Vec<Task>, nodes: &[u32]) -> Result<(), Memory>
-    ensures { OnOk result (walking.stack tasks.new.items ≡ walking.chain nodes.now ++ walking.stack tasks.old.items) }
+    ensures { OnOk result (walking.stack tasks.new.items
+        ≡ walking.chain nodes.now ++ walking.stack tasks.old.items) }
 {
     append_chain(tasks, nodes)?;
     Ok(())

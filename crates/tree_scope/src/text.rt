@@ -61,7 +61,13 @@ impl<'a> ModuleText<'a> {
         names: &[Binder],
     ) -> Result<ModuleText<'a>, Memory>
         requires few { length names.now < 2 ^ 32 }
-        ensures { IfOk result (λ text. text ≡ record { file = file.now; source = source.now; starts = map (λ binder. binder.name.span.start) names.now }) }
+        ensures { IfOk result (λ text. text
+            ≡ record {
+              file = file.now;
+              source = source.now;
+              starts = map
+                  (λ binder. binder.name.span.start) names.now;
+            }) }
     {
         let mut starts = Vec::new(alloc);
         let mut places = IndexMap::new(alloc);

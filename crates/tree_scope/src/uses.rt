@@ -36,7 +36,8 @@ fn prefixed(op: Op) -> Op
 
 // What a name means, for a use.
 fn meaning_of<'a>(context: &Context<'a>, name: Named<'a>) -> Result<Option<Meaning>, Memory>
-    ensures { IfOk result (λ meaning. meaning ≡ contexts.meaning_of (context_of context.now) (meant_by name.entry)) }
+    ensures { IfOk result (λ meaning. meaning
+        ≡ contexts.meaning_of (context_of context.now) (meant_by name.entry)) }
 {
     match context.get(name) {
         Some(Some(meaning)) => Ok(Some(meaning.copied()?)),
@@ -73,8 +74,13 @@ pub fn use_name<'a>(
     findings: &mut List<Finding>,
 ) -> Result<bool, Memory>
     requires { LiesIn text.now.source at }
-    ensures known { IfOk result (λ known. known ≡ is_some (contexts.meaning_of (context_of context.now) (entities.name_of text.now.source at))) }
-    ensures findings { OnOk result (findings.new ≡ findings.old ++ scopes.use_findings at (contexts.meaning_of (context_of context.now) (entities.name_of text.now.source at))) }
+    ensures known { IfOk result (λ known. known
+        ≡ is_some
+        (contexts.meaning_of (context_of context.now) (entities.name_of text.now.source at))) }
+    ensures findings { OnOk result (findings.new
+        ≡ findings.old
+        ++ scopes.use_findings at
+        (contexts.meaning_of (context_of context.now) (entities.name_of text.now.source at))) }
 {
     let meaning = meaning_of(context, text.name_of(at))?;
     push_use(findings, at, meaning)
@@ -87,7 +93,8 @@ fn use_op<'a>(
     op: Op,
     findings: &mut List<Finding>,
 ) -> Result<(), Memory>
-    ensures { OnOk result (findings.new ≡ findings.old ++ scopes.used_as (context_of context.now) at op) }
+    ensures { OnOk result (findings.new
+        ≡ findings.old ++ scopes.used_as (context_of context.now) at op) }
 {
     if is_free(op) {
         let meaning = meaning_of(context, Named::Symbol(op))?;
@@ -102,7 +109,9 @@ pub fn use_symbol<'a>(
     at: Lexeme,
     findings: &mut List<Finding>,
 ) -> Result<(), Memory>
-    ensures { OnOk result (findings.new ≡ findings.old ++ scopes.symbol_findings (context_of context.now) scopes.itself at at.kind) }
+    ensures { OnOk result (findings.new
+        ≡ findings.old ++ scopes.symbol_findings (context_of context.now) scopes.itself at
+        at.kind) }
 {
     match at.kind {
         LexKind::Sym(op) => use_op(context, at, op, findings),
@@ -116,7 +125,9 @@ pub fn use_prefix<'a>(
     at: Lexeme,
     findings: &mut List<Finding>,
 ) -> Result<(), Memory>
-    ensures { OnOk result (findings.new ≡ findings.old ++ scopes.symbol_findings (context_of context.now) scopes.prefixed at at.kind) }
+    ensures { OnOk result (findings.new
+        ≡ findings.old ++ scopes.symbol_findings (context_of context.now) scopes.prefixed at
+        at.kind) }
 {
     match at.kind {
         LexKind::Sym(op) => use_op(context, at, prefixed(op), findings),
@@ -132,7 +143,8 @@ pub fn bind_function<'a>(
     name: Lexeme,
 ) -> Result<(), Memory>
     requires { LiesIn text.now.source name }
-    ensures { OnOk result (context_of context.new ≡ contexts.bind text.now (context_of context.old) (walking.function_name name)) }
+    ensures { OnOk result (context_of context.new
+        ≡ contexts.bind text.now (context_of context.old) (walking.function_name name)) }
 {
     let entity = Entity::Bound { state: false };
     bind(alloc, text, context, Binder { name, entity })

@@ -35,8 +35,12 @@ fn begin<'a>(
     requires node { IsNode text.now tree.now node }
     requires children { children.now ≡ (node_at tree.now node).children }
     requires there { AreThere tree.now children.now }
-    ensures context { OnOk result (context_of context.new ≡ scopes.reserved text.now (context_of context.old) (form_at tree.now node) (parts_at tree.now node)) }
-    ensures findings { OnOk result (findings.new ≡ findings.old ++ scopes.all_refused text.now (context_of context.old) (defined_at tree.now node)) }
+    ensures context { OnOk result (context_of context.new
+        ≡ scopes.reserved text.now (context_of context.old) (form_at tree.now node)
+        (parts_at tree.now node)) }
+    ensures findings { OnOk result (findings.new
+        ≡ findings.old ++ scopes.all_refused text.now (context_of context.old)
+        (defined_at tree.now node)) }
 {
     if let Some(binder) = defined(alloc, tree, node, children)? {
         refuse(text, context, binder.name, findings)?;
@@ -65,7 +69,9 @@ fn visit_segments<'a>(
     tasks: &mut Vec<Task>,
 ) -> Result<(), Memory>
     requires { IsPath text.now tree.now segments.now }
-    ensures { OnOk result (walking.AreSegments text.now tree.now segments.now (context_of context.now) findings.old findings.new (stack tasks.old.items) (stack tasks.new.items)) }
+    ensures { OnOk result
+        (walking.AreSegments text.now tree.now segments.now (context_of context.now) findings.old
+        findings.new (stack tasks.old.items) (stack tasks.new.items)) }
 {
     let Some((&first, rest)) = segments.split_first() else {
         return Ok(());
@@ -91,7 +97,9 @@ pub fn visit<'a>(
 ) -> Result<(), Memory>
     requires node { IsNode text.now tree.now node }
     requires tasks { AreReady text.now tree.now (stack tasks.old.items) }
-    ensures { OnOk result (IsDone text.now tree.now (visited node) (context_of context.old) (context_of context.new) findings.old findings.new (stack tasks.old.items) (stack tasks.new.items)) }
+    ensures { OnOk result (IsDone text.now tree.now (visited node) (context_of context.old)
+        (context_of context.new) findings.old findings.new (stack tasks.old.items)
+        (stack tasks.new.items)) }
 {
     let children = tree.children(node);
     let mark = context.mark()?;

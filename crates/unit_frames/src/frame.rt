@@ -28,7 +28,9 @@ pub struct Frame {
 
 /// Numbers of nodes, and one more.
 pub fn then(numbers: List<u32>, node: u32) -> Result<List<u32>, Memory>
-    ensures { IfOk result (λ more. (nodes : List Node) → (parts : Trees) → (tree : syntax.Tree) → (spelled : List Lexeme) → (part : Part) → AreParts nodes numbers parts → part.node ≡ node → IsPart nodes part tree spelled → AreParts nodes more (lexemes.then parts tree)) }
+    ensures { IfOk result (λ more. (nodes : List Node) → (parts : Trees) → (tree : syntax.Tree)
+        → (spelled : List Lexeme) → (part : Part) → AreParts nodes numbers parts → part.node ≡ node
+        → IsPart nodes part tree spelled → AreParts nodes more (lexemes.then parts tree)) }
 {
     let mut numbers = numbers;
     numbers.push(node)?;
@@ -46,7 +48,8 @@ fn copied(alloc: Global, numbers: &[u32]) -> Result<List<u32>, Memory>
 impl Frame {
     /// A frame that has read the lexemes of the place, and no part.
     pub fn new(alloc: Global, wait: Wait, place: Option<Span>) -> Frame
-        ensures { (nodes : List Node) → (read : List Lexeme) → place ≡ place_of read → IsFrame nodes result (machine.frame wait Nil read) }
+        ensures { (nodes : List Node) → (read : List Lexeme) → place ≡ place_of read
+            → IsFrame nodes result (machine.frame wait Nil read) }
     {
         Frame {
             wait,
@@ -57,7 +60,8 @@ impl Frame {
 
     /// The frame reads a lexeme, and waits for this.
     pub fn reads(self, wait: Wait, lexeme: Lexeme) -> Frame
-        ensures { (nodes : List Node) → (frame : machine.Frame) → IsFrame nodes self frame → IsFrame nodes result (machine.frame wait frame.parts (frame.read ++ lexeme ∷ [])) }
+        ensures { (nodes : List Node) → (frame : machine.Frame) → IsFrame nodes self frame
+            → IsFrame nodes result (machine.frame wait frame.parts (frame.read ++ lexeme ∷ [])) }
     {
         Frame {
             wait,

@@ -45,7 +45,9 @@ impl Measured {
     // One unit more. `Memory` where the height can't be counted further.
     fn with(self, tree: &Tree, unit: &Unit) -> Result<Measured, Memory>
         requires { AreThere tree.now (nodes_in unit.now) }
-        ensures { IfOk result (λ more. (rest : List UnitTree) → max more.highest (highest_unit more.inside rest) ≡ max self.highest (highest_unit self.inside (unit_at tree.now unit.now ∷ rest))) }
+        ensures { IfOk result (λ more. (rest : List UnitTree)
+            → max more.highest (highest_unit more.inside rest)
+            ≡ max self.highest (highest_unit self.inside (unit_at tree.now unit.now ∷ rest))) }
     {
         let Measured { inside, highest } = self;
         match unit {

@@ -31,7 +31,10 @@ impl Reached {
 
     /// One more unit was read.
     pub fn with(self, unit: Unit) -> Result<Reached, Memory>
-        ensures { IfOk result (λ more. (nodes : List Node) → (depth : ℕ) → (units : List UnitTree) → (last : UnitTree) → IsReached nodes self depth units → AreUnits nodes (unit ∷ []) (last ∷ []) → IsReached nodes more depth (units ++ last ∷ [])) }
+        ensures { IfOk result (λ more. (nodes : List Node) → (depth : ℕ) → (units : List UnitTree)
+            → (last : UnitTree) → IsReached nodes self depth units
+            → AreUnits nodes (unit ∷ []) (last ∷ [])
+            → IsReached nodes more depth (units ++ last ∷ [])) }
     {
         let mut units = self.units;
         units.push(unit)?;
@@ -44,7 +47,8 @@ impl Reached {
 
     /// A module is open inside those that were.
     pub fn opens(self) -> Result<Reached, Memory>
-        ensures { IfOk result (λ more. (nodes : List Node) → (depth : ℕ) → (units : List UnitTree) → IsReached nodes self depth units → IsReached nodes more (suc depth) units) }
+        ensures { IfOk result (λ more. (nodes : List Node) → (depth : ℕ) → (units : List UnitTree)
+            → IsReached nodes self depth units → IsReached nodes more (suc depth) units) }
     {
         let Some(depth) = self.depth.checked_add(1) else {
             return Err(Memory);
@@ -59,7 +63,8 @@ impl Reached {
     /// The innermost module is read.
     pub fn closes(self) -> Reached
         requires { 0 < self.depth }
-        ensures { (nodes : List Node) → (depth : ℕ) → (units : List UnitTree) → IsReached nodes self (suc depth) units → IsReached nodes result depth units }
+        ensures { (nodes : List Node) → (depth : ℕ) → (units : List UnitTree)
+            → IsReached nodes self (suc depth) units → IsReached nodes result depth units }
     {
         Reached {
             alloc: self.alloc,

@@ -45,7 +45,9 @@ impl Unfinished {
 
     /// No frame waits below.
     pub fn alone(self) -> Unfinished
-        ensures { (nodes : List arena.Node) → (depth : ℕ) → (us : List units.UnitTree) → (b : machine.Begun) → (fs : List machine.Frame) → IsUnder nodes self b fs depth us → IsUnder nodes result b [] depth us }
+        ensures { (nodes : List arena.Node) → (depth : ℕ) → (us : List units.UnitTree)
+            → (b : machine.Begun) → (fs : List machine.Frame) → IsUnder nodes self b fs depth us
+            → IsUnder nodes result b [] depth us }
     {
         let below = Vec::new(self.reached.alloc);
         Unfinished {

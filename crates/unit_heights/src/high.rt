@@ -69,7 +69,8 @@ fn outer<'a>(depth: u64, begun: &'a Unit, unit: &'a Unit) -> &'a Unit
 fn high_unit<'a>(first: &'a Unit, units: &'a [Unit], tree: &Tree) -> &'a Unit
     requires first { AreThere tree.now (nodes_in first.now) }
     requires there { AllByRecursion (λ unit. AreThere tree.now (nodes_in unit)) units.now }
-    ensures value { unit_at tree.now result.now ≡ high.high_unit 0 (unit_at tree.now first.now) (map (unit_at tree.now) units.now) }
+    ensures value { unit_at tree.now result.now
+        ≡ high.high_unit 0 (unit_at tree.now first.now) (map (unit_at tree.now) units.now) }
     ensures there { AreThere tree.now (nodes_in result.now) }
 {
     let mut depth: u64 = 0;

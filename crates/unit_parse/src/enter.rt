@@ -20,7 +20,8 @@ use unit_steps::Next;
 
 // An expression is due.
 fn await_expression(unfinished: Unfinished) -> State
-    ensures { (nodes : List arena.Node) → (st : Option machine.State) → steps.IsMoved nodes (Some (leads.Awaits unfinished)) st → IsMoved nodes (Some result) st }
+    ensures { (nodes : List arena.Node) → (st : Option machine.State)
+        → steps.IsMoved nodes (Some (leads.Awaits unfinished)) st → IsMoved nodes (Some result) st }
 {
     let alloc = unfinished.reached.alloc;
     State::Expression(unfinished, ExprReader::new(alloc, Goal::Expression))
@@ -28,7 +29,9 @@ fn await_expression(unfinished: Unfinished) -> State
 
 // Bounds are due, for which the frame waits.
 fn await_bounds(unfinished: Unfinished, frame: Frame) -> State
-    ensures { (nodes : List arena.Node) → (st : Option machine.State) → steps.IsMoved nodes (Some (leads.Bounds unfinished frame)) st → IsMoved nodes (Some result) st }
+    ensures { (nodes : List arena.Node) → (st : Option machine.State)
+        → steps.IsMoved nodes (Some (leads.Bounds unfinished frame)) st
+        → IsMoved nodes (Some result) st }
 {
     let alloc = unfinished.reached.alloc;
     State::Bounds(unfinished, frame, ExprReader::new(alloc, Goal::Bounds))
@@ -36,7 +39,10 @@ fn await_bounds(unfinished: Unfinished, frame: Frame) -> State
 
 /// What an expression makes of its first lexeme.
 fn expression_begun(unfinished: Unfinished, reader: ExprReader, fed: Fed) -> Option<State>
-    ensures { (nodes : List arena.Node) → (more : List arena.Node) → (first : Lexeme) → (st : Option machine.State) → steps.Begins nodes unfinished first st → Feeds nodes more reader goals.Expression expressions.start [] first fed → Moves nodes more result st }
+    ensures { (nodes : List arena.Node) → (more : List arena.Node) → (first : Lexeme)
+        → (st : Option machine.State) → steps.Begins nodes unfinished first st
+        → Feeds nodes more reader goals.Expression expressions.start [] first fed
+        → Moves nodes more result st }
 {
     match fed {
         Fed::Going => Some(State::Expression(unfinished, reader)),
@@ -50,7 +56,8 @@ fn begin_expression(
     tree: &mut Tree,
     first: Lexeme,
 ) -> Result<Option<State>, Memory>
-    ensures { IfOk result (λ moved. (st : Option machine.State) → steps.Begins tree.old unfinished first st → Moves tree.old tree.new moved st) }
+    ensures { IfOk result (λ moved. (st : Option machine.State)
+        → steps.Begins tree.old unfinished first st → Moves tree.old tree.new moved st) }
 {
     let mut reader = ExprReader::new(unfinished.reached.alloc, Goal::Expression);
     let Ok(fed) = reader.feed(tree, first) else {
@@ -61,7 +68,8 @@ fn begin_expression(
 
 // The reader goes where units and frames lead that do not refuse a lexeme.
 fn enter_next(next: Next, tree: &mut Tree) -> Result<Option<State>, Memory>
-    ensures { IfOk result (λ moved. (nodes : List arena.Node) → (st : Option machine.State) → steps.Moves nodes tree.old (Some next) st → Moves nodes tree.new moved st) }
+    ensures { IfOk result (λ moved. (nodes : List arena.Node) → (st : Option machine.State)
+        → steps.Moves nodes tree.old (Some next) st → Moves nodes tree.new moved st) }
 {
     match next {
         Next::At(point) => Ok(Some(State::At(point))),
@@ -76,7 +84,8 @@ pub(crate) fn enter(
     next: Result<Option<Next>, Memory>,
     tree: &mut Tree,
 ) -> Result<Option<State>, Memory>
-    ensures { IfOk result (λ moved. (nodes : List arena.Node) → (st : Option machine.State) → IfOk next (λ led. steps.Moves nodes tree.old led st) → Moves nodes tree.new moved st) }
+    ensures { IfOk result (λ moved. (nodes : List arena.Node) → (st : Option machine.State)
+        → IfOk next (λ led. steps.Moves nodes tree.old led st) → Moves nodes tree.new moved st) }
 {
     match next {
         Err(fault) => Err(fault),

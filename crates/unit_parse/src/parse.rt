@@ -38,8 +38,10 @@ impl From<Memory> for ParseError {
 
 // The units after the first, which begins the module.
 fn module_of(alloc: Global, tree: Tree, units: List<Unit>) -> Result<ModuleTree, Memory>
-    requires { (us : List UnitTree) × (found : ModuleUnits) × AreUnits tree units us × (machine.whole us ≡ Some found) }
-    ensures { IfOk result (λ parsed. (us : List UnitTree) → (found : ModuleUnits) → AreUnits tree units us → machine.whole us ≡ Some found → IsModule parsed found) }
+    requires { (us : List UnitTree) × (found : ModuleUnits) × AreUnits tree units us
+        × (machine.whole us ≡ Some found) }
+    ensures { IfOk result (λ parsed. (us : List UnitTree) → (found : ModuleUnits)
+        → AreUnits tree units us → machine.whole us ≡ Some found → IsModule parsed found) }
 {
     let mut units = units.into_vec();
     let Unit::ModuleBegin { name, extends } = units.remove(0) else {
@@ -59,8 +61,10 @@ fn module_of(alloc: Global, tree: Tree, units: List<Unit>) -> Result<ModuleTree,
 
 // The module that is read, where the outermost one is closed.
 fn closed(alloc: Global, state: State, tree: Tree) -> Result<ModuleTree, Memory>
-    requires { (st : machine.State) × (found : ModuleUnits) × IsState tree state st × (machine.answer (Some st) ≡ Some found) }
-    ensures { IfOk result (λ parsed. (st : machine.State) → (found : ModuleUnits) → IsState tree state st → machine.answer (Some st) ≡ Some found → IsModule parsed found) }
+    requires { (st : machine.State) × (found : ModuleUnits) × IsState tree state st
+        × (machine.answer (Some st) ≡ Some found) }
+    ensures { IfOk result (λ parsed. (st : machine.State) → (found : ModuleUnits)
+        → IsState tree state st → machine.answer (Some st) ≡ Some found → IsModule parsed found) }
 {
     let State::At(point) = state else {
         unreachable!();
@@ -79,7 +83,8 @@ fn closed(alloc: Global, state: State, tree: Tree) -> Result<ModuleTree, Memory>
 pub fn parse_module(alloc: Global, lexemes: &List<Lexeme>) -> Result<ModuleTree, ParseError>
     requires ends { EndsOnce lexemes.now }
     requires few { length lexemes.now < 2 ^ 32 }
-    ensures ok { IfOk result (λ parsed. (found : ModuleUnits) × DerivesModule found lexemes.now × IsModule parsed found) }
+    ensures ok { IfOk result (λ parsed. (found : ModuleUnits) × DerivesModule found lexemes.now
+        × IsModule parsed found) }
     ensures err { IfErr result (λ fault. IsFault lexemes.now fault) }
 {
     let mut tree = Tree::new(alloc);

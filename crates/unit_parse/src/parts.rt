@@ -50,7 +50,13 @@ pub(crate) fn expression_step(
     lexeme: Lexeme,
 ) -> Result<Option<State>, Memory>
     requires { IsReadyExpression tree.old unfinished reader }
-    ensures { IfOk result (λ moved. (depth : ℕ) → (us : List units.UnitTree) → (b : machine.Begun) → (fs : List machine.Frame) → (st : expressions.State) → (read : List Lexeme) → IsUnder tree.old unfinished b fs depth us → IsReading tree.old reader goals.Expression st read → Moves tree.old tree.new moved (machine.expression_step (done_before (Some st) lexeme.kind) b fs st read depth us lexeme)) }
+    ensures { IfOk result (λ moved. (depth : ℕ) → (us : List units.UnitTree) → (b : machine.Begun)
+        → (fs : List machine.Frame) → (st : expressions.State) → (read : List Lexeme)
+        → IsUnder tree.old unfinished b fs depth us
+        → IsReading tree.old reader goals.Expression st read
+        → Moves tree.old tree.new moved
+        (machine.expression_step (done_before (Some st) lexeme.kind) b fs st read depth us
+        lexeme)) }
 {
     let mut reader = reader;
     let Ok(fed) = reader.feed(tree, lexeme) else {
@@ -93,7 +99,13 @@ pub(crate) fn bounds_step(
     lexeme: Lexeme,
 ) -> Result<Option<State>, Memory>
     requires { IsReadyBounds tree.old unfinished frame reader }
-    ensures { IfOk result (λ moved. (depth : ℕ) → (us : List units.UnitTree) → (b : machine.Begun) → (f : machine.Frame) → (st : expressions.State) → (read : List Lexeme) → IsUnder tree.old unfinished b [] depth us → IsFrame tree.old frame f → IsReading tree.old reader goals.Bounds st read → Moves tree.old tree.new moved (machine.bounds_step (machine.bounds_before (Some st) lexeme.kind) b f st read depth us lexeme)) }
+    ensures { IfOk result (λ moved. (depth : ℕ) → (us : List units.UnitTree) → (b : machine.Begun)
+        → (f : machine.Frame) → (st : expressions.State) → (read : List Lexeme)
+        → IsUnder tree.old unfinished b [] depth us → IsFrame tree.old frame f
+        → IsReading tree.old reader goals.Bounds st read
+        → Moves tree.old tree.new moved
+        (machine.bounds_step (machine.bounds_before (Some st) lexeme.kind) b f st read depth us
+        lexeme)) }
 {
     let mut reader = reader;
     let Ok(fed) = reader.feed(tree, lexeme) else {

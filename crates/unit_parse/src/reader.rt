@@ -44,7 +44,9 @@ impl ExprReader {
     /// Reads a lexeme after those that were read.
     pub(crate) fn feed(&mut self, tree: &mut Tree, lexeme: Lexeme) -> Result<Fed, Memory>
         requires { IsReady tree.old self.old.machine }
-        ensures { IfOk result (λ fed. (goal : Goal) → (state : expressions.State) → (read : List Lexeme) → IsReading tree.old self.old goal state read → Feeds tree.old tree.new self.new goal state read lexeme fed) }
+        ensures { IfOk result (λ fed. (goal : Goal) → (state : expressions.State)
+            → (read : List Lexeme) → IsReading tree.old self.old goal state read
+            → Feeds tree.old tree.new self.new goal state read lexeme fed) }
     {
         match self.machine.step(&lexeme, &lexeme, tree)? {
             Step::Going => {

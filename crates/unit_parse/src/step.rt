@@ -14,7 +14,8 @@ impl State {
     /// Reads a lexeme after those that were read. `None` where no module begins so.
     pub(crate) fn step(self, tree: &mut Tree, lexeme: Lexeme) -> Result<Option<State>, Memory>
         requires { IsReadyState tree.old self }
-        ensures { IfOk result (λ moved. (st : machine.State) → IsState tree.old self st → Moves tree.old tree.new moved (machine.step st lexeme)) }
+        ensures { IfOk result (λ moved. (st : machine.State) → IsState tree.old self st
+            → Moves tree.old tree.new moved (machine.step st lexeme)) }
     {
         match self {
             State::At(point) => enter(point.step(tree, lexeme), tree),

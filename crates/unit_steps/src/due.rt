@@ -20,7 +20,9 @@ use unit_tables::unit_start;
 
 // The run of `=` that ends a nested module.
 fn end_module(reached: Reached, lexeme: Lexeme) -> Result<Option<Next>, Memory>
-    ensures { IfOk result (λ moved. (nodes : List arena.Node) → (depth : ℕ) → (us : List units.UnitTree) → IsReached nodes reached depth us → IsMoved nodes moved (machine.ended depth us lexeme)) }
+    ensures { IfOk result (λ moved. (nodes : List arena.Node) → (depth : ℕ)
+        → (us : List units.UnitTree) → IsReached nodes reached depth us
+        → IsMoved nodes moved (machine.ended depth us lexeme)) }
 {
     if reached.depth < 2 {
         return Ok(None);
@@ -34,7 +36,8 @@ fn end_module(reached: Reached, lexeme: Lexeme) -> Result<Option<Next>, Memory>
 
 // The run of `=` that closes the outermost module.
 fn close_module(reached: Reached) -> Option<Next>
-    ensures { (nodes : List arena.Node) → (depth : ℕ) → (us : List units.UnitTree) → IsReached nodes reached depth us → IsMoved nodes result (machine.closed depth us) }
+    ensures { (nodes : List arena.Node) → (depth : ℕ) → (us : List units.UnitTree)
+        → IsReached nodes reached depth us → IsMoved nodes result (machine.closed depth us) }
 {
     if reached.depth != 1 {
         return None;
@@ -45,7 +48,10 @@ fn close_module(reached: Reached) -> Option<Next>
 
 // A unit begins of which a frame waits for its next lexeme.
 fn begin_part(reached: Reached, begun: Begun, frame: Frame) -> Next
-    ensures { (nodes : List arena.Node) → (depth : ℕ) → (us : List units.UnitTree) → (b : machine.Begun) → (f : machine.Frame) → IsReached nodes reached depth us → IsBegun nodes begun b → IsFrame nodes frame f → IsMoved nodes (Some result) (Some (machine.state depth us (machine.Focus.Part b f []))) }
+    ensures { (nodes : List arena.Node) → (depth : ℕ) → (us : List units.UnitTree)
+        → (b : machine.Begun) → (f : machine.Frame) → IsReached nodes reached depth us
+        → IsBegun nodes begun b → IsFrame nodes frame f
+        → IsMoved nodes (Some result) (Some (machine.state depth us (machine.Focus.Part b f []))) }
 {
     let below = Vec::new(reached.alloc);
     let unfinished = Unfinished {
@@ -58,7 +64,10 @@ fn begin_part(reached: Reached, begun: Begun, frame: Frame) -> Next
 
 // A unit begins that is an expression.
 fn begin_claim(reached: Reached, begun: Begun) -> Next
-    ensures { (nodes : List arena.Node) → (depth : ℕ) → (us : List units.UnitTree) → (b : machine.Begun) → IsReached nodes reached depth us → IsBegun nodes begun b → IsMoved nodes (Some result) (Some (machine.state depth us (machine.Focus.Expression b [] expressions.start []))) }
+    ensures { (nodes : List arena.Node) → (depth : ℕ) → (us : List units.UnitTree)
+        → (b : machine.Begun) → IsReached nodes reached depth us → IsBegun nodes begun b
+        → IsMoved nodes (Some result)
+        (Some (machine.state depth us (machine.Focus.Expression b [] expressions.start []))) }
 {
     let below = Vec::new(reached.alloc);
     Next::Awaits(Unfinished {
@@ -75,7 +84,9 @@ fn start(
     local: Option<Lexeme>,
     lexeme: Lexeme,
 ) -> Result<Option<Next>, Memory>
-    ensures { IfOk result (λ moved. (nodes : List arena.Node) → (depth : ℕ) → (us : List units.UnitTree) → IsReached nodes reached depth us → IsMoved nodes moved (machine.started begins local depth us lexeme)) }
+    ensures { IfOk result (λ moved. (nodes : List arena.Node) → (depth : ℕ)
+        → (us : List units.UnitTree) → IsReached nodes reached depth us
+        → IsMoved nodes moved (machine.started begins local depth us lexeme)) }
 {
     let alloc = reached.alloc;
     let place = Some(lexeme.span);
@@ -106,7 +117,9 @@ fn start(
 
 // A lexeme where a unit is due.
 fn unit_due(reached: Reached, local: Option<Lexeme>, lexeme: Lexeme) -> Result<Option<Next>, Memory>
-    ensures { IfOk result (λ moved. (nodes : List arena.Node) → (depth : ℕ) → (us : List units.UnitTree) → IsReached nodes reached depth us → IsMoved nodes moved (machine.unit_due local depth us lexeme)) }
+    ensures { IfOk result (λ moved. (nodes : List arena.Node) → (depth : ℕ)
+        → (us : List units.UnitTree) → IsReached nodes reached depth us
+        → IsMoved nodes moved (machine.unit_due local depth us lexeme)) }
 {
     start(reached, unit_start(lexeme), local, lexeme)
 }
@@ -117,7 +130,10 @@ pub(crate) fn after_unit(
     unit: Unit,
     lexeme: Lexeme,
 ) -> Result<Option<Next>, Memory>
-    ensures { IfOk result (λ moved. (nodes : List arena.Node) → (depth : ℕ) → (us : List units.UnitTree) → (last : units.UnitTree) → IsReached nodes reached depth us → AreUnits nodes (unit ∷ []) (last ∷ []) → IsMoved nodes moved (machine.unit_due None depth (us ++ last ∷ []) lexeme)) }
+    ensures { IfOk result (λ moved. (nodes : List arena.Node) → (depth : ℕ)
+        → (us : List units.UnitTree) → (last : units.UnitTree) → IsReached nodes reached depth us
+        → AreUnits nodes (unit ∷ []) (last ∷ [])
+        → IsMoved nodes moved (machine.unit_due None depth (us ++ last ∷ []) lexeme)) }
 {
     let Ok(reached) = reached.with(unit) else {
         return Err(Memory);
@@ -132,7 +148,10 @@ fn begin_module(
     extends: List<Lexeme>,
     lexeme: Lexeme,
 ) -> Result<Option<Next>, Memory>
-    ensures { IfOk result (λ moved. (nodes : List arena.Node) → (depth : ℕ) → (us : List units.UnitTree) → IsReached nodes reached depth us → IsMoved nodes moved (machine.unit_due None (suc depth) (us ++ units.ModuleBegin name extends ∷ []) lexeme)) }
+    ensures { IfOk result (λ moved. (nodes : List arena.Node) → (depth : ℕ)
+        → (us : List units.UnitTree) → IsReached nodes reached depth us
+        → IsMoved nodes moved
+        (machine.unit_due None (suc depth) (us ++ units.ModuleBegin name extends ∷ []) lexeme)) }
 {
     let Ok(reached) = reached.opens() else {
         return Err(Memory);
@@ -156,7 +175,9 @@ pub(crate) fn move_due(
     names: List<Lexeme>,
     lexeme: Lexeme,
 ) -> Result<Option<Next>, Memory>
-    ensures { IfOk result (λ moved. (nodes : List arena.Node) → (depth : ℕ) → (us : List units.UnitTree) → IsReached nodes reached depth us → IsMoved nodes moved (machine.due_moved to names depth us lexeme)) }
+    ensures { IfOk result (λ moved. (nodes : List arena.Node) → (depth : ℕ)
+        → (us : List units.UnitTree) → IsReached nodes reached depth us
+        → IsMoved nodes moved (machine.due_moved to names depth us lexeme)) }
 {
     match to {
         DueMove::Goes(due) => Ok(Some(Next::At(Point::Stands(reached, due, names)))),
@@ -180,7 +201,10 @@ pub(crate) fn after_declared(
     declarations: List<u32>,
     lexeme: Lexeme,
 ) -> Result<Option<Next>, Memory>
-    ensures { IfOk result (λ moved. (nodes : List arena.Node) → (depth : ℕ) → (us : List units.UnitTree) → (xs : syntax.Trees) → IsReached nodes reached depth us → AreParts nodes declarations xs → IsMoved nodes moved (machine.after_declared xs depth us lexeme)) }
+    ensures { IfOk result (λ moved. (nodes : List arena.Node) → (depth : ℕ)
+        → (us : List units.UnitTree) → (xs : syntax.Trees) → IsReached nodes reached depth us
+        → AreParts nodes declarations xs
+        → IsMoved nodes moved (machine.after_declared xs depth us lexeme)) }
 {
     if is_comma(lexeme.kind) {
         let frame = Frame::new(reached.alloc, Wait::Declaration, None);

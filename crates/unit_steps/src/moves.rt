@@ -25,7 +25,11 @@ fn begin_expression(
     frame: Frame,
     lexeme: Lexeme,
 ) -> Result<Option<Next>, Memory>
-    ensures { IfOk result (λ moved. (nodes : List arena.Node) → (depth : ℕ) → (us : List units.UnitTree) → (b : machine.Begun) → (fs : List machine.Frame) → (f : machine.Frame) → IsUnder nodes unfinished b fs depth us → IsFrame nodes frame f → IsMoved nodes moved (machine.reading (expressions.step expressions.start lexeme) b (f ∷ fs) (lexeme ∷ []) depth us)) }
+    ensures { IfOk result (λ moved. (nodes : List arena.Node) → (depth : ℕ)
+        → (us : List units.UnitTree) → (b : machine.Begun) → (fs : List machine.Frame)
+        → (f : machine.Frame) → IsUnder nodes unfinished b fs depth us → IsFrame nodes frame f
+        → IsMoved nodes moved (machine.reading (expressions.step expressions.start lexeme) b
+        (f ∷ fs) (lexeme ∷ []) depth us)) }
 {
     let mut unfinished = unfinished;
     let Ok(()) = unfinished.under(frame) else {
@@ -67,7 +71,11 @@ fn take_leaf(
     wait: Wait,
     lexeme: Lexeme,
 ) -> Result<Option<Next>, Memory>
-    ensures { IfOk result (λ moved. (depth : ℕ) → (us : List units.UnitTree) → (b : machine.Begun) → (fs : List machine.Frame) → (f : machine.Frame) → IsUnder tree.old unfinished b fs depth us → IsFrame tree.old frame f → Moves tree.old tree.new moved (machine.moved (Move.LeafOf form name wait) b f fs depth us lexeme (λ x. None))) }
+    ensures { IfOk result (λ moved. (depth : ℕ) → (us : List units.UnitTree) → (b : machine.Begun)
+        → (fs : List machine.Frame) → (f : machine.Frame)
+        → IsUnder tree.old unfinished b fs depth us → IsFrame tree.old frame f
+        → Moves tree.old tree.new moved
+        (machine.moved (Move.LeafOf form name wait) b f fs depth us lexeme (λ x. None))) }
 {
     let mut frame = frame;
     let Ok(()) = frame.takes_leaf(tree, form, name, wait, lexeme) else {
@@ -85,7 +93,11 @@ fn close(
     lexeme: Lexeme,
 ) -> Result<Option<Next>, Memory>
     requires { (f : machine.Frame) × IsFrame tree.old frame f }
-    ensures { IfOk result (λ moved. (depth : ℕ) → (us : List units.UnitTree) → (b : machine.Begun) → (fs : List machine.Frame) → (f : machine.Frame) → IsUnder tree.old unfinished b fs depth us → IsFrame tree.old frame f → Moves tree.old tree.new moved (machine.moved (Move.Close form) b f fs depth us lexeme (λ x. None))) }
+    ensures { IfOk result (λ moved. (depth : ℕ) → (us : List units.UnitTree) → (b : machine.Begun)
+        → (fs : List machine.Frame) → (f : machine.Frame)
+        → IsUnder tree.old unfinished b fs depth us → IsFrame tree.old frame f
+        → Moves tree.old tree.new moved (machine.moved (Move.Close form) b f fs depth us lexeme
+        (λ x. None))) }
 {
     let Ok(part) = frame.closed(tree, form, lexeme) else {
         return Err(Memory);
@@ -102,7 +114,10 @@ pub(crate) fn move_frame(
     lexeme: Lexeme,
 ) -> Result<Option<Next>, Memory>
     requires { (f : machine.Frame) × IsFrame tree.old frame f }
-    ensures { IfOk result (λ moved. (depth : ℕ) → (us : List units.UnitTree) → (b : machine.Begun) → (fs : List machine.Frame) → (f : machine.Frame) → IsUnder tree.old unfinished b fs depth us → IsFrame tree.old frame f → Moves tree.old tree.new moved (machine.moved to b f fs depth us lexeme (λ form. None))) }
+    ensures { IfOk result (λ moved. (depth : ℕ) → (us : List units.UnitTree) → (b : machine.Begun)
+        → (fs : List machine.Frame) → (f : machine.Frame)
+        → IsUnder tree.old unfinished b fs depth us → IsFrame tree.old frame f
+        → Moves tree.old tree.new moved (machine.moved to b f fs depth us lexeme (λ form. None))) }
 {
     match to {
         Move::Shift(wait) => Ok(Some(Next::At(Point::Part(unfinished, frame.reads(wait, lexeme))))),

@@ -55,7 +55,10 @@ pub(crate) fn part_step(
     lexeme: Lexeme,
 ) -> Result<Option<Next>, Memory>
     requires { IsReadyPart tree.old unfinished frame }
-    ensures { IfOk result (λ moved. (depth : ℕ) → (us : List units.UnitTree) → (b : machine.Begun) → (fs : List machine.Frame) → (f : machine.Frame) → IsUnder tree.old unfinished b fs depth us → IsFrame tree.old frame f → Moves tree.old tree.new moved (machine.part_step fs b f depth us lexeme)) }
+    ensures { IfOk result (λ moved. (depth : ℕ) → (us : List units.UnitTree) → (b : machine.Begun)
+        → (fs : List machine.Frame) → (f : machine.Frame)
+        → IsUnder tree.old unfinished b fs depth us → IsFrame tree.old frame f
+        → Moves tree.old tree.new moved (machine.part_step fs b f depth us lexeme)) }
 {
     let mut unfinished = unfinished;
     let mut frame = frame;
@@ -98,7 +101,10 @@ pub fn give(
     lexeme: Lexeme,
 ) -> Result<Option<Next>, Memory>
     requires { IsReadyWhole tree.old unfinished part }
-    ensures { IfOk result (λ moved. (depth : ℕ) → (us : List units.UnitTree) → (b : machine.Begun) → (fs : List machine.Frame) → (x : syntax.Tree) → (spelled : List Lexeme) → IsUnder tree.old unfinished b fs depth us → IsPart tree.old part x spelled → Moves tree.old tree.new moved (machine.given fs b x spelled depth us lexeme)) }
+    ensures { IfOk result (λ moved. (depth : ℕ) → (us : List units.UnitTree) → (b : machine.Begun)
+        → (fs : List machine.Frame) → (x : syntax.Tree) → (spelled : List Lexeme)
+        → IsUnder tree.old unfinished b fs depth us → IsPart tree.old part x spelled
+        → Moves tree.old tree.new moved (machine.given fs b x spelled depth us lexeme)) }
 {
     let mut unfinished = unfinished;
     match unfinished.below.pop() {

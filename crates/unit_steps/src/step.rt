@@ -15,7 +15,8 @@ impl Point {
     /// Reads a lexeme after those that were read. `None` where no module begins so.
     pub fn step(self, tree: &mut Tree, lexeme: Lexeme) -> Result<Option<Next>, Memory>
         requires { IsReadyPoint tree.old self }
-        ensures { IfOk result (λ moved. (st : machine.State) → IsPoint tree.old self st → Moves tree.old tree.new moved (machine.step st lexeme)) }
+        ensures { IfOk result (λ moved. (st : machine.State) → IsPoint tree.old self st
+            → Moves tree.old tree.new moved (machine.step st lexeme)) }
     {
         match self {
             Point::Stands(reached, due, names) => move_due(

@@ -118,7 +118,11 @@ pub(crate) fn finish(
 // A whole part of a unit that was read after others, with its last lexeme: declarations of
 // constants may end so.
 fn conclude(reached: Reached, begun: Begun, node: u32) -> Result<Option<Next>, Memory>
-    ensures { IfOk result (λ moved. (nodes : List arena.Node) → (depth : ℕ) → (us : List units.UnitTree) → (b : machine.Begun) → (x : syntax.Tree) → (spelled : List Lexeme) → (part : Part) → IsReached nodes reached depth us → IsBegun nodes begun b → part.node ≡ node → IsPart nodes part x spelled → IsMoved nodes moved (machine.concluded b x depth us)) }
+    ensures { IfOk result (λ moved. (nodes : List arena.Node) → (depth : ℕ)
+        → (us : List units.UnitTree) → (b : machine.Begun) → (x : syntax.Tree)
+        → (spelled : List Lexeme) → (part : Part) → IsReached nodes reached depth us
+        → IsBegun nodes begun b → part.node ≡ node → IsPart nodes part x spelled
+        → IsMoved nodes moved (machine.concluded b x depth us)) }
 {
     match begun {
         Begun::Constants(declarations) => {
@@ -133,7 +137,11 @@ fn conclude(reached: Reached, begun: Begun, node: u32) -> Result<Option<Next>, M
 
 /// A frame has ended with its last lexeme, and the one below takes its part.
 pub(crate) fn shut(unfinished: Unfinished, part: Part) -> Result<Option<Next>, Memory>
-    ensures { IfOk result (λ moved. (nodes : List arena.Node) → (depth : ℕ) → (us : List units.UnitTree) → (b : machine.Begun) → (fs : List machine.Frame) → (x : syntax.Tree) → (spelled : List Lexeme) → IsUnder nodes unfinished b fs depth us → IsPart nodes part x spelled → IsMoved nodes moved (machine.shut b fs x spelled depth us)) }
+    ensures { IfOk result (λ moved. (nodes : List arena.Node) → (depth : ℕ)
+        → (us : List units.UnitTree) → (b : machine.Begun) → (fs : List machine.Frame)
+        → (x : syntax.Tree) → (spelled : List Lexeme) → IsUnder nodes unfinished b fs depth us
+        → IsPart nodes part x spelled
+        → IsMoved nodes moved (machine.shut b fs x spelled depth us)) }
 {
     let mut unfinished = unfinished;
     let Some(mut frame) = unfinished.below.pop() else {

@@ -7,5 +7,5 @@ use Rattle.module_faces.proofs.parts.Gathered.add_stretch.Given as goal
 abbrev pub invariant-loop-part : goal.invariant-loop-part
 invariant-loop-part l = record {
   noted : IsNoted l.self;
-  views : with_parts (held_by l.self) (views (drop l.part-index l.parts)) ≡ with_parts (held_by l.initial.self) (views l.parts);
+  held : with_parts (held_by l.self) (views (drop l.part-index l.parts)) ≡ with_parts (held_by l.initial.self) (views l.parts);
 }
