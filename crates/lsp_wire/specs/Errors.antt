@@ -1,5 +1,5 @@
 -- The errors that are answered, of JSON-RPC 2.0 and LSP 3.17.
-use Rattle.std.specs.Prelude.{◌≡◌, ℕ, ℤ, negsuc, ◌⊎◌, if◌then◌else◌, List, [], codes}
+use Rattle.std.specs.Prelude.{ℕ, ℤ, negsuc, if◌then◌else◌, List, [], codes}
 use Rattle.std.specs.Ordering.{int_eq}
 
 -- -32700: the content is no JSON
@@ -26,8 +26,3 @@ server_not_initialized = negsuc 32001
 abbrev pub error_text : ℤ → List ℕ
 error_text code =
     if int_eq code parse_error then codes "parse error" else (if int_eq code invalid_request then codes "invalid request" else (if int_eq code method_not_found then codes "method not found" else (if int_eq code invalid_params then codes "invalid params" else (if int_eq code server_not_initialized then codes "server not initialized" else []))))
-
--- an error that has a text
-abbrev pub IsErrorCode : ℤ → Type 0
-IsErrorCode code =
-    (code ≡ parse_error) ⊎ ((code ≡ invalid_request) ⊎ ((code ≡ method_not_found) ⊎ ((code ≡ invalid_params) ⊎ (code ≡ server_not_initialized))))

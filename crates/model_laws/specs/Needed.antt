@@ -8,6 +8,7 @@ use Rattle.module_scope.specs.Imports.{imports_of}
 use Rattle.module_model.specs.Exports.{ModuleView}
 use Rattle.module_model.specs.Resolution.{behind_all, exports_in, findings}
 
+-- what each file is to others, by its module's name
 abbrev pub Files : Type 0
 Files = List ℕ → ModuleView
 

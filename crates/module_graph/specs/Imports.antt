@@ -12,6 +12,7 @@ abbrev pub compared : UnitTree → List Lexeme
 compared (ModuleBegin name extends) = name ∷ extends
 compared unit = module_names unit
 
+-- the names that are compared lie in the text
 pub record AreNamesPlaced (text : List ℕ) (found : ModuleUnits) : Type 0 where
   pub name : LiesIn text found.name
   pub units : AllByRecursion (λ unit. AllByRecursion (LiesIn text) (compared unit)) found.units

@@ -29,6 +29,7 @@ pub record Resolved : Type 0 where
 abbrev pub use_of : Lexeme → DeclId → Use
 use_of l decl = record { name = l.span; «module» = decl.«module»; place = decl.place; level = Level.Constant }
 
+-- what a use means, unless its name is built in
 abbrev pub meant_by : Lexeme → Meaning → List Resolved
 meant_by l BuiltIn = []
 meant_by l (Declared entity callee) = record { «use» = use_of l callee.decl; entity = entity; callee = callee } ∷ []

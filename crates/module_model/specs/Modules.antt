@@ -28,6 +28,7 @@ differs None meaning = false
 differs (Some None) meaning = true
 differs (Some (Some other)) meaning = not (same_meaning other meaning)
 
+-- the entry's name is there with another meaning than that of the entry
 abbrev pub clashes : Context → Named × Meaning → Bool
 clashes context entry = differs (find context entry.0) entry.1
 
@@ -41,6 +42,7 @@ abbrev pub joined : Bool → Reading → Exports → Reading
 joined local reading [] = reading
 joined local reading (entry ∷ rest) = joined local (if clashes reading.context entry then reading else with_entry local reading entry.0 entry.1) rest
 
+-- the module with the entries that a module which it extends brings
 abbrev pub extended : Reading → Exports → Reading
 extended reading entries = joined false reading entries
 
@@ -55,6 +57,7 @@ exports_under files None name = files name
 exports_under files (Some None) name = []
 exports_under files (Some (Some exports)) name = exports
 
+-- the constants that a CONSTANT declares
 abbrev pub constants : Trees → List Binder
 constants declarations = declared_among as_binding.Constant declarations
 
@@ -64,13 +67,16 @@ pub record Place : Type 0 where
   pub round : List Reading
 
 module _ (text : Text) (files : List ℕ → Exports) where
+  -- what the module of a name exports to one that extends it
   abbrev pub brings : Reading → Lexeme → Exports
   brings reading l = exports_under files (meaning reading.modules (spelled text.source l)) (spelled text.source l)
 
+  -- the module behind all modules that it extends, in the order of the text
   abbrev pub extends_all : Reading → List Lexeme → Reading
   extends_all reading [] = reading
   extends_all reading (l ∷ rest) = extends_all (extended reading (brings reading l)) rest
 
+  -- the modules that it extends and that bring a clash with what stands before them
   abbrev pub all_clashing : Reading → List Lexeme → List Finding
   all_clashing reading [] = []
   all_clashing reading (l ∷ rest) =
@@ -82,6 +88,7 @@ module _ (text : Text) (files : List ℕ → Exports) where
       if has reading.context (name_of text.source binder.name) then reading
       else with_entry local reading (name_of text.source binder.name) (meant text binder)
 
+  -- the module with all of these declarations, in their order
   abbrev pub declare_all : Bool → Reading → List Binder → Reading
   declare_all local reading [] = reading
   declare_all local reading (binder ∷ rest) = declare_all local (declare local reading binder) rest
@@ -95,6 +102,7 @@ module _ (text : Text) (files : List ℕ → Exports) where
   nested reading name =
       record { name = spelled text.source name; context = reading.context; exports = empty; modules = inside reading.modules (spelled text.source name) }
 
+  -- inside a nested module, behind what it extends
   abbrev pub entered : Place → Lexeme → List Lexeme → Place
   entered place name extends = record { here = extends_all (nested place.here name) extends; round = place.here ∷ place.round }
 
@@ -108,9 +116,11 @@ module _ (text : Text) (files : List ℕ → Exports) where
   abbrev pub unread : Reading
   unread = record { name = text.file; context = built_in; exports = empty; modules = outermost text.file }
 
+  -- the module of the text behind what it extends
   abbrev pub begun : List Lexeme → Place
   begun extends = record { here = extends_all unread extends; round = [] }
 
+-- a source with the name of its module and the places of its declaring names
 abbrev pub text_of : List ℕ → ModuleUnits → Text
 text_of source units =
     record { file = spelled source units.name; source = source; starts = map (λ binder. binder.name.span.start) (declaring units.units) }

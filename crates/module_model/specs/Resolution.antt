@@ -37,6 +37,7 @@ module _ (text : Text) (around : Around) where
   abbrev pub path_number : Lexeme → ℕ
   path_number l = suc (place_in around.paths l.span.start)
 
+  -- what stands behind a name that means this
   abbrev pub behind_name : Option Meaning → Exports
   behind_name meaning = found_behind around.behind meaning
 
@@ -127,6 +128,7 @@ module _ (text : Text) (files : List ℕ → ModuleView) (words : List ℕ) wher
   module_under nested (Some None) name = nothing
   module_under nested (Some (Some exports)) name = record { exports = exports; parameters = or_none (lookup bytes_eq nested name); behind = λ decl. [] }
 
+  -- what the module of a name is at a place
   abbrev pub module_named : Position → List ℕ → ModuleView
   module_named position name = module_under position.nested (meaning position.place.here.modules name) name
 
@@ -139,6 +141,7 @@ module _ (text : Text) (files : List ℕ → ModuleView) (words : List ℕ) wher
   instance_brings position (Node (Form.Instance l) s parts) = brought_by (unit_of l) (module_named position (spelled text.source l))
   instance_brings position _ = []
 
+  -- an INSTANCE without a name that brings a clash
   abbrev pub clash_by : Position → Tree → List Finding
   clash_by position (Node (Form.Instance l) s parts) =
       if brings_clash position.place.here (instance_brings position (Node (Form.Instance l) s parts)) then InstanceClashes l ∷ [] else []
@@ -148,6 +151,7 @@ module _ (text : Text) (files : List ℕ → ModuleView) (words : List ℕ) wher
   abbrev pub at_here : Position → Reading → Position
   at_here position reading = record position { place = record { here = reading; round = position.place.round } }
 
+  -- behind a unit
   abbrev pub after : Position → UnitTree → Position
   after position (Variables names) = at_here position (declare_all text (exports_by files) false position.place.here (variables names))
   after position (Constants declarations) = at_here position (declare_all text (exports_by files) false position.place.here (constants declarations))
@@ -159,6 +163,7 @@ module _ (text : Text) (files : List ℕ → ModuleView) (words : List ℕ) wher
   after position (ModuleEnd closing) = record { place = left text (exports_by files) position.place.here position.place.round; nested = with_nested position.nested position.place.here position.place.round }
   after position _ = position
 
+  -- behind these units
   abbrev pub read_all : Position → List UnitTree → Position
   read_all position [] = position
   read_all position (unit ∷ units) = read_all (after position unit) units
@@ -168,15 +173,18 @@ module _ (text : Text) (files : List ℕ → ModuleView) (words : List ℕ) wher
   behind_unit position unit =
       map (λ instance. (declaration text instance.0, instantiable (module_named position (spelled text.source instance.1)).exports)) (all_named_instances (unit_trees unit))
 
+  -- what stands behind the instances that these units name
   abbrev pub behind_units : Position → List UnitTree → Behind
   behind_units position [] = []
   behind_units position (unit ∷ units) = behind_unit position unit ++ behind_units (after position unit) units
 
   -- what is found, by what stands behind instances and where paths begin
   module _ (held : DeclId → Exports) (paths : List ℕ) where
+    -- what is known round the units of a place
     abbrev pub surround : Position → Around
     surround position = record { named = module_named position; behind = held; paths = paths }
 
+    -- what is found in a unit, in the order of the text
     abbrev pub found_in : Position → UnitTree → List Finding
     found_in position (Variables names) = all_refused text position.place.here.context (variables names)
     found_in position (Constants declarations) = all_refused text position.place.here.context (constants declarations)
@@ -190,6 +198,7 @@ module _ (text : Text) (files : List ℕ → ModuleView) (words : List ℕ) wher
         (if is_named text (exports_by files) position.place.here name then Taken name ∷ [] else []) ++ all_clashing text (exports_by files) (nested text (exports_by files) position.place.here name) extends
     found_in position _ = []
 
+    -- what is found in these units, in the order of the text
     abbrev pub found_from : Position → List UnitTree → List Finding
     found_from position [] = []
     found_from position (unit ∷ units) = found_in position unit ++ found_from (after position unit) units
@@ -201,6 +210,7 @@ abbrev pub words_of : ModuleUnits → List ℕ
 words_of units = map (λ l. l.span.start) (instances_from units.units)
 
 module _ (files : List ℕ → ModuleView) (source : List ℕ) (units : ModuleUnits) where
+  -- the text of the module
   abbrev pub text : Text
   text = text_of source units
 

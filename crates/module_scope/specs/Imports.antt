@@ -16,9 +16,11 @@ scope_at text scope (ModuleBegin name extends) = begun scope (spelled text name)
 scope_at text scope (ModuleEnd closing) = ended tt scope.here scope.round
 scope_at text scope _ = scope
 
+-- a name at a place of the module of the text is that of a module which it needs
 abbrev pub needs : List ℕ → Scope ⊤ → List ℕ → Bool
 needs outermost scope name = not (is_taken scope.here name) || (bytes_eq name outermost && not (is_round scope.round name))
 
+-- the same of a module name of the text
 abbrev pub is_needed : List ℕ → List ℕ → Scope ⊤ → Lexeme → Bool
 is_needed text outermost scope name = needs outermost scope (spelled text name)
 
@@ -34,9 +36,11 @@ abbrev pub imports_of : List ℕ → ModuleUnits → List Lexeme
 imports_of text found =
     found.extends ++ imports_from text (spelled text found.name) (first (spelled text found.name)) found.units
 
+-- a module name of the text is that of a nested module round its place
 abbrev pub is_enclosing : List ℕ → Scope ⊤ → Lexeme → Bool
 is_enclosing text scope name = is_round scope.round (spelled text name)
 
+-- the module names of these units that are those of nested modules round them
 abbrev pub enclosing_from : List ℕ → Scope ⊤ → List UnitTree → List Lexeme
 enclosing_from text scope [] = []
 enclosing_from text scope (unit ∷ units) =

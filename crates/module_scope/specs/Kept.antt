@@ -22,9 +22,11 @@ abbrev pub left_behind : {Known : Type 0} → List (List ℕ × Environment Know
 left_behind [] = []
 left_behind (nested ∷ round) = (nested.0, length nested.1, length (each_once round)) ∷ left_behind round
 
+-- a nested module's name, and how many module names and names of nested modules stay behind it
 abbrev pub kept_of : Nested → List ℕ × ℕ × ℕ
 kept_of nested = (nested.name.now, nested.modules, nested.round)
 
+-- the names in a set
 abbrev pub names_of : List (Bor (List ℕ)) → List (List ℕ)
 names_of keys = map (λ key. key.now) keys
 

@@ -18,9 +18,11 @@ name_cmp = slice_cmp nat_cmp
 abbrev pub Family : Type 0
 Family = FinMap name_cmp (List (List ℕ))
 
+-- how two families are told apart
 abbrev pub family_code : Coded Family
 family_code = map.code (coded_list coded_ℕ) (coded_list (coded_list coded_ℕ))
 
+-- the needs of a name; one that was not put has none
 abbrev pub needs_or_none : Option (List (List ℕ)) → List (List ℕ)
 needs_or_none None = []
 needs_or_none (Some names) = names

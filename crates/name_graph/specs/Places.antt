@@ -10,6 +10,7 @@ Has xs x = (i : ℕ) × (slice_get xs i ≡ Some x)
 abbrev pub Edges : Type 0
 Edges = List (List ℕ)
 
+-- a place needs another one
 abbrev pub Edge : Edges → ℕ → ℕ → Type 0
 Edge edges i j = (row : List ℕ) × (slice_get edges i ≡ Some row) × Has row j
 

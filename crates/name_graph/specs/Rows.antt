@@ -12,9 +12,11 @@ use Rattle.name_graph.specs.Places.{Has, Edges}
 abbrev pub Rows : Type 0
 Rows = List (String Global × List (List ℕ))
 
+-- the rows with their names as bytes
 abbrev pub named : Rows → List (List ℕ × List (List ℕ))
 named rows = map (λ row. (string_bytes row.0, row.1)) rows
 
+-- the family that rows are
 abbrev pub family_of : Rows → Family
 family_of rows = from_entries (named rows)
 
@@ -27,6 +29,7 @@ abbrev pub name_of : Option (String Global × List (List ℕ)) → List ℕ
 name_of None = []
 name_of (Some row) = string_bytes row.0
 
+-- the name at a place, or no bytes where none stands there
 abbrev pub name_at : Rows → ℕ → List ℕ
 name_at rows place = name_of (slice_get rows place)
 
@@ -43,6 +46,7 @@ place_of rows name = position (λ key. bytes_eq name (string_bytes key)) (keys_o
 abbrev pub places_of : Rows → List (List ℕ) → List ℕ
 places_of rows names = filter_map (place_of rows) names
 
+-- the places that each row needs
 abbrev pub edges_of : Rows → Edges
 edges_of rows = map (λ row. places_of rows row.1) rows
 

@@ -58,6 +58,7 @@ pub record AreClosed (edges : Edges) (order cyclic : List ℕ) : Type 0 where
   pub cycles : (place : ℕ) → Has cyclic place → Has order place × Leads (Edge edges) place place
   pub behind : (i place : ℕ) → slice_get order i ≡ Some place → Has cyclic place ⊎ IsBehind edges order i place
 
+-- what is known of a walk, where these needs are not yet among what is to be followed
 pub record IsWalk (edges : Edges) (loose : List ℕ) (marks : List Mark) (path todo : List ℕ) (groups : List Group) (order cyclic : List ℕ) : Type 0 where
   pub long : length marks ≡ length edges
   pub marked : AreMarked marks path order
@@ -73,6 +74,7 @@ unvisited (Mark.New ∷ marks) (row ∷ rows) = suc (length row) + unvisited mar
 unvisited (Mark.Open i ∷ marks) (row ∷ rows) = unvisited marks rows
 unvisited (Mark.Closed ∷ marks) (row ∷ rows) = unvisited marks rows
 
+-- what is left to do: it falls with each step
 abbrev pub work : Edges → Walk → ℕ
 work edges walk = (length walk.todo.items + length walk.groups.items) + unvisited walk.marks.items edges
 
@@ -80,6 +82,7 @@ work edges walk = (length walk.todo.items + length walk.groups.items) + unvisite
 abbrev pub KeepsFound : List Mark → List Mark → Type 0
 KeepsFound old new = (place : ℕ) → slice_get new place ≡ Some Mark.New → slice_get old place ≡ Some Mark.New
 
+-- the same of a walk in code
 abbrev pub AreWalk : Edges → List ℕ → Walk → Type 0
 AreWalk edges loose walk = IsWalk edges loose walk.marks.items walk.path.items walk.todo.items walk.groups.items walk.order.items walk.cyclic.items
 

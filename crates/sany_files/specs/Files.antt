@@ -15,9 +15,11 @@ module_of_file file =
 abbrev pub modules_of_listing : List (List ℕ) → List (List ℕ)
 modules_of_listing names = filter_map module_of_file names
 
+-- the modules of a folder, by one listing of it
 abbrev pub module_names : Told → List ℕ → List (List ℕ)
 module_names t folder = modules_of_listing (names_at t folder)
 
+-- the file of a module
 abbrev pub file_of : List ℕ → List ℕ
 file_of name = name ++ codes ".tla"
 
@@ -39,6 +41,7 @@ reads t folder (name ∷ names) = with_read name (read_at (after_call t) folder 
 abbrev pub files_of : Told → List ℕ → List File
 files_of t folder = reads (after_call t) folder (module_names (after_call t) folder)
 
+-- the files of the folder that the words ask for, or none
 abbrev pub files_of_request : Told → Option (List ℕ) → List File
 files_of_request t None = []
 files_of_request t (Some folder) = files_of t folder
@@ -53,15 +56,19 @@ files_in words t = files_of_request t (folder_of words)
 abbrev pub MOST_MODULES : ℕ
 MOST_MODULES = 1024
 
+-- the most bytes of all files of a folder
 abbrev pub MOST_BYTES : ℕ
 MOST_BYTES = 2 ^ 25
 
+-- the bytes of all files
 abbrev pub byte_count : List File → ℕ
 byte_count files = sum_by (λ f. length f.bytes) files
 
+-- a folder has too many modules, or too many bytes in them
 abbrev pub is_over_folder : Told → List ℕ → Bool
 is_over_folder t folder = nat_lt MOST_MODULES (length (module_names (after_call t) folder)) || nat_lt MOST_BYTES (byte_count (files_of t folder))
 
+-- the words ask for a folder with too much in it
 abbrev pub is_over_request : Told → Option (List ℕ) → Bool
 is_over_request t None = false
 is_over_request t (Some folder) = is_over_folder t folder

@@ -7,10 +7,12 @@ use Rattle.std.specs.Str.{bytes_eq}
 abbrev pub begins_path : ℕ → Bool
 begins_path c = is_ascii_alphanumeric c || c == 46 || c == 47 || c == 95
 
+-- a text that can be the path of a folder
 abbrev pub is_path : List ℕ → Bool
 is_path [] = false
 is_path (c ∷ cs) = begins_path c
 
+-- the folder, if it is one that is asked for
 abbrev pub folder_if : Bool → List ℕ → Option (List ℕ)
 folder_if true folder = Some folder
 folder_if false folder = None

@@ -9,6 +9,7 @@ use Rattle.sany_files.specs.Words.{folder_of}
 use Rattle.sany_files.specs.Files.{files_of, is_over_folder}
 use Rattle.sany_report.specs.Report.{report, report_status}
 
+-- a status, and no bytes
 abbrev pub silent : ℕ → Outcome
 silent status = record { status = status; bytes = [] }
 

@@ -27,6 +27,7 @@ begun_in reading title = record { name = title; context = reading.context; expor
 abbrev pub behind : Reading → Reading → Reading
 behind inner outer = record outer { modules = environments.behind outer.modules inner.name (exports_of inner.exports) }
 
+-- what code keeps of a module round the one that is read, by the names that are there in all
 pub record IsOuter (context : Context) (taken : ModuleNames) (outer : Outer) (reading : Reading) : Type 0 where
   pub title : reading.name ≡ outer.name.now
   pub shown : reading.exports ≡ outer.exports
@@ -42,6 +43,7 @@ AreRound context taken [] [] = ⊤
 AreRound context taken (outer ∷ outers) (reading ∷ round) = IsOuter context taken outer reading × AreRound reading.context reading.modules outers round
 AreRound context taken _ _ = ⊥
 
+-- code reads at this place
 pub record IsAt (read : Nesting) (place : Place) : Type 0 where
   pub same : reading_of read.here ≡ place.here
   pub outside : AreRound place.here.context place.here.modules (reverse read.round.items) place.round
@@ -56,6 +58,7 @@ abbrev pub left_by : Reading → List Reading → Place
 left_by inner [] = record { here = inner; round = [] }
 left_by inner (outer ∷ round) = record { here = behind inner outer; round = round }
 
+-- behind the innermost module
 abbrev pub outside_of : Place → Place
 outside_of place = left_by place.here place.round
 

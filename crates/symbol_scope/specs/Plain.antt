@@ -7,6 +7,7 @@ use Rattle.tree_scope.specs.TreeFindings.{walk}
 use Rattle.unit_grammar.specs.Units.{UnitTree, Variables, Constants, OperatorDefinition, FunctionDefinition, ModuleDefinition, Instance, Assumption, Theorem}
 use Rattle.symbol_scope.specs.Readings.{no_files}
 
+-- the module behind a unit that begins and ends no nested module
 abbrev pub read_by : Text → Reading → UnitTree → Reading
 read_by text reading (Variables names) = declare_all text no_files false reading (variables names)
 read_by text reading (Constants declarations) = declare_all text no_files false reading (constants declarations)
@@ -15,6 +16,7 @@ read_by text reading (FunctionDefinition local x) = declare_all text no_files (i
 read_by text reading (ModuleDefinition local x) = declare_all text no_files (is_some local) reading (definition x)
 read_by text reading _ = reading
 
+-- what is found in such a unit
 abbrev pub found_by : Text → Reading → UnitTree → List Finding
 found_by text reading (Variables names) = all_refused text reading.context (variables names)
 found_by text reading (Constants declarations) = all_refused text reading.context (constants declarations)

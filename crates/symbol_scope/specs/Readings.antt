@@ -15,6 +15,7 @@ abbrev pub taken_by : Option (Table Meaning) → Option Exports
 taken_by None = None
 taken_by (Some table) = Some (exports_of table)
 
+-- module names with what nested modules export, as lists
 abbrev pub modules_of : Environment (Table Meaning) → ModuleNames
 modules_of modules = map (λ entry. (entry.0, taken_by entry.1)) modules
 

@@ -16,6 +16,7 @@ abbrev pub files_of : Imports → List ℕ → Exports
 files_of imports name = import_exports (import_of imports name)
 
 module _ (text : Text) (files : List ℕ → Exports) where
+  -- behind a unit without INSTANCE
   abbrev pub after : Place → UnitTree → Place
   after place (Variables names) = record place { here = declare_all text files false place.here (variables names) }
   after place (Constants declarations) = record place { here = declare_all text files false place.here (constants declarations) }
@@ -26,6 +27,7 @@ module _ (text : Text) (files : List ℕ → Exports) where
   after place (ModuleEnd closing) = left text files place.here place.round
   after place _ = place
 
+  -- what is found in a unit without INSTANCE
   abbrev pub found_in : Place → UnitTree → List Finding
   found_in place (Variables names) = all_refused text place.here.context (variables names)
   found_in place (Constants declarations) = all_refused text place.here.context (constants declarations)
@@ -39,10 +41,12 @@ module _ (text : Text) (files : List ℕ → Exports) where
       (if is_named text files place.here name then Taken name ∷ [] else []) ++ all_clashing text files (nested text files place.here name) extends
   found_in place _ = []
 
+  -- what is found in units without INSTANCE
   abbrev pub found_from : Place → List UnitTree → List Finding
   found_from place [] = []
   found_from place (unit ∷ units) = found_in place unit ++ found_from (after place unit) units
 
+  -- behind units without INSTANCE
   abbrev pub read_all : Place → List UnitTree → Place
   read_all place [] = place
   read_all place (unit ∷ units) = read_all (after place unit) units
@@ -51,6 +55,7 @@ module _ (text : Text) (files : List ℕ → Exports) where
   abbrev pub found_within : ModuleUnits → List Finding
   found_within units = all_clashing text files (unread text files) units.extends ++ found_from (begun text files units.extends) units.units
 
+  -- the module behind all its units
   abbrev pub read_within : ModuleUnits → Reading
   read_within units = (read_all (begun text files units.extends) units.units).here
 

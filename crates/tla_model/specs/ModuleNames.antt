@@ -36,6 +36,7 @@ abbrev pub instance_names : UnitTree → List Lexeme
 instance_names (ModuleBegin name extends) = []
 instance_names unit = module_names unit
 
+-- there is a name
 abbrev pub is_some_name : List Lexeme → Bool
 is_some_name [] = false
 is_some_name (name ∷ names) = true
@@ -43,14 +44,6 @@ is_some_name (name ∷ names) = true
 -- the word INSTANCE stands in the module
 abbrev pub holds_instance : ModuleUnits → Bool
 holds_instance found = list_any (λ unit. is_some_name (instance_names unit)) found.units
-
--- the names of modules in a text, in its order
-abbrev pub names_from : List UnitTree → List Lexeme
-names_from [] = []
-names_from (unit ∷ units) = module_names unit ++ names_from units
-
-abbrev pub names_of : ModuleUnits → List Lexeme
-names_of found = found.extends ++ names_from found.units
 
 -- the names behind INSTANCE in a text, in its order
 abbrev pub instances_from : List UnitTree → List Lexeme
