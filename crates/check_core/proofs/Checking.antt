@@ -1,15 +1,13 @@
 -- What is found of a module, by how its check ends.
-use Rattle.std.proofs.Common.{◌≡◌, ℕ, Bool, true, false, List, [], ◌∷◌, ◌++◌, length, refl, sym, ap, subst, ◌∙◌, arith}
+use Rattle.std.proofs.Common.{◌≡◌, ℕ, true, false, List, [], ◌∷◌, ◌++◌, length, refl, sym, ap, subst, ◌∙◌, arith}
 use mathlib.Core.Path.{fun_ext}
-use Rattle.std.specs.Prelude.{Option, None, Some, if◌then◌else◌, map, slice_get}
-use Rattle.std.specs.Arc.{arc_value}
+use Rattle.std.specs.Prelude.{Option, None, Some, map}
 use Rattle.tla_model.specs.declared.Diagnostic.{Diagnostic}
 use Rattle.module_model.specs.declared.imported.Import.{Import}
 use Rattle.module_model.specs.Bindings.{AreInOrder, decls, faults, resolved}
 use Rattle.tla_model.specs.Entities.{declaring}
-use Rattle.module_model.specs.Exports.{behind_in, instantiable, exports_of, face_exports, face_outside, files_of, import_behind, import_outside, parameters_in, part_behind, part_exports, part_shows, parts_behind, under}
+use Rattle.module_model.specs.Exports.{behind_in, exports_of, face_exports, face_outside, files_of, import_outside, parameters_in, part_shows, parts_behind}
 use Rattle.module_model.specs.Imports.{Imports, import_of}
-use Rattle.tla_model.specs.Lexemes.{spelled}
 use Rattle.module_model.specs.Modules.{text_of}
 use Rattle.module_model.specs.Parts.{PartView, last}
 use Rattle.module_model.specs.Resolution.{findings, outside_in}
@@ -18,7 +16,7 @@ use Rattle.unit_grammar.specs.Units.{ModuleUnits}
 use Rattle.module_facts.proofs.Inserting.{in-order}
 use Rattle.module_facts.specs.Ordered.{in_order}
 use Rattle.module_facts.specs.Checks.{CheckedModule, IsChecked, all_faults, files_given, given_by, given_in, import_faults, or_else, outside_by, unless_any}
-use Rattle.module_faces.specs.Faces.{IsFace, IsFaceOf, bare, is_among, key_in, keys_in, with_face, with_import, with_imports, with_part, with_parts}
+use Rattle.module_faces.specs.Faces.{IsFace, IsFaceOf, bare, with_imports}
 use Rattle.check_core.specs.Outcomes.{IsRefused, IsResolved}
 use Rattle.module_model.proofs.Ordering.{none-at-all, order-is-one}
 use Rattle.module_model.specs.Given.{IsWithoutInstances}

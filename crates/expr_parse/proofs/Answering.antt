@@ -14,7 +14,7 @@ use Rattle.expr_grammar.specs.Tables.{shape, finishes, endable}
 use Rattle.expr_grammar.specs.Machine as Machine
 use Rattle.expr_grammar.specs.Machine.{State, At, Have, node, node_with, run, start, start_bounds, step, finish, finish_bounds, close_all, close_bounds, on_tree, on_bounds, whole, whole_bounds}
 use Rattle.expr_grammar.specs.Following.{closes_bounds, done_before, bounds_done_before}
-use Rattle.expr_grammar.specs.Counting.{made_run, made_step, made_finish}
+use Rattle.expr_grammar.specs.Counting.{made_run, made_finish}
 use Rattle.expr_laws.proofs.Complete.{run-append, refused-ends}
 use Rattle.expr_laws.proofs.Soundness.{accepted-derives, accepted-bounds}
 use Rattle.expr_laws.proofs.Completing.{completes-expression, completes-bounds}

@@ -9,7 +9,7 @@ use Rattle.expr_grammar.specs.declared.wait.PartMove.{PartMove}
 use Rattle.expr_grammar.specs.declared.wait.Shape.{Shape}
 use Rattle.expr_grammar.specs.Tables.{shape, at_part}
 use Rattle.expr_grammar.specs.Machine as Machine
-use Rattle.expr_grammar.specs.Machine.{State, node_with, moved, part_step}
+use Rattle.expr_grammar.specs.Machine.{node_with, moved, part_step}
 use Rattle.expr_grammar.specs.Counting.{made_part, made_move}
 use Rattle.expr_stack.specs.declared.stack.Frame.{Frame}
 use Rattle.tree_parts.specs.declared.part.Part.{Part}

@@ -14,7 +14,7 @@ use Rattle.expr_grammar.specs.declared.wait.Role.{Role}
 use Rattle.expr_grammar.specs.declared.wait.Shape.{Shape}
 use Rattle.expr_grammar.specs.Tables.{shape, is_expression, takes, role, choice, edge_of, lead, finishes}
 use Rattle.expr_grammar.specs.Machine as Machine
-use Rattle.expr_grammar.specs.Machine.{State, At, frame, led, node_with, operator_step, part_step, is_operator, inner, within, leave, have}
+use Rattle.expr_grammar.specs.Machine.{At, frame, led, node_with, operator_step, part_step, is_operator, inner, within, leave, have}
 use Rattle.expr_grammar.specs.Counting.{made_operator, made_led, made_part, made_within, made_leave, made_have}
 use Rattle.expr_stack.specs.declared.stack.Frame.{Frame}
 use Rattle.tree_parts.specs.declared.part.Part.{Part}

@@ -6,7 +6,7 @@ use Rattle.tla_tree.specs.Arena.{AreThere, tree_at}
 use Rattle.tla_tree.specs.Syntax.{Tree, Trees, trees}
 use Rattle.expr_grammar.specs.declared.wait.Wait.{Wait}
 use Rattle.expr_grammar.specs.Machine as Machine
-use Rattle.expr_grammar.specs.Machine.{State, At, Have, inner}
+use Rattle.expr_grammar.specs.Machine.{State, At, Have}
 use Rattle.expr_grammar.specs.declared.wait.Shape.{Shape}
 use Rattle.expr_grammar.specs.declared.wait.Conversion.TheVariants as Conversion
 use Rattle.expr_grammar.specs.Tables.{names_of, as_bound, bound_of, is_expression, list_of, goes_on}

@@ -7,7 +7,7 @@ use Rattle.tla_symbols.specs.declared.lexeme.Span.{Span}
 use Rattle.tla_tree.specs.declared.form.Form.{Form}
 use Rattle.tla_tree.specs.Arena.{Node, tree_at}
 use Rattle.tla_tree.specs.Lexemes.{built}
-use Rattle.tla_tree.specs.Syntax.{Tree, Nil, trees}
+use Rattle.tla_tree.specs.Syntax.{Tree, trees}
 use Rattle.expr_grammar.specs.declared.wait.Wait.{Wait}
 use Rattle.expr_grammar.specs.Machine as Machine
 use Rattle.expr_grammar.specs.Machine.{inside, inner}

@@ -31,7 +31,7 @@ use Rattle.family_facts.proofs.FrontLaws.{front-is}
 use Rattle.family_facts.proofs.Members.{AreOneEach, member-there}
 use Rattle.family_facts.proofs.Saying.{file-there}
 use Rattle.family_facts.proofs.OneVerdict.{HasNoOther, IsCheckedOf, Found, of_fault, of_tree, found-of, fault-same, tree-same, tree-no-fault}
-use Rattle.family_outcomes.proofs.Checking.{ticks-within}
+use Rattle.family_check.proofs.Checking.{ticks-within}
 use Rattle.family_tables.proofs.LexemesInText.{span-placed}
 use Rattle.family_tables.proofs.Holding.{all-by, any-here}
 

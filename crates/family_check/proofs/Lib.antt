@@ -1,2 +1,4 @@
+mod Sums
+mod Checking
 mod Once
 mod Answering

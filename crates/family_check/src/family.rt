@@ -6,8 +6,8 @@ ghost use Rattle.family_tables.specs.Outcomes.{AreWithoutInstances};
 ghost use Rattle.family_facts.specs.Verdicts as facts;
 ghost use Rattle.family_facts.specs.Verdicts.{AreDistinct, IsVerdictPlaced, after_checks, checks_of, family_of, verdicts_if_built};
 
+use crate::outcomes::check_all;
 use family_facts::{File, Verdict, verdicts_are};
-use family_outcomes::check_all;
 use family_read::read_family;
 use family_tables::{Module, Table, plan_of, some_instance, verdicts_of};
 use module_facts::faults_stand_at_lexemes;

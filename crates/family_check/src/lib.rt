@@ -5,5 +5,6 @@
 #![tactic(auto)]
 
 mod family;
+mod outcomes;
 
 pub use family::check_family;

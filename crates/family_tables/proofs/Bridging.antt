@@ -11,7 +11,6 @@ use Rattle.family_facts.specs.Family as families
 use Rattle.family_facts.specs.Family.{Member, Diagnosed, IsDiagnosed, is_there}
 use Rattle.family_tables.specs.Modules.{Entry, IsEntry, IsReading, AreModules, needs_in}
 use Rattle.family_tables.specs.Plans as plans
-use Rattle.family_tables.specs.declared.reading.Reading.{Reading}
 use Rattle.family_tables.specs.declared.reading.Reading.TheVariants as reading
 use Rattle.family_tables.proofs.Graphs.{first-step, leads-map}
 use Rattle.family_facts.proofs.Lists.{none-there, zip-left, zip-right}

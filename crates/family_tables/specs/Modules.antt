@@ -9,9 +9,8 @@ use Rattle.unit_grammar.specs.UnitNodes.{module_of}
 use Rattle.module_model.specs.Given.{IsReadable}
 use Rattle.tla_model.specs.ModuleNames.{holds_instance}
 use Rattle.module_graph.specs.Imports.{imports_of}
-use Rattle.std_modules.specs.StdTexts.{std_text}
 use Rattle.family_facts.specs.Family.{Member, is_there}
-use Rattle.family_facts.specs.Verdicts.{text_of, text_or_none}
+use Rattle.family_facts.specs.Verdicts.{text_of}
 use Rattle.family_tables.specs.declared.reading.Module.{Module}
 use Rattle.family_tables.specs.declared.reading.Reading.{Reading}
 

@@ -1,7 +1,6 @@
 -- Rows of the table, read against section 17.2 of Specifying Systems.
-use Rattle.std.proofs.Common.{◌≡◌, ℕ, List, [], ◌∷◌, refl}
-use Rattle.std.specs.Prelude.{Option, None, Some}
-use Rattle.tla_symbols.specs.declared.level.Kind.{Kind}
+use Rattle.std.proofs.Common.{◌≡◌, [], ◌∷◌, refl}
+use Rattle.std.specs.Prelude.{Some}
 use Rattle.tla_symbols.specs.declared.level.Kind.TheVariants.{Const, State, Action, BoxAction, DiamondAction, Temporal}
 use Rattle.tla_symbols.specs.declared.level.Rule.TheVariants.{Plain, Boolean, Prime, Enabled, Always, Eventually, Leads, Square, Angle}
 use Rattle.level_rules.specs.Kinds.{applied, first_refused}

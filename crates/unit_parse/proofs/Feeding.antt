@@ -7,7 +7,7 @@ use Rattle.tla_tree.specs.Arena.{tree_at}
 use Rattle.tla_tree.specs.Lexemes.{built}
 use Rattle.tla_tree.specs.Syntax.{Tree, Trees}
 use Rattle.expr_grammar.specs.Machine as Expressions
-use Rattle.expr_grammar.specs.Machine.{run, start, start_bounds}
+use Rattle.expr_grammar.specs.Machine.{run}
 use Rattle.expr_grammar.specs.Following.{done_before, bounds_done_before}
 use Rattle.expr_laws.proofs.Complete.{run-append}
 use Rattle.expr_laws.proofs.Stopping.{done-derives, derives-done, done-bounds, bounds-done}

@@ -4,13 +4,12 @@ use Rattle.std.specs.Prelude.{slice_index_or}
 use Rattle.std.proofs.lemmas.List.{take_more, take_all}
 use Rattle.tla_symbols.specs.declared.lexeme.Lexeme.{Lexeme}
 use Rattle.tla_tree.specs.Arena as Arena
-use Rattle.tla_tree.specs.Arena.{AreThere}
 use Rattle.unit_machine.specs.declared.wait.Due.{Due}
 use Rattle.unit_grammar.specs.Units.{UnitTree, ModuleUnits}
 use Rattle.unit_grammar.specs.Derivation.{DerivesModule}
 use Rattle.unit_grammar.specs.FirstBad.{EndsOnce, IsFirstBad}
 use Rattle.unit_machine.specs.Machine as Machine
-use Rattle.unit_machine.specs.Machine.{run, opening, parse, whole, answer, RefusesAt}
+use Rattle.unit_machine.specs.Machine.{run, opening, whole, answer}
 use Rattle.unit_laws.proofs.ReadingUnits.{run-append}
 use Rattle.unit_laws.proofs.Soundness.{accepted-derives}
 use Rattle.unit_laws.proofs.FirstBad.{refused-first}

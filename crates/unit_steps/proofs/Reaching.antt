@@ -5,7 +5,7 @@ use Rattle.tla_tree.specs.declared.form.Form.{Form}
 use Rattle.tla_tree.specs.Arena as Arena
 use Rattle.tla_tree.specs.Arena.{node_at, tree_at}
 use Rattle.tla_tree.specs.Syntax as Syntax
-use Rattle.tla_tree.specs.Syntax.{Tree, Trees, Nil}
+use Rattle.tla_tree.specs.Syntax.{Trees, Nil}
 use Rattle.tla_tree.specs.declared.unit.Unit.TheVariants as unit
 use Rattle.tla_tree.proofs.Nodes.{tree_at-form}
 use Rattle.unit_machine.specs.declared.wait.Due.{Due}

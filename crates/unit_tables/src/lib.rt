@@ -1,7 +1,7 @@
 //! The tables of the machine for units in code: what lexemes begin, and what they do in modules and
 //! to frames.
 //!
-//! Answers exactly what the tables of `unit_grammar` say. Knows nothing of how units and frames are
+//! Answers exactly what the tables of `unit_machine` say. Knows nothing of how units and frames are
 //! kept.
 #![tactic(auto)]
 

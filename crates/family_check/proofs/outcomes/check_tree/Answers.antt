@@ -1,5 +1,5 @@
-use Rattle.family_outcomes.proofs.Checking.{tree-outcome}
-use Rattle.family_outcomes.proofs.outcomes.check_tree.Goals as goal
+use Rattle.family_check.proofs.Checking.{tree-outcome}
+use Rattle.family_check.proofs.outcomes.check_tree.Goals as goal
 
 pub returns-clause-outcome : goal.returns-clause-outcome
 returns-clause-outcome g c family ready member =

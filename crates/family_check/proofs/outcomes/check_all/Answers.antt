@@ -1,10 +1,10 @@
 use Rattle.std.proofs.Common.{◌<◌, ◌≤◌, ◌∙◌, ap, subst, sym, length, get_or}
 use Rattle.std.proofs.lemmas.List.{take_all}
 use Rattle.family_tables.specs.Outcomes.{after_ticks, trees_of}
-use Rattle.family_outcomes.proofs.Checking.{bare-more, found-more, member-here, module-here, ordered-fresh, ordered-names, ordered-there, outcomes-all, ready-here, steps-more, trees-all, without-here}
+use Rattle.family_check.proofs.Checking.{bare-more, found-more, member-here, module-here, ordered-fresh, ordered-names, ordered-there, outcomes-all, ready-here, steps-more, trees-all, without-here}
 use Rattle.family_tables.specs.Tables.{entry_of}
 use Rattle.std.specs.Prelude.{sum_by}
-use Rattle.family_outcomes.proofs.outcomes.check_all.Goals as goal
+use Rattle.family_check.proofs.outcomes.check_all.Goals as goal
 
 pub unreachable-requires : goal.unreachable-requires
 unreachable-requires g c =

@@ -1,7 +1,7 @@
 use Rattle.std.proofs.Common.{subst}
 use Rattle.family_tables.specs.Outcomes.{IsMember}
-use Rattle.family_outcomes.proofs.Checking.{fault-outcome}
-use Rattle.family_outcomes.proofs.outcomes.check_one.Goals as goal
+use Rattle.family_check.proofs.Checking.{fault-outcome}
+use Rattle.family_check.proofs.outcomes.check_one.Goals as goal
 
 pub returns-in_ok-lone_fault-in-Fault-clause-outcome : goal.returns-in_ok-lone_fault-in-Fault-clause-outcome
 returns-in_ok-lone_fault-in-Fault-clause-outcome g c family ready member =

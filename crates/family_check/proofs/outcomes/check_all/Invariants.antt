@@ -5,7 +5,7 @@ use Rattle.family_tables.specs.Modules.{AreModules}
 use Rattle.family_tables.specs.declared.outcome.Outcome.{Outcome}
 use Rattle.family_tables.specs.Outcomes.{AreBare, IsOutcome, after_ticks, trees_of}
 use Rattle.family_tables.specs.Tables.{entry_of, names_in}
-use Rattle.family_outcomes.proofs.outcomes.check_all.Given as goal
+use Rattle.family_check.proofs.outcomes.check_all.Given as goal
 
 abbrev pub invariant-loop-name : goal.invariant-loop-name
 invariant-loop-name g l = record {

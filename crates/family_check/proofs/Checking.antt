@@ -41,7 +41,7 @@ use Rattle.family_tables.proofs.Tabling.{entry-found, entry-none, entry-some}
 use Rattle.family_tables.proofs.Places.{at-taken, at-take, named-member}
 use Rattle.family_tables.proofs.Bridging.{own-needs, all-needs, cyclic-map}
 use Rattle.family_tables.proofs.Graphs.{same-entry}
-use Rattle.family_outcomes.proofs.Sums.{sum-map, sum-members}
+use Rattle.family_check.proofs.Sums.{sum-map, sum-members}
 
 -- ---- one module
 
