@@ -5,6 +5,6 @@ use Rattle.tla_model.specs.declared.Diagnostic.{Diagnostic}
 use Rattle.module_model.specs.Bindings.{fault_at}
 
 -- the fault of this code at a name, if there is a code
-abbrev pub coded : Option ℕ → Lexeme → List Diagnostic
-coded None name = []
-coded (Some code) name = fault_at code name
+abbrev pub fault_if : Option ℕ → Lexeme → List Diagnostic
+fault_if None name = []
+fault_if (Some code) name = fault_at code name

@@ -8,7 +8,7 @@ ghost use Rattle.module_graph.specs.Named.{AreNamed};
 ghost use Rattle.module_model.specs.Given.{IsReadable};
 ghost use Rattle.module_facts.specs.Checks.{cyclic_at, faults_of_imports, given_by, given_in, import_fault};
 ghost use Rattle.module_facts.specs.Checks as faults_of;
-ghost use Rattle.module_faces.specs.Codes.{coded};
+ghost use Rattle.module_faces.specs.Codes.{fault_if};
 
 use module_graph::{NamedModules, imports_are_lexemes};
 use module_model::{Import, Imported};
@@ -21,7 +21,7 @@ use tool_list::{List, Memory};
 // The code of the fault of an import, if it has one.
 fn code_of(import: Option<&Import>) -> Option<u16>
     ensures { (name : Name)
-        → coded result name ≡ import_fault (given_by (option_copied import.entry)) name }
+        → fault_if result name ≡ import_fault (given_by (option_copied import.entry)) name }
 {
     match import {
         None | Some(Import::Unknown) => Some(301),
