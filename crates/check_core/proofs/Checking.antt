@@ -6,11 +6,11 @@ use Rattle.tla_model.specs.declared.Diagnostic.{Diagnostic}
 use Rattle.module_model.specs.declared.imported.Import.{Import}
 use Rattle.module_model.specs.Bindings.{AreInOrder, decls, faults, resolved}
 use Rattle.tla_model.specs.Entities.{declaring}
-use Rattle.module_model.specs.Exports.{behind_in, exports_of, face_exports, face_outside, files_of, import_outside, parameters_in, part_shows, parts_behind}
+use Rattle.module_model.specs.Exports.{Path, entries_along, exports_of, face_exports, face_outside, files_of, import_outside, parameters_in, part_shows, parts_behind}
 use Rattle.module_model.specs.Imports.{Imports, import_of}
 use Rattle.module_model.specs.Modules.{text_of}
 use Rattle.module_model.specs.Parts.{PartView, last}
-use Rattle.module_model.specs.Resolution.{findings, outside_in}
+use Rattle.module_model.specs.Resolution.{exports_in, findings, outside_in}
 use Rattle.module_graph.specs.Imports.{imports_of}
 use Rattle.unit_grammar.specs.Units.{ModuleUnits}
 use Rattle.module_facts.proofs.Inserting.{in-order}
@@ -21,7 +21,7 @@ use Rattle.check_core.specs.Outcomes.{IsRefused, IsResolved}
 use Rattle.module_model.proofs.Ordering.{none-at-all, order-is-one}
 use Rattle.module_model.specs.Given.{IsWithoutInstances}
 use Rattle.module_faces.proofs.Bare.{face-behind, faces-behind}
-use Rattle.symbol_scope.proofs.Plainness.{all-behind-none, imports-none}
+use Rattle.symbol_scope.proofs.Plainness.{face-bare, imports-bare, outside-bare}
 
 -- ---- what the files are
 
@@ -42,15 +42,22 @@ last-own [] own = refl
 last-own (part ∷ []) own = refl
 last-own (part ∷ other ∷ parts) own = last-own (other ∷ parts) own
 
+-- a face without instances stands for what the module is to others at each path
+same-along : (imports : Imports) (source : List ℕ) (units : ModuleUnits) (parts : List PartView) → IsWithoutInstances imports units → parts_behind parts parts ≡ [] → face_exports parts ≡ exports_in (files_of imports) source units
+    → (path : Path) → entries_along (parts_behind parts parts) (face_exports parts) path ≡ (outside_in (files_of imports) source units).entries path
+same-along imports source units parts without none same [] = same
+same-along imports source units parts without none same (name ∷ path) =
+    face-bare parts none name path ∙ sym (outside-bare (files_of imports) source units without.none (imports-bare imports without.behind) name path)
+
 face-outside : (imports : Imports) (source : List ℕ) (units : ModuleUnits) (parts : List PartView) → IsWithoutInstances imports units → IsFace imports source units parts → face_outside parts ≡ outside_in (files_of imports) source units
 face-outside imports source units parts without face =
     let shows : face_exports parts ≡ exports_of face.own.exports =
     ap face_exports face.are ∙ ap part_shows (last-own (with_imports imports source [] (imports_of source units)) (bare face.own))
     in
     let exports = shows ∙ face.is_own.exported in
-    let behind : behind_in (parts_behind parts parts) ≡ (outside_in (files_of imports) source units).behind = fun_ext (λ decl.
-    ap (λ z. behind_in z decl) (face-behind imports source units parts without.behind face) ∙ sym (all-behind-none (files_of imports) source units without.none (imports-none imports without.behind) decl)) in
-    λ i. record { exports = exports i; parameters = parameters_in (exports i); behind = behind i }
+    let none = face-behind imports source units parts without.behind face in
+    let entries : entries_along (parts_behind parts parts) (face_exports parts) ≡ (outside_in (files_of imports) source units).entries = fun_ext (same-along imports source units parts without none exports) in
+    λ i. record { entries = entries i; parameters = parameters_in (exports i) }
 
 -- ---- the outcomes
 

@@ -1,5 +1,5 @@
 -- What modules are to those that name them, and where it comes from for the imported ones: from their faces.
-use Rattle.std.specs.Prelude.{ℕ, Bool, true, false, List, [], ◌∷◌, ◌++◌, Option, Some, None, filter, slice_get}
+use Rattle.std.specs.Prelude.{ℕ, Bool, true, false, List, [], ◌∷◌, ◌++◌, Option, Some, None, filter, if◌then◌else◌, slice_get}
 use Rattle.tla_symbols.specs.declared.op.Op.{Op}
 use Rattle.tla_model.specs.declared.names.Meaning.TheVariants.{BuiltIn, Declared}
 use Rattle.tla_model.specs.declared.entity.Entity.TheVariants as entity
@@ -8,7 +8,7 @@ use Rattle.tla_model.specs.declared.ids.DeclId.{DeclId}
 use Rattle.module_model.specs.declared.imported.Import.{Import}
 use Rattle.module_model.specs.Imports.{Imports, import_of}
 use Rattle.module_model.specs.Parts.{PartView, last}
-use Rattle.tla_model.specs.Tables.{Table, Named, Word, Symbol, lookup}
+use Rattle.tla_model.specs.Tables.{Table, Named, Word, Symbol, lookup, same_named}
 use Rattle.tla_model.specs.Entities.{Entity, Meaning, same_decl}
 use Rattle.std.specs.Arc.{arc_value}
 
@@ -30,6 +30,11 @@ stands_behind (entity.Definition orders) = true
 stands_behind (entity.Instance orders) = true
 stands_behind _ = false
 
+-- behind what something stands
+abbrev pub is_instance : Entity → Bool
+is_instance (entity.Instance orders) = true
+is_instance _ = false
+
 -- a meaning is an entity of this kind; what is built in is no entity
 abbrev pub is_meant : (Entity → Bool) → Meaning → Bool
 is_meant which BuiltIn = false
@@ -43,35 +48,77 @@ parameters_in entries = filter (λ entry. is_meant stands_for_parameter entry.1)
 abbrev pub instantiable : Exports → Exports
 instantiable entries = filter (λ entry. is_meant stands_behind entry.1) entries
 
--- ---- what a module is to one that names it
+-- ---- what stands behind instances
+
+-- what an entry of this name means
+abbrev pub entry_of : Exports → Named → Option Meaning
+entry_of entries name = lookup same_named entries name
+
+-- names that lead through instances, one after another
+abbrev pub Path : Type 0
+Path = List Named
+
+-- the entries at each path that leads on from an instance
+abbrev pub Behind : Type 0
+Behind = Path → Exports
+
+-- what stands behind instances, by their declarations
+abbrev pub Known : Type 0
+Known = List (DeclId × Behind)
 
 -- what is found, and no entries where nothing is
-abbrev pub or_none : Option Exports → Exports
-or_none None = []
-or_none (Some exports) = exports
+abbrev pub at_path : Option Behind → Path → Exports
+at_path None path = []
+at_path (Some behind) path = behind path
 
--- instances by their declarations, with what stands behind them
-abbrev pub Behind : Type 0
-Behind = List (DeclId × Exports)
+-- what stands behind a name that means this; what is no instance has nothing behind it
+abbrev pub behind_meaning : Known → Option Meaning → Behind
+behind_meaning known None path = []
+behind_meaning known (Some BuiltIn) path = []
+behind_meaning known (Some (Declared entity callee)) path = at_path (lookup same_decl known callee.decl) path
 
--- what stands behind the instance of a declaration; what has nothing behind it is no instance
-abbrev pub behind_in : Behind → DeclId → Exports
-behind_in behind decl = or_none (lookup same_decl behind decl)
+-- the entries at each path from these; the empty one leads to themselves
+abbrev pub entries_from : Known → Exports → Path → Exports
+entries_from known entries [] = entries
+entries_from known entries (name ∷ path) = behind_meaning known (entry_of entries name) path
 
--- what it exports, the constants and variables that it declares or extends, and what stands behind the instances that it
--- reaches, by their declarations
+-- one name further along a path
+abbrev pub onward : Behind → Named → Behind
+onward behind name path = behind (name ∷ path)
+
+-- ---- what a module is to one that names it
+
+-- the entries at each path from what it exports, and the constants and variables that it declares or extends
 pub record ModuleView : Type 0 where
-  pub exports : Exports
+  pub entries : Path → Exports
   pub parameters : Exports
-  pub behind : DeclId → Exports
 
 -- what a module that is not there, or not accepted, is to others
 abbrev pub nothing : ModuleView
-nothing = record { exports = []; parameters = []; behind = λ decl. [] }
+nothing = record { entries = λ path. []; parameters = [] }
+
+-- what a module exports
+abbrev pub exported : ModuleView → Exports
+exported view = view.entries []
 
 -- what the modules export
 abbrev pub exports_by : (List ℕ → ModuleView) → List ℕ → Exports
-exports_by files name = (files name).exports
+exports_by files name = exported (files name)
+
+-- what stands behind an instance of a module: its definitions and instances, and what stands behind these
+abbrev pub behind_instance : ModuleView → Behind
+behind_instance view [] = instantiable (exported view)
+behind_instance view (name ∷ path) = view.entries (name ∷ path)
+
+-- what stands behind an entry, where it is an instance
+abbrev pub known_by : Behind → Meaning → Known
+known_by behind BuiltIn = []
+known_by behind (Declared entity callee) = if is_instance entity then (callee.decl, behind) ∷ [] else []
+
+-- what stands behind the instances among entries of a module
+abbrev pub known_among : ModuleView → Exports → Known
+known_among view [] = []
+known_among view (entry ∷ rest) = known_by (onward view.entries entry.0) entry.1 ++ known_among view rest
 
 -- ---- tables as lists
 
@@ -105,24 +152,44 @@ abbrev pub part_exports : List PartView → Option ℕ → Exports
 part_exports parts None = []
 part_exports parts (Some place) = part_shows (slice_get parts place)
 
+-- the instances of a face by their declarations, each with the entries that stand behind it
+abbrev pub Instances : Type 0
+Instances = List (DeclId × Exports)
+
+-- what is found, and no entries where nothing is
+abbrev pub or_none : Option Exports → Exports
+or_none None = []
+or_none (Some exports) = exports
+
 -- under the name of an instance, what stands behind it; one without a name has nothing behind it
-abbrev pub under : Option DeclId → Exports → Behind
+abbrev pub under : Option DeclId → Exports → Instances
 under None exports = []
 under (Some decl) exports = (decl, exports) ∷ []
 
 -- behind the instances of a part, whose modules have these places among the parts
-abbrev pub part_behind : List PartView → List ℕ → List Instance → Behind
+abbrev pub part_behind : List PartView → List ℕ → List Instance → Instances
 part_behind parts places [] = []
 part_behind parts places (instance ∷ rest) = under instance.name (instantiable (part_exports parts (slice_get places instance.«module»))) ++ part_behind parts places rest
 
 -- behind the instances of these parts, whose modules have their places among all parts of the face
-abbrev pub parts_behind : List PartView → List PartView → Behind
+abbrev pub parts_behind : List PartView → List PartView → Instances
 parts_behind all [] = []
 parts_behind all (part ∷ rest) = part_behind all part.places part.interface.instances ++ parts_behind all rest
 
+-- what stands behind a name that means this, among the instances of a face
+abbrev pub found_behind : Instances → Option Meaning → Exports
+found_behind instances None = []
+found_behind instances (Some BuiltIn) = []
+found_behind instances (Some (Declared entity callee)) = or_none (lookup same_decl instances callee.decl)
+
+-- the entries at each path from these, by the instances of a face
+abbrev pub entries_along : Instances → Exports → Path → Exports
+entries_along instances entries [] = entries
+entries_along instances entries (name ∷ path) = entries_along instances (found_behind instances (entry_of entries name)) path
+
 -- what a module with this face is to one that names it
 abbrev pub face_outside : List PartView → ModuleView
-face_outside parts = record { exports = face_exports parts; parameters = parameters_in (face_exports parts); behind = behind_in (parts_behind parts parts) }
+face_outside parts = record { entries = entries_along (parts_behind parts parts) (face_exports parts); parameters = parameters_in (face_exports parts) }
 
 -- what an import is to the module that names it; one at fault is nothing
 abbrev pub import_outside : Option Import → ModuleView
@@ -130,7 +197,7 @@ import_outside (Some (Import.Module face)) = face_outside (arc_value face).parts
 import_outside _ = nothing
 
 -- the instances that an import brings
-abbrev pub import_behind : Option Import → Behind
+abbrev pub import_behind : Option Import → Instances
 import_behind (Some (Import.Module face)) = parts_behind (arc_value face).parts (arc_value face).parts
 import_behind _ = []
 

@@ -7,11 +7,10 @@ use Rattle.unit_grammar.specs.Units.{UnitTree, OperatorDefinition, FunctionDefin
 use Rattle.tla_model.specs.declared.names.Finding.TheVariants.{Means, NotReplaceable, ReplacedTwice, Unreplaced, Implied}
 use Rattle.tla_model.specs.declared.names.Meaning.TheVariants.{BuiltIn, Declared}
 use Rattle.tla_model.specs.declared.ids.UnitId.{UnitId}
-use Rattle.tla_model.specs.Tables.{Named, has, is_among, lookup, same_named}
+use Rattle.tla_model.specs.Tables.{Named, has, is_among}
 use Rattle.tla_model.specs.Entities.{Meaning, name_of}
 use Rattle.tla_model.specs.Contexts.{Context, meaning_of}
-use Rattle.tla_model.specs.declared.ids.DeclId.{DeclId}
-use Rattle.module_model.specs.Exports.{Exports, ModuleView, instantiable, parameters_in}
+use Rattle.module_model.specs.Exports.{Exports, Known, ModuleView, entries_from, exported, instantiable, parameters_in}
 use Rattle.tla_model.specs.Scopes.{Finding}
 
 -- ---- replacements
@@ -21,10 +20,6 @@ abbrev pub left_sides : List ℕ → Trees → List Named
 left_sides source Nil = []
 left_sides source (Cons (Node (Form.Replacement l) s right) rest) = name_of source l ∷ left_sides source rest
 left_sides source (Cons _ rest) = left_sides source rest
-
--- what an entry of this name means
-abbrev pub entry_of : Exports → Named → Option Meaning
-entry_of entries name = lookup same_named entries name
 
 -- a left side, which may be there already, by the parameter that it names
 abbrev pub replaced_as : Lexeme → Bool → Option Meaning → List Finding
@@ -42,23 +37,7 @@ implied context l written [] = []
 implied context l written (parameter ∷ rest) =
     (if is_among written parameter.0 then [] else implied_as l parameter.1 (meaning_of context parameter.0)) ++ implied context l written rest
 
--- ---- what stands behind instances
-
--- behind what a name means
-abbrev pub found_behind : (DeclId → Exports) → Option Meaning → Exports
-found_behind behind None = []
-found_behind behind (Some BuiltIn) = []
-found_behind behind (Some (Declared entity callee)) = behind callee.decl
-
--- what stands behind an instance of the text, or else behind one that other modules reach
-abbrev pub either : Option Exports → Exports → Exports
-either None others = others
-either (Some exports) others = exports
-
--- of two modules that may reach an instance, the first behind whose one something stands
-abbrev pub first_of : Exports → Exports → Exports
-first_of [] others = others
-first_of (entry ∷ rest) others = entry ∷ rest
+-- ---- paths
 
 -- the last name of a path calls through the path before it, which has this number
 abbrev pub called_by : ℕ → Trees → Option Meaning → Option Meaning
@@ -79,11 +58,15 @@ passed unit (parameter ∷ parameters) entries = map (λ entry. (entry.0, throug
 
 -- what this INSTANCE without a name brings of a module: its definitions and instances
 abbrev pub brought_by : UnitId → ModuleView → Exports
-brought_by unit outside = passed unit outside.parameters (instantiable outside.exports)
+brought_by unit view = passed unit view.parameters (instantiable (exported view))
 
 -- of the entries of a nested module, its parameters: the constants and variables that the context round it does not hold
 abbrev pub own_parameters : Context → Exports → Exports
 own_parameters context entries = filter (λ entry. not (has context entry.0)) (parameters_in entries)
+
+-- a nested module to those that name it, by what stands behind instances and the context round it
+abbrev pub nested_view : Known → Context → Exports → ModuleView
+nested_view known context entries = record { entries = entries_from known entries; parameters = own_parameters context entries }
 
 -- ---- where instances and paths stand in a text
 

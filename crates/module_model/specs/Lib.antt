@@ -3,6 +3,7 @@ pub mod Parts
 pub mod Exports
 pub mod Modules
 pub mod Instances
+pub mod TreeFindings
 pub mod Resolution
 pub mod Substitutions
 pub mod Bindings

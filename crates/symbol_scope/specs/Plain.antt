@@ -3,7 +3,7 @@ use Rattle.std.specs.Prelude.{List, [], false, is_some}
 use Rattle.tla_model.specs.Entities.{Text, variables}
 use Rattle.tla_model.specs.Scopes.{Finding, all_refused, definition}
 use Rattle.module_model.specs.Modules.{Reading, constants, declare_all}
-use Rattle.tree_scope.specs.TreeFindings.{walk}
+use Rattle.module_model.specs.TreeFindings.{alone, walk}
 use Rattle.unit_grammar.specs.Units.{UnitTree, Variables, Constants, OperatorDefinition, FunctionDefinition, ModuleDefinition, Instance, Assumption, Theorem}
 use Rattle.symbol_scope.specs.Readings.{no_files}
 
@@ -20,10 +20,10 @@ read_by text reading _ = reading
 abbrev pub found_by : Text → Reading → UnitTree → List Finding
 found_by text reading (Variables names) = all_refused text reading.context (variables names)
 found_by text reading (Constants declarations) = all_refused text reading.context (constants declarations)
-found_by text reading (OperatorDefinition local x) = walk text reading.context x
-found_by text reading (FunctionDefinition local x) = walk text reading.context x
-found_by text reading (ModuleDefinition local x) = walk text reading.context x
-found_by text reading (Instance local x) = walk text reading.context x
-found_by text reading (Assumption word name x) = walk text reading.context x
-found_by text reading (Theorem word name x) = walk text reading.context x
+found_by text reading (OperatorDefinition local x) = walk text alone reading.context x
+found_by text reading (FunctionDefinition local x) = walk text alone reading.context x
+found_by text reading (ModuleDefinition local x) = walk text alone reading.context x
+found_by text reading (Instance local x) = walk text alone reading.context x
+found_by text reading (Assumption word name x) = walk text alone reading.context x
+found_by text reading (Theorem word name x) = walk text alone reading.context x
 found_by text reading _ = []

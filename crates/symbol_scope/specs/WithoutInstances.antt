@@ -9,7 +9,7 @@ use Rattle.module_model.specs.Modules.{Place, Reading, all_clashing, begun, cons
 use Rattle.tla_model.specs.declared.names.Finding.TheVariants.{Taken}
 use Rattle.tla_model.specs.Scopes.{Finding, all_refused, definition}
 use Rattle.name_exports.specs.Brought.{import_exports}
-use Rattle.tree_scope.specs.TreeFindings.{walk}
+use Rattle.module_model.specs.TreeFindings.{alone, walk}
 
 -- what the imported module of a name exports
 abbrev pub files_of : Imports → List ℕ → Exports
@@ -31,12 +31,12 @@ module _ (text : Text) (files : List ℕ → Exports) where
   abbrev pub found_in : Place → UnitTree → List Finding
   found_in place (Variables names) = all_refused text place.here.context (variables names)
   found_in place (Constants declarations) = all_refused text place.here.context (constants declarations)
-  found_in place (OperatorDefinition local x) = walk text place.here.context x
-  found_in place (FunctionDefinition local x) = walk text place.here.context x
-  found_in place (ModuleDefinition local x) = walk text place.here.context x
-  found_in place (Instance local x) = walk text place.here.context x
-  found_in place (Assumption word name x) = walk text place.here.context x
-  found_in place (Theorem word name x) = walk text place.here.context x
+  found_in place (OperatorDefinition local x) = walk text alone place.here.context x
+  found_in place (FunctionDefinition local x) = walk text alone place.here.context x
+  found_in place (ModuleDefinition local x) = walk text alone place.here.context x
+  found_in place (Instance local x) = walk text alone place.here.context x
+  found_in place (Assumption word name x) = walk text alone place.here.context x
+  found_in place (Theorem word name x) = walk text alone place.here.context x
   found_in place (ModuleBegin name extends) =
       (if is_named text files place.here name then Taken name ∷ [] else []) ++ all_clashing text files (nested text files place.here name) extends
   found_in place _ = []
