@@ -10,20 +10,19 @@ use Rattle.unit_grammar.specs.Units.{UnitTree, Variables, Constants, OperatorDef
 use Rattle.list_laws.proofs.Lists.{all-both, all-left, all-right}
 use Rattle.tla_model.specs.declared.names.Binder.{Binder}
 use Rattle.tla_model.specs.declared.names.Finding.TheVariants.{Clashes, InstanceClashes, Taken}
-use Rattle.tla_model.specs.declared.ids.DeclId.{DeclId}
-use Rattle.tla_model.specs.Tables.{lookup}
-use Rattle.tla_model.specs.Entities.{Text, declaration, same_decl, variables}
+use Rattle.tla_model.specs.Entities.{Text, declaration, variables}
 use Rattle.tla_model.specs.Lexemes.{spelled}
 use Rattle.tla_model.specs.ModuleNames.{instances, instances_in, instantiated, module_names}
 use Rattle.tla_model.specs.Scopes.{Finding, definition}
 use Rattle.module_scope.specs.Environments.{Environment, Scope, begun, first, inside, is_round, is_taken, meaning}
 use Rattle.module_scope.specs.Imports.{imports_from, imports_of, is_needed, scope_at}
-use Rattle.module_model.specs.Exports.{Exports, ModuleView, instantiable, exports_by, exports_of}
+use Rattle.module_model.specs.Exports.{Exports, ModuleView, behind_instance, entries_from, exported, exports_by, exports_of, known_among, parameters_in}
 use Rattle.module_model.specs.Instances as i
 use Rattle.module_model.specs.Modules as m
 use Rattle.module_model.specs.Modules.{Reading, text_of}
 use Rattle.module_model.specs.Resolution as r
-use Rattle.module_model.specs.Resolution.{Position}
+use Rattle.module_model.specs.Resolution.{ReadState}
+use Rattle.module_model.specs.TreeFindings.{walk}
 use Rattle.model_laws.proofs.Forgetting.{extends-keep, forget, forget-added, joined-keeps, scope_of, scope-after, taken-forget}
 use Rattle.model_laws.proofs.Walking.{walk-same}
 
@@ -81,7 +80,7 @@ module _ (text : Text) (files others : List ℕ → ModuleView) where
   -- ---- what a module brings
 
   under-same : (found : Option (Option Exports)) (name : List ℕ) → (is_some found ≡ false → files name ≡ others name) → m.exports_under (exports_by files) found name ≡ m.exports_under (exports_by others) found name
-  under-same None name same = ap (λ (o : ModuleView). o.exports) (same refl)
+  under-same None name same = ap exported (same refl)
   under-same (Some None) name same = refl
   under-same (Some (Some exports)) name same = refl
 
@@ -109,26 +108,44 @@ module _ (text : Text) (files others : List ℕ → ModuleView) where
   module _ (words : List ℕ) where
     -- ---- what a module name means
 
-    module-same : (nested : List (List ℕ × Exports)) (found : Option (Option Exports)) (name : List ℕ) → (is_some found ≡ false → files name ≡ others name) → r.module_under text files words nested found name ≡ r.module_under text others words nested found name
+    module-same : (nested : List (List ℕ × ModuleView)) (found : Option (Option Exports)) (name : List ℕ) → (is_some found ≡ false → files name ≡ others name) → r.module_under text files words nested found name ≡ r.module_under text others words nested found name
     module-same nested None name same = same refl
     module-same nested (Some None) name same = refl
     module-same nested (Some (Some exports)) name same = refl
 
-    abbrev Means : Position → Lexeme → Type 0
-    Means position l = r.module_named text files words position (spelled text.source l) ≡ r.module_named text others words position (spelled text.source l)
+    abbrev Means : ReadState → Lexeme → Type 0
+    Means state l = r.module_named text files words state (spelled text.source l) ≡ r.module_named text others words state (spelled text.source l)
 
-    means-all : (position : Position) (names : List Lexeme) → AllByRecursion (Asks position.place.here.modules) names → AllByRecursion (Means position) names
-    means-all position names all =
-        all-weaker (Asks position.place.here.modules) (Means position) (λ l same. module-same position.nested (meaning position.place.here.modules (spelled text.source l)) (spelled text.source l) same) names all
+    means-all : (state : ReadState) (names : List Lexeme) → AllByRecursion (Asks state.place.here.modules) names → AllByRecursion (Means state) names
+    means-all state names all =
+        all-weaker (Asks state.place.here.modules) (Means state) (λ l same. module-same state.nested (meaning state.place.here.modules (spelled text.source l)) (spelled text.source l) same) names all
 
-    instance-brings : (position : Position) (x : Tree) → AllByRecursion (Means position) (instances x) → r.instance_brings text files words position x ≡ r.instance_brings text others words position x
-    instance-brings position (Node (Form.Instance l) span parts) all = ap (i.brought_by (r.unit_of text files words l)) all.0
-    instance-brings position (Node form span parts) all = refl
+    instance-brings : (state : ReadState) (x : Tree) → AllByRecursion (Means state) (instances x) → r.instance_brings text files words state x ≡ r.instance_brings text others words state x
+    instance-brings state (Node (Form.Instance l) span parts) all = ap (i.brought_by (r.unit_of text files words l)) all.0
+    instance-brings state (Node form span parts) all = refl
 
-    clash-same : (position : Position) (x : Tree) → AllByRecursion (Means position) (instances x) → r.clash_by text files words position x ≡ r.clash_by text others words position x
-    clash-same position (Node (Form.Instance l) span parts) all =
-        ap (λ brought. if m.brings_clash position.place.here (i.brought_by (r.unit_of text files words l) brought) then InstanceClashes l ∷ [] else []) all.0
-    clash-same position (Node form span parts) all = refl
+    clash-same : (state : ReadState) (x : Tree) → AllByRecursion (Means state) (instances x) → r.clash_by text files words state x ≡ r.clash_by text others words state x
+    clash-same state (Node (Form.Instance l) span parts) all =
+        ap (λ brought. if m.brings_clash state.place.here (i.brought_by (r.unit_of text files words l) brought) then InstanceClashes l ∷ [] else []) all.0
+    clash-same state (Node form span parts) all = refl
+
+    -- ---- what stands behind instances
+
+    known-from : (state : ReadState) (l : Lexeme) → Means state l → r.known_from text files words state l ≡ r.known_from text others words state l
+    known-from state l same = ap (λ (view : ModuleView). known_among view (exported view)) same
+
+    known-from-all : (state : ReadState) (names : List Lexeme) → AllByRecursion (Means state) names → r.known_from_all text files words state names ≡ r.known_from_all text others words state names
+    known-from-all state [] all = refl
+    known-from-all state (l ∷ rest) all = λ k. known-from state l all.0 k ++ known-from-all state rest all.1 k
+
+    known-brought : (state : ReadState) (x : Tree) → AllByRecursion (Means state) (instances x) → r.known_brought text files words state x ≡ r.known_brought text others words state x
+    known-brought state (Node (Form.Instance l) span parts) all = known-from state l all.0
+    known-brought state (Node form span parts) all = refl
+
+    known-at : (state : ReadState) (names : List (Lexeme × Lexeme)) → AllByRecursion (λ (instance : Lexeme × Lexeme). Means state instance.1) names
+        → map (r.known_at text files words state) names ≡ map (r.known_at text others words state) names
+    known-at state [] all = refl
+    known-at state (instance ∷ names) all = λ k. (declaration text instance.0, behind_instance (all.0 k)) ∷ known-at state names all.1 k
 
     -- ---- units
 
@@ -137,112 +154,124 @@ module _ (text : Text) (files others : List ℕ → ModuleView) where
     left-same inner (outer ∷ round) = refl
 
     -- the module names of a unit that are needed there are the same
-    abbrev Holds : Position → UnitTree → Type 0
-    Holds position unit = AllByRecursion Same (filter (is_needed text.source text.file (scope_at text.source (scope_of position.place) unit)) (module_names unit))
+    abbrev Holds : ReadState → UnitTree → Type 0
+    Holds state unit = AllByRecursion Same (filter (is_needed text.source text.file (scope_at text.source (scope_of state.place) unit)) (module_names unit))
 
     -- of a unit that begins no module
-    abbrev asked : (position : Position) (names : List Lexeme) → AllByRecursion Same (filter (is_needed text.source text.file (scope_of position.place)) names) → AllByRecursion (Means position) names
-    asked position names all = means-all position names (asks-all position.place.here.modules (scope_of position.place) names refl all)
+    abbrev asked : (state : ReadState) (names : List Lexeme) → AllByRecursion Same (filter (is_needed text.source text.file (scope_of state.place)) names) → AllByRecursion (Means state) names
+    asked state names all = means-all state names (asks-all state.place.here.modules (scope_of state.place) names refl all)
 
-    begun-asks : (position : Position) (name : Lexeme) (extends : List Lexeme) → AllByRecursion Same (filter (is_needed text.source text.file (begun (scope_of position.place) (spelled text.source name))) extends)
-        → AllByRecursion (Asks (inside position.place.here.modules (spelled text.source name))) extends
-    begun-asks position name extends all =
-        asks-all (inside position.place.here.modules (spelled text.source name)) (begun (scope_of position.place) (spelled text.source name)) extends (forget-added position.place.here.modules (spelled text.source name) None) all
+    begun-asks : (state : ReadState) (name : Lexeme) (extends : List Lexeme) → AllByRecursion Same (filter (is_needed text.source text.file (begun (scope_of state.place) (spelled text.source name))) extends)
+        → AllByRecursion (Asks (inside state.place.here.modules (spelled text.source name))) extends
+    begun-asks state name extends all =
+        asks-all (inside state.place.here.modules (spelled text.source name)) (begun (scope_of state.place) (spelled text.source name)) extends (forget-added state.place.here.modules (spelled text.source name) None) all
 
-    after-same : (position : Position) (unit : UnitTree) → Holds position unit → r.after text files words position unit ≡ r.after text others words position unit
-    after-same position (Variables names) all = ap (r.at_here text files words position) (declares-same false position.place.here (variables names))
-    after-same position (Constants declarations) all = ap (r.at_here text files words position) (declares-same false position.place.here (m.constants declarations))
-    after-same position (OperatorDefinition local x) all = ap (r.at_here text files words position) (declares-same (is_some local) position.place.here (definition x))
-    after-same position (FunctionDefinition local x) all = ap (r.at_here text files words position) (declares-same (is_some local) position.place.here (definition x))
-    after-same position (ModuleDefinition local x) all = ap (r.at_here text files words position) (declares-same (is_some local) position.place.here (definition x))
-    after-same position (Instance local x) all = ap (λ brought. r.at_here text files words position (m.joined (is_some local) position.place.here brought)) (instance-brings position x (asked position (instances x) all))
-    after-same position (Assumption word name x) all = refl
-    after-same position (Theorem word name x) all = refl
-    after-same position (Line dashes) all = refl
-    after-same position (ModuleBegin name extends) all =
-        ap (λ here. record position { place = record { here = here; round = position.place.here ∷ position.place.round } }) (extends-same (m.nested text (exports_by files) position.place.here name) extends (begun-asks position name extends all))
-    after-same position (ModuleEnd closing) all =
-        ap (λ place. record { place = place; nested = r.with_nested position.nested position.place.here position.place.round }) (left-same position.place.here position.place.round)
-
-    -- what stands behind the instances that a unit names
-    behind-same : (position : Position) (names : List (Lexeme × Lexeme)) → AllByRecursion (λ (instance : Lexeme × Lexeme). Means position instance.1) names
-        → map {B = DeclId × Exports} (λ instance. (declaration text instance.0, instantiable (r.module_named text files words position (spelled text.source instance.1)).exports)) names
-        ≡ map {B = DeclId × Exports} (λ instance. (declaration text instance.0, instantiable (r.module_named text others words position (spelled text.source instance.1)).exports)) names
-    behind-same position [] all = refl
-    behind-same position (instance ∷ names) all = λ k. (declaration text instance.0, instantiable (all.0 k).exports) ∷ behind-same position names all.1 k
-
-    in-tree : (position : Position) (x : Tree) → AllByRecursion (Means position) (instances x) → AllByRecursion (Means position) (instances x ++ [])
-    in-tree position x all = all-both (Means position) (instances x) [] all tt
+    in-tree : (state : ReadState) (x : Tree) → AllByRecursion (Means state) (instances x) → AllByRecursion (Means state) (instances x ++ [])
+    in-tree state x all = all-both (Means state) (instances x) [] all tt
 
     -- a unit that begins or ends a module holds no names of instances
-    names-mean : (position : Position) (unit : UnitTree) → Holds position unit → AllByRecursion (Means position) (instances_in (i.unit_trees unit))
-    names-mean position (OperatorDefinition local x) all = in-tree position x (asked position (instances x) all)
-    names-mean position (FunctionDefinition local x) all = in-tree position x (asked position (instances x) all)
-    names-mean position (ModuleDefinition local x) all = in-tree position x (asked position (instances x) all)
-    names-mean position (Instance local x) all = in-tree position x (asked position (instances x) all)
-    names-mean position (Assumption word name x) all = in-tree position x (asked position (instances x) all)
-    names-mean position (Theorem word name x) all = in-tree position x (asked position (instances x) all)
-    names-mean position (Variables names) all = tt
-    names-mean position (Constants declarations) all = tt
-    names-mean position (Line dashes) all = tt
-    names-mean position (ModuleBegin name extends) all = tt
-    names-mean position (ModuleEnd closing) all = tt
+    names-mean : (state : ReadState) (unit : UnitTree) → Holds state unit → AllByRecursion (Means state) (instances_in (i.unit_trees unit))
+    names-mean state (OperatorDefinition local x) all = in-tree state x (asked state (instances x) all)
+    names-mean state (FunctionDefinition local x) all = in-tree state x (asked state (instances x) all)
+    names-mean state (ModuleDefinition local x) all = in-tree state x (asked state (instances x) all)
+    names-mean state (Instance local x) all = in-tree state x (asked state (instances x) all)
+    names-mean state (Assumption word name x) all = in-tree state x (asked state (instances x) all)
+    names-mean state (Theorem word name x) all = in-tree state x (asked state (instances x) all)
+    names-mean state (Variables names) all = tt
+    names-mean state (Constants declarations) all = tt
+    names-mean state (Line dashes) all = tt
+    names-mean state (ModuleBegin name extends) all = tt
+    names-mean state (ModuleEnd closing) all = tt
 
-    behind-unit-same : (position : Position) (unit : UnitTree) → Holds position unit → r.behind_unit text files words position unit ≡ r.behind_unit text others words position unit
-    behind-unit-same position unit all =
-        behind-same position (i.all_named_instances (i.unit_trees unit)) (all-instances-named (Means position) (i.unit_trees unit) (names-mean position unit all))
+    known-in : (state : ReadState) (unit : UnitTree) → Holds state unit → r.known_in text files words state unit ≡ r.known_in text others words state unit
+    known-in state unit all =
+        ap (λ z. state.known ++ z) (known-at state (i.all_named_instances (i.unit_trees unit)) (all-instances-named (Means state) (i.unit_trees unit) (names-mean state unit all)))
+
+    read-on : (state : ReadState) (unit : UnitTree) (one two : Reading) → one ≡ two → Holds state unit → r.read_on text files words state unit one ≡ r.read_on text others words state unit two
+    read-on state unit one two same all = λ k. record state { place = record { here = same k; round = state.place.round }; known = known-in state unit all k }
+
+    -- inside a nested module, behind what it extends
+    inside-same : (state : ReadState) (name : Lexeme) (extends : List Lexeme) → AllByRecursion (Asks (inside state.place.here.modules (spelled text.source name))) extends
+        → r.inside_nested text files words state name extends ≡ r.inside_nested text others words state name extends
+    inside-same state name extends asks =
+        ap (λ here. record state { place = record { here = here; round = state.place.here ∷ state.place.round } }) (extends-same (m.nested text (exports_by files) state.place.here name) extends asks)
+
+    inside-means : (state : ReadState) (name : Lexeme) (extends : List Lexeme) → AllByRecursion (Asks (inside state.place.here.modules (spelled text.source name))) extends
+        → AllByRecursion (Means (r.inside_nested text files words state name extends)) extends
+    inside-means state name extends asks =
+        means-all (r.inside_nested text files words state name extends) extends
+        (subst (λ modules. AllByRecursion (Asks modules) extends) (sym (extends-keep text files words (m.nested text (exports_by files) state.place.here name) extends).modules) asks)
+
+    begins-same : (state : ReadState) (name : Lexeme) (extends : List Lexeme) → AllByRecursion (Asks (inside state.place.here.modules (spelled text.source name))) extends
+        → r.after text files words state (ModuleBegin name extends) ≡ r.after text others words state (ModuleBegin name extends)
+    begins-same state name extends asks =
+        ap (r.with_known text files words (r.inside_nested text files words state name extends)) (known-from-all (r.inside_nested text files words state name extends) extends (inside-means state name extends asks))
+        ∙ ap (λ within. r.with_known text others words within (r.known_from_all text others words within extends)) (inside-same state name extends asks)
+
+    after-same : (state : ReadState) (unit : UnitTree) → Holds state unit → r.after text files words state unit ≡ r.after text others words state unit
+    after-same state (Variables names) all = read-on state (Variables names) _ _ (declares-same false state.place.here (variables names)) all
+    after-same state (Constants declarations) all = read-on state (Constants declarations) _ _ (declares-same false state.place.here (m.constants declarations)) all
+    after-same state (OperatorDefinition local x) all = read-on state (OperatorDefinition local x) _ _ (declares-same (is_some local) state.place.here (definition x)) all
+    after-same state (FunctionDefinition local x) all = read-on state (FunctionDefinition local x) _ _ (declares-same (is_some local) state.place.here (definition x)) all
+    after-same state (ModuleDefinition local x) all = read-on state (ModuleDefinition local x) _ _ (declares-same (is_some local) state.place.here (definition x)) all
+    after-same state (Instance local x) all =
+        let brought = instance-brings state x (asked state (instances x) all) in λ k.
+        r.with_known text others words (read-on state (Instance local x) _ _ (ap (m.joined (is_some local) state.place.here) brought) all k) (known-brought state x (asked state (instances x) all) k)
+    after-same state (Assumption word name x) all = read-on state (Assumption word name x) _ _ refl all
+    after-same state (Theorem word name x) all = read-on state (Theorem word name x) _ _ refl all
+    after-same state (Line dashes) all = read-on state (Line dashes) _ _ refl all
+    after-same state (ModuleBegin name extends) all = begins-same state name extends (begun-asks state name extends all)
+    after-same state (ModuleEnd closing) all =
+        ap (λ place. record state { place = place; nested = r.with_nested state.known state.nested state.place.here state.place.round }) (left-same state.place.here state.place.round)
 
     -- ---- units in a row, by the needs of all of them
 
-    abbrev HoldAll : Position → List UnitTree → Type 0
-    HoldAll position units = AllByRecursion Same (imports_from text.source text.file (scope_of position.place) units)
+    abbrev HoldAll : ReadState → List UnitTree → Type 0
+    HoldAll state units = AllByRecursion Same (imports_from text.source text.file (scope_of state.place) units)
 
-    first-holds : (position : Position) (unit : UnitTree) (units : List UnitTree) → HoldAll position (unit ∷ units) → Holds position unit
-    first-holds position unit units all =
-        let scope : Scope ⊤ = scope_at text.source (scope_of position.place) unit in
+    first-holds : (state : ReadState) (unit : UnitTree) (units : List UnitTree) → HoldAll state (unit ∷ units) → Holds state unit
+    first-holds state unit units all =
+        let scope : Scope ⊤ = scope_at text.source (scope_of state.place) unit in
         all-left Same (filter (is_needed text.source text.file scope) (module_names unit)) (imports_from text.source text.file scope units) all
 
-    rest-hold : (position : Position) (unit : UnitTree) (units : List UnitTree) → HoldAll position (unit ∷ units) → HoldAll (r.after text files words position unit) units
-    rest-hold position unit units all =
-        let scope : Scope ⊤ = scope_at text.source (scope_of position.place) unit in
-        subst (λ z. AllByRecursion Same (imports_from text.source text.file z units)) (sym (scope-after text files words position unit))
+    rest-hold : (state : ReadState) (unit : UnitTree) (units : List UnitTree) → HoldAll state (unit ∷ units) → HoldAll (r.after text files words state unit) units
+    rest-hold state unit units all =
+        let scope : Scope ⊤ = scope_at text.source (scope_of state.place) unit in
+        subst (λ z. AllByRecursion Same (imports_from text.source text.file z units)) (sym (scope-after text files words state unit))
         (all-right Same (filter (is_needed text.source text.file scope) (module_names unit)) (imports_from text.source text.file scope units) all)
 
-    read-same : (position : Position) (units : List UnitTree) → HoldAll position units → r.read_all text files words position units ≡ r.read_all text others words position units
-    read-same position [] all = refl
-    read-same position (unit ∷ units) all =
-        read-same (r.after text files words position unit) units (rest-hold position unit units all)
-        ∙ ap (λ next. r.read_all text others words next units) (after-same position unit (first-holds position unit units all))
+    read-same : (state : ReadState) (units : List UnitTree) → HoldAll state units → r.read_all text files words state units ≡ r.read_all text others words state units
+    read-same state [] all = refl
+    read-same state (unit ∷ units) all =
+        read-same (r.after text files words state unit) units (rest-hold state unit units all)
+        ∙ ap (λ next. r.read_all text others words next units) (after-same state unit (first-holds state unit units all))
 
-    behind-units-same : (position : Position) (units : List UnitTree) → HoldAll position units → r.behind_units text files words position units ≡ r.behind_units text others words position units
-    behind-units-same position [] all = refl
-    behind-units-same position (unit ∷ units) all =
-        ap (λ z. r.behind_unit text files words position unit ++ z) (behind-units-same (r.after text files words position unit) units (rest-hold position unit units all))
-        ∙ (λ k. behind-unit-same position unit (first-holds position unit units all) k ++ r.behind_units text others words (after-same position unit (first-holds position unit units all) k) units)
+    module _ (paths : List ℕ) where
+      trees-same : (state : ReadState) (unit : UnitTree) (x : Tree) → AllByRecursion (Means state) (instances x) → Holds state unit → r.found_of text files words paths state unit x ≡ r.found_of text others words paths state unit x
+      trees-same state unit x asks all =
+          walk-same text (r.module_named text files words state) (r.module_named text others words state) (r.known_in text files words state unit) paths state.place.here.context x asks
+          ∙ ap (λ known. walk text (record { named = r.module_named text others words state; known = known; paths = paths }) state.place.here.context x) (known-in state unit all)
 
-    module _ (held : DeclId → Exports) (paths : List ℕ) where
-      walks-same : (position : Position) (x : Tree) → AllByRecursion (Means position) (instances x) → r.walk text (r.surround text files words held paths position) position.place.here.context x ≡ r.walk text (r.surround text others words held paths position) position.place.here.context x
-      walks-same position x all = walk-same text (r.module_named text files words position) (r.module_named text others words position) held paths position.place.here.context x all
+      found-same : (state : ReadState) (unit : UnitTree) → Holds state unit → r.found_in text files words paths state unit ≡ r.found_in text others words paths state unit
+      found-same state (Variables names) all = refl
+      found-same state (Constants declarations) all = refl
+      found-same state (OperatorDefinition local x) all = trees-same state (OperatorDefinition local x) x (asked state (instances x) all) all
+      found-same state (FunctionDefinition local x) all = trees-same state (FunctionDefinition local x) x (asked state (instances x) all) all
+      found-same state (ModuleDefinition local x) all = trees-same state (ModuleDefinition local x) x (asked state (instances x) all) all
+      found-same state (Instance local x) all = λ k.
+          trees-same state (Instance local x) x (asked state (instances x) all) all k ++ clash-same state x (asked state (instances x) all) k
+      found-same state (Assumption word name x) all = trees-same state (Assumption word name x) x (asked state (instances x) all) all
+      found-same state (Theorem word name x) all = trees-same state (Theorem word name x) x (asked state (instances x) all) all
+      found-same state (Line dashes) all = refl
+      found-same state (ModuleBegin name extends) all =
+          ap (λ z. (if m.is_named text (exports_by files) state.place.here name then Taken name ∷ [] else []) ++ z) (clashing-same (m.nested text (exports_by files) state.place.here name) extends (begun-asks state name extends all))
+      found-same state (ModuleEnd closing) all = refl
 
-      found-same : (position : Position) (unit : UnitTree) → Holds position unit → r.found_in text files words held paths position unit ≡ r.found_in text others words held paths position unit
-      found-same position (Variables names) all = refl
-      found-same position (Constants declarations) all = refl
-      found-same position (OperatorDefinition local x) all = walks-same position x (asked position (instances x) all)
-      found-same position (FunctionDefinition local x) all = walks-same position x (asked position (instances x) all)
-      found-same position (ModuleDefinition local x) all = walks-same position x (asked position (instances x) all)
-      found-same position (Instance local x) all = λ k. walks-same position x (asked position (instances x) all) k ++ clash-same position x (asked position (instances x) all) k
-      found-same position (Assumption word name x) all = walks-same position x (asked position (instances x) all)
-      found-same position (Theorem word name x) all = walks-same position x (asked position (instances x) all)
-      found-same position (Line dashes) all = refl
-      found-same position (ModuleBegin name extends) all =
-          ap (λ z. (if m.is_named text (exports_by files) position.place.here name then Taken name ∷ [] else []) ++ z) (clashing-same (m.nested text (exports_by files) position.place.here name) extends (begun-asks position name extends all))
-      found-same position (ModuleEnd closing) all = refl
-
-      found-all-same : (position : Position) (units : List UnitTree) → HoldAll position units → r.found_from text files words held paths position units ≡ r.found_from text others words held paths position units
-      found-all-same position [] all = refl
-      found-all-same position (unit ∷ units) all =
-          ap (λ z. r.found_in text files words held paths position unit ++ z) (found-all-same (r.after text files words position unit) units (rest-hold position unit units all))
-          ∙ (λ k. found-same position unit (first-holds position unit units all) k ++ r.found_from text others words held paths (after-same position unit (first-holds position unit units all) k) units)
+      found-all-same : (state : ReadState) (units : List UnitTree) → HoldAll state units → r.found_from text files words paths state units ≡ r.found_from text others words paths state units
+      found-all-same state [] all = refl
+      found-all-same state (unit ∷ units) all =
+          ap (λ z. r.found_in text files words paths state unit ++ z) (found-all-same (r.after text files words state unit) units (rest-hold state unit units all))
+          ∙ (λ k. found-same state unit (first-holds state unit units all) k ++ r.found_from text others words paths (after-same state unit (first-holds state unit units all) k) units)
 
 -- ---- modules
 
@@ -268,38 +297,40 @@ module _ (files others : List ℕ → ModuleView) (source : List ℕ) (units : M
   extends-asked : AllByRecursion (Asks read files others (m.unread read (exports_by files)).modules) units.extends
   extends-asked = all-weaker Agrees (Asks read files others (m.unread read (exports_by files)).modules) (λ l same free. same) units.extends needs-extended
 
-  begin-same : r.first files source units ≡ r.first others source units
-  begin-same = ap (λ here. record { place = record { here = here; round = [] }; nested = [] }) (extends-same read files others (m.unread read (exports_by files)) units.extends extends-asked)
+  begun-same : r.begun_state files source units ≡ r.begun_state others source units
+  begun-same = ap (λ here. record { place = record { here = here; round = [] }; nested = []; known = [] }) (extends-same read files others (m.unread read (exports_by files)) units.extends extends-asked)
 
-  begin-scope : scope_of (r.first files source units).place ≡ first title
-  begin-scope = ap (λ modules. record { here = forget modules; round = [] }) (extends-keep read files words (m.unread read (exports_by files)) units.extends).modules
+  begun-means : AllByRecursion (Means read files others words (r.begun_state files source units)) units.extends
+  begun-means =
+      means-all read files others words (r.begun_state files source units) units.extends
+      (subst (λ modules. AllByRecursion (Asks read files others modules) units.extends) (sym (extends-keep read files words (m.unread read (exports_by files)) units.extends).modules) extends-asked)
+
+  first-same : r.first files source units ≡ r.first others source units
+  first-same =
+      ap (r.with_known read files words (r.begun_state files source units)) (known-from-all read files others words (r.begun_state files source units) units.extends begun-means)
+      ∙ ap (λ begun. r.with_known read others words begun (r.known_from_all read others words begun units.extends)) begun-same
+
+  first-scope : scope_of (r.first files source units).place ≡ first title
+  first-scope = ap (λ modules. record { here = forget modules; round = [] }) (extends-keep read files words (m.unread read (exports_by files)) units.extends).modules
 
   units-hold : AllByRecursion Agrees (imports_from source title (scope_of (r.first files source units).place) units.units)
-  units-hold = subst (λ scope. AllByRecursion Agrees (imports_from source title scope units.units)) (sym begin-scope) inside-units
+  units-hold = subst (λ scope. AllByRecursion Agrees (imports_from source title scope units.units)) (sym first-scope) inside-units
 
-  files-same : (names : List Lexeme) (decl : DeclId) → AllByRecursion Agrees names → r.behind_files files source units names decl ≡ r.behind_files others source units names decl
-  files-same [] decl each = refl
-  files-same (l ∷ rest) decl each = λ k. i.first_of ((each.0 k).behind decl) (files-same rest decl each.1 k)
-
-  -- what stands behind an instance
-  pub behind-asks : (decl : DeclId) → r.behind_all files source units decl ≡ r.behind_all others source units decl
-  behind-asks decl =
-      let first : Position = r.first files source units in
-      ap (λ z. i.either (lookup same_decl z decl) (r.behind_files files source units (imports_of source units) decl)) (behind-units-same read files others words first units.units units-hold)
-      ∙ (λ k. i.either (lookup same_decl (r.behind_units read others words (begin-same k) units.units) decl) (files-same (imports_of source units) decl all k))
+  last-same : r.last files source units ≡ r.last others source units
+  last-same =
+      read-same read files others words (r.first files source units) units.units units-hold
+      ∙ ap (λ first. r.read_all read others words first units.units) first-same
 
   -- what is found
   pub findings-ask : r.findings files source units ≡ r.findings others source units
   findings-ask =
-      let first : Position = r.first files source units in
+      let first : ReadState = r.first files source units in
       let paths : List ℕ = i.paths_in units.units in
       let clashing : List Finding = m.all_clashing read (exports_by files) (m.unread read (exports_by files)) units.extends in
-      ap (λ z. clashing ++ z) (found-all-same read files others words (r.behind_all files source units) paths first units.units units-hold)
-      ∙ (λ k. clashing-same read files others (m.unread read (exports_by files)) units.extends extends-asked k
-      ++ r.found_from read others words (λ decl. behind-asks decl k) paths (begin-same k) units.units)
+      ap (λ z. clashing ++ z) (found-all-same read files others words paths first units.units units-hold)
+      ∙ (λ k. clashing-same read files others (m.unread read (exports_by files)) units.extends extends-asked k ++ r.found_from read others words paths (first-same k) units.units)
 
-  -- what is exported
-  pub exports-ask : r.exports_in files source units ≡ r.exports_in others source units
-  exports-ask =
-      ap (λ (position : Position). exports_of position.place.here.exports) (read-same read files others words (r.first files source units) units.units units-hold)
-      ∙ ap (λ first. exports_of (r.read_all read others words first units.units).place.here.exports) begin-same
+  -- what it is to others
+  pub outside-asks : r.outside_in files source units ≡ r.outside_in others source units
+  outside-asks =
+      ap (λ (state : ReadState). record { entries = entries_from state.known (exports_of state.place.here.exports); parameters = parameters_in (exports_of state.place.here.exports) }) last-same

@@ -14,18 +14,19 @@ use Rattle.list_laws.proofs.Lists.{all-both, all-left, all-right}
 use Rattle.tla_model.specs.declared.names.Finding.TheVariants.{Means, Unknown, Taken, Clashes, InstanceClashes, NotReplaceable, ReplacedTwice, Unreplaced, Implied}
 use Rattle.tla_model.specs.declared.names.Binder.{Binder}
 use Rattle.tla_model.specs.declared.Diagnostic.{Diagnostic}
-use Rattle.tla_model.specs.declared.ids.DeclId.{DeclId}
 use Rattle.module_model.specs.Bindings.{faults}
 use Rattle.tla_model.specs.Contexts.{Context, bind, bind_all, meaning_of}
 use Rattle.tla_model.specs.declared.names.Binding.TheVariants as as_binding
 use Rattle.tla_model.specs.Entities.{Meaning, Binding, Text, binding_in, binding_of, bound_as, all_placed, placed, defined, follows_first, is_group, name_of, declared_in, declared_round, declared_among, variables}
-use Rattle.module_model.specs.Exports.{Exports, ModuleView, exports_by}
+use Rattle.module_model.specs.Exports.{Behind, Exports, ModuleView, behind_meaning, entry_of, exports_by, onward}
 use Rattle.module_model.specs.Instances as i
 use Rattle.tla_model.specs.Lexemes.{form_lexemes, lexemes, all_lexemes, unit_lexemes, units_lexemes, module_lexemes}
 use Rattle.module_model.specs.Modules as m
 use Rattle.module_model.specs.Modules.{Reading, text_of}
 use Rattle.module_model.specs.Resolution as r
-use Rattle.module_model.specs.Resolution.{Around, Position, findings}
+use Rattle.module_model.specs.Resolution.{ReadState, findings}
+use Rattle.module_model.specs.TreeFindings as t
+use Rattle.module_model.specs.TreeFindings.{Surroundings}
 use Rattle.tla_model.specs.Scopes as s
 use Rattle.tla_model.specs.Scopes.{Finding}
 use Rattle.tla_model.specs.Tables.{Named, Symbol, has, is_among}
@@ -128,7 +129,7 @@ module _ (P : Lexeme → Type 0) where
 
   -- ---- what is found in trees
 
-  module _ (text : Text) (around : Around) where
+  module _ (text : Text) (around : Surroundings) where
     refused-at : (context : Context) (l : Lexeme) → P l → AllByRecursion Stands (s.taken_findings text context l)
     refused-at context l p = all-either Stands (has context (name_of text.source l)) (Taken l ∷ []) [] (p, tt) tt
 
@@ -164,94 +165,94 @@ module _ (P : Lexeme → Type 0) where
 
     -- a form that declares or binds names, by what is found in its parts
     with-names : (context : Context) (form : Form.the_data) (parts : Trees) → AllByRecursion P (form_lexemes form ++ all_lexemes parts)
-        → AllByRecursion Stands (r.walk_sets text around (s.reserved text context form parts) parts) → AllByRecursion Stands (r.walk_rest text around (s.scope text context form parts) parts)
-        → AllByRecursion Stands (s.all_refused text context (defined form parts) ++ r.walk_sets text around (s.reserved text context form parts) parts ++ s.all_refused text (s.inside text context form parts) (s.binders form parts) ++ r.walk_rest text around (s.scope text context form parts) parts)
+        → AllByRecursion Stands (t.walk_sets text around (s.reserved text context form parts) parts) → AllByRecursion Stands (t.walk_rest text around (s.scope text context form parts) parts)
+        → AllByRecursion Stands (s.all_refused text context (defined form parts) ++ t.walk_sets text around (s.reserved text context form parts) parts ++ s.all_refused text (s.inside text context form parts) (s.binders form parts) ++ t.walk_rest text around (s.scope text context form parts) parts)
     with-names context form parts all sets rest =
         let names : List Finding = s.all_refused text context (defined form parts) in
-        let among : List Finding = r.walk_sets text around (s.reserved text context form parts) parts in
+        let among : List Finding = t.walk_sets text around (s.reserved text context form parts) parts in
         let bound : List Finding = s.all_refused text (s.inside text context form parts) (s.binders form parts) in
-        all-three Stands (names ++ among) bound (r.walk_rest text around (s.scope text context form parts) parts)
+        all-three Stands (names ++ among) bound (t.walk_rest text around (s.scope text context form parts) parts)
         (all-both Stands names among (all-refused-at context (defined form parts) (defined-at form parts (all-left P (form_lexemes form) (all_lexemes parts) all))) sets)
         (all-refused-at (s.inside text context form parts) (s.binders form parts) (binders-at form parts (all-right P (form_lexemes form) (all_lexemes parts) all))) rest
 
     mutual
-      walk-at : (context : Context) (x : Tree) → AllByRecursion P (lexemes x) → AllByRecursion Stands (r.walk text around context x)
+      walk-at : (context : Context) (x : Tree) → AllByRecursion P (lexemes x) → AllByRecursion Stands (t.walk text around context x)
       walk-at context (Node Form.Identifier span parts) all = segments-at context parts all
       walk-at context (Node (Form.Symbol l) span parts) all = symbol-at context (s.itself) l l.kind all.0
       walk-at context (Node (Form.Prefix l) span parts) all =
-          all-both Stands (s.symbol_findings context s.prefixed l l.kind) (r.walk_each text around context parts) (symbol-at context s.prefixed l l.kind all.0) (each-at context parts all.1)
+          all-both Stands (s.symbol_findings context s.prefixed l l.kind) (t.walk_each text around context parts) (symbol-at context s.prefixed l l.kind all.0) (each-at context parts all.1)
       walk-at context (Node (Form.Infix l) span parts) all = round-walk-at context l parts all.0 all.1
       walk-at context (Node (Form.Postfix l) span parts) all =
-          all-both Stands (r.walk_each text around context parts) (s.symbol_findings context s.itself l l.kind) (each-at context parts all.1) (symbol-at context s.itself l l.kind all.0)
+          all-both Stands (t.walk_each text around context parts) (s.symbol_findings context s.itself l l.kind) (each-at context parts all.1) (symbol-at context s.itself l l.kind all.0)
       walk-at context (Node Form.Let span parts) all = chain-at context parts all
       walk-at context (Node (Form.Instance l) span parts) all =
-          all-both Stands (r.replaced text around context (r.replaceable text around l) [] parts) (i.implied context l (i.left_sides text.source parts) (r.replaceable text around l))
-          (replacements-at context (r.replaceable text around l) [] parts all.1) (implied-at context l (i.left_sides text.source parts) (r.replaceable text around l) all.0)
+          all-both Stands (t.replaced text around context (t.replaceable text around l) [] parts) (i.implied context l (i.left_sides text.source parts) (t.replaceable text around l))
+          (replacements-at context (t.replaceable text around l) [] parts all.1) (implied-at context l (i.left_sides text.source parts) (t.replaceable text around l) all.0)
       walk-at context (Node Form.SetImage span parts) all =
-          all-three Stands (s.all_refused text context (s.binders Form.SetImage parts)) (r.walk_rest text around (bind_all text context (s.binders Form.SetImage parts)) parts) (r.walk_sets text around context parts)
+          all-three Stands (s.all_refused text context (s.binders Form.SetImage parts)) (t.walk_rest text around (bind_all text context (s.binders Form.SetImage parts)) parts) (t.walk_sets text around context parts)
           (all-refused-at context (s.binders Form.SetImage parts) (binders-at Form.SetImage parts all)) (rest-at (bind_all text context (s.binders Form.SetImage parts)) parts all) (sets-at context parts all)
       walk-at context (Node form span parts) all =
           with-names context form parts all (sets-at (s.reserved text context form parts) parts (all-right P (form_lexemes form) (all_lexemes parts) all)) (rest-at (s.scope text context form parts) parts (all-right P (form_lexemes form) (all_lexemes parts) all))
 
-      each-at : (context : Context) (parts : Trees) → AllByRecursion P (all_lexemes parts) → AllByRecursion Stands (r.walk_each text around context parts)
+      each-at : (context : Context) (parts : Trees) → AllByRecursion P (all_lexemes parts) → AllByRecursion Stands (t.walk_each text around context parts)
       each-at context Nil all = tt
       each-at context (Cons x rest) all =
-          all-both Stands (r.walk text around context x) (r.walk_each text around context rest) (walk-at context x (all-left P (lexemes x) (all_lexemes rest) all)) (each-at context rest (all-right P (lexemes x) (all_lexemes rest) all))
+          all-both Stands (t.walk text around context x) (t.walk_each text around context rest) (walk-at context x (all-left P (lexemes x) (all_lexemes rest) all)) (each-at context rest (all-right P (lexemes x) (all_lexemes rest) all))
 
-      round-walk-at : (context : Context) (l : Lexeme) (parts : Trees) → P l → AllByRecursion P (all_lexemes parts) → AllByRecursion Stands (r.walk_round text around context l parts)
+      round-walk-at : (context : Context) (l : Lexeme) (parts : Trees) → P l → AllByRecursion P (all_lexemes parts) → AllByRecursion Stands (t.walk_round text around context l parts)
       round-walk-at context l Nil p all = symbol-at context s.itself l l.kind p
       round-walk-at context l (Cons x rest) p all =
-          all-three Stands (r.walk text around context x) (s.symbol_findings context s.itself l l.kind) (r.walk_each text around context rest) (walk-at context x (all-left P (lexemes x) (all_lexemes rest) all)) (symbol-at context s.itself l l.kind p)
+          all-three Stands (t.walk text around context x) (s.symbol_findings context s.itself l l.kind) (t.walk_each text around context rest) (walk-at context x (all-left P (lexemes x) (all_lexemes rest) all)) (symbol-at context s.itself l l.kind p)
           (each-at context rest (all-right P (lexemes x) (all_lexemes rest) all))
 
-      chain-at : (context : Context) (parts : Trees) → AllByRecursion P (all_lexemes parts) → AllByRecursion Stands (r.walk_chain text around context parts)
+      chain-at : (context : Context) (parts : Trees) → AllByRecursion P (all_lexemes parts) → AllByRecursion Stands (t.walk_chain text around context parts)
       chain-at context Nil all = tt
       chain-at context (Cons x rest) all =
-          all-both Stands (r.walk text around context x) (r.walk_chain text around (s.behind text context x) rest) (walk-at context x (all-left P (lexemes x) (all_lexemes rest) all))
+          all-both Stands (t.walk text around context x) (t.walk_chain text around (s.behind text context x) rest) (walk-at context x (all-left P (lexemes x) (all_lexemes rest) all))
           (chain-at (s.behind text context x) rest (all-right P (lexemes x) (all_lexemes rest) all))
 
-      sets-at : (context : Context) (parts : Trees) → AllByRecursion P (all_lexemes parts) → AllByRecursion Stands (r.walk_sets text around context parts)
+      sets-at : (context : Context) (parts : Trees) → AllByRecursion P (all_lexemes parts) → AllByRecursion Stands (t.walk_sets text around context parts)
       sets-at context Nil all = tt
       sets-at context (Cons (Node form span parts) rest) all =
-          all-both Stands (if s.has_set form then r.walk text around context (Node form span parts) else []) (r.walk_sets text around context rest)
-          (all-either Stands (s.has_set form) (r.walk text around context (Node form span parts)) [] (walk-at context (Node form span parts) (all-left P (lexemes (Node form span parts)) (all_lexemes rest) all)) tt)
+          all-both Stands (if s.has_set form then t.walk text around context (Node form span parts) else []) (t.walk_sets text around context rest)
+          (all-either Stands (s.has_set form) (t.walk text around context (Node form span parts)) [] (walk-at context (Node form span parts) (all-left P (lexemes (Node form span parts)) (all_lexemes rest) all)) tt)
           (sets-at context rest (all-right P (lexemes (Node form span parts)) (all_lexemes rest) all))
 
-      rest-at : (context : Context) (parts : Trees) → AllByRecursion P (all_lexemes parts) → AllByRecursion Stands (r.walk_rest text around context parts)
+      rest-at : (context : Context) (parts : Trees) → AllByRecursion P (all_lexemes parts) → AllByRecursion Stands (t.walk_rest text around context parts)
       rest-at context Nil all = tt
       rest-at context (Cons (Node form span parts) rest) all =
-          all-both Stands (if s.has_set form then [] else r.walk text around context (Node form span parts)) (r.walk_rest text around context rest)
-          (all-either Stands (s.has_set form) [] (r.walk text around context (Node form span parts)) tt (walk-at context (Node form span parts) (all-left P (lexemes (Node form span parts)) (all_lexemes rest) all)))
+          all-both Stands (if s.has_set form then [] else t.walk text around context (Node form span parts)) (t.walk_rest text around context rest)
+          (all-either Stands (s.has_set form) [] (t.walk text around context (Node form span parts)) tt (walk-at context (Node form span parts) (all-left P (lexemes (Node form span parts)) (all_lexemes rest) all)))
           (rest-at context rest (all-right P (lexemes (Node form span parts)) (all_lexemes rest) all))
 
-      replacements-at : (context : Context) (parameters : Exports) (before : List Named) (parts : Trees) → AllByRecursion P (all_lexemes parts) → AllByRecursion Stands (r.replaced text around context parameters before parts)
+      replacements-at : (context : Context) (parameters : Exports) (before : List Named) (parts : Trees) → AllByRecursion P (all_lexemes parts) → AllByRecursion Stands (t.replaced text around context parameters before parts)
       replacements-at context parameters before Nil all = tt
       replacements-at context parameters before (Cons (Node (Form.Replacement l) span right) rest) all =
-          all-three Stands (i.replaced_as l (is_among before (name_of text.source l)) (i.entry_of parameters (name_of text.source l))) (r.walk_each text around context right) (r.replaced text around context parameters (name_of text.source l ∷ before) rest)
-          (replaced-at l (is_among before (name_of text.source l)) (i.entry_of parameters (name_of text.source l)) all.0)
+          all-three Stands (i.replaced_as l (is_among before (name_of text.source l)) (entry_of parameters (name_of text.source l))) (t.walk_each text around context right) (t.replaced text around context parameters (name_of text.source l ∷ before) rest)
+          (replaced-at l (is_among before (name_of text.source l)) (entry_of parameters (name_of text.source l)) all.0)
           (each-at context right (all-left P (all_lexemes right) (all_lexemes rest) all.1)) (replacements-at context parameters (name_of text.source l ∷ before) rest (all-right P (all_lexemes right) (all_lexemes rest) all.1))
       replacements-at context parameters before (Cons (Node form span parts) rest) all =
           replacements-at context parameters before rest (all-right P (form_lexemes form ++ all_lexemes parts) (all_lexemes rest) all)
 
-      segments-at : (context : Context) (parts : Trees) → AllByRecursion P (all_lexemes parts) → AllByRecursion Stands (r.segments text around context parts)
+      segments-at : (context : Context) (parts : Trees) → AllByRecursion P (all_lexemes parts) → AllByRecursion Stands (t.segments text around context parts)
       segments-at context Nil all = tt
       segments-at context (Cons (Node (Form.Segment l) span arguments) rest) all =
           let meaning : Option Meaning = meaning_of context (name_of text.source l) in
-          let onward : List Finding = r.path text around context (r.path_number text around l) (r.behind_name text around meaning) rest in
-          all-three Stands (s.use_findings l meaning) (r.walk_each text around context arguments) (if is_some meaning then onward else []) (found-at l meaning all.0)
+          let further : List Finding = t.path text around context (t.path_number text around l) (behind_meaning around.known meaning) rest in
+          all-three Stands (s.use_findings l meaning) (t.walk_each text around context arguments) (if is_some meaning then further else []) (found-at l meaning all.0)
           (each-at context arguments (all-left P (all_lexemes arguments) (all_lexemes rest) all.1))
-          (all-either Stands (is_some meaning) onward [] (path-at context (r.path_number text around l) (r.behind_name text around meaning) rest (all-right P (all_lexemes arguments) (all_lexemes rest) all.1)) tt)
+          (all-either Stands (is_some meaning) further [] (path-at context (t.path_number text around l) (behind_meaning around.known meaning) rest (all-right P (all_lexemes arguments) (all_lexemes rest) all.1)) tt)
       segments-at context (Cons (Node _ span arguments) rest) all = tt
 
-      path-at : (context : Context) (number : ℕ) (held_behind : Exports) (parts : Trees) → AllByRecursion P (all_lexemes parts) → AllByRecursion Stands (r.path text around context number held_behind parts)
-      path-at context number held_behind Nil all = tt
-      path-at context number held_behind (Cons (Node (Form.Segment l) span arguments) rest) all =
-          let meaning : Option Meaning = i.entry_of held_behind (name_of text.source l) in
-          let onward : List Finding = r.path text around context number (r.behind_name text around meaning) rest in
-          all-three Stands (s.use_findings l (i.called_by number rest meaning)) (r.walk_each text around context arguments) (if is_some meaning then onward else []) (found-at l (i.called_by number rest meaning) all.0)
+      path-at : (context : Context) (number : ℕ) (held : Behind) (parts : Trees) → AllByRecursion P (all_lexemes parts) → AllByRecursion Stands (t.path text around context number held parts)
+      path-at context number held Nil all = tt
+      path-at context number held (Cons (Node (Form.Segment l) span arguments) rest) all =
+          let meaning : Option Meaning = entry_of (held []) (name_of text.source l) in
+          let further : List Finding = t.path text around context number (onward held (name_of text.source l)) rest in
+          all-three Stands (s.use_findings l (i.called_by number rest meaning)) (t.walk_each text around context arguments) (if is_some meaning then further else []) (found-at l (i.called_by number rest meaning) all.0)
           (each-at context arguments (all-left P (all_lexemes arguments) (all_lexemes rest) all.1))
-          (all-either Stands (is_some meaning) onward [] (path-at context number (r.behind_name text around meaning) rest (all-right P (all_lexemes arguments) (all_lexemes rest) all.1)) tt)
-      path-at context number held_behind (Cons (Node _ span arguments) rest) all = tt
+          (all-either Stands (is_some meaning) further [] (path-at context number (onward held (name_of text.source l)) rest (all-right P (all_lexemes arguments) (all_lexemes rest) all.1)) tt)
+      path-at context number held (Cons (Node _ span arguments) rest) all = tt
 
   -- ---- what is found in modules
 
@@ -263,47 +264,46 @@ module _ (P : Lexeme → Type 0) where
         all-both Stands (if brings then Clashes l ∷ [] else []) (m.all_clashing text (exports_by files) (m.extended reading (m.brings text (exports_by files) reading l)) rest) (all-either Stands brings (Clashes l ∷ []) [] (all.0, tt) tt)
         (clashing-at (m.extended reading (m.brings text (exports_by files) reading l)) rest all.1)
 
-    module _ (words : List ℕ) (behind : DeclId → Exports) (paths : List ℕ) where
-      abbrev round : Position → Around
-      round position = r.surround text files words behind paths position
+    module _ (words : List ℕ) (paths : List ℕ) where
+      abbrev round : ReadState → UnitTree → Surroundings
+      round state unit = r.surround text files words paths state unit
 
-      clash-at : (position : Position) (x : Tree) → AllByRecursion P (lexemes x) → AllByRecursion Stands (r.clash_by text files words position x)
-      clash-at position (Node (Form.Instance l) span parts) all =
-          let clashes : Bool = m.brings_clash position.place.here (r.instance_brings text files words position (Node (Form.Instance l) span parts)) in
+      clash-at : (state : ReadState) (x : Tree) → AllByRecursion P (lexemes x) → AllByRecursion Stands (r.clash_by text files words state x)
+      clash-at state (Node (Form.Instance l) span parts) all =
+          let clashes : Bool = m.brings_clash state.place.here (r.instance_brings text files words state (Node (Form.Instance l) span parts)) in
           all-either Stands clashes (InstanceClashes l ∷ []) [] (all.0, tt) tt
-      clash-at position (Node form span parts) all = tt
+      clash-at state (Node form span parts) all = tt
 
-      unit-at : (position : Position) (unit : UnitTree) → AllByRecursion P (unit_lexemes unit) → AllByRecursion Stands (r.found_in text files words behind paths position unit)
-      unit-at position (Variables names) all = all-refused-at text (round position) position.place.here.context (variables names) (variables-at names all)
-      unit-at position (Constants declarations) all = all-refused-at text (round position) position.place.here.context (m.constants declarations) (among-at as_binding.Constant declarations all)
-      unit-at position (OperatorDefinition local x) all = walk-at text (round position) position.place.here.context x all
-      unit-at position (FunctionDefinition local x) all = walk-at text (round position) position.place.here.context x all
-      unit-at position (ModuleDefinition local x) all = walk-at text (round position) position.place.here.context x all
-      unit-at position (Instance local x) all =
-          all-both Stands (r.walk text (round position) position.place.here.context x) (r.clash_by text files words position x) (walk-at text (round position) position.place.here.context x all) (clash-at position x all)
-      unit-at position (Assumption word name x) all = walk-at text (round position) position.place.here.context x all
-      unit-at position (Theorem word name x) all = walk-at text (round position) position.place.here.context x all
-      unit-at position (ModuleBegin name extends) all =
-          let taken : Bool = m.is_named text (exports_by files) position.place.here name in
-          all-both Stands (if taken then Taken name ∷ [] else []) (m.all_clashing text (exports_by files) (m.nested text (exports_by files) position.place.here name) extends) (all-either Stands taken (Taken name ∷ []) [] (all.0, tt) tt)
-          (clashing-at (m.nested text (exports_by files) position.place.here name) extends all.1)
-      unit-at position _ all = tt
+      unit-at : (state : ReadState) (unit : UnitTree) → AllByRecursion P (unit_lexemes unit) → AllByRecursion Stands (r.found_in text files words paths state unit)
+      unit-at state (Variables names) all = all-refused-at text (round state (Variables names)) state.place.here.context (variables names) (variables-at names all)
+      unit-at state (Constants declarations) all = all-refused-at text (round state (Constants declarations)) state.place.here.context (m.constants declarations) (among-at as_binding.Constant declarations all)
+      unit-at state (OperatorDefinition local x) all = walk-at text (round state (OperatorDefinition local x)) state.place.here.context x all
+      unit-at state (FunctionDefinition local x) all = walk-at text (round state (FunctionDefinition local x)) state.place.here.context x all
+      unit-at state (ModuleDefinition local x) all = walk-at text (round state (ModuleDefinition local x)) state.place.here.context x all
+      unit-at state (Instance local x) all =
+          all-both Stands (t.walk text (round state (Instance local x)) state.place.here.context x) (r.clash_by text files words state x) (walk-at text (round state (Instance local x)) state.place.here.context x all) (clash-at state x all)
+      unit-at state (Assumption word name x) all = walk-at text (round state (Assumption word name x)) state.place.here.context x all
+      unit-at state (Theorem word name x) all = walk-at text (round state (Theorem word name x)) state.place.here.context x all
+      unit-at state (ModuleBegin name extends) all =
+          let taken : Bool = m.is_named text (exports_by files) state.place.here name in
+          all-both Stands (if taken then Taken name ∷ [] else []) (m.all_clashing text (exports_by files) (m.nested text (exports_by files) state.place.here name) extends) (all-either Stands taken (Taken name ∷ []) [] (all.0, tt) tt)
+          (clashing-at (m.nested text (exports_by files) state.place.here name) extends all.1)
+      unit-at state _ all = tt
 
-      units-at : (position : Position) (units : List UnitTree) → AllByRecursion P (units_lexemes units) → AllByRecursion Stands (r.found_from text files words behind paths position units)
-      units-at position [] all = tt
-      units-at position (unit ∷ units) all =
-          all-both Stands (r.found_in text files words behind paths position unit) (r.found_from text files words behind paths (r.after text files words position unit) units) (unit-at position unit (all-left P (unit_lexemes unit) (units_lexemes units) all))
-          (units-at (r.after text files words position unit) units (all-right P (unit_lexemes unit) (units_lexemes units) all))
+      units-at : (state : ReadState) (units : List UnitTree) → AllByRecursion P (units_lexemes units) → AllByRecursion Stands (r.found_from text files words paths state units)
+      units-at state [] all = tt
+      units-at state (unit ∷ units) all =
+          all-both Stands (r.found_in text files words paths state unit) (r.found_from text files words paths (r.after text files words state unit) units) (unit-at state unit (all-left P (unit_lexemes unit) (units_lexemes units) all))
+          (units-at (r.after text files words state unit) units (all-right P (unit_lexemes unit) (units_lexemes units) all))
 
   pub findings-at : (files : List ℕ → ModuleView) (source : List ℕ) (units : ModuleUnits) → AllByRecursion P (module_lexemes units) → AllByRecursion Stands (findings files source units)
   findings-at files source units all =
       let text : Text = text_of source units in
       let words : List ℕ = r.words_of units in
-      let behind : DeclId → Exports = r.behind_all files source units in
-      let first : Position = r.first files source units in
-      all-both Stands (m.all_clashing text (exports_by files) (m.unread text (exports_by files)) units.extends) (r.found_from text files words behind (i.paths_in units.units) first units.units)
+      let first : ReadState = r.first files source units in
+      all-both Stands (m.all_clashing text (exports_by files) (m.unread text (exports_by files)) units.extends) (r.found_from text files words (i.paths_in units.units) first units.units)
       (clashing-at text files (m.unread text (exports_by files)) units.extends (all-left P units.extends (units_lexemes units.units) all.1))
-      (units-at text files words behind (i.paths_in units.units) first units.units (all-right P units.extends (units_lexemes units.units) all.1))
+      (units-at text files words (i.paths_in units.units) first units.units (all-right P units.extends (units_lexemes units.units) all.1))
 
 -- ---- faults
 

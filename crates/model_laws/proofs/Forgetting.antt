@@ -16,7 +16,7 @@ use Rattle.module_model.specs.Exports.{Exports, ModuleView, exports_by, exports_
 use Rattle.module_model.specs.Modules as m
 use Rattle.module_model.specs.Modules.{Place, Reading, clashes, with_entry}
 use Rattle.module_model.specs.Resolution as r
-use Rattle.module_model.specs.Resolution.{Position}
+use Rattle.module_model.specs.Resolution.{ReadState}
 
 -- a module is known, whatever it exports
 abbrev unknown : Option Exports → Option ⊤
@@ -84,26 +84,26 @@ module _ (text : Text) (files : List ℕ → ModuleView) (words : List ℕ) wher
       let next : Reading = m.declare text (exports_by files) local reading binder in
       keeps-on reading next (m.declare_all text (exports_by files) local next rest) (keeps-either (has reading.context (name_of text.source binder.name)) reading _ (record { name = refl; modules = refl })) (declares-keep local next rest)
 
-  at-here : (position : Position) (reading : Reading) → Keeps position.place.here reading → scope_of (record { here = reading; round = position.place.round }) ≡ scope_of position.place
-  at-here position reading kept = λ i. record { here = forget (kept.modules i); round = round_of (kept.name i) position.place.round }
+  at-here : (state : ReadState) (reading : Reading) → Keeps state.place.here reading → scope_of (record { here = reading; round = state.place.round }) ≡ scope_of state.place
+  at-here state reading kept = λ i. record { here = forget (kept.modules i); round = round_of (kept.name i) state.place.round }
 
   left-scope : (inner : Reading) (round : List Reading) (closing : Lexeme) → scope_of (m.left text (exports_by files) inner round) ≡ scope_at text.source (scope_of (record { here = inner; round = round })) (ModuleEnd closing)
   left-scope inner [] closing = refl
   left-scope inner (outer ∷ round) closing = λ i. record { here = forget-added outer.modules inner.name (Some (exports_of inner.exports)) i; round = round_of outer.name round }
 
   -- behind a unit, the scope is that of the needs
-  pub scope-after : (position : Position) (unit : UnitTree) → scope_of (r.after text files words position unit).place ≡ scope_at text.source (scope_of position.place) unit
-  scope-after position (Variables names) = at-here position _ (declares-keep false position.place.here (variables names))
-  scope-after position (Constants declarations) = at-here position _ (declares-keep false position.place.here (m.constants declarations))
-  scope-after position (OperatorDefinition local x) = at-here position _ (declares-keep (is_some local) position.place.here (definition x))
-  scope-after position (FunctionDefinition local x) = at-here position _ (declares-keep (is_some local) position.place.here (definition x))
-  scope-after position (ModuleDefinition local x) = at-here position _ (declares-keep (is_some local) position.place.here (definition x))
-  scope-after position (Instance local x) = at-here position _ (joined-keeps (is_some local) position.place.here (r.instance_brings text files words position x))
-  scope-after position (Assumption word name x) = refl
-  scope-after position (Theorem word name x) = refl
-  scope-after position (Line dashes) = refl
-  scope-after position (ModuleBegin name extends) =
-      let here : Reading = position.place.here in
+  pub scope-after : (state : ReadState) (unit : UnitTree) → scope_of (r.after text files words state unit).place ≡ scope_at text.source (scope_of state.place) unit
+  scope-after state (Variables names) = at-here state _ (declares-keep false state.place.here (variables names))
+  scope-after state (Constants declarations) = at-here state _ (declares-keep false state.place.here (m.constants declarations))
+  scope-after state (OperatorDefinition local x) = at-here state _ (declares-keep (is_some local) state.place.here (definition x))
+  scope-after state (FunctionDefinition local x) = at-here state _ (declares-keep (is_some local) state.place.here (definition x))
+  scope-after state (ModuleDefinition local x) = at-here state _ (declares-keep (is_some local) state.place.here (definition x))
+  scope-after state (Instance local x) = at-here state _ (joined-keeps (is_some local) state.place.here (r.instance_brings text files words state x))
+  scope-after state (Assumption word name x) = refl
+  scope-after state (Theorem word name x) = refl
+  scope-after state (Line dashes) = refl
+  scope-after state (ModuleBegin name extends) =
+      let here : Reading = state.place.here in
       let kept : Keeps (m.nested text (exports_by files) here name) (m.extends_all text (exports_by files) (m.nested text (exports_by files) here name) extends) = extends-keep (m.nested text (exports_by files) here name) extends in
-      λ i. record { here = (ap forget kept.modules ∙ forget-added here.modules (spelled text.source name) None) i; round = (kept.name i, forget here.modules) ∷ round_of here.name position.place.round }
-  scope-after position (ModuleEnd closing) = left-scope position.place.here position.place.round closing
+      λ i. record { here = (ap forget kept.modules ∙ forget-added here.modules (spelled text.source name) None) i; round = (kept.name i, forget here.modules) ∷ round_of here.name state.place.round }
+  scope-after state (ModuleEnd closing) = left-scope state.place.here state.place.round closing

@@ -17,7 +17,7 @@ use Rattle.tla_model.specs.declared.Diagnostic.{Diagnostic}
 use Rattle.tla_model.specs.declared.entity.Entity.TheVariants as entity
 use Rattle.module_model.specs.Bindings.{faults, implied}
 use Rattle.tla_model.specs.Entities.{Meaning}
-use Rattle.module_model.specs.Exports.{behind_in, Exports, ModuleView, nothing}
+use Rattle.module_model.specs.Exports.{Exports, Known, ModuleView, entries_from, nothing, parameters_in}
 use Rattle.module_model.specs.Resolution.{exports_in, findings, outside_in}
 use Rattle.tla_model.specs.Scopes.{Finding}
 use Rattle.tla_model.specs.Tables.{Word, Symbol}
@@ -37,11 +37,18 @@ of_p = (Word (codes "c"), there (codes "P") (entity.Constant 0) 0) ∷ (Word (co
 abbrev of_q : Exports
 of_q = (Word (codes "G"), there (codes "Q") value_of 0) ∷ []
 
+abbrev of_r : Exports
+of_r = (Word (codes "c"), there (codes "R") (entity.Constant 0) 0) ∷ (Word (codes "J"), there (codes "R") (entity.Instance []) 1) ∷ []
+
+-- behind the instance of P in R
+abbrev behind_j : Known
+behind_j = (record { «module» = codes "R"; place = 1 }, entries_from [] ((Word (codes "F"), there (codes "P") value_of 1) ∷ [])) ∷ []
+
 abbrev files : List ℕ → ModuleView
 files file =
     if bytes_eq file (codes "P") then module_of of_p
     else if bytes_eq file (codes "Q") then module_of of_q
-    else if bytes_eq file (codes "R") then record { exports = (Word (codes "c"), there (codes "R") (entity.Constant 0) 0) ∷ (Word (codes "J"), there (codes "R") (entity.Instance []) 1) ∷ []; parameters = (Word (codes "c"), there (codes "R") (entity.Constant 0) 0) ∷ []; behind = behind_in ((record { «module» = codes "R"; place = 1 }, (Word (codes "F"), there (codes "P") value_of 1) ∷ []) ∷ []) }
+    else if bytes_eq file (codes "R") then record { entries = entries_from behind_j of_r; parameters = parameters_in of_r }
     else if bytes_eq file (codes "S") then module_of ((Word (codes "c"), there (codes "S") (entity.Constant 0) 0) ∷ (Word (codes "x"), there (codes "S") entity.Variable 1) ∷ [])
     else if bytes_eq file (codes "T") then module_of ((Word (codes "F"), there (codes "T") value_of 1) ∷ (Symbol Op.Plus, there (codes "T") (entity.Constant 2) 0) ∷ [])
     else if bytes_eq file (codes "X") then module_of ((Word (codes "G"), there (codes "Q") value_of 0) ∷ (Word (codes "c"), there (codes "X") (entity.Constant 0) 0) ∷ [])
@@ -82,8 +89,8 @@ path from to = identifier (two (segment from Nil) (segment to Nil))
 
 -- what a path of this number calls
 abbrev behind : ℕ → Meaning → Meaning
-behind number (Declared e c) = Declared e (record c { instance = number })
-behind number meaning = meaning
+behind which (Declared e c) = Declared e (record c { instance = which })
+behind which meaning = meaning
 
 -- through an INSTANCE of M, by how many words stand before it
 abbrev by : ℕ → Meaning → Meaning
@@ -208,24 +215,27 @@ exported_by_one = refl
 abbrev to_others : ModuleView
 to_others = outside_in files (codes "MRdIQ") (module_with (at 1 ∷ []) (constant 2 ∷ named_unit 3 (instance 4 Nil) ∷ []))
 
--- what stands behind the instance at a place of a file
-abbrev behind_there : List ℕ → ℕ → Exports
-behind_there file place = to_others.behind (record { «module» = file; place = place })
+-- the entries at a name that it exports
+abbrev behind_there : List ℕ → Exports
+behind_there name = to_others.entries (Word name ∷ [])
 
-exports_to_others : to_others.exports ≡ (Word (codes "c"), there (codes "R") (entity.Constant 0) 0) ∷ (Word (codes "J"), r_j) ∷ (Word (codes "d"), own (entity.Constant 0) 0) ∷ (Word (codes "I"), own instance_of_none 1) ∷ []
+exports_to_others : to_others.entries [] ≡ (Word (codes "c"), there (codes "R") (entity.Constant 0) 0) ∷ (Word (codes "J"), r_j) ∷ (Word (codes "d"), own (entity.Constant 0) 0) ∷ (Word (codes "I"), own instance_of_none 1) ∷ []
 exports_to_others = refl
 
 parameters_to_others : to_others.parameters ≡ (Word (codes "c"), there (codes "R") (entity.Constant 0) 0) ∷ (Word (codes "d"), own (entity.Constant 0) 0) ∷ []
 parameters_to_others = refl
 
-behind_own : behind_there (codes "M") 1 ≡ of_q
+behind_own : behind_there (codes "I") ≡ of_q
 behind_own = refl
 
-behind_another : behind_there (codes "R") 1 ≡ (Word (codes "F"), p_f) ∷ []
+behind_another : behind_there (codes "J") ≡ (Word (codes "F"), p_f) ∷ []
 behind_another = refl
 
-behind_none : behind_there (codes "M") 0 ≡ []
+behind_none : behind_there (codes "d") ≡ []
 behind_none = refl
+
+behind_two_names : to_others.entries (Word (codes "I") ∷ Word (codes "G") ∷ []) ≡ []
+behind_two_names = refl
 
 -- ---- nested modules
 

@@ -19,7 +19,7 @@ use Rattle.tla_model.specs.declared.entity.Entity.TheVariants as entity
 use Rattle.tla_model.specs.declared.ids.Callee.{Callee}
 use Rattle.module_model.specs.Bindings.{Resolved, faults, resolved}
 use Rattle.tla_model.specs.Entities.{Meaning, declaring}
-use Rattle.module_model.specs.Exports.{Exports, ModuleView, nothing, parameters_in}
+use Rattle.module_model.specs.Exports.{Exports, ModuleView, entries_from, nothing, parameters_in}
 use Rattle.module_model.specs.Modules.{text_of}
 use Rattle.module_model.specs.Resolution.{exports_in, findings, first, read_all}
 use Rattle.tla_model.specs.Scopes.{Finding}
@@ -119,7 +119,7 @@ brought file = Declared (entity.Constant 0) (callee file 0)
 
 -- a module that exports these, and no instance
 abbrev pub module_of : Exports → ModuleView
-module_of exports = record { exports = exports; parameters = parameters_in exports; behind = λ decl. [] }
+module_of exports = record { entries = entries_from [] exports; parameters = parameters_in exports }
 
 abbrev files : List ℕ → ModuleView
 files file =

@@ -30,8 +30,8 @@ pub fn replaced_by_declaration()
 {}
 
 /// What the names of a module mean is told by the files that it needs: over others that agree on these,
-/// the same is found at its names, it exports the same, and the same stands behind the instances that
-/// it reaches.
+/// the same is found at its names, and it is the same to others: what it exports, its parameters, and
+/// what stands at each path of names through instances.
 pub fn asks_needed()
     ensures { (source : List ℕ) → (units : ModuleUnits) → AsksNeeded source units }
 {}
