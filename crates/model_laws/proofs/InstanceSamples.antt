@@ -1,8 +1,9 @@
--- Sample modules with INSTANCE, with what their names mean. They are written as those of `NameSamples` are. Of the files,
+-- Sample modules with INSTANCE, with what their names mean. They are written as those of `NameSamples` are. Of `files`,
 -- P declares a constant c and defines F, Q defines G, and R declares c and has an instance J of P; S declares a constant c
--- and a variable x, and T a constant `+`; X extends Q and declares c.
+-- and a variable x, and T a constant `+`; X extends Q and declares c. Where modules name one another, each is read over
+-- the others.
 use Rattle.std.proofs.Common.{◌≡◌, ℕ, List, [], ◌∷◌, refl, map, if◌then◌else◌}
-use Rattle.std.specs.Prelude.{None, Some, codes}
+use Rattle.std.specs.Prelude.{◌++◌, None, Some, codes, take}
 use Rattle.std.specs.Str.{bytes_eq}
 use Rattle.tla_symbols.specs.declared.lexeme.Lexeme.{Lexeme}
 use Rattle.tla_symbols.specs.declared.op.Op.TheVariants as Op
@@ -250,6 +251,111 @@ parameters_round_it_are_none = refl
 -- MODULE N | MODULE O | CONSTANT d | end | end | MODULE O | CONSTANT e | end | I == INSTANCE O
 nested_module_that_is_visible : found (codes "MNOdOeIO") (begin 1 ∷ begin 2 ∷ constant 3 ∷ end ∷ end ∷ begin 4 ∷ constant 5 ∷ end ∷ named_unit 6 (instance 7 (one (with 5 number))) ∷ []) ≡ means 5 (entity.Constant 0) 4 ∷ []
 nested_module_that_is_visible = refl
+
+-- ---- modules that name one another
+
+-- these files, and the module of this text over them; its name is the first letter
+abbrev read : List ℕ → List Lexeme → List UnitTree → (List ℕ → ModuleView) → List ℕ → ModuleView
+read text extends units others file = if bytes_eq file (take 1 text) then outside_in others text (module_with extends units) else others file
+
+abbrev none : List ℕ → ModuleView
+none file = nothing
+
+-- what another module names as an instance, and what it defines
+abbrev instance_there : List ℕ → ℕ → Meaning
+instance_there file place = there file instance_of_none place
+
+abbrev value_there : List ℕ → ℕ → Meaning
+value_there file place = there file value_of place
+
+-- `I!J!F`
+abbrev long_path : ℕ → ℕ → ℕ → Tree
+long_path first second third = identifier (three (segment first Nil) (segment second Nil) (segment third Nil))
+
+-- P: G == 1. Q: H == 1
+abbrev with_values : List ℕ → ModuleView
+with_values = read (codes "QH") [] (defined 1 ∷ []) (read (codes "PG") [] (defined 1 ∷ []) none)
+
+-- M: I == INSTANCE of this file. B: LOCAL INSTANCE M | F == 1. C: EXTENDS B
+abbrev with_instance_of : List ℕ → List ℕ → ModuleView
+with_instance_of file =
+    read (codes "CB") (at 1 ∷ []) [] (
+    read (codes "BMF") [] (Instance (Some (at 0)) (instance 1 Nil) ∷ defined 2 ∷ []) (
+    read (codes "MI" ++ file) [] (named_unit 1 (instance 2 Nil) ∷ []) with_values))
+
+-- D: EXTENDS C, M | U == I!G
+abbrev found_behind_both : List ℕ → List Finding
+found_behind_both file = findings (with_instance_of file) (codes "DCMUIG") (module_with (at 1 ∷ at 2 ∷ []) (define 3 (path 4 5) ∷ []))
+
+-- M: I == INSTANCE P
+instance_by_extends : found_behind_both (codes "P") ≡ Means (at 4) (instance_there (codes "M") 0) ∷ Means (at 5) (behind 1 (value_there (codes "P") 0)) ∷ []
+instance_by_extends = refl
+
+-- M: I == INSTANCE Q
+instance_of_another_module : faults (found_behind_both (codes "Q")) ≡ record { code = 401; span = record { start = 5; end = 6 } } ∷ []
+instance_of_another_module = refl
+
+-- C is the same to others, whatever I is in M
+local_instances_tell_nothing : with_instance_of (codes "P") (codes "C") ≡ with_instance_of (codes "Q") (codes "C")
+local_instances_tell_nothing = refl
+
+-- and nothing stands at I in B
+nothing_at_local_names : (with_instance_of (codes "Q") (codes "B")).entries (Word (codes "I") ∷ []) ≡ []
+nothing_at_local_names = refl
+
+-- Q: F == 1 | H == 1. P: MODULE L EXTENDS Q | end | G == 1. N: EXTENDS P. M: EXTENDS N | I == INSTANCE Q
+abbrev with_nested : List ℕ → ModuleView
+with_nested =
+    read (codes "MNIQ") (at 1 ∷ []) (named_unit 2 (instance 3 Nil) ∷ []) (
+    read (codes "NP") (at 1 ∷ []) [] (
+    read (codes "PLQG") [] (ModuleBegin (at 1) (at 2 ∷ []) ∷ end ∷ defined 3 ∷ []) (
+    read (codes "QFH") [] (defined 1 ∷ defined 2 ∷ []) none)))
+
+-- O: EXTENDS M | U == I!H
+extended_by_a_nested_module_too : findings with_nested (codes "OMUIH") (module_with (at 1 ∷ []) (define 2 (path 3 4) ∷ [])) ≡ Means (at 3) (instance_there (codes "M") 0) ∷ Means (at 4) (behind 1 (value_there (codes "Q") 1)) ∷ []
+extended_by_a_nested_module_too = refl
+
+-- B: CONSTANT c | F == c
+abbrev with_constant : List ℕ → ModuleView
+with_constant = read (codes "BcFc") [] (constant 1 ∷ define 2 (bare 3) ∷ []) none
+
+-- A: EXTENDS B | MODULE N EXTENDS B | G == F | end | I == INSTANCE N WITH c <- 1
+constant_of_both_is_not_replaced : faults (findings with_constant (codes "ABNBGFINc") (module_with (at 1 ∷ []) (ModuleBegin (at 2) (at 3 ∷ []) ∷ define 4 (bare 5) ∷ end ∷ named_unit 6 (instance 7 (one (with 8 number))) ∷ []))) ≡ record { code = 405; span = record { start = 8; end = 9 } } ∷ []
+constant_of_both_is_not_replaced = refl
+
+-- Q: G == 1. S: J == INSTANCE Q. R: EXTENDS S
+abbrev with_paths : List ℕ → ModuleView
+with_paths =
+    read (codes "RS") (at 1 ∷ []) [] (
+    read (codes "SJQ") [] (named_unit 1 (instance 2 Nil) ∷ []) (
+    read (codes "QG") [] (defined 1 ∷ []) none))
+
+abbrev s_j : Meaning
+s_j = instance_there (codes "S") 0
+
+-- K == INSTANCE R | U == K!J!G
+through_two_instances : findings with_paths (codes "MKRUKJG") (module_with [] (named_unit 1 (instance 2 Nil) ∷ define 3 (long_path 4 5 6) ∷ [])) ≡ means 4 instance_of_none 0 ∷ Means (at 5) s_j ∷ Means (at 6) (behind 1 q_g) ∷ []
+through_two_instances = refl
+
+-- K == INSTANCE R | U == K!G!J
+segment_that_is_not_there : findings with_paths (codes "MKRUKGJ") (module_with [] (named_unit 1 (instance 2 Nil) ∷ define 3 (long_path 4 5 6) ∷ [])) ≡ means 4 instance_of_none 0 ∷ unknown 5 ∷ []
+segment_that_is_not_there = refl
+
+-- INSTANCE R | U == J!G
+brought_with_what_stands_behind : findings with_paths (codes "MRUJG") (module_with [] (unit (instance 1 Nil) ∷ define 2 (path 3 4) ∷ [])) ≡ Means (at 3) s_j ∷ Means (at 4) (behind 1 q_g) ∷ []
+brought_with_what_stands_behind = refl
+
+-- U == LET K == INSTANCE R IN K!J!G | V == K!J
+paths_in_let : findings with_paths (codes "MUKRKJGVKJ") (module_with [] (define 1 (let_in (two (named 2 (one (instance 3 Nil))) (long_path 4 5 6))) ∷ define 7 (path 8 9) ∷ [])) ≡ means 4 instance_of_none 1 ∷ Means (at 5) s_j ∷ Means (at 6) (behind 1 q_g) ∷ unknown 8 ∷ []
+paths_in_let = refl
+
+-- MODULE N | J == INSTANCE Q | end | K == INSTANCE N | U == K!J!G
+instance_in_a_nested_module : findings with_paths (codes "MNJQKNUKJG") (module_with [] (begin 1 ∷ named_unit 2 (instance 3 Nil) ∷ end ∷ named_unit 4 (instance 5 Nil) ∷ define 6 (long_path 7 8 9) ∷ [])) ≡ means 7 instance_of_none 2 ∷ Means (at 8) (own instance_of_none 1) ∷ Means (at 9) (behind 1 q_g) ∷ []
+instance_in_a_nested_module = refl
+
+-- MODULE N | LOCAL J == INSTANCE Q | end | K == INSTANCE N | U == K!J!G
+local_instance_in_a_nested_module : findings with_paths (codes "MNJQKNUKJG") (module_with [] (begin 1 ∷ ModuleDefinition (Some (at 0)) (named 2 (one (instance 3 Nil))) ∷ end ∷ named_unit 4 (instance 5 Nil) ∷ define 6 (long_path 7 8 9) ∷ [])) ≡ means 7 instance_of_none 2 ∷ unknown 8 ∷ []
+local_instance_in_a_nested_module = refl
 
 -- ---- faults
 
