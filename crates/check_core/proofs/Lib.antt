@@ -1,2 +1,1 @@
 mod Checking
-mod Facing

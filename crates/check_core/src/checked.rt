@@ -3,14 +3,12 @@ ghost use Rattle.std.specs.Prelude.{◌≡◌, [], ◌+◌, ◌-◌, ◌^◌, mi
 ghost use Rattle.unit_grammar.specs.UnitNodes.{module_of};
 ghost use Rattle.tla_model.specs.Lexemes.{spelled};
 ghost use Rattle.module_model.specs.Given.{IsReadable, IsWithoutInstances};
-ghost use Rattle.module_model.specs.Exports.{parts_behind};
-ghost use Rattle.module_graph.specs.Imports.{imports_of};
 ghost use Rattle.module_facts.specs.Checks.{IsChecked, given_in};
-ghost use Rattle.module_faces.specs.Faces.{IsFaceOf};
-ghost use Rattle.check_core.specs.Outcomes.{IsRefused, IsResolved};
+ghost use Rattle.module_faces.specs.Faces.{IsFace};
+ghost use Rattle.check_core.specs.Outcomes.{IsRefused, IsResolved, shown};
 ghost use Rattle.std.specs.Arc.{arc_value};
 
-use module_faces::{import_faults, no_face, shared_face};
+use module_faces::{import_faults, shared_face};
 use module_graph::{lexemes_lie_names, named_modules};
 use module_model::{Bound, Face, Imported, in_order};
 use std::alloc::Global;
@@ -19,12 +17,11 @@ use std::sync::Arc;
 use step_count::Steps;
 use symbol_scope::{Resolved, resolve};
 use tla_model::{Decl, Diagnostic, Use};
-use tla_symbols::Lexeme;
 use tla_tree::ModuleTree;
 use tool_list::{List, Memory};
 
 /// What a check of a module found. Only `check_module` makes one. Contracts see its faults, uses and
-/// declarations, and the parts of its face.
+/// declarations, and its face.
 #[derive(Drop)]
 pub struct Checked {
     faults: List<Diagnostic>,
@@ -39,7 +36,7 @@ impl Model for Checked {
 
     ghost Value = { CheckedModule };
 
-    ghost view = { λ c. record { faults = c.faults; uses = c.uses; decls = c.decls; parts = (arc_value c.face).parts } };
+    ghost view = { λ c. record { faults = c.faults; uses = c.uses; decls = c.decls; face = arc_value c.face } };
 }
 
 impl Checked {
@@ -68,7 +65,7 @@ impl Checked {
 
     /// What the module exports, where it is accepted.
     pub fn face(&self) -> &Arc<Face>
-        ensures { (arc_value result.now).parts ≡ self.now.parts }
+        ensures { arc_value result.now ≡ self.now.face }
     {
         &self.face
     }
@@ -76,8 +73,8 @@ impl Checked {
 
 // A module without uses and declarations, which has these faults in some order.
 fn without_names(alloc: Global, faults: List<Diagnostic>, face: Arc<Face>) -> Checked
-    requires { (arc_value face).parts ≡ [] }
-    ensures { IsRefused faults result }
+    ensures found { IsRefused faults result }
+    ensures face { result.face ≡ arc_value face }
 {
     Checked {
         faults: in_order(faults),
@@ -87,11 +84,12 @@ fn without_names(alloc: Global, faults: List<Diagnostic>, face: Arc<Face>) -> Ch
     }
 }
 
-// A module with faults of imports.
-fn refused(alloc: Global, faults: List<Diagnostic>) -> Result<Checked, Memory>
-    ensures { IfOk result (λ checked. IsRefused faults checked) }
+// A module with faults of imports, which exports nothing.
+fn refused(alloc: Global, name: &str, faults: List<Diagnostic>) -> Result<Checked, Memory>
+    ensures found { IfOk result (λ checked. IsRefused faults checked) }
+    ensures face { IfOk result (λ checked. IsFace name.now [] checked.face) }
 {
-    let face = Arc::new(alloc, no_face(alloc))?;
+    let face = shared_face(alloc, name, None)?;
     Ok(without_names(alloc, faults, face))
 }
 
@@ -100,7 +98,7 @@ fn with_names(bound: Bound, face: Arc<Face>) -> Checked
     ensures faults { result.faults ≡ bound.faults }
     ensures uses { result.uses ≡ bound.uses }
     ensures decls { result.decls ≡ bound.decls }
-    ensures parts { result.parts ≡ (arc_value face).parts }
+    ensures face { result.face ≡ arc_value face }
 {
     Checked {
         faults: bound.faults,
@@ -110,30 +108,29 @@ fn with_names(bound: Bound, face: Arc<Face>) -> Checked
     }
 }
 
-// A module whose imports are accepted, by the names of the modules that it needs.
+// A module whose imports are accepted.
 fn resolved(
     alloc: Global,
     name: &str,
     tree: &ModuleTree,
     imported: &Imported,
-    needed: &[Lexeme],
 ) -> Result<Checked, Memory>
     requires readable { IsReadable tree.now }
     requires instances { IsWithoutInstances imported.now (module_of tree.now) }
-    requires name { spelled tree.now.source tree.now.name ≡ name.now }
-    requires needed { needed.now ≡ imports_of tree.now.source (module_of tree.now) }
-    ensures { IfOk result
+    ensures found { IfOk result
         (λ checked. IsResolved imported.now tree.now.source (module_of tree.now) checked) }
+    ensures face { IfOk result (λ checked. IsFace name.now
+        (shown imported.now tree.now.source (module_of tree.now) checked.faults) checked.face) }
 {
     let found = resolve(alloc, tree, imported)?;
     let Resolved { bound, exports } = found;
-    let face = shared_face(alloc, name, tree, imported, needed, exports)?;
+    let face = shared_face(alloc, name, exports)?;
     Ok(with_names(bound, face))
 }
 
-/// Checks a module without INSTANCE over the modules that it names, which is one step. An accepted
-/// module has its face, which brings no instance, and another one a face of no parts. `Memory` comes
-/// where there was no room.
+/// Checks a module without INSTANCE over the modules that it names, which is one step. The face of an
+/// accepted module has what it exports, and that of another one nothing; it reaches no instance. `Memory`
+/// comes where there was no room.
 pub fn check_module<L>(
     alloc: Global,
     name: &str,
@@ -146,10 +143,8 @@ pub fn check_module<L>(
     requires name { spelled tree.now.source tree.now.name ≡ name.now }
     ensures checked { IfOk result (λ checked. IsChecked (given_in imported.now) tree.now.source
         (module_of tree.now) checked) }
-    ensures face { IfOk result
-        (λ checked. IsFaceOf imported.now tree.now.source (module_of tree.now) checked.faults
-        checked.parts) }
-    ensures behind { IfOk result (λ checked. parts_behind checked.parts checked.parts ≡ []) }
+    ensures face { IfOk result (λ checked. IsFace name.now
+        (shown imported.now tree.now.source (module_of tree.now) checked.faults) checked.face) }
     ensures tick { steps.new ≡ min (steps.old + 1) (2 ^ 64 - 1) }
 {
     steps.tick();
@@ -157,7 +152,7 @@ pub fn check_module<L>(
     let named = named_modules(alloc, tree)?;
     let faults = import_faults(alloc, tree, imported, &named)?;
     if !faults.is_empty() {
-        return refused(alloc, faults);
+        return refused(alloc, name, faults);
     }
-    resolved(alloc, name, tree, imported, named.needed.as_slice())
+    resolved(alloc, name, tree, imported)
 }

@@ -47,7 +47,7 @@ use Rattle.family_check.proofs.Sums.{sum-map, sum-members}
 
 -- what is said of a module that was checked is found of it
 pub tree-outcome : (family : List Member) (name : List ℕ) (tree : ModuleTree) (needs : List (List ℕ)) (imports : Imports) (ch : CheckedModule) (r : Result outcome.the_data Memory) → IsMember family name (reading.Tree tree) needs → AreImports family name needs imports → IsChecked (given_in imports) tree.source (module_of tree) ch →
-    ((outside : ModuleView) → (ch.faults ≡ [] → face_outside ch.parts ≡ outside) → IfOk r (Says ch.faults outside)) → IfOk r (IsOutcome family name)
+    ((outside : ModuleView) → (ch.faults ≡ [] → face_outside ch.face ≡ outside) → IfOk r (Says ch.faults outside)) → IfOk r (IsOutcome family name)
 tree-outcome family name tree needs imports ch (Err e) h imported k says = tt
 tree-outcome family name tree needs imports ch (Ok o) h imported k says =
     let m : Member = h.member in

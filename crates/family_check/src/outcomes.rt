@@ -1,6 +1,6 @@
 // What is found of the modules of a family, one after another.
 ghost use Rattle.std.specs.Prelude.{◌≡◌, ◌∷◌, [], false, ℕ, List as ListOf, IfOk};
-ghost use Rattle.module_model.specs.Exports.{ModuleView, face_outside, parts_behind};
+ghost use Rattle.module_model.specs.Exports.{ModuleView, face_instances, face_outside};
 ghost use Rattle.tla_model.specs.ModuleNames.{holds_instance};
 ghost use Rattle.unit_grammar.specs.UnitNodes.{module_of};
 ghost use Rattle.std.specs.List.{All};
@@ -30,9 +30,9 @@ fn lone_fault(alloc: Global, fault: Diagnostic) -> Result<List<Diagnostic>, Memo
 
 // What was found of a module that was checked.
 fn outcome_of(alloc: Global, checked: &Checked) -> Result<Outcome, Memory>
-    requires { parts_behind checked.now.parts checked.now.parts ≡ [] }
+    requires { face_instances checked.now.face ≡ [] }
     ensures says { (outside : ModuleView)
-        → (checked.now.faults ≡ [] → face_outside checked.now.parts ≡ outside)
+        → (checked.now.faults ≡ [] → face_outside checked.now.face ≡ outside)
         → IfOk result (outcomes_of.Says checked.now.faults outside) }
     ensures bare { IfOk result outcomes_of.IsBare }
 {

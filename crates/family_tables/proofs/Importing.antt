@@ -8,7 +8,7 @@ use Rattle.std.proofs.lemmas.List.{take_more}
 use Rattle.std.proofs.lemmas.Option.{slice_get-get_or}
 use Rattle.std.proofs.lemmas.List.Elements.{Contains-append_left, Contains-append_right}
 use Rattle.module_model.specs.declared.imported.Import.{Import}
-use Rattle.module_model.specs.Exports.{face_outside, import_behind}
+use Rattle.module_model.specs.Exports.{face_outside, import_instances}
 use Rattle.module_model.specs.Imports.{Imports, import_of}
 use Rattle.module_facts.specs.Checks.{ImportStatus, Unknown, Cyclic, Refused, Accepted, given_by, given_in}
 use Rattle.list_laws.proofs.Texts.{same-text, text-itself}
@@ -30,7 +30,7 @@ use Rattle.family_tables.proofs.Bridging.{cyclic-map, cyclic-there, diagnosed-th
 -- what a module is by its outcome
 abbrev pub IsGivenBy : outcome.the_data → ImportStatus → Type 0
 IsGivenBy (outcome.Refused faults) given = given ≡ Refused
-IsGivenBy (outcome.Accepted face) given = given ≡ Accepted (face_outside (arc_value face).parts)
+IsGivenBy (outcome.Accepted face) given = given ≡ Accepted (face_outside (arc_value face))
 
 -- what is asked of a plan of the modules
 abbrev pub SaysCyclic : Plan → List ℕ → List ℕ → Bool → Type 0
@@ -81,9 +81,9 @@ import-append (entry ∷ imports) name item import none = ⊎_elim
 pub bare-more : (imports : Imports) (item : List ℕ) (import : Import) (imports' : Imports) → import_of imports item ≡ None → imports' ≡ imports ++ (item, import) ∷ [] → IsBareImport import → AreBareImports imports → AreBareImports imports'
 bare-more imports item import imports' none e new bare name =
     let value : import_of imports' name ≡ cond (bytes_eq name item) (Some import) (import_of imports name) = ap (λ z. import_of z name) e ∙ import-append imports name item import none in
-    ap import_behind value ∙ by (bytes_eq name item)
+    ap import_instances value ∙ by (bytes_eq name item)
   where
-    by : (b : Bool) → import_behind (cond b (Some import) (import_of imports name)) ≡ []
+    by : (b : Bool) → import_instances (cond b (Some import) (import_of imports name)) ≡ []
     by true = new
     by false = bare name
 

@@ -4,7 +4,7 @@ use Rattle.std.specs.List.{All}
 use Rattle.std.specs.Arc.{arc_value}
 use Rattle.tla_model.specs.declared.Diagnostic.{Diagnostic}
 use Rattle.module_model.specs.declared.imported.Import.{Import}
-use Rattle.module_model.specs.Exports.{ModuleView, face_outside, import_behind, parts_behind}
+use Rattle.module_model.specs.Exports.{ModuleView, face_instances, face_outside, import_instances}
 use Rattle.module_model.specs.Imports.{Imports, import_of}
 use Rattle.module_facts.specs.Checks.{Unknown, given_by, given_in}
 use Rattle.family_facts.specs.Family as families
@@ -24,7 +24,7 @@ use Rattle.family_facts.specs.declared.verdict.Verdict.{Verdict}
 -- an outcome says these faults, and what the module is to others where there are none
 abbrev pub Says : List Diagnostic → ModuleView → Outcome → Type 0
 Says faults outside (Outcome.Refused found) = (found ≡ faults) × (faults ≢ [])
-Says faults outside (Outcome.Accepted face) = (faults ≡ []) × (face_outside (arc_value face).parts ≡ outside)
+Says faults outside (Outcome.Accepted face) = (faults ≡ []) × (face_outside (arc_value face) ≡ outside)
 
 -- an outcome says what is found of the member of a name
 pub record IsOutcome (family : List Member) (name : List ℕ) (outcome : Outcome) : Type 0 where
@@ -37,7 +37,7 @@ pub record IsOutcome (family : List Member) (name : List ℕ) (outcome : Outcome
 -- an outcome brings no instance
 abbrev pub IsBare : Outcome → Type 0
 IsBare (Outcome.Refused found) = ⊤
-IsBare (Outcome.Accepted face) = parts_behind (arc_value face).parts (arc_value face).parts ≡ []
+IsBare (Outcome.Accepted face) = face_instances (arc_value face) ≡ []
 
 -- no outcome of these brings an instance
 abbrev pub AreBare : List (List ℕ × Outcome) → Type 0
@@ -45,11 +45,11 @@ AreBare outcomes = (name : List ℕ) (outcome : Outcome) → entry_of outcomes n
 
 -- nor does an import
 abbrev pub IsBareImport : Import → Type 0
-IsBareImport import = import_behind (Some import) ≡ []
+IsBareImport import = import_instances (Some import) ≡ []
 
 -- no import of these brings an instance
 abbrev pub AreBareImports : Imports → Type 0
-AreBareImports imports = (name : List ℕ) → import_behind (import_of imports name) ≡ []
+AreBareImports imports = (name : List ℕ) → import_instances (import_of imports name) ≡ []
 
 -- the word INSTANCE stands in none of these modules
 abbrev pub AreWithoutInstances : List Entry → Type 0

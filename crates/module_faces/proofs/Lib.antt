@@ -1,3 +1,1 @@
 mod Lying
-mod Holding
-pub mod Bare

@@ -4,6 +4,7 @@ use Rattle.tla_symbols.specs.declared.lexeme.Lexeme.{Lexeme}
 use Rattle.tla_model.specs.declared.Diagnostic.{Diagnostic}
 use Rattle.tla_model.specs.declared.entity.Decl.{Decl}
 use Rattle.tla_model.specs.declared.entity.Use.{Use}
+use Rattle.module_model.specs.declared.face.Face.{Face}
 use Rattle.module_model.specs.declared.imported.Import.{Import}
 use Rattle.module_model.specs.Bindings.{fault_at, decls, faults, resolved}
 use Rattle.tla_model.specs.Entities.{declaring}
@@ -11,7 +12,6 @@ use Rattle.module_model.specs.Exports.{ModuleView, face_outside, nothing}
 use Rattle.module_model.specs.Imports.{Imports, import_of}
 use Rattle.tla_model.specs.Lexemes.{spelled}
 use Rattle.module_model.specs.Modules.{text_of}
-use Rattle.module_model.specs.Parts.{PartView}
 use Rattle.module_model.specs.Resolution.{findings, outside_in}
 use Rattle.module_graph.specs.Imports.{enclosing_of, imports_of}
 use Rattle.unit_grammar.specs.Units.{ModuleUnits}
@@ -31,7 +31,7 @@ given_by None = Unknown
 given_by (Some Import.Unknown) = Unknown
 given_by (Some Import.Cyclic) = Cyclic
 given_by (Some Import.Refused) = Refused
-given_by (Some (Import.Module face)) = Accepted (face_outside (arc_value face).parts)
+given_by (Some (Import.Module face)) = Accepted (face_outside (arc_value face))
 
 -- what the modules are that are imported under their names
 abbrev pub given_in : Imports → List ℕ → ImportStatus
@@ -98,11 +98,11 @@ pub record CheckedModule : Type 0 where
   pub faults : List Diagnostic
   pub uses : List Use
   pub decls : List Decl
-  pub parts : List PartView
+  pub face : Face
 
 -- a module that was checked, by what the modules are that it names; it is something to others where it is accepted
 pub record IsChecked (given : List ℕ → ImportStatus) (source : List ℕ) (units : ModuleUnits) (checked : CheckedModule) : Type 0 where
   pub faults : checked.faults ≡ in_order (all_faults given source units)
   pub uses : checked.uses ≡ all_uses given source units
   pub decls : checked.decls ≡ all_decls given source units
-  pub outside : checked.faults ≡ [] → face_outside checked.parts ≡ outside_in (files_given given) source units
+  pub outside : checked.faults ≡ [] → face_outside checked.face ≡ outside_in (files_given given) source units

@@ -1,3 +1,2 @@
 mod Importing
 pub mod Ordering
-mod Parting

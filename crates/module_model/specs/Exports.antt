@@ -1,13 +1,13 @@
 -- What modules are to those that name them, and where it comes from for the imported ones: from their faces.
-use Rattle.std.specs.Prelude.{ℕ, Bool, true, false, List, [], ◌∷◌, ◌++◌, Option, Some, None, filter, if◌then◌else◌, slice_get}
+use Rattle.std.specs.Prelude.{ℕ, Bool, true, false, List, [], ◌∷◌, ◌++◌, Option, Some, None, filter, if◌then◌else◌, map}
 use Rattle.tla_symbols.specs.declared.op.Op.{Op}
 use Rattle.tla_model.specs.declared.names.Meaning.TheVariants.{BuiltIn, Declared}
 use Rattle.tla_model.specs.declared.entity.Entity.TheVariants as entity
+use Rattle.module_model.specs.declared.face.Face.{Face}
 use Rattle.module_model.specs.declared.face.Instance.{Instance}
 use Rattle.tla_model.specs.declared.ids.DeclId.{DeclId}
 use Rattle.module_model.specs.declared.imported.Import.{Import}
 use Rattle.module_model.specs.Imports.{Imports, import_of}
-use Rattle.module_model.specs.Parts.{PartView, last}
 use Rattle.tla_model.specs.Tables.{Table, Named, Word, Symbol, lookup, same_named}
 use Rattle.tla_model.specs.Entities.{Entity, Meaning, same_decl}
 use Rattle.std.specs.Arc.{arc_value}
@@ -136,45 +136,29 @@ of_symbols (entry ∷ rest) = (Symbol entry.0, entry.1) ∷ of_symbols rest
 abbrev pub exports_of : Table Meaning → Exports
 exports_of table = of_words table.words ++ of_symbols table.symbols
 
+-- what a table exports, if there is one
+abbrev pub exported_by : Option (Table Meaning) → Exports
+exported_by None = []
+exported_by (Some table) = exports_of table
+
 -- ---- faces
 
--- what a part exports, if there is one
-abbrev pub part_shows : Option PartView → Exports
-part_shows None = []
-part_shows (Some part) = exports_of part.interface.exports
-
--- the last part of a face is the module's own
-abbrev pub face_exports : List PartView → Exports
-face_exports parts = part_shows (last parts)
-
--- what the part at a place exports
-abbrev pub part_exports : List PartView → Option ℕ → Exports
-part_exports parts None = []
-part_exports parts (Some place) = part_shows (slice_get parts place)
-
--- the instances of a face by their declarations, each with the entries that stand behind it
+-- instances by their declarations, each with the entries that stand behind it
 abbrev pub Instances : Type 0
 Instances = List (DeclId × Exports)
+
+-- an instance that a face reaches
+abbrev pub standing : Instance → DeclId × Exports
+standing instance = (instance.name, instantiable (exports_of instance.exports))
+
+-- the instances of a face
+abbrev pub face_instances : Face → Instances
+face_instances face = map (λ shared. standing (arc_value shared)) face.instances
 
 -- what is found, and no entries where nothing is
 abbrev pub or_none : Option Exports → Exports
 or_none None = []
 or_none (Some exports) = exports
-
--- under the name of an instance, what stands behind it; one without a name has nothing behind it
-abbrev pub under : Option DeclId → Exports → Instances
-under None exports = []
-under (Some decl) exports = (decl, exports) ∷ []
-
--- behind the instances of a part, whose modules have these places among the parts
-abbrev pub part_behind : List PartView → List ℕ → List Instance → Instances
-part_behind parts places [] = []
-part_behind parts places (instance ∷ rest) = under instance.name (instantiable (part_exports parts (slice_get places instance.«module»))) ++ part_behind parts places rest
-
--- behind the instances of these parts, whose modules have their places among all parts of the face
-abbrev pub parts_behind : List PartView → List PartView → Instances
-parts_behind all [] = []
-parts_behind all (part ∷ rest) = part_behind all part.places part.interface.instances ++ parts_behind all rest
 
 -- what stands behind a name that means this, among the instances of a face
 abbrev pub found_behind : Instances → Option Meaning → Exports
@@ -188,18 +172,18 @@ entries_along instances entries [] = entries
 entries_along instances entries (name ∷ path) = entries_along instances (found_behind instances (entry_of entries name)) path
 
 -- what a module with this face is to one that names it
-abbrev pub face_outside : List PartView → ModuleView
-face_outside parts = record { entries = entries_along (parts_behind parts parts) (face_exports parts); parameters = parameters_in (face_exports parts) }
+abbrev pub face_outside : Face → ModuleView
+face_outside face = record { entries = entries_along (face_instances face) (exports_of face.exports); parameters = parameters_in (exports_of face.exports) }
 
 -- what an import is to the module that names it; one at fault is nothing
 abbrev pub import_outside : Option Import → ModuleView
-import_outside (Some (Import.Module face)) = face_outside (arc_value face).parts
+import_outside (Some (Import.Module face)) = face_outside (arc_value face)
 import_outside _ = nothing
 
 -- the instances that an import brings
-abbrev pub import_behind : Option Import → Instances
-import_behind (Some (Import.Module face)) = parts_behind (arc_value face).parts (arc_value face).parts
-import_behind _ = []
+abbrev pub import_instances : Option Import → Instances
+import_instances (Some (Import.Module face)) = face_instances (arc_value face)
+import_instances _ = []
 
 -- the imported module of a name
 abbrev pub files_of : Imports → List ℕ → ModuleView

@@ -3,7 +3,7 @@ use Rattle.std.specs.Prelude.{◌≡◌, ◌<◌, ◌^◌, ℕ, List, [], false,
 use Rattle.tla_tree.specs.declared.unit.ModuleTree.{ModuleTree}
 use Rattle.unit_grammar.specs.UnitNodes.{HasNodes, module_of}
 use Rattle.tla_model.specs.Entities.{declaring}
-use Rattle.module_model.specs.Exports.{import_behind}
+use Rattle.module_model.specs.Exports.{import_instances}
 use Rattle.module_model.specs.Imports.{Imports, import_of}
 use Rattle.tla_model.specs.Lexemes.{LexemesLie}
 use Rattle.tla_model.specs.ModuleNames.{holds_instance}
@@ -18,4 +18,4 @@ pub record IsReadable (tree : ModuleTree) : Type 0 where
 -- the word INSTANCE does not stand in it, and the modules that it names bring no instance
 pub record IsWithoutInstances (imports : Imports) (units : ModuleUnits) : Type 0 where
   pub none : holds_instance units ≡ false
-  pub behind : (name : List ℕ) → import_behind (import_of imports name) ≡ []
+  pub behind : (name : List ℕ) → import_instances (import_of imports name) ≡ []

@@ -1,5 +1,4 @@
 pub mod Imports
-pub mod Parts
 pub mod Exports
 pub mod Modules
 pub mod Instances

@@ -8,10 +8,8 @@ mod bound;
 mod face;
 mod imported;
 mod order;
-mod parts;
 
 pub use bound::{Bound, Implied};
-pub use face::{Definition, Face, Instance, Interface, NodeMeaning, Part, Replacement};
+pub use face::{Face, Instance, Replacement};
 pub use imported::{Import, Imported};
 pub use order::in_order;
-pub use parts::Parts;

@@ -8,7 +8,7 @@ use Rattle.module_model.specs.declared.imported.Import.{Import}
 use Rattle.tla_model.specs.Tables.{AreNew, Table, Named as Name}
 use Rattle.tla_model.specs.Entities.{Meaning}
 use Rattle.module_scope.specs.Environments.{Environment}
-use Rattle.module_model.specs.Exports.{Exports, exports_of, face_exports}
+use Rattle.module_model.specs.Exports.{Exports, exports_of}
 use Rattle.module_model.specs.Modules.{Reading, brings_clash, clashes, extended, with_entry}
 use Rattle.name_exports.specs.declared.exported.Names.{Names}
 use Rattle.name_context.specs.AsTables.{AreApart, behind, context_of, first_words, usable_words}
@@ -24,7 +24,7 @@ shown_by (Some table) = exports_of table.now
 
 -- what an imported module exports
 abbrev pub import_exports : Option Import → Exports
-import_exports (Some (Import.Module face)) = face_exports (arc_value face).parts
+import_exports (Some (Import.Module face)) = exports_of (arc_value face).exports
 import_exports _ = []
 
 -- module names that are taken, and what those export that can be named

@@ -1,7 +1,7 @@
 // The names that other modules bring.
 ghost use Rattle.std.specs.Prelude.{◌≡◌, ◌||◌, ℕ, List as ListOf, IfOk, OnOk, drop};
 ghost use Rattle.std.specs.Option.{option_copied};
-ghost use Rattle.module_model.specs.Exports.{exports_of, face_exports, of_symbols, of_words};
+ghost use Rattle.module_model.specs.Exports.{exports_of, of_symbols, of_words};
 ghost use Rattle.module_model.specs.Modules.{clashes};
 ghost use Rattle.name_exports.specs.Brought.{import_exports};
 ghost use Rattle.name_context.specs.AsTables.{context_of, meant_by, taken_words, words_of};
@@ -10,7 +10,7 @@ ghost use Rattle.name_exports.specs.Brought.{AreFirst, IsBrought, ModuleNames, a
 use crate::exported::{Exported, Names};
 use crate::same::differs;
 use indexmap::IndexMap;
-use module_model::{Import, Parts};
+use module_model::Import;
 use name_context::Named;
 use std::alloc::Global;
 use tla_model::{Meaning, NameTable};
@@ -173,22 +173,12 @@ pub fn bring_nested<'a>(
     Ok(either(either(first, behind), symbols))
 }
 
-// The table of what the module of these parts exports.
-fn exports_of_parts(parts: &Parts) -> Option<&NameTable>
-    ensures { shown_by result ≡ face_exports parts.now }
-{
-    match parts.last() {
-        Some(part) => Some(&part.interface.exports),
-        None => None,
-    }
-}
-
 // The table of what an imported module exports.
 fn exports_of_import(import: Option<&Import>) -> Option<&NameTable>
     ensures { shown_by result ≡ import_exports (option_copied import.entry) }
 {
     match import {
-        Some(Import::Module(face)) => exports_of_parts(&face.parts),
+        Some(Import::Module(face)) => Some(&face.exports),
         _ => None,
     }
 }

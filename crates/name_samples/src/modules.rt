@@ -1,12 +1,11 @@
 // Imports by name, tables and lists in stretches, faults in order.
 use indexmap::IndexMap;
-use module_model::{Bound, Face, Import, Imported, Interface, Part, Parts, in_order};
+use module_model::{Bound, Face, Import, Imported, in_order};
 use std::alloc::Global;
 use std::process::Abort;
 use std::sync::Arc;
-use tla_model::{Callee, DeclId, Diagnostic, Entity, Meaning, ModuleId, NameTable};
+use tla_model::{Callee, DeclId, Diagnostic, Entity, Meaning, NameTable};
 use tla_symbols::Span;
-use tla_tree::Tree;
 use tool_list::{Chars, List, Memory, SharedList};
 
 fn crosses_threads<T: Send + Sync>() {}
@@ -22,65 +21,11 @@ fn crosses() {
 }
 
 // A module that exports nothing.
-fn interface(rt: &impl Abort, alloc: Global, name: &str) -> Interface {
-    Interface {
-        module: ModuleId {
-            module: Chars::from_str(alloc, name).expect(rt, name),
-            nested: None,
-        },
-        is_constant: true,
-        exports: NameTable::new(alloc),
-        definitions: List::new(alloc),
-        instances: List::new(alloc),
-        tree: Tree::new(alloc),
-        meanings: List::new(alloc),
-    }
-}
-
-// A part of such a module, with no places.
-fn part(rt: &impl Abort, alloc: Global, name: &str) -> Part {
-    Part {
-        interface: Arc::new(alloc, interface(rt, alloc, name)).expect(rt, name),
-        places: List::new(alloc),
-    }
-}
-
-// Parts with one more behind them.
-fn with_part(rt: &impl Abort, alloc: Global, parts: &Parts, name: &str) -> Parts {
-    let mut more = List::new(alloc);
-    more.push(part(rt, alloc, name)).expect(rt, name);
-    parts.extended(alloc, more).expect(rt, name)
-}
-
-// The name of the last of the parts.
-fn last_name<'a>(parts: &'a Parts) -> &'a str {
-    match parts.last() {
-        Some(part) => part.interface.module.module.as_str(),
-        None => "",
-    }
-}
-
-// The last of the parts has that name.
-fn ends(rt: &impl Abort, parts: &Parts, name: &str) {
-    assert!(rt; last_name(parts) == name, "{name}");
-}
-
-#[test]
-fn keeps_parts_in_order(rt: HostRuntime) {
-    let alloc = rt.alloc();
-    let one = with_part(&rt, alloc, &Parts::new(alloc), "A");
-    let two = with_part(&rt, alloc, &one, "B");
-    let parts = with_part(&rt, alloc, &two, "C");
-    ends(&rt, &one, "A");
-    ends(&rt, &two, "B");
-    ends(&rt, &parts, "C");
-    has_count(&rt, parts.stretches().len(), 2);
-}
-
-// A module that reaches no other.
 fn bare(rt: &impl Abort, alloc: Global, name: &str) -> Import {
     let face = Face {
-        parts: with_part(rt, alloc, &Parts::new(alloc), name),
+        module: Chars::from_str(alloc, name).expect(rt, name),
+        exports: NameTable::new(alloc),
+        instances: List::new(alloc),
     };
     Import::Module(Arc::new(alloc, face).expect(rt, name))
 }
@@ -92,7 +37,7 @@ fn shown<'a>(import: Option<&'a Import>) -> &'a str {
         Some(Import::Unknown) => "unknown",
         Some(Import::Cyclic) => "cyclic",
         Some(Import::Refused) => "refused",
-        Some(Import::Module(face)) => last_name(&face.parts),
+        Some(Import::Module(face)) => face.module.as_str(),
     }
 }
 

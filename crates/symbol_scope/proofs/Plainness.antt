@@ -18,14 +18,14 @@ use Rattle.tla_model.specs.ModuleNames.{holds_instance, instance_names, instance
 use Rattle.tla_model.specs.Scopes.{all_refused, behind, binders, use_findings, has_set, inside, itself, prefixed, reserved, scope, symbol_findings}
 use Rattle.tla_model.specs.Tables.{Named, lookup}
 use Rattle.module_scope.specs.Environments.{is_taken, meaning}
+use Rattle.module_model.specs.declared.face.Face.{Face}
 use Rattle.module_model.specs.declared.imported.Import.{Import}
-use Rattle.module_model.specs.Exports.{Behind, Exports, Known, ModuleView, Path, at_path, behind_meaning, entries_along, entry_of, exported, exports_by, exports_of, face_exports, face_outside, found_behind, import_behind, import_outside, is_instance, known_among, known_by, onward, parts_behind}
+use Rattle.module_model.specs.Exports.{Behind, Exports, Known, ModuleView, Path, at_path, behind_meaning, entries_along, entry_of, exported, exports_by, exports_of, face_instances, face_outside, found_behind, import_instances, import_outside, is_instance, known_among, known_by, onward}
 use Rattle.module_model.specs.Exports as given
 use Rattle.module_model.specs.Given.{IsWithoutInstances}
 use Rattle.module_model.specs.Imports.{Imports, import_of}
 use Rattle.module_model.specs.Instances.{all_named_instances, called_by, named_instance, named_instances, nested_view, paths_in, unit_trees}
 use Rattle.module_model.specs.Modules.{Place, Reading, all_clashing, joined, text_of, unread}
-use Rattle.module_model.specs.Parts.{PartView}
 use Rattle.module_model.specs.Resolution as whole
 use Rattle.module_model.specs.Resolution.{ReadState, view_or_nothing}
 use Rattle.module_model.specs.TreeFindings as trees
@@ -417,20 +417,20 @@ not-found (Some BuiltIn) = refl
 not-found (Some (Declared entity callee)) = refl
 
 -- behind the exports of a face without instances nothing stands
-pub face-bare : (parts : List PartView) → parts_behind parts parts ≡ [] → IsBareView (face_outside parts)
-face-bare parts none name path =
-    ap (λ instances. entries_along instances (found_behind instances (entry_of (face_exports parts) name)) path) none
-    ∙ ap (λ entries. entries_along [] entries path) (not-found (entry_of (face_exports parts) name)) ∙ nowhere path
+pub face-bare : (face : Face) → face_instances face ≡ [] → IsBareView (face_outside face)
+face-bare face none name path =
+    ap (λ instances. entries_along instances (found_behind instances (entry_of (exports_of face.exports) name)) path) none
+    ∙ ap (λ entries. entries_along [] entries path) (not-found (entry_of (exports_of face.exports) name)) ∙ nowhere path
 
 -- what an import reaches that brings no instance
-import-bare : (import' : Option Import) → import_behind import' ≡ [] → IsBareView (import_outside import')
+import-bare : (import' : Option Import) → import_instances import' ≡ [] → IsBareView (import_outside import')
 import-bare None none name path = refl
 import-bare (Some Import.Unknown) none name path = refl
 import-bare (Some Import.Cyclic) none name path = refl
 import-bare (Some Import.Refused) none name path = refl
-import-bare (Some (Import.Module face)) none name path = face-bare (arc_value face).parts none name path
+import-bare (Some (Import.Module face)) none name path = face-bare (arc_value face) none name path
 
-pub imports-bare : (imports : Imports) → ((name : List ℕ) → import_behind (import_of imports name) ≡ []) → (name : List ℕ) → IsBareView (given.files_of imports name)
+pub imports-bare : (imports : Imports) → ((name : List ℕ) → import_instances (import_of imports name) ≡ []) → (name : List ℕ) → IsBareView (given.files_of imports name)
 imports-bare imports none name = import-bare (import_of imports name) (none name)
 
 -- what is found of a module without INSTANCE is all that is found

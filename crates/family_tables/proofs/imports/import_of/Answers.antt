@@ -1,6 +1,6 @@
 use Rattle.std.proofs.Common.{◌∙◌, ap, refl, sym, Some}
 use Rattle.module_facts.specs.Checks.{Accepted, Refused}
-use Rattle.module_model.specs.Exports.{face_outside, parts_behind}
+use Rattle.module_model.specs.Exports.{face_instances, face_outside}
 use Rattle.std.specs.Arc.{arc_value}
 use Rattle.module_model.specs.declared.face.Face.{Face}
 use Rattle.family_tables.proofs.Importing.{import-cyclic, import-found, import-unknown}
@@ -23,10 +23,10 @@ returns-in-Some-Refused-clause-given c family ready n =
 pub returns-in_ok-clone-in-Some-Accepted-clause-given : goal.returns-in_ok-clone-in-Some-Accepted-clause-given
 returns-in_ok-clone-in-Some-Accepted-clause-given c family ready n =
     import-found family c.args.plan.now c.args.outcomes.now c.args.name.now c.args.need.now c.in_ok-is_cyclic.field-0 c.in_ok-is_cyclic.ensures ready n c.if-branch.false
-    (outcome.Accepted c.in-Some-Accepted.face) (Accepted (face_outside (arc_value c.in_ok-clone-in-Some-Accepted.field-0).parts)) (sym c.in-Some-Accepted.ensures ∙ ap (λ o. Some o) c.in-Some-Accepted.field-0-is)
-    (ap (λ (f : Face). Accepted (face_outside f.parts)) c.in_ok-clone-in-Some-Accepted.ensures.cases)
+    (outcome.Accepted c.in-Some-Accepted.face) (Accepted (face_outside (arc_value c.in_ok-clone-in-Some-Accepted.field-0))) (sym c.in-Some-Accepted.ensures ∙ ap (λ o. Some o) c.in-Some-Accepted.field-0-is)
+    (ap (λ (f : Face). Accepted (face_outside f)) c.in_ok-clone-in-Some-Accepted.ensures.cases)
 
 pub returns-in_ok-clone-in-Some-Accepted-clause-bare : goal.returns-in_ok-clone-in-Some-Accepted-clause-bare
 returns-in_ok-clone-in-Some-Accepted-clause-bare c =
-    ap (λ (f : Face). parts_behind f.parts f.parts) c.in_ok-clone-in-Some-Accepted.ensures.cases
+    ap (λ (f : Face). face_instances f) c.in_ok-clone-in-Some-Accepted.ensures.cases
     ∙ c.requires c.args.need.now (outcome.Accepted c.in-Some-Accepted.face) (sym c.in-Some-Accepted.ensures ∙ ap (λ o. Some o) c.in-Some-Accepted.field-0-is)
