@@ -149,10 +149,6 @@ module _ (text : Text) (files others : List ℕ → ModuleView) where
 
     -- ---- units
 
-    left-same : (inner : Reading) (round : List Reading) → m.left text (exports_by files) inner round ≡ m.left text (exports_by others) inner round
-    left-same inner [] = refl
-    left-same inner (outer ∷ round) = refl
-
     -- the module names of a unit that are needed there are the same
     abbrev Holds : ReadState → UnitTree → Type 0
     Holds state unit = AllByRecursion Same (filter (is_needed text.source text.file (scope_at text.source (scope_of state.place) unit)) (module_names unit))
@@ -221,8 +217,7 @@ module _ (text : Text) (files others : List ℕ → ModuleView) where
     after-same state (Theorem word name x) all = read-on state (Theorem word name x) _ _ refl all
     after-same state (Line dashes) all = read-on state (Line dashes) _ _ refl all
     after-same state (ModuleBegin name extends) all = begins-same state name extends (begun-asks state name extends all)
-    after-same state (ModuleEnd closing) all =
-        ap (λ place. record state { place = place; nested = r.with_nested state.known state.nested state.place.here state.place.round }) (left-same state.place.here state.place.round)
+    after-same state (ModuleEnd closing) all = refl
 
     -- ---- units in a row, by the needs of all of them
 

@@ -87,7 +87,7 @@ module _ (text : Text) (files : List ℕ → ModuleView) (words : List ℕ) wher
   at-here : (state : ReadState) (reading : Reading) → Keeps state.place.here reading → scope_of (record { here = reading; round = state.place.round }) ≡ scope_of state.place
   at-here state reading kept = λ i. record { here = forget (kept.modules i); round = round_of (kept.name i) state.place.round }
 
-  left-scope : (inner : Reading) (round : List Reading) (closing : Lexeme) → scope_of (m.left text (exports_by files) inner round) ≡ scope_at text.source (scope_of (record { here = inner; round = round })) (ModuleEnd closing)
+  left-scope : (inner : Reading) (round : List Reading) (closing : Lexeme) → scope_of (m.left inner round) ≡ scope_at text.source (scope_of (record { here = inner; round = round })) (ModuleEnd closing)
   left-scope inner [] closing = refl
   left-scope inner (outer ∷ round) closing = λ i. record { here = forget-added outer.modules inner.name (Some (exports_of inner.exports)) i; round = round_of outer.name round }
 

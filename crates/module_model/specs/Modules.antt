@@ -66,6 +66,19 @@ pub record Place : Type 0 where
   pub here : Reading
   pub round : List Reading
 
+-- a nested module of this title before what it extends: it begins with the context round it
+abbrev pub begun_in : Reading → List ℕ → Reading
+begun_in reading title = record { name = title; context = reading.context; exports = empty; modules = inside reading.modules title }
+
+-- a module behind one that is nested in it, which can be named unless its name is taken
+abbrev pub behind_nested : Reading → Reading → Reading
+behind_nested inner outer = record outer { modules = behind outer.modules inner.name (exports_of inner.exports) }
+
+-- behind the innermost module
+abbrev pub left : Reading → List Reading → Place
+left inner [] = record { here = inner; round = [] }
+left inner (outer ∷ round) = record { here = behind_nested inner outer; round = round }
+
 module _ (text : Text) (files : List ℕ → Exports) where
   -- what the module of a name exports to one that extends it
   abbrev pub brings : Reading → Lexeme → Exports
@@ -97,20 +110,13 @@ module _ (text : Text) (files : List ℕ → Exports) where
   abbrev pub is_named : Reading → Lexeme → Bool
   is_named reading name = is_taken reading.modules (spelled text.source name)
 
-  -- a nested module before what it extends: it begins with the context round it
+  -- a nested module before what it extends
   abbrev pub nested : Reading → Lexeme → Reading
-  nested reading name =
-      record { name = spelled text.source name; context = reading.context; exports = empty; modules = inside reading.modules (spelled text.source name) }
+  nested reading name = begun_in reading (spelled text.source name)
 
   -- inside a nested module, behind what it extends
   abbrev pub entered : Place → Lexeme → List Lexeme → Place
   entered place name extends = record { here = extends_all (nested place.here name) extends; round = place.here ∷ place.round }
-
-  -- behind a nested module, which can be named unless its name is taken
-  abbrev pub left : Reading → List Reading → Place
-  left inner [] = record { here = inner; round = [] }
-  left inner (outer ∷ round) =
-      record { here = record outer { modules = behind outer.modules inner.name (exports_of inner.exports) }; round = round }
 
   -- a module before what it extends
   abbrev pub unread : Reading

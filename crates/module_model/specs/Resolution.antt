@@ -116,7 +116,7 @@ module _ (text : Text) (files : List ℕ → ModuleView) (words : List ℕ) wher
   after state (Instance local x) = with_known (read_on state (Instance local x) (joined (is_some local) state.place.here (instance_brings state x))) (known_brought state x)
   after state (ModuleBegin name extends) = with_known (inside_nested state name extends) (known_from_all (inside_nested state name extends) extends)
   after state (ModuleEnd closing) =
-      record state { place = left text (exports_by files) state.place.here state.place.round; nested = with_nested state.known state.nested state.place.here state.place.round }
+      record state { place = left state.place.here state.place.round; nested = with_nested state.known state.nested state.place.here state.place.round }
   after state unit = read_on state unit state.place.here
 
   -- behind these units

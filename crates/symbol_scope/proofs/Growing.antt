@@ -8,14 +8,14 @@ use Rattle.tla_model.specs.declared.names.Binder.{Binder}
 use Rattle.tla_model.specs.Contexts.{Context}
 use Rattle.tla_model.specs.Entities.{Meaning, Text, meant, name_of}
 use Rattle.module_model.specs.Exports.{Exports, exports_of}
-use Rattle.module_model.specs.Modules.{Place, Reading, brings, clashes, declare, declare_all, extended, extends_all, with_entry}
+use Rattle.module_model.specs.Modules.{Place, Reading, begun_in, behind_nested, brings, clashes, declare, declare_all, extended, extends_all, left, with_entry}
 use Rattle.tla_model.specs.Tables.{Named, Word, Symbol, added, has, lookup, same_symbol}
 use Rattle.name_context.specs.declared.context.Mark.{Mark}
 use Rattle.symbol_scope.specs.declared.nesting.Outer.{Outer}
 use Rattle.name_context.specs.AsTables.{cut, mark_of}
 use Rattle.symbol_scope.specs.Readings.{Files}
 use Rattle.name_exports.specs.Brought.{ModuleNames, brought}
-use Rattle.symbol_scope.specs.EnclosingReadings.{AreRound, IsAt, IsOuter, begun_in, behind, left_by, outside_of}
+use Rattle.symbol_scope.specs.EnclosingReadings.{AreRound, IsAt, IsOuter, outside_of}
 use Rattle.symbol_scope.specs.declared.nesting.Nesting.{Nesting}
 
 pub record Grown {A : Type 0} (old new : List A) : Type 0 where
@@ -130,19 +130,19 @@ outer-begun reading title outer named shown marked counted =
     })
 
 -- and where one ends
-pub round-behind : (inner reading : Reading) (outers : List Outer) (round : List Reading) → AreRound reading.context reading.modules outers round → AreRound (behind inner reading).context (behind inner reading).modules outers round
+pub round-behind : (inner reading : Reading) (outers : List Outer) (round : List Reading) → AreRound reading.context reading.modules outers round → AreRound (behind_nested inner reading).context (behind_nested inner reading).modules outers round
 round-behind inner reading outers round are =
-    round-grown reading.context reading.context reading.modules (behind inner reading).modules outers round (stays reading.context.words) (stays reading.context.symbols) (grown-added bytes_eq reading.modules inner.name (Some (exports_of inner.exports))) are
+    round-grown reading.context reading.context reading.modules (behind_nested inner reading).modules outers round (stays reading.context.words) (stays reading.context.symbols) (grown-added bytes_eq reading.modules inner.name (Some (exports_of inner.exports))) are
 
 pub last-first : (outers rest : List Outer) (outer : Outer) → outers ≡ rest ++ outer ∷ [] → reverse outers ≡ outer ∷ reverse rest
 last-first outers rest outer is = ap (λ z. reverse z) is ∙ reverse-append rest (outer ∷ [])
 
 pub outside-some : (here : Reading) (round : List Reading) (outer : Outer) (rest : List Outer) (now : Reading) → AreRound here.context here.modules (outer ∷ rest) round →
-    ((reading : Reading) → IsOuter here.context here.modules outer reading → now ≡ behind here reading) → (now ≡ (left_by here round).here) × AreRound (left_by here round).here.context (left_by here round).here.modules rest (left_by here round).round
+    ((reading : Reading) → IsOuter here.context here.modules outer reading → now ≡ behind_nested here reading) → (now ≡ (left here round).here) × AreRound (left here round).here.context (left here round).here.modules rest (left here round).round
 outside-some here [] outer rest now are leaves = absurd are
 outside-some here (reading ∷ round) outer rest now are leaves = (leaves reading are.0, round-behind here reading rest round are.1)
 
-outside-none : (here : Reading) (round : List Reading) → AreRound here.context here.modules [] round → record { here = here; round = round } ≡ left_by here round
+outside-none : (here : Reading) (round : List Reading) → AreRound here.context here.modules [] round → record { here = here; round = round } ≡ left here round
 outside-none here [] are = refl
 outside-none here (reading ∷ round) are = absurd are
 

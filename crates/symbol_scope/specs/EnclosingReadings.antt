@@ -1,31 +1,19 @@
 -- The modules round the one that is read, in code: their names are the first ones of its tables.
 use Rattle.std.specs.Prelude.{◌≡◌, ◌≤◌, ◌++◌, if◌then◌else◌, ⊤, ℕ, List, [], ◌∷◌, length, reverse, take}
 use Rattle.tla_model.specs.Contexts.{Context}
-use Rattle.module_model.specs.Exports.{exports_of}
 use Rattle.tla_model.specs.declared.names.Finding.TheVariants.{Taken}
 use Rattle.tla_model.specs.Entities.{Text}
 use Rattle.tla_model.specs.Scopes.{Finding}
-use Rattle.module_model.specs.Modules.{Place, Reading, all_clashing, is_named, nested}
+use Rattle.module_model.specs.Modules.{Place, Reading, all_clashing, is_named, left, nested}
 use Rattle.symbol_scope.specs.WithoutInstances.{found_in}
 use Rattle.unit_grammar.specs.Units.{UnitTree}
 use Rattle.tla_symbols.specs.declared.lexeme.Lexeme.{Lexeme}
-use Rattle.tla_model.specs.Tables.{empty}
-use Rattle.module_scope.specs.Environments as environments
-use Rattle.module_scope.specs.Environments.{inside}
 use Rattle.symbol_scope.specs.declared.nesting.Outer.{Outer}
 use Rattle.symbol_scope.specs.declared.nesting.Nesting.{Nesting}
 use Rattle.name_context.specs.AsTables.{cut}
 use Rattle.symbol_scope.specs.Modules.{reading_of}
 use Rattle.symbol_scope.specs.Readings.{Files, without_names}
 use Rattle.name_exports.specs.Brought.{ModuleNames}
-
--- a nested module of this title that begins
-abbrev pub begun_in : Reading → List ℕ → Reading
-begun_in reading title = record { name = title; context = reading.context; exports = empty; modules = inside reading.modules title }
-
--- a module behind one that is nested in it
-abbrev pub behind : Reading → Reading → Reading
-behind inner outer = record outer { modules = environments.behind outer.modules inner.name (exports_of inner.exports) }
 
 -- what code keeps of a module round the one that is read, by the names that are there in all
 pub record IsOuter (context : Context) (taken : ModuleNames) (outer : Outer) (reading : Reading) : Type 0 where
@@ -53,14 +41,9 @@ pub record IsUnread (read : Nesting) (name : List ℕ) : Type 0 where
   pub same : reading_of read.here ≡ without_names name
   pub alone : read.round.items ≡ []
 
--- behind a nested module
-abbrev pub left_by : Reading → List Reading → Place
-left_by inner [] = record { here = inner; round = [] }
-left_by inner (outer ∷ round) = record { here = behind inner outer; round = round }
-
 -- behind the innermost module
 abbrev pub outside_of : Place → Place
-outside_of place = left_by place.here place.round
+outside_of place = left place.here place.round
 
 -- what is found where a nested module begins
 abbrev pub begin_found : Text → Files → Reading → Lexeme → List Lexeme → List Finding

@@ -24,7 +24,7 @@ module _ (text : Text) (files : List ℕ → Exports) where
   after place (FunctionDefinition local x) = record place { here = declare_all text files (is_some local) place.here (definition x) }
   after place (ModuleDefinition local x) = record place { here = declare_all text files (is_some local) place.here (definition x) }
   after place (ModuleBegin name extends) = entered text files place name extends
-  after place (ModuleEnd closing) = left text files place.here place.round
+  after place (ModuleEnd closing) = left place.here place.round
   after place _ = place
 
   -- what is found in a unit without INSTANCE

@@ -1,8 +1,8 @@
 // Nested modules. The one that is read has all names of those round it, which stand before its own.
 ghost use Rattle.std.specs.Prelude.{◌≡◌, ◌∷◌, [], IfOk, OnOk};
-ghost use Rattle.module_model.specs.Modules.{Place, Reading as Read};
+ghost use Rattle.module_model.specs.Modules.{Place, Reading as Read, begun_in, behind_nested};
 ghost use Rattle.symbol_scope.specs.Modules.{reading_of};
-ghost use Rattle.symbol_scope.specs.EnclosingReadings.{IsAt, IsOuter, IsUnread, begun_in, behind, outside_of};
+ghost use Rattle.symbol_scope.specs.EnclosingReadings.{IsAt, IsOuter, IsUnread, outside_of};
 
 use crate::reading::Reading;
 use name_context::Mark;
@@ -57,7 +57,7 @@ impl<'a> Reading<'a> {
     fn leave(&mut self, outer: Outer<'a>) -> Result<(), Memory>
         ensures { OnOk result ((reading : Read)
             → IsOuter (reading_of self.old).context (reading_of self.old).modules outer.entry
-            reading → reading_of self.new ≡ behind (reading_of self.old) reading) }
+            reading → reading_of self.new ≡ behind_nested (reading_of self.old) reading) }
     {
         let Outer {
             name,

@@ -1,5 +1,6 @@
 use Rattle.std.proofs.Common.{◌∙◌, ◌∷◌, ap, sym, subst}
-use Rattle.symbol_scope.specs.EnclosingReadings.{AreRound, IsOuter, begun_in}
+use Rattle.module_model.specs.Modules.{begun_in}
+use Rattle.symbol_scope.specs.EnclosingReadings.{AreRound, IsOuter}
 use Rattle.symbol_scope.proofs.Growing.{last-first}
 use Rattle.symbol_scope.proofs.nesting.Nesting.begin.Goals as goal
 

@@ -2,10 +2,10 @@ use Rattle.std.proofs.Common.{◌∙◌, ◌++◌, ◌∷◌, [], append_assoc, 
 use Rattle.std.specs.Prelude.{if◌then◌else◌}
 use Rattle.tla_model.specs.declared.names.Finding.TheVariants.{Taken}
 use Rattle.symbol_scope.specs.WithoutInstances.{files_of}
-use Rattle.module_model.specs.Modules.{all_clashing, extends_all, is_named, nested}
+use Rattle.module_model.specs.Modules.{all_clashing, begun_in, extends_all, is_named, nested}
 use Rattle.symbol_scope.specs.Modules.{reading_of}
 use Rattle.symbol_scope.specs.Readings.{no_files}
-use Rattle.symbol_scope.specs.EnclosingReadings.{IsAt, begun_in}
+use Rattle.symbol_scope.specs.EnclosingReadings.{IsAt}
 use Rattle.symbol_scope.proofs.Growing.{went-extends}
 use Rattle.symbol_scope.proofs.Onward.{goes-on}
 use Rattle.symbol_scope.proofs.nesting.Nesting.read_begin.Goals as goal
