@@ -8,12 +8,11 @@ use Rattle.tla_tree.specs.declared.form.Form.TheVariants as Form
 use Rattle.tla_tree.specs.Syntax.{Tree, Trees, Node, Nil, Cons}
 use Rattle.unit_grammar.specs.Units.{UnitTree, Variables, Constants, OperatorDefinition, FunctionDefinition, ModuleDefinition, Instance, Assumption, Theorem, Line, ModuleBegin, ModuleEnd, ModuleUnits}
 use Rattle.list_laws.proofs.Lists.{all-both, all-left, all-right}
-use Rattle.tla_model.specs.declared.names.Binder.{Binder}
 use Rattle.tla_model.specs.declared.names.Finding.TheVariants.{Clashes, InstanceClashes, Taken}
-use Rattle.tla_model.specs.Entities.{Text, declaration, variables}
+use Rattle.tla_model.specs.Entities.{Text, declaration}
 use Rattle.tla_model.specs.Lexemes.{spelled}
 use Rattle.tla_model.specs.ModuleNames.{instances, instances_in, instantiated, module_names}
-use Rattle.tla_model.specs.Scopes.{Finding, definition}
+use Rattle.tla_model.specs.Scopes.{Finding}
 use Rattle.module_scope.specs.Environments.{Environment, Scope, begun, first, inside, is_round, is_taken, meaning}
 use Rattle.module_scope.specs.Imports.{imports_from, imports_of, is_needed, scope_at}
 use Rattle.module_model.specs.Exports.{Exports, ModuleView, behind_instance, entries_from, exported, exports_by, exports_of, known_among, parameters_in}
@@ -101,10 +100,6 @@ module _ (text : Text) (files others : List ℕ → ModuleView) where
       ap (λ z. (if m.brings_clash reading (m.brings text (exports_by files) reading l) then Clashes l ∷ [] else []) ++ z) (clashing-same (m.extended reading (m.brings text (exports_by files) reading l)) rest (subst (λ modules. AllByRecursion (Asks modules) rest) (sym kept) all.1))
       ∙ ap (λ brought. (if m.brings_clash reading brought then Clashes l ∷ [] else []) ++ m.all_clashing text (exports_by others) (m.extended reading brought) rest) (brings-same reading l all.0)
 
-  declares-same : (local : Bool) (reading : Reading) (binders : List Binder) → m.declare_all text (exports_by files) local reading binders ≡ m.declare_all text (exports_by others) local reading binders
-  declares-same local reading [] = refl
-  declares-same local reading (binder ∷ rest) = declares-same local (m.declare text (exports_by files) local reading binder) rest
-
   module _ (words : List ℕ) where
     -- ---- what a module name means
 
@@ -190,13 +185,13 @@ module _ (text : Text) (files others : List ℕ → ModuleView) where
     inside-same : (state : ReadState) (name : Lexeme) (extends : List Lexeme) → AllByRecursion (Asks (inside state.place.here.modules (spelled text.source name))) extends
         → r.inside_nested text files words state name extends ≡ r.inside_nested text others words state name extends
     inside-same state name extends asks =
-        ap (λ here. record state { place = record { here = here; round = state.place.here ∷ state.place.round } }) (extends-same (m.nested text (exports_by files) state.place.here name) extends asks)
+        ap (λ here. record state { place = record { here = here; round = state.place.here ∷ state.place.round } }) (extends-same (m.nested text state.place.here name) extends asks)
 
     inside-means : (state : ReadState) (name : Lexeme) (extends : List Lexeme) → AllByRecursion (Asks (inside state.place.here.modules (spelled text.source name))) extends
         → AllByRecursion (Means (r.inside_nested text files words state name extends)) extends
     inside-means state name extends asks =
         means-all (r.inside_nested text files words state name extends) extends
-        (subst (λ modules. AllByRecursion (Asks modules) extends) (sym (extends-keep text files words (m.nested text (exports_by files) state.place.here name) extends).modules) asks)
+        (subst (λ modules. AllByRecursion (Asks modules) extends) (sym (extends-keep text files words (m.nested text state.place.here name) extends).modules) asks)
 
     begins-same : (state : ReadState) (name : Lexeme) (extends : List Lexeme) → AllByRecursion (Asks (inside state.place.here.modules (spelled text.source name))) extends
         → r.after text files words state (ModuleBegin name extends) ≡ r.after text others words state (ModuleBegin name extends)
@@ -205,11 +200,11 @@ module _ (text : Text) (files others : List ℕ → ModuleView) where
         ∙ ap (λ within. r.with_known text others words within (r.known_from_all text others words within extends)) (inside-same state name extends asks)
 
     after-same : (state : ReadState) (unit : UnitTree) → Holds state unit → r.after text files words state unit ≡ r.after text others words state unit
-    after-same state (Variables names) all = read-on state (Variables names) _ _ (declares-same false state.place.here (variables names)) all
-    after-same state (Constants declarations) all = read-on state (Constants declarations) _ _ (declares-same false state.place.here (m.constants declarations)) all
-    after-same state (OperatorDefinition local x) all = read-on state (OperatorDefinition local x) _ _ (declares-same (is_some local) state.place.here (definition x)) all
-    after-same state (FunctionDefinition local x) all = read-on state (FunctionDefinition local x) _ _ (declares-same (is_some local) state.place.here (definition x)) all
-    after-same state (ModuleDefinition local x) all = read-on state (ModuleDefinition local x) _ _ (declares-same (is_some local) state.place.here (definition x)) all
+    after-same state (Variables names) all = read-on state (Variables names) _ _ refl all
+    after-same state (Constants declarations) all = read-on state (Constants declarations) _ _ refl all
+    after-same state (OperatorDefinition local x) all = read-on state (OperatorDefinition local x) _ _ refl all
+    after-same state (FunctionDefinition local x) all = read-on state (FunctionDefinition local x) _ _ refl all
+    after-same state (ModuleDefinition local x) all = read-on state (ModuleDefinition local x) _ _ refl all
     after-same state (Instance local x) all =
         let brought = instance-brings state x (asked state (instances x) all) in λ k.
         r.with_known text others words (read-on state (Instance local x) _ _ (ap (m.joined (is_some local) state.place.here) brought) all k) (known-brought state x (asked state (instances x) all) k)
@@ -259,7 +254,7 @@ module _ (text : Text) (files others : List ℕ → ModuleView) where
       found-same state (Theorem word name x) all = trees-same state (Theorem word name x) x (asked state (instances x) all) all
       found-same state (Line dashes) all = refl
       found-same state (ModuleBegin name extends) all =
-          ap (λ z. (if m.is_named text (exports_by files) state.place.here name then Taken name ∷ [] else []) ++ z) (clashing-same (m.nested text (exports_by files) state.place.here name) extends (begun-asks state name extends all))
+          ap (λ z. (if m.is_named text state.place.here name then Taken name ∷ [] else []) ++ z) (clashing-same (m.nested text state.place.here name) extends (begun-asks state name extends all))
       found-same state (ModuleEnd closing) all = refl
 
       found-all-same : (state : ReadState) (units : List UnitTree) → HoldAll state units → r.found_from text files words paths state units ≡ r.found_from text others words paths state units
@@ -289,16 +284,16 @@ module _ (files others : List ℕ → ModuleView) (source : List ℕ) (units : M
   inside-units : AllByRecursion Agrees (imports_from source title (first title) units.units)
   inside-units = all-right Agrees units.extends (imports_from source title (first title) units.units) all
 
-  extends-asked : AllByRecursion (Asks read files others (m.unread read (exports_by files)).modules) units.extends
-  extends-asked = all-weaker Agrees (Asks read files others (m.unread read (exports_by files)).modules) (λ l same free. same) units.extends needs-extended
+  extends-asked : AllByRecursion (Asks read files others (m.unread read).modules) units.extends
+  extends-asked = all-weaker Agrees (Asks read files others (m.unread read).modules) (λ l same free. same) units.extends needs-extended
 
   begun-same : r.begun_state files source units ≡ r.begun_state others source units
-  begun-same = ap (λ here. record { place = record { here = here; round = [] }; nested = []; known = [] }) (extends-same read files others (m.unread read (exports_by files)) units.extends extends-asked)
+  begun-same = ap (λ here. record { place = record { here = here; round = [] }; nested = []; known = [] }) (extends-same read files others (m.unread read) units.extends extends-asked)
 
   begun-means : AllByRecursion (Means read files others words (r.begun_state files source units)) units.extends
   begun-means =
       means-all read files others words (r.begun_state files source units) units.extends
-      (subst (λ modules. AllByRecursion (Asks read files others modules) units.extends) (sym (extends-keep read files words (m.unread read (exports_by files)) units.extends).modules) extends-asked)
+      (subst (λ modules. AllByRecursion (Asks read files others modules) units.extends) (sym (extends-keep read files words (m.unread read) units.extends).modules) extends-asked)
 
   first-same : r.first files source units ≡ r.first others source units
   first-same =
@@ -306,7 +301,7 @@ module _ (files others : List ℕ → ModuleView) (source : List ℕ) (units : M
       ∙ ap (λ begun. r.with_known read others words begun (r.known_from_all read others words begun units.extends)) begun-same
 
   first-scope : scope_of (r.first files source units).place ≡ first title
-  first-scope = ap (λ modules. record { here = forget modules; round = [] }) (extends-keep read files words (m.unread read (exports_by files)) units.extends).modules
+  first-scope = ap (λ modules. record { here = forget modules; round = [] }) (extends-keep read files words (m.unread read) units.extends).modules
 
   units-hold : AllByRecursion Agrees (imports_from source title (scope_of (r.first files source units).place) units.units)
   units-hold = subst (λ scope. AllByRecursion Agrees (imports_from source title scope units.units)) (sym first-scope) inside-units
@@ -321,9 +316,9 @@ module _ (files others : List ℕ → ModuleView) (source : List ℕ) (units : M
   findings-ask =
       let first : ReadState = r.first files source units in
       let paths : List ℕ = i.paths_in units.units in
-      let clashing : List Finding = m.all_clashing read (exports_by files) (m.unread read (exports_by files)) units.extends in
+      let clashing : List Finding = m.all_clashing read (exports_by files) (m.unread read) units.extends in
       ap (λ z. clashing ++ z) (found-all-same read files others words paths first units.units units-hold)
-      ∙ (λ k. clashing-same read files others (m.unread read (exports_by files)) units.extends extends-asked k ++ r.found_from read others words paths (first-same k) units.units)
+      ∙ (λ k. clashing-same read files others (m.unread read) units.extends extends-asked k ++ r.found_from read others words paths (first-same k) units.units)
 
   -- what it is to others
   pub outside-asks : r.outside_in files source units ≡ r.outside_in others source units

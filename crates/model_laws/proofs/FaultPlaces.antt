@@ -285,9 +285,9 @@ module _ (P : Lexeme → Type 0) where
       unit-at state (Assumption word name x) all = walk-at text (round state (Assumption word name x)) state.place.here.context x all
       unit-at state (Theorem word name x) all = walk-at text (round state (Theorem word name x)) state.place.here.context x all
       unit-at state (ModuleBegin name extends) all =
-          let taken : Bool = m.is_named text (exports_by files) state.place.here name in
-          all-both Stands (if taken then Taken name ∷ [] else []) (m.all_clashing text (exports_by files) (m.nested text (exports_by files) state.place.here name) extends) (all-either Stands taken (Taken name ∷ []) [] (all.0, tt) tt)
-          (clashing-at (m.nested text (exports_by files) state.place.here name) extends all.1)
+          let taken : Bool = m.is_named text state.place.here name in
+          all-both Stands (if taken then Taken name ∷ [] else []) (m.all_clashing text (exports_by files) (m.nested text state.place.here name) extends) (all-either Stands taken (Taken name ∷ []) [] (all.0, tt) tt)
+          (clashing-at (m.nested text state.place.here name) extends all.1)
       unit-at state _ all = tt
 
       units-at : (state : ReadState) (units : List UnitTree) → AllByRecursion P (units_lexemes units) → AllByRecursion Stands (r.found_from text files words paths state units)
@@ -301,8 +301,8 @@ module _ (P : Lexeme → Type 0) where
       let text : Text = text_of source units in
       let words : List ℕ = r.words_of units in
       let first : ReadState = r.first files source units in
-      all-both Stands (m.all_clashing text (exports_by files) (m.unread text (exports_by files)) units.extends) (r.found_from text files words (i.paths_in units.units) first units.units)
-      (clashing-at text files (m.unread text (exports_by files)) units.extends (all-left P units.extends (units_lexemes units.units) all.1))
+      all-both Stands (m.all_clashing text (exports_by files) (m.unread text) units.extends) (r.found_from text files words (i.paths_in units.units) first units.units)
+      (clashing-at text files (m.unread text) units.extends (all-left P units.extends (units_lexemes units.units) all.1))
       (units-at text files words (i.paths_in units.units) first units.units (all-right P units.extends (units_lexemes units.units) all.1))
 
 -- ---- faults

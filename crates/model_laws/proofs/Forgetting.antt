@@ -78,11 +78,11 @@ module _ (text : Text) (files : List ℕ → ModuleView) (words : List ℕ) wher
       let next : Reading = m.extended reading (m.brings text (exports_by files) reading l) in
       keeps-on reading next (m.extends_all text (exports_by files) next rest) (joined-keeps false reading (m.brings text (exports_by files) reading l)) (extends-keep next rest)
 
-  declares-keep : (local : Bool) (reading : Reading) (binders : List Binder) → Keeps reading (m.declare_all text (exports_by files) local reading binders)
+  declares-keep : (local : Bool) (reading : Reading) (binders : List Binder) → Keeps reading (m.declare_all text local reading binders)
   declares-keep local reading [] = keeps reading
   declares-keep local reading (binder ∷ rest) =
-      let next : Reading = m.declare text (exports_by files) local reading binder in
-      keeps-on reading next (m.declare_all text (exports_by files) local next rest) (keeps-either (has reading.context (name_of text.source binder.name)) reading _ (record { name = refl; modules = refl })) (declares-keep local next rest)
+      let next : Reading = m.declare text local reading binder in
+      keeps-on reading next (m.declare_all text local next rest) (keeps-either (has reading.context (name_of text.source binder.name)) reading _ (record { name = refl; modules = refl })) (declares-keep local next rest)
 
   at-here : (state : ReadState) (reading : Reading) → Keeps state.place.here reading → scope_of (record { here = reading; round = state.place.round }) ≡ scope_of state.place
   at-here state reading kept = λ i. record { here = forget (kept.modules i); round = round_of (kept.name i) state.place.round }
@@ -104,6 +104,6 @@ module _ (text : Text) (files : List ℕ → ModuleView) (words : List ℕ) wher
   scope-after state (Line dashes) = refl
   scope-after state (ModuleBegin name extends) =
       let here : Reading = state.place.here in
-      let kept : Keeps (m.nested text (exports_by files) here name) (m.extends_all text (exports_by files) (m.nested text (exports_by files) here name) extends) = extends-keep (m.nested text (exports_by files) here name) extends in
+      let kept : Keeps (m.nested text here name) (m.extends_all text (exports_by files) (m.nested text here name) extends) = extends-keep (m.nested text here name) extends in
       λ i. record { here = (ap forget kept.modules ∙ forget-added here.modules (spelled text.source name) None) i; round = (kept.name i, forget here.modules) ∷ round_of here.name state.place.round }
   scope-after state (ModuleEnd closing) = left-scope state.place.here state.place.round closing

@@ -79,22 +79,7 @@ abbrev pub left : Reading → List Reading → Place
 left inner [] = record { here = inner; round = [] }
 left inner (outer ∷ round) = record { here = behind_nested inner outer; round = round }
 
-module _ (text : Text) (files : List ℕ → Exports) where
-  -- what the module of a name exports to one that extends it
-  abbrev pub brings : Reading → Lexeme → Exports
-  brings reading l = exports_under files (meaning reading.modules (spelled text.source l)) (spelled text.source l)
-
-  -- the module behind all modules that it extends, in the order of the text
-  abbrev pub extends_all : Reading → List Lexeme → Reading
-  extends_all reading [] = reading
-  extends_all reading (l ∷ rest) = extends_all (extended reading (brings reading l)) rest
-
-  -- the modules that it extends and that bring a clash with what stands before them
-  abbrev pub all_clashing : Reading → List Lexeme → List Finding
-  all_clashing reading [] = []
-  all_clashing reading (l ∷ rest) =
-      (if brings_clash reading (brings reading l) then Clashes l ∷ [] else []) ++ all_clashing (extended reading (brings reading l)) rest
-
+module _ (text : Text) where
   -- a declaration or a definition of the module; LOCAL ones are not exported
   abbrev pub declare : Bool → Reading → Binder → Reading
   declare local reading binder =
@@ -114,17 +99,33 @@ module _ (text : Text) (files : List ℕ → Exports) where
   abbrev pub nested : Reading → Lexeme → Reading
   nested reading name = begun_in reading (spelled text.source name)
 
-  -- inside a nested module, behind what it extends
-  abbrev pub entered : Place → Lexeme → List Lexeme → Place
-  entered place name extends = record { here = extends_all (nested place.here name) extends; round = place.here ∷ place.round }
-
   -- a module before what it extends
   abbrev pub unread : Reading
   unread = record { name = text.file; context = built_in; exports = empty; modules = outermost text.file }
 
+module _ (text : Text) (files : List ℕ → Exports) where
+  -- what the module of a name exports to one that extends it
+  abbrev pub brings : Reading → Lexeme → Exports
+  brings reading l = exports_under files (meaning reading.modules (spelled text.source l)) (spelled text.source l)
+
+  -- the module behind all modules that it extends, in the order of the text
+  abbrev pub extends_all : Reading → List Lexeme → Reading
+  extends_all reading [] = reading
+  extends_all reading (l ∷ rest) = extends_all (extended reading (brings reading l)) rest
+
+  -- the modules that it extends and that bring a clash with what stands before them
+  abbrev pub all_clashing : Reading → List Lexeme → List Finding
+  all_clashing reading [] = []
+  all_clashing reading (l ∷ rest) =
+      (if brings_clash reading (brings reading l) then Clashes l ∷ [] else []) ++ all_clashing (extended reading (brings reading l)) rest
+
+  -- inside a nested module, behind what it extends
+  abbrev pub entered : Place → Lexeme → List Lexeme → Place
+  entered place name extends = record { here = extends_all (nested text place.here name) extends; round = place.here ∷ place.round }
+
   -- the module of the text behind what it extends
   abbrev pub begun : List Lexeme → Place
-  begun extends = record { here = extends_all unread extends; round = [] }
+  begun extends = record { here = extends_all (unread text) extends; round = [] }
 
 -- a source with the name of its module and the places of its declaring names
 abbrev pub text_of : List ℕ → ModuleUnits → Text

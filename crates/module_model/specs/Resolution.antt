@@ -108,11 +108,11 @@ module _ (text : Text) (files : List ℕ → ModuleView) (words : List ℕ) wher
 
   -- behind a unit
   abbrev pub after : ReadState → UnitTree → ReadState
-  after state (Variables names) = read_on state (Variables names) (declare_all text (exports_by files) false state.place.here (variables names))
-  after state (Constants declarations) = read_on state (Constants declarations) (declare_all text (exports_by files) false state.place.here (constants declarations))
-  after state (OperatorDefinition local x) = read_on state (OperatorDefinition local x) (declare_all text (exports_by files) (is_some local) state.place.here (definition x))
-  after state (FunctionDefinition local x) = read_on state (FunctionDefinition local x) (declare_all text (exports_by files) (is_some local) state.place.here (definition x))
-  after state (ModuleDefinition local x) = read_on state (ModuleDefinition local x) (declare_all text (exports_by files) (is_some local) state.place.here (definition x))
+  after state (Variables names) = read_on state (Variables names) (declare_all text false state.place.here (variables names))
+  after state (Constants declarations) = read_on state (Constants declarations) (declare_all text false state.place.here (constants declarations))
+  after state (OperatorDefinition local x) = read_on state (OperatorDefinition local x) (declare_all text (is_some local) state.place.here (definition x))
+  after state (FunctionDefinition local x) = read_on state (FunctionDefinition local x) (declare_all text (is_some local) state.place.here (definition x))
+  after state (ModuleDefinition local x) = read_on state (ModuleDefinition local x) (declare_all text (is_some local) state.place.here (definition x))
   after state (Instance local x) = with_known (read_on state (Instance local x) (joined (is_some local) state.place.here (instance_brings state x))) (known_brought state x)
   after state (ModuleBegin name extends) = with_known (inside_nested state name extends) (known_from_all (inside_nested state name extends) extends)
   after state (ModuleEnd closing) =
@@ -145,7 +145,7 @@ module _ (text : Text) (files : List ℕ → ModuleView) (words : List ℕ) wher
     found_in state (Assumption word name x) = found_of state (Assumption word name x) x
     found_in state (Theorem word name x) = found_of state (Theorem word name x) x
     found_in state (ModuleBegin name extends) =
-        (if is_named text (exports_by files) state.place.here name then Taken name ∷ [] else []) ++ all_clashing text (exports_by files) (nested text (exports_by files) state.place.here name) extends
+        (if is_named text state.place.here name then Taken name ∷ [] else []) ++ all_clashing text (exports_by files) (nested text state.place.here name) extends
     found_in state _ = []
 
     -- what is found in these units, in the order of the text
@@ -179,7 +179,7 @@ module _ (files : List ℕ → ModuleView) (source : List ℕ) (units : ModuleUn
   -- what is found in a module, by what the files are that its names mean
   abbrev pub findings : List Finding
   findings =
-      all_clashing text (exports_by files) (unread text (exports_by files)) units.extends
+      all_clashing text (exports_by files) (unread text) units.extends
       ++ found_from text files (words_of units) (paths_in units.units) first units.units
 
   -- what it exports

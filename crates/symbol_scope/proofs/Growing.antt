@@ -81,16 +81,16 @@ module _ (text : Text) (files : Files) where
       went-on reading (extended reading (brings text files reading l)) (extends_all text files (extended reading (brings text files reading l)) names)
       (went-extended reading (brings text files reading l)) (went-extends (extended reading (brings text files reading l)) names)
 
-  went-declared : (local : Bool) (reading : Reading) (binder : Binder) → Went reading (declare text files local reading binder)
+  went-declared : (local : Bool) (reading : Reading) (binder : Binder) → Went reading (declare text local reading binder)
   went-declared local reading binder =
       went-either (has reading.context (name_of text.source binder.name)) reading reading (with_entry local reading (name_of text.source binder.name) (meant text binder))
       (waits reading) (went-entry local reading (name_of text.source binder.name) (meant text binder))
 
-  pub went-declares : (local : Bool) (reading : Reading) (binders : List Binder) → Went reading (declare_all text files local reading binders)
+  pub went-declares : (local : Bool) (reading : Reading) (binders : List Binder) → Went reading (declare_all text local reading binders)
   went-declares local reading [] = waits reading
   went-declares local reading (binder ∷ binders) =
-      went-on reading (declare text files local reading binder) (declare_all text files local (declare text files local reading binder) binders)
-      (went-declared local reading binder) (went-declares local (declare text files local reading binder) binders)
+      went-on reading (declare text local reading binder) (declare_all text local (declare text local reading binder) binders)
+      (went-declared local reading binder) (went-declares local (declare text local reading binder) binders)
 
 outer-grown : (context wider : Context) (taken more : ModuleNames) (outer : Outer) (reading : Reading) → Grown context.words wider.words → Grown context.symbols wider.symbols → Grown taken more →
     IsOuter context taken outer reading → IsOuter wider more outer reading

@@ -21,11 +21,10 @@ use Rattle.symbol_scope.specs.WithoutInstances.{after, found_from, found_in, rea
 use Rattle.symbol_scope.specs.declared.nesting.Nesting.{Nesting}
 use Rattle.symbol_scope.specs.Modules.{reading_of}
 use Rattle.symbol_scope.specs.Plain.{found_by, read_by}
-use Rattle.symbol_scope.specs.Readings.{Files, no_files}
+use Rattle.symbol_scope.specs.Readings.{Files}
 use Rattle.symbol_scope.specs.EnclosingReadings.{AreRound, IsAt, found_here}
 use Rattle.symbol_scope.proofs.Growing.{Went, round-went, waits, went-declares}
 use Rattle.symbol_scope.proofs.Lexemes.{among-lies, variables-lie}
-use Rattle.symbol_scope.proofs.Taking.{same-declared}
 
 pub take-mapped : {A B : Type 0} (f : A → B) (xs : List A) (i : ℕ) (d : A) → i < length xs → d ≡ get_or xs i d → map f (take (i + 1) xs) ≡ map f (take i xs) ++ f d ∷ []
 take-mapped f xs i d within is = ap (map f) (take_more xs i d within ∙ ap (λ z. take i xs ++ z ∷ []) (sym is)) ∙ map-append f (take i xs) (d ∷ [])
@@ -61,21 +60,21 @@ units-lie P tree units is lie = subst (AllByRecursion (λ (x : Unit). AllByRecur
 
 module _ (text : Text) (files : Files) where
   pub went-by : (reading : Reading) (x : UnitTree) → Went reading (read_by text reading x)
-  went-by reading (Variables names) = went-declares text no_files false reading (variables names)
-  went-by reading (Constants declarations) = went-declares text no_files false reading (constants declarations)
-  went-by reading (OperatorDefinition local x) = went-declares text no_files (is_some local) reading (definition x)
-  went-by reading (FunctionDefinition local x) = went-declares text no_files (is_some local) reading (definition x)
-  went-by reading (ModuleDefinition local x) = went-declares text no_files (is_some local) reading (definition x)
+  went-by reading (Variables names) = went-declares text false reading (variables names)
+  went-by reading (Constants declarations) = went-declares text false reading (constants declarations)
+  went-by reading (OperatorDefinition local x) = went-declares text (is_some local) reading (definition x)
+  went-by reading (FunctionDefinition local x) = went-declares text (is_some local) reading (definition x)
+  went-by reading (ModuleDefinition local x) = went-declares text (is_some local) reading (definition x)
   went-by reading _ = waits reading
 
   -- a unit that begins or ends no module
   pub plain-after : (place : Place) (nodes : List ArenaNode) (found : Unit) → ((name : Lexeme) → (extends : List Lexeme) → found ≡ unit.ModuleBegin name extends → ⊥) → ((closing : Lexeme) → found ≡ unit.ModuleEnd closing → ⊥) →
       record { here = read_by text place.here (unit_at nodes found); round = place.round } ≡ after text files place (unit_at nodes found)
-  plain-after place nodes (unit.Variables names) begins ends = ap (λ r. record { here = r; round = place.round }) (same-declared text no_files files false place.here (variables names))
-  plain-after place nodes (unit.Constants declarations) begins ends = ap (λ r. record { here = r; round = place.round }) (same-declared text no_files files false place.here (constants (trees (map (tree_at nodes) declarations))))
-  plain-after place nodes (unit.OperatorDefinition local node) begins ends = ap (λ r. record { here = r; round = place.round }) (same-declared text no_files files (is_some local) place.here (definition (tree_at nodes node)))
-  plain-after place nodes (unit.FunctionDefinition local node) begins ends = ap (λ r. record { here = r; round = place.round }) (same-declared text no_files files (is_some local) place.here (definition (tree_at nodes node)))
-  plain-after place nodes (unit.ModuleDefinition local node) begins ends = ap (λ r. record { here = r; round = place.round }) (same-declared text no_files files (is_some local) place.here (definition (tree_at nodes node)))
+  plain-after place nodes (unit.Variables names) begins ends = refl
+  plain-after place nodes (unit.Constants declarations) begins ends = refl
+  plain-after place nodes (unit.OperatorDefinition local node) begins ends = refl
+  plain-after place nodes (unit.FunctionDefinition local node) begins ends = refl
+  plain-after place nodes (unit.ModuleDefinition local node) begins ends = refl
   plain-after place nodes (unit.Instance local node) begins ends = refl
   plain-after place nodes (unit.Assumption word name node) begins ends = refl
   plain-after place nodes (unit.Theorem word name node) begins ends = refl

@@ -388,7 +388,7 @@ module _ (files : List ℕ → ModuleView) (source : List ℕ) (units : ModuleUn
 
   pub findings-plain : whole.findings files source units ≡ plain.findings (exports_by files) source units
   findings-plain =
-      ap (λ z. all_clashing (text_of source units) (exports_by files) (unread (text_of source units) (exports_by files)) units.extends ++ z)
+      ap (λ z. all_clashing (text_of source units) (exports_by files) (unread (text_of source units)) units.extends ++ z)
       (found-all (text_of source units) files (whole.words_of units) bare (paths_in units.units) (whole.first files source units) units.units none first-bare)
 
   pub exports-plain : whole.exports_in files source units ≡ plain.exports_in (exports_by files) source units

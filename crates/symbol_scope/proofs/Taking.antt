@@ -6,7 +6,7 @@ use Rattle.std.proofs.lemmas.List.{map-append}
 use Rattle.tla_model.specs.declared.names.Binder.{Binder}
 use Rattle.tla_model.specs.Contexts.{bind}
 use Rattle.tla_model.specs.Entities.{Meaning, Text, meant, name_of}
-use Rattle.module_model.specs.Modules.{Reading, declare, declare_all, exports_under, with_entry}
+use Rattle.module_model.specs.Modules.{Reading, declare, exports_under, with_entry}
 use Rattle.tla_model.specs.Tables.{Named, Table, Word, Symbol, added, find, put}
 use Rattle.module_scope.specs.Environments.{Environment, is_taken, meaning}
 use Rattle.name_exports.specs.declared.exported.Names.{Names}
@@ -49,8 +49,8 @@ put-there table (Word bytes) value there = ap (λ b. record { words = cond b tab
 put-there table (Symbol op) value there = ap (λ b. record { words = table.words; symbols = cond b table.symbols (table.symbols ++ (op, value) ∷ []) }) (sym there)
 
 module _ (text : Text) (local : Bool) (reading : Reading) (binder : Binder) (name : Named) (is : name ≡ name_of text.source binder.name) where
-  declared-there : is_some (find reading.context name) ≡ true → (files : Files) → reading ≡ declare text files local reading binder
-  declared-there there files =
+  declared-there : is_some (find reading.context name) ≡ true → reading ≡ declare text local reading binder
+  declared-there there =
       ap (λ z. cond z reading (with_entry local reading (name_of text.source binder.name) (meant text binder))) (sym there ∙ ap (λ n. is_some (find reading.context n)) is)
 
   pub there-bound : is_some (find reading.context name) ≡ true → reading.context ≡ bind text reading.context binder
@@ -60,16 +60,11 @@ module _ (text : Text) (local : Bool) (reading : Reading) (binder : Binder) (nam
     put-as : new ≡ with_entry local reading (name_of text.source binder.name) (meant text binder)
     put-as = puts ∙ (λ i. with_entry local reading (is i) (means i))
 
-    pub declared-new : is_some (find reading.context name) ≡ false → (files : Files) → new ≡ declare text files local reading binder
-    declared-new absent files = put-as ∙ ap (λ z. cond z reading (with_entry local reading (name_of text.source binder.name) (meant text binder))) (sym absent ∙ ap (λ n. is_some (find reading.context n)) is)
+    pub declared-new : is_some (find reading.context name) ≡ false → new ≡ declare text local reading binder
+    declared-new absent = put-as ∙ ap (λ z. cond z reading (with_entry local reading (name_of text.source binder.name) (meant text binder))) (sym absent ∙ ap (λ n. is_some (find reading.context n)) is)
 
     pub new-bound : new.context ≡ bind text reading.context binder
     new-bound = ap (λ (r : Reading). r.context) put-as
 
-pub declared-still : (text : Text) (local : Bool) (reading : Reading) (binder : Binder) (name : Named) → name ≡ name_of text.source binder.name → is_some (find reading.context name) ≡ true → (files : Files) → reading ≡ declare text files local reading binder
+pub declared-still : (text : Text) (local : Bool) (reading : Reading) (binder : Binder) (name : Named) → name ≡ name_of text.source binder.name → is_some (find reading.context name) ≡ true → reading ≡ declare text local reading binder
 declared-still text local reading binder name is there = declared-there text local reading binder name is there
-
--- what is declared is the same whatever files export
-pub same-declared : (text : Text) (files others : Files) (local : Bool) (reading : Reading) (binders : List Binder) → declare_all text files local reading binders ≡ declare_all text others local reading binders
-same-declared text files others local reading [] = refl
-same-declared text files others local reading (binder ∷ binders) = same-declared text files others local (declare text files local reading binder) binders

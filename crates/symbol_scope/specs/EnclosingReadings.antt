@@ -47,7 +47,7 @@ outside_of place = left place.here place.round
 
 -- what is found where a nested module begins
 abbrev pub begin_found : Text → Files → Reading → Lexeme → List Lexeme → List Finding
-begin_found text files reading name extends = (if is_named text files reading name then Taken name ∷ [] else []) ++ all_clashing text files (nested text files reading name) extends
+begin_found text files reading name extends = (if is_named text reading name then Taken name ∷ [] else []) ++ all_clashing text files (nested text reading name) extends
 
 -- what is found in a unit of the module that is read
 abbrev pub found_here : Text → Files → Reading → UnitTree → List Finding

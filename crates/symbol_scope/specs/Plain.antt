@@ -5,15 +5,14 @@ use Rattle.tla_model.specs.Scopes.{Finding, all_refused, definition}
 use Rattle.module_model.specs.Modules.{Reading, constants, declare_all}
 use Rattle.module_model.specs.TreeFindings.{alone, walk}
 use Rattle.unit_grammar.specs.Units.{UnitTree, Variables, Constants, OperatorDefinition, FunctionDefinition, ModuleDefinition, Instance, Assumption, Theorem}
-use Rattle.symbol_scope.specs.Readings.{no_files}
 
 -- the module behind a unit that begins and ends no nested module
 abbrev pub read_by : Text → Reading → UnitTree → Reading
-read_by text reading (Variables names) = declare_all text no_files false reading (variables names)
-read_by text reading (Constants declarations) = declare_all text no_files false reading (constants declarations)
-read_by text reading (OperatorDefinition local x) = declare_all text no_files (is_some local) reading (definition x)
-read_by text reading (FunctionDefinition local x) = declare_all text no_files (is_some local) reading (definition x)
-read_by text reading (ModuleDefinition local x) = declare_all text no_files (is_some local) reading (definition x)
+read_by text reading (Variables names) = declare_all text false reading (variables names)
+read_by text reading (Constants declarations) = declare_all text false reading (constants declarations)
+read_by text reading (OperatorDefinition local x) = declare_all text (is_some local) reading (definition x)
+read_by text reading (FunctionDefinition local x) = declare_all text (is_some local) reading (definition x)
+read_by text reading (ModuleDefinition local x) = declare_all text (is_some local) reading (definition x)
 read_by text reading _ = reading
 
 -- what is found in such a unit

@@ -23,10 +23,6 @@ modules_of modules = map (λ entry. (entry.0, taken_by entry.1)) modules
 abbrev pub Files : Type 0
 Files = List ℕ → Exports
 
--- names that are declared are the same whatever files export
-abbrev pub no_files : Files
-no_files name = []
-
 -- a module that is extended, where it brings a clash
 abbrev pub clash_at : Text → Files → Reading → Lexeme → List Finding
 clash_at text files reading l = if brings_clash reading (brings text files reading l) then Clashes l ∷ [] else []

@@ -15,7 +15,7 @@ ghost use Rattle.tree_scope.specs.Lying.{BindersLie};
 ghost use Rattle.symbol_scope.specs.Readings as readings;
 ghost use Rattle.name_exports.specs.Brought.{IsBrought};
 ghost use Rattle.module_scope.specs.Environments.{meaning};
-ghost use Rattle.symbol_scope.specs.Readings.{modules_of, no_files};
+ghost use Rattle.symbol_scope.specs.Readings.{modules_of};
 ghost use Rattle.symbol_scope.specs.Modules.{reading_of};
 
 use declared_names::defined;
@@ -107,7 +107,7 @@ impl<'a> Reading<'a> {
     /// name among those of modules.
     pub fn put_first(&mut self, text: &ModuleText<'a>) -> Result<(), Memory>
         requires { reading_of self.old ≡ readings.without_names text.now.file }
-        ensures { OnOk result (reading_of self.new ≡ in_modules.unread text.now no_files) }
+        ensures { OnOk result (reading_of self.new ≡ in_modules.unread text.now) }
     {
         put_built_in(&mut self.names.context)?;
         self.modules.add(self.name, None)?;
@@ -177,7 +177,7 @@ impl<'a> Reading<'a> {
     ) -> Result<(), Memory>
         requires { LiesIn text.now.source binder.name }
         ensures reading { OnOk result (reading_of self.new
-            ≡ in_modules.declare text.now no_files local (reading_of self.old) binder) }
+            ≡ in_modules.declare text.now local (reading_of self.old) binder) }
         ensures context { OnOk result (context_of self.new.names.context
             ≡ contexts.bind text.now (context_of self.old.names.context) binder) }
     {
@@ -201,7 +201,7 @@ impl<'a> Reading<'a> {
     ) -> Result<(), Memory>
         requires { BindersLie text.now.source binders }
         ensures reading { OnOk result (reading_of self.new
-            ≡ in_modules.declare_all text.now no_files false (reading_of self.old) binders) }
+            ≡ in_modules.declare_all text.now false (reading_of self.old) binders) }
         ensures findings { OnOk result (findings.new
             ≡ findings.old ++ scopes.all_refused text.now (context_of self.old.names.context)
             binders) }
@@ -225,7 +225,7 @@ impl<'a> Reading<'a> {
         requires node { node < length tree.now }
         requires lie { AllByRecursion (LiesIn text.now.source) (lexemes (tree_at tree.now node)) }
         ensures { OnOk result (reading_of self.new
-            ≡ in_modules.declare_all text.now no_files local (reading_of self.old)
+            ≡ in_modules.declare_all text.now local (reading_of self.old)
             (scopes.definition (tree_at tree.now node))) }
     {
         if let Some(binder) = definition(alloc, tree, node)? {
@@ -244,7 +244,7 @@ impl<'a> Reading<'a> {
     /// Whether a module name is taken.
     pub fn is_named(&self, text: &ModuleText<'a>, name: Lexeme) -> bool
         requires { LiesIn text.now.source name }
-        ensures { result ≡ in_modules.is_named text.now no_files (reading_of self.now) name }
+        ensures { result ≡ in_modules.is_named text.now (reading_of self.now) name }
     {
         self.modules.is_taken(text.spelled(name))
     }

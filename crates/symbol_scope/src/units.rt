@@ -16,7 +16,6 @@ ghost use Rattle.name_context.specs.AsTables.{context_of};
 ghost use Rattle.tree_scope.specs.Lying.{BindersLie};
 ghost use Rattle.symbol_scope.specs.Modules.{reading_of};
 ghost use Rattle.symbol_scope.specs.Plain.{found_by, read_by};
-ghost use Rattle.symbol_scope.specs.Readings.{no_files};
 ghost use Rattle.symbol_scope.specs.EnclosingReadings.{IsAt, IsUnread, begin_found, found_here};
 
 use crate::nesting::Nesting;
@@ -44,7 +43,7 @@ impl<'a> Reading<'a> {
         requires there { node < length tree.now }
         requires lie { AllByRecursion (LiesIn text.now.source) (lexemes (tree_at tree.now node)) }
         ensures reading { OnOk result (reading_of self.new
-            ≡ in_modules.declare_all text.now no_files local (reading_of self.old)
+            ≡ in_modules.declare_all text.now local (reading_of self.old)
             (scopes.definition (tree_at tree.now node))) }
         ensures findings { OnOk result (findings.new
             ≡ findings.old ++ in_trees.walk text.now (context_of self.old.names.context)
@@ -87,7 +86,7 @@ impl<'a> Reading<'a> {
         requires there { AreThere tree.now (nodes_in unit.now) }
         requires lie { BindersLie text.now.source (declared_by (unit_at tree.now unit.now)) }
         ensures reading { OnOk result (reading_of self.new
-            ≡ in_modules.declare_all text.now no_files false (reading_of self.old)
+            ≡ in_modules.declare_all text.now false (reading_of self.old)
             (declared_by (unit_at tree.now unit.now))) }
         ensures findings { OnOk result (findings.new
             ≡ findings.old ++ scopes.all_refused text.now (context_of self.old.names.context)
@@ -108,7 +107,7 @@ impl<'a> Reading<'a> {
     ) -> Result<(), Memory>
         requires { LiesIn text.now.source name }
         ensures { OnOk result (findings.new
-            ≡ findings.old ++ (if in_modules.is_named text.now no_files (reading_of self.now) name
+            ≡ findings.old ++ (if in_modules.is_named text.now (reading_of self.now) name
             then Taken name ∷ [] else [])) }
     {
         if self.is_named(text, name) {
@@ -255,7 +254,7 @@ impl<'a> Nesting<'a> {
         requires nodes { HasNodes tree.now }
         requires lie { LexemesLie text.now.source (module_of tree.now) }
         requires unread { IsAt self.old
-            (record { here = in_modules.unread text.now (files_of imported.now); round = [] }) }
+            (record { here = in_modules.unread text.now; round = [] }) }
         ensures reading { OnOk result (reading_of self.new.here
             ≡ plain.read_within text.now (files_of imported.now) (module_of tree.now)) }
         ensures findings { OnOk result (findings.new

@@ -30,7 +30,7 @@ returns-clause-reading c =
     let extends = c.args.tree.now.extends in
     let next : Nesting = record { here = c.extend_all.new.self; round = c.args.self.now.round } in
     let read = c.in_ok-extend_all.ensures.reading ∙ (λ i. extends_all text files (c.requires.unread.same i) (c.as_slice.ensures i)) in
-    let at = goes-on c.args.self.now next (record { here = unread text files; round = [] }) (extends_all text files (unread text files) extends) c.requires.unread (λ i. c.args.self.now.round.items) read (went-extends text files (unread text files) extends) in
+    let at = goes-on c.args.self.now next (record { here = unread text; round = [] }) (extends_all text files (unread text) extends) c.requires.unread (λ i. c.args.self.now.round.items) read (went-extends text files (unread text) extends) in
     (c.in_ok-read_all.ensures.place (begun text files extends) at).same ∙ ap (λ units. (read_all text files (begun text files extends) (map (unit_at c.args.tree.now.tree) units)).here) c.as_slice-2.ensures
 
 pub returns-clause-findings : goal.returns-clause-findings
@@ -41,7 +41,7 @@ returns-clause-findings c =
     let extends = c.args.tree.now.extends in
     let next : Nesting = record { here = c.extend_all.new.self; round = c.args.self.now.round } in
     let read = c.in_ok-extend_all.ensures.reading ∙ (λ i. extends_all text files (c.requires.unread.same i) (c.as_slice.ensures i)) in
-    let at = goes-on c.args.self.now next (record { here = unread text files; round = [] }) (extends_all text files (unread text files) extends) c.requires.unread (λ i. c.args.self.now.round.items) read (went-extends text files (unread text files) extends) in
+    let at = goes-on c.args.self.now next (record { here = unread text; round = [] }) (extends_all text files (unread text) extends) c.requires.unread (λ i. c.args.self.now.round.items) read (went-extends text files (unread text) extends) in
     let first = c.in_ok-extend_all.ensures.findings ∙ (λ i. old ++ all_clashing text files (c.requires.unread.same i) (c.as_slice.ensures i)) in
     c.in_ok-read_all.ensures.findings (begun text files extends) at ∙ (λ i. first i ++ found_from text files (begun text files extends) (map (unit_at c.args.tree.now.tree) (c.as_slice-2.ensures i)))
-    ∙ append_assoc old (all_clashing text files (unread text files) extends) (found_from text files (begun text files extends) (module_of c.args.tree.now).units)
+    ∙ append_assoc old (all_clashing text files (unread text) extends) (found_from text files (begun text files extends) (module_of c.args.tree.now).units)

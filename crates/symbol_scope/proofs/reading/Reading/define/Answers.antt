@@ -5,7 +5,6 @@ use Rattle.module_model.specs.Modules.{declare_all}
 use Rattle.declared_names.specs.Listed.{listed}
 use Rattle.tree_scope.specs.Lying.{BindersLie}
 use Rattle.symbol_scope.specs.Modules.{reading_of}
-use Rattle.symbol_scope.specs.Readings.{no_files}
 use Rattle.symbol_scope.proofs.Lexemes.{definition-lies}
 use Rattle.symbol_scope.proofs.reading.Reading.define.Goals as goal
 
@@ -16,4 +15,4 @@ declare-requires c =
 pub returns-in_ok-declare : goal.returns-in_ok-declare
 returns-in_ok-declare c =
     c.in_ok-declare.ensures.reading
-    ∙ ap (λ binders. declare_all c.args.text.now no_files c.args.local (reading_of c.args.self.now) binders) (ap listed (sym c.in-Some.is) ∙ c.in_ok-binder.ensures)
+    ∙ ap (λ binders. declare_all c.args.text.now c.args.local (reading_of c.args.self.now) binders) (ap listed (sym c.in-Some.is) ∙ c.in_ok-binder.ensures)
