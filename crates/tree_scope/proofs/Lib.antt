@@ -5,4 +5,6 @@ mod TaskFindings
 mod NodeTasks
 mod NamesInText
 mod Segments
+mod Noting
+mod Replacing
 mod Placing

@@ -1,25 +1,29 @@
 -- The segments of a path, from what is due of them.
-use Rattle.std.proofs.Common.{◌≡◌, ℕ, ◌+◌, ◌<◌, ◌≤◌, List, [], ◌∷◌, ◌++◌, Bool, true, false, true≢false, length, refl, ap, sym, subst, ◌∙◌, arith}
-use Rattle.std.specs.Prelude.{map, is_some, if◌then◌else◌, Option, Some, None}
+use Rattle.std.proofs.Common.{◌≡◌, ℕ, suc, zero, ◌+◌, ◌<◌, ◌≤◌, List, [], ◌∷◌, ◌++◌, Bool, true, false, true≢false, drop, length, refl, ap, sym, subst, ◌∙◌, add-one, arith}
+use Rattle.std.specs.Prelude.{is_some, if◌then◌else◌, nat_eq, option_map, slice_get, Option, Some, None}
 use Rattle.std.specs.List.{AllByRecursion}
+use Rattle.std.proofs.Math.Dec.{eqb-suc-suc, eqb-zero-suc}
 use Rattle.tla_symbols.specs.declared.lexeme.Lexeme.{Lexeme}
 use Rattle.tla_symbols.specs.declared.lexeme.Span.{Span}
 use Rattle.tla_tree.specs.declared.form.Form.TheVariants as Form
 use Rattle.tla_tree.specs.Arena.{Node as ArenaNode, AreThere, node_at, tree_at}
-use Rattle.tla_tree.specs.Syntax.{Trees, Node, Cons, trees}
+use Rattle.tla_tree.specs.Syntax.{Trees, Node, Nil, Cons}
 use Rattle.tla_tree.proofs.Nodes.{tree_at-form}
-use Rattle.tla_model.specs.declared.names.Finding.TheVariants.{Unknown}
 use Rattle.tla_model.specs.Contexts.{Context, meaning_of}
 use Rattle.tla_model.specs.Entities.{Text, Meaning, name_of}
 use Rattle.tla_model.specs.Lexemes.{LiesIn, all_lexemes, form_lexemes, lexemes}
 use Rattle.tla_model.specs.Scopes.{Finding, use_findings}
-use Rattle.list_laws.proofs.Lists.{all-left, all-right}
-use Rattle.tree_scope.specs.TreeFindings.{segments, unfound, walk_each}
+use Rattle.module_model.specs.Exports.{Behind, behind_meaning, entry_of, onward}
+use Rattle.module_model.specs.Instances.{called_by}
+use Rattle.module_model.specs.TreeFindings.{Surroundings, path, path_number, segments, walk_each}
+use Rattle.list_laws.proofs.Lists.{all-left, all-right, drop-at}
 use Rattle.declared_names.specs.Nodes.{IsWhole, form_at, parts_at}
-use Rattle.tree_scope.specs.WalkTasks.{Task, AreReady, AreSegments, IsFirstWhole, IsRest, all_size, emit, missing_tasks, run, second_tasks, segment_of, size, sizes, visits}
+use Rattle.tree_scope.specs.declared.tasks.Held.{Held}
+use Rattle.tree_scope.specs.declared.tasks.Task.TheVariants as task
+use Rattle.tree_scope.specs.WalkTasks.{Task, AreFound, AreReady, IsDone, IsPath, all_size, called, children_from, emit, leads, path_tasks, run, segment_of, size, sizes, trees_at, visits}
 use Rattle.tree_scope.proofs.TaskFindings.{each-run, emit-append}
 use Rattle.tree_scope.proofs.NodeTasks.{ready-append, size-append, visits-ready, visits-size}
-use Rattle.tree_scope.proofs.NamesInText.{parts-lie}
+use Rattle.tree_scope.proofs.NamesInText.{held-lies, parts-lie}
 
 is_named : Option Lexeme → Bool
 is_named None = false
@@ -29,106 +33,208 @@ or_else : Lexeme → Option Lexeme → Lexeme
 or_else d None = d
 or_else d (Some l) = l
 
-module _ (text : Text) (nodes : List ArenaNode) (context : Context) where
-  abbrev at : List ℕ → Trees
-  at numbers = trees (map (tree_at nodes) numbers)
+-- the name of a segment lies where its lexemes do
+segment-lies : (source : List ℕ) (form : Form.the_data) (l : Lexeme) → segment_of form ≡ Some l → AllByRecursion (LiesIn source) (form_lexemes form) → LiesIn source l
+unfolding is_named or_else
+segment-lies source (Form.Segment n) l e lie = subst (LiesIn source) (ap (or_else n) e) lie.0
+segment-lies source _ l e lie = absurd (true≢false (sym (ap is_named e)))
 
-  abbrev L : Lexeme → Type 0
-  L = LiesIn text.source
+-- ---- the end of a path
 
-  abbrev means : Lexeme → Option Meaning
-  means l = meaning_of context (name_of text.source l)
+is_last : Trees → Bool
+is_last Nil = true
+is_last (Cons x rest) = false
 
-  -- ---- one that is not a segment, and one that is
+-- what a name calls, by whether it is the last one
+called-is : (number : ℕ) (rest : Trees) (meaning : Option Meaning) → called_by number rest meaning ≡ called (is_last rest) number meaning
+unfolding is_last
+called-is number Nil meaning = refl
+called-is number (Cons x rest) meaning = refl
 
-  none-found : (form : Form.the_data) (s : Span) (parts rest : Trees) → segment_of form ≡ None → segments text context (Cons (Node form s parts) rest) ≡ []
+-- the last child of a node
+last-is : (nodes : List ArenaNode) (numbers : List ℕ) (i x : ℕ) → slice_get numbers i ≡ Some x → nat_eq (suc i) (length numbers) ≡ is_last (trees_at nodes (drop (suc i) numbers))
+unfolding is_last
+last-is nodes [] zero x e = cc
+last-is nodes [] (suc i) x e = cc
+last-is nodes (y ∷ []) zero x e = refl
+last-is nodes (y ∷ (z ∷ numbers)) zero x e = eqb-suc-suc 0 (suc (length numbers)) ∙ eqb-zero-suc (length numbers)
+last-is nodes (y ∷ numbers) (suc i) x e = eqb-suc-suc (suc i) (length numbers) ∙ last-is nodes numbers i x e
+
+last-at : (nodes : List ArenaNode) (node from x : ℕ) → slice_get (node_at nodes node).children from ≡ Some x → nat_eq (from + 1) (length (node_at nodes node).children) ≡ is_last (trees_at nodes (children_from nodes node (from + 1)))
+last-at nodes node from x e = rw add-one (last-is nodes (node_at nodes node).children from x e)
+
+module _ (text : Text) (nodes : List ArenaNode) (node from x : ℕ) (at : slice_get (node_at nodes node).children from ≡ Some x) (all : IsPath text nodes (children_from nodes node from)) where
+  is_here : children_from nodes node from ≡ x ∷ children_from nodes node (from + 1)
+  is_here = drop-at (node_at nodes node).children from x at
+
+  path-here : IsPath text nodes (x ∷ children_from nodes node (from + 1))
+  path-here = subst (IsPath text nodes) is_here all
+
+  path-on : IsPath text nodes (children_from nodes node (from + 1))
+  path-on = record { there = path-here.there.1; lie = all-right (LiesIn text.source) (lexemes (tree_at nodes x)) (all_lexemes (trees_at nodes (children_from nodes node (from + 1)))) path-here.lie }
+
+  name-lies : AllByRecursion (LiesIn text.source) (lexemes (tree_at nodes x))
+  name-lies = all-left (LiesIn text.source) (lexemes (tree_at nodes x)) (all_lexemes (trees_at nodes (children_from nodes node (from + 1)))) path-here.lie
+
+  -- a segment of a path is there
+  pub segment-there : x < length nodes
+  segment-there = path-here.there.0
+
+  -- and its name lies in the text
+  pub here-lies : (l : Lexeme) → segment_of (form_at nodes x) ≡ Some l → LiesIn text.source l
+  here-lies l named = segment-lies text.source (form_at nodes x) l named (held-lies text.source nodes x segment-there name-lies)
+
+module _ (text : Text) (around : Surroundings) (held : Held → Behind) (nodes : List ArenaNode) where
+  abbrev source : List ℕ
+  source = text.source
+
+  -- ---- one segment
+
+  abbrev next_of : Context → ℕ → Option Meaning → Behind → Trees → List Finding
+  next_of context number meaning behind rest = if is_some meaning then path text around context number behind rest else []
+
+  first-segment : (context : Context) (form : Form.the_data) (s : Span) (parts rest : Trees) (l : Lexeme) → segment_of form ≡ Some l →
+      segments text around context (Cons (Node form s parts) rest) ≡
+      use_findings l (meaning_of context (name_of source l)) ++ walk_each text around context parts
+      ++ next_of context (path_number text around l) (meaning_of context (name_of source l)) (behind_meaning around.known (meaning_of context (name_of source l))) rest
+  unfolding is_named or_else
+  first-segment context (Form.Segment n) s parts rest l e =
+      ap (λ z. use_findings z (meaning_of context (name_of source z)) ++ walk_each text around context parts
+      ++ next_of context (path_number text around z) (meaning_of context (name_of source z)) (behind_meaning around.known (meaning_of context (name_of source z))) rest) (ap (or_else n) e)
+  first-segment context _ s parts rest l e = absurd (true≢false (sym (ap is_named e)))
+
+  no-first : (context : Context) (form : Form.the_data) (s : Span) (parts rest : Trees) → segment_of form ≡ None → segments text around context (Cons (Node form s parts) rest) ≡ []
   unfolding is_named
-  none-found (Form.Segment l) s parts rest e = absurd (true≢false (ap is_named e))
-  none-found _ s parts rest e = refl
+  no-first context (Form.Segment l) s parts rest e = absurd (true≢false (ap is_named e))
+  no-first context _ s parts rest e = refl
 
-  one-found : (form : Form.the_data) (s : Span) (parts rest : Trees) (l : Lexeme) → segment_of form ≡ Some l →
-      segments text context (Cons (Node form s parts) rest) ≡ use_findings l (means l) ++ walk_each text context parts ++ (if is_some (means l) then unfound text context rest else [])
+  further-segment : (context : Context) (number : ℕ) (behind : Behind) (form : Form.the_data) (s : Span) (parts rest : Trees) (l : Lexeme) → segment_of form ≡ Some l →
+      path text around context number behind (Cons (Node form s parts) rest) ≡
+      use_findings l (called_by number rest (entry_of (behind []) (name_of source l))) ++ walk_each text around context parts
+      ++ next_of context number (entry_of (behind []) (name_of source l)) (onward behind (name_of source l)) rest
   unfolding is_named or_else
-  one-found (Form.Segment n) s parts rest l e = ap (λ z. use_findings z (means z) ++ walk_each text context parts ++ (if is_some (means z) then unfound text context rest else [])) (ap (or_else n) e)
-  one-found _ s parts rest l e = absurd (true≢false (sym (ap is_named e)))
+  further-segment context number behind (Form.Segment n) s parts rest l e =
+      ap (λ z. use_findings z (called_by number rest (entry_of (behind []) (name_of source z))) ++ walk_each text around context parts
+      ++ next_of context number (entry_of (behind []) (name_of source z)) (onward behind (name_of source z)) rest) (ap (or_else n) e)
+  further-segment context number behind _ s parts rest l e = absurd (true≢false (sym (ap is_named e)))
 
-  pub segment-lies : (form : Form.the_data) (l : Lexeme) → segment_of form ≡ Some l → AllByRecursion L (form_lexemes form) → L l
-  unfolding is_named or_else
-  segment-lies (Form.Segment n) l e lie = subst L (ap (or_else n) e) lie.0
-  segment-lies _ l e lie = absurd (true≢false (sym (ap is_named e)))
+  no-further : (context : Context) (number : ℕ) (behind : Behind) (form : Form.the_data) (s : Span) (parts rest : Trees) → segment_of form ≡ None → path text around context number behind (Cons (Node form s parts) rest) ≡ []
+  unfolding is_named
+  no-further context number behind (Form.Segment l) s parts rest e = absurd (true≢false (ap is_named e))
+  no-further context number behind _ s parts rest e = refl
 
-  -- ---- the second segment
+  -- ---- the rest of a path
 
-  missing-run : (form : Form.the_data) (s : Span) (numbers : List ℕ) (rest : Trees) (more : List Task) → run text nodes context (missing_tasks form numbers more) ≡ emit (unfound text context (Cons (Node form s (at numbers)) rest)) (run text nodes context more)
-  missing-run (Form.Segment l) s numbers rest more = ap (emit (Unknown l ∷ [])) (each-run text nodes context numbers more)
-  missing-run _ s numbers rest more = refl
+  -- what the number of a place stands for
+  or_nowhere : Behind → Option Behind → Behind
+  or_nowhere b None = b
+  or_nowhere b (Some c) = c
 
-  second-run : (numbers : List ℕ) (more : List Task) → IsFirstWhole nodes numbers → run text nodes context (second_tasks nodes numbers more) ≡ emit (unfound text context (at numbers)) (run text nodes context more)
-  second-run [] more whole = refl
-  second-run (x ∷ numbers) more whole =
-      missing-run (form_at nodes x) (node_at nodes x).span (node_at nodes x).children (at numbers) more
-      ∙ ap (λ t. emit (unfound text context (Cons t (at numbers))) (run text nodes context more)) (sym whole.0)
+  leads-on : Option Behind → Bool
+  leads-on None = false
+  leads-on (Some b) = true
 
-  missing-ready : (form : Form.the_data) (numbers : List ℕ) (more : List Task) → AreReady text nodes (visits numbers) → AreReady text nodes more → AreReady text nodes (missing_tasks form numbers more)
-  missing-ready (Form.Segment l) numbers more all ready = (tt, ready-append text nodes (visits numbers) more all ready)
-  missing-ready _ numbers more all ready = ready
+  next-run : (context : Context) (node from number : ℕ) (next : Option Held) (meaning : Option Meaning) (behind : Behind) (more : List Task) → option_map held next ≡ leads meaning behind →
+      run text around held nodes context (path_tasks node from number next more) ≡ emit (next_of context number meaning behind (trees_at nodes (children_from nodes node from))) (run text around held nodes context more)
+  unfolding or_nowhere leads-on
+  next-run context node from number None None behind more e = refl
+  next-run context node from number (Some place) (Some meaning) behind more e =
+      ap (λ z. emit (path text around context number z (trees_at nodes (children_from nodes node from))) (run text around held nodes context more)) (ap (or_nowhere behind) e)
+  next-run context node from number None (Some meaning) behind more e = absurd (true≢false (sym (ap leads-on e)))
+  next-run context node from number (Some place) None behind more e = absurd (true≢false (ap leads-on e))
 
-  second-ready : (numbers : List ℕ) (more : List Task) → IsFirstWhole nodes numbers → AllByRecursion L (all_lexemes (at numbers)) → AreReady text nodes more → AreReady text nodes (second_tasks nodes numbers more)
-  second-ready [] more whole lie ready = ready
-  second-ready (x ∷ numbers) more whole lie ready =
-      missing-ready (form_at nodes x) (node_at nodes x).children more
-      (visits-ready text nodes (node_at nodes x).children whole.1 (parts-lie text.source nodes x whole.0 (all-left L (lexemes (tree_at nodes x)) (all_lexemes (at numbers)) lie))) ready
+  next-ready : (node from number : ℕ) (next : Option Held) (more : List Task) → node < length nodes → IsPath text nodes (children_from nodes node from) → AreReady text nodes more → AreReady text nodes (path_tasks node from number next more)
+  next-ready node from number None more there path ready = ready
+  next-ready node from number (Some place) more there path ready = ((there, path), ready)
 
-  missing-size : (form : Form.the_data) (numbers : List ℕ) (more : List Task) → all_size text nodes (missing_tasks form numbers more) ≤ 1 + (sizes text nodes (at numbers) + all_size text nodes more)
-  missing-size (Form.Segment l) numbers more = rw (size-append text nodes (visits numbers) more) (omega (arith, visits-size text nodes numbers))
-  missing-size _ numbers more = omega arith
+  next-size : (node from number : ℕ) (next : Option Held) (more : List Task) →
+      all_size text nodes (path_tasks node from number next more) ≤ 1 + (sizes text nodes (trees_at nodes (children_from nodes node from)) + all_size text nodes more)
+  next-size node from number None more = omega arith
+  next-size node from number (Some place) more = omega arith
 
-  second-size : (numbers : List ℕ) (more : List Task) → IsFirstWhole nodes numbers → all_size text nodes (second_tasks nodes numbers more) ≤ sizes text nodes (at numbers) + all_size text nodes more
-  second-size [] more whole = omega arith
-  second-size (x ∷ numbers) more whole = omega (arith, missing-size (form_at nodes x) (node_at nodes x).children more, ap (size text nodes) whole.0)
+  -- ---- a segment, and then the rest
 
-  -- ---- both
+  module _ (node from x : ℕ) (there : node < length nodes) (at : slice_get (node_at nodes node).children from ≡ Some x) (all : IsPath text nodes (children_from nodes node from)) where
+    step-found : (context : Context) (number : ℕ) (used : List Finding) (meaning : Option Meaning) (behind : Behind) (next : Option Held) (due findings findings' : List Finding) (old middle new : List Task) →
+        IsWhole nodes x → AreThere nodes (node_at nodes x).children → option_map held next ≡ leads meaning behind → findings' ≡ findings ++ used →
+        middle ≡ path_tasks node (from + 1) number next old → new ≡ visits (node_at nodes x).children ++ middle →
+        due ≡ used ++ walk_each text around context (parts_at nodes x) ++ next_of context number meaning behind (trees_at nodes (children_from nodes node (from + 1))) →
+        AreFound text around held nodes (children_from nodes node from) due context findings findings' old new
+    step-found context number used meaning behind next due findings findings' old middle new whole kids_there led are rest is found =
+        let kids = (node_at nodes x).children in
+        let below = walk_each text around context (trees_at nodes kids) in
+        let onward = next_of context number meaning behind (trees_at nodes (children_from nodes node (from + 1))) in
+        let last = run text around held nodes context old in
+        record {
+          ready = λ ready. subst (AreReady text nodes) (sym is) (ready-append text nodes (visits kids) middle (visits-ready text nodes kids kids_there (parts-lie source nodes x whole (name-lies text nodes node from x at all)))
+              (subst (AreReady text nodes) (sym rest) (next-ready node (from + 1) number next old there (path-on text nodes node from x at all) ready)));
+          run_on = ap (λ z. emit z (run text around held nodes context new)) are
+              ∙ ap (emit (findings ++ used)) (ap (run text around held nodes context) is ∙ each-run text around held nodes context kids middle
+              ∙ ap (emit below) (ap (run text around held nodes context) rest ∙ next-run context node (from + 1) number next meaning behind old led))
+              ∙ emit-append findings used (emit below (emit onward last))
+              ∙ ap (emit findings) (sym (emit-append (used ++ below) onward last ∙ emit-append used below (emit onward last)))
+              ∙ ap (λ z. emit findings (emit z last)) (sym found);
+          less = rw (is, size-append text nodes (visits kids) middle, rest, is_here text nodes node from x at all) (omega (arith, visits-size text nodes kids, next-size node (from + 1) number next old, ap (size text nodes) whole));
+        }
 
-  rest-run : (known : Bool) (numbers : List ℕ) (old new : List Task) → IsRest nodes known numbers old new → run text nodes context new ≡ emit (if known then unfound text context (at numbers) else []) (run text nodes context old)
-  rest-run true numbers old new rest = let second = rest.looked refl in ap (run text nodes context) second.tasks ∙ second-run numbers old second.whole
-  rest-run false numbers old new rest = ap (run text nodes context) (rest.left refl)
+    pub first-found : (context : Context) (l : Lexeme) (next : Option Held) (findings findings' : List Finding) (old middle new : List Task) →
+        IsWhole nodes x → AreThere nodes (node_at nodes x).children → segment_of (form_at nodes x) ≡ Some l →
+        option_map held next ≡ leads (meaning_of context (name_of source l)) (behind_meaning around.known (meaning_of context (name_of source l))) →
+        findings' ≡ findings ++ use_findings l (meaning_of context (name_of source l)) → middle ≡ path_tasks node (from + 1) (path_number text around l) next old → new ≡ visits (node_at nodes x).children ++ middle →
+        AreFound text around held nodes (children_from nodes node from) (segments text around context (trees_at nodes (children_from nodes node from))) context findings findings' old new
+    first-found context l next findings findings' old middle new whole kids_there named led are rest is =
+        let m = meaning_of context (name_of source l) in
+        step-found context (path_number text around l) (use_findings l m) m (behind_meaning around.known m) next _ findings findings' old middle new whole kids_there led are rest is
+        (ap (λ z. segments text around context (trees_at nodes z)) (is_here text nodes node from x at all) ∙ ap (λ t. segments text around context (Cons t (trees_at nodes (children_from nodes node (from + 1))))) whole
+        ∙ first-segment context (form_at nodes x) (node_at nodes x).span (parts_at nodes x) (trees_at nodes (children_from nodes node (from + 1))) l named)
 
-  rest-ready : (known : Bool) (numbers : List ℕ) (old new : List Task) → IsRest nodes known numbers old new → AllByRecursion L (all_lexemes (at numbers)) → AreReady text nodes old → AreReady text nodes new
-  rest-ready true numbers old new rest lie ready = let second = rest.looked refl in subst (AreReady text nodes) (sym second.tasks) (second-ready numbers old second.whole lie ready)
-  rest-ready false numbers old new rest lie ready = subst (AreReady text nodes) (sym (rest.left refl)) ready
+    pub further-found : (context : Context) (number : ℕ) (place : Held) (l : Lexeme) (last : Bool) (next : Option Held) (findings findings' : List Finding) (old middle new : List Task) →
+        IsWhole nodes x → AreThere nodes (node_at nodes x).children → segment_of (form_at nodes x) ≡ Some l → last ≡ nat_eq (from + 1) (length (node_at nodes node).children) →
+        option_map held next ≡ leads (entry_of (held place []) (name_of source l)) (onward (held place) (name_of source l)) →
+        findings' ≡ findings ++ use_findings l (called last number (entry_of (held place []) (name_of source l))) → middle ≡ path_tasks node (from + 1) number next old → new ≡ visits (node_at nodes x).children ++ middle →
+        AreFound text around held nodes (children_from nodes node from) (path text around context number (held place) (trees_at nodes (children_from nodes node from))) context findings findings' old new
+    further-found context number place l last next findings findings' old middle new whole kids_there named ends led are rest is =
+        let m = entry_of (held place []) (name_of source l) in
+        let behind = trees_at nodes (children_from nodes node (from + 1)) in
+        step-found context number (use_findings l (called_by number behind m)) m (onward (held place) (name_of source l)) next _ findings findings' old middle new whole kids_there led
+        (are ∙ ap (λ z. findings ++ use_findings l (called z number m)) (ends ∙ last-at nodes node from x at) ∙ ap (λ z. findings ++ use_findings l z) (sym (called-is number behind m))) rest is
+        (ap (λ z. path text around context number (held place) (trees_at nodes z)) (is_here text nodes node from x at all) ∙ ap (λ t. path text around context number (held place) (Cons t behind)) whole
+        ∙ further-segment context number (held place) (form_at nodes x) (node_at nodes x).span (parts_at nodes x) behind l named)
 
-  rest-size : (known : Bool) (numbers : List ℕ) (old new : List Task) → IsRest nodes known numbers old new → all_size text nodes new ≤ sizes text nodes (at numbers) + all_size text nodes old
-  rest-size true numbers old new rest = let second = rest.looked refl in subst (λ z. all_size text nodes z ≤ sizes text nodes (at numbers) + all_size text nodes old) (sym second.tasks) (second-size numbers old second.whole)
-  rest-size false numbers old new rest = subst (λ z. all_size text nodes z ≤ sizes text nodes (at numbers) + all_size text nodes old) (sym (rest.left refl)) (omega arith)
+  -- ---- no segment
 
-  pub path-found : (first : ℕ) (numbers : List ℕ) (l : Lexeme) (known : Bool) (findings findings' : List Finding) (old middle new : List Task) → first < length nodes →
-      IsWhole nodes first → AreThere nodes (node_at nodes first).children → AllByRecursion L (all_lexemes (at (first ∷ numbers))) → segment_of (form_at nodes first) ≡ Some l → known ≡ is_some (means l) →
-      findings' ≡ findings ++ use_findings l (means l) → IsRest nodes known numbers old middle → new ≡ visits (node_at nodes first).children ++ middle →
-      AreSegments text nodes (first ∷ numbers) context findings findings' old new
-  path-found first numbers l known findings findings' old middle new in_tree whole there lie named knows are rest is =
-      let kids = (node_at nodes first).children in
-      let mine = parts-lie text.source nodes first whole (all-left L (lexemes (tree_at nodes first)) (all_lexemes (at numbers)) lie) in
-      let here = use_findings l (means l) in
-      let below = walk_each text context (at kids) in
-      let behind = if known then unfound text context (at numbers) else [] in
-      record {
-        ready = λ ready. subst (AreReady text nodes) (sym is) (ready-append text nodes (visits kids) middle (visits-ready text nodes kids there mine) (rest-ready known numbers old middle rest (all-right L (lexemes (tree_at nodes first)) (all_lexemes (at numbers)) lie) ready));
-        run_on = ap (λ z. emit z (run text nodes context new)) are ∙ ap (emit (findings ++ here)) (ap (run text nodes context) is ∙ each-run text nodes context kids middle ∙ ap (emit below) (rest-run known numbers old middle rest))
-            ∙ emit-append findings here (emit below (emit behind (run text nodes context old)))
-            ∙ ap (emit findings) (sym (emit-append (here ++ below) behind (run text nodes context old) ∙ emit-append here below (emit behind (run text nodes context old))))
-            ∙ ap (λ z. emit findings (emit (here ++ below ++ (if z then unfound text context (at numbers) else [])) (run text nodes context old))) knows
-            ∙ ap (λ z. emit findings (emit z (run text nodes context old))) (sym (ap (λ t. segments text context (Cons t (at numbers))) whole ∙ one-found (form_at nodes first) (node_at nodes first).span (parts_at nodes first) (at numbers) l named));
-        less = rw (is, size-append text nodes (visits kids) middle) (omega (arith, visits-size text nodes kids, rest-size known numbers old middle rest, ap (size text nodes) whole));
-      }
-
-  pub nothing-found : (numbers : List ℕ) (findings : List Finding) (old : List Task) → segments text context (at numbers) ≡ [] → AreSegments text nodes numbers context findings findings old old
-  nothing-found numbers findings old none = record {
+  nothing-found : (numbers : List ℕ) (due findings : List Finding) (context : Context) (old : List Task) → due ≡ [] → AreFound text around held nodes numbers due context findings findings old old
+  nothing-found numbers due findings context old none = record {
     ready = λ ready. ready;
-    run_on = ap (λ z. emit findings (emit z (run text nodes context old))) (sym none);
+    run_on = ap (λ z. emit findings (emit z (run text around held nodes context old))) (sym none);
     less = omega arith;
   }
 
-  pub no-segment : (first : ℕ) (numbers : List ℕ) → first < length nodes → segment_of (form_at nodes first) ≡ None → segments text context (at (first ∷ numbers)) ≡ []
-  no-segment first numbers there named =
-      let known = tree_at-form nodes first there in
-      ap (λ t. segments text context (Cons t (at numbers))) known.1 ∙ none-found (form_at nodes first) (node_at nodes first).span known.0 (at numbers) named
+  module _ (node from x : ℕ) (at : slice_get (node_at nodes node).children from ≡ Some x) (all : IsPath text nodes (children_from nodes node from)) (other : segment_of (form_at nodes x) ≡ None) where
+    pub first-other : (context : Context) (findings : List Finding) (old : List Task) →
+        AreFound text around held nodes (children_from nodes node from) (segments text around context (trees_at nodes (children_from nodes node from))) context findings findings old old
+    first-other context findings old =
+        let known = tree_at-form nodes x (segment-there text nodes node from x at all) in
+        nothing-found (children_from nodes node from) _ findings context old
+        (ap (λ z. segments text around context (trees_at nodes z)) (drop-at (node_at nodes node).children from x at)
+        ∙ ap (λ t. segments text around context (Cons t (trees_at nodes (children_from nodes node (from + 1))))) known.1
+        ∙ no-first context (form_at nodes x) (node_at nodes x).span known.0 (trees_at nodes (children_from nodes node (from + 1))) other)
+
+    pub further-other : (number : ℕ) (place : Held) (context : Context) (findings : List Finding) (old : List Task) →
+        AreFound text around held nodes (children_from nodes node from) (path text around context number (held place) (trees_at nodes (children_from nodes node from))) context findings findings old old
+    further-other number place context findings old =
+        let known = tree_at-form nodes x (segment-there text nodes node from x at all) in
+        nothing-found (children_from nodes node from) _ findings context old
+        (ap (λ z. path text around context number (held place) (trees_at nodes z)) (drop-at (node_at nodes node).children from x at)
+        ∙ ap (λ t. path text around context number (held place) (Cons t (trees_at nodes (children_from nodes node (from + 1))))) known.1
+        ∙ no-further context number (held place) (form_at nodes x) (node_at nodes x).span known.0 (trees_at nodes (children_from nodes node (from + 1))) other)
+
+  -- a task for the rest of a path is done
+  pub path-done : (node from number : ℕ) (place : Held) (context : Context) (findings findings' : List Finding) (old new : List Task) → AreReady text nodes old →
+      AreFound text around held nodes (children_from nodes node from) (path text around context number (held place) (trees_at nodes (children_from nodes node from))) context findings findings' old new →
+      IsDone text around held nodes (task.Path node from number place) context context findings findings' old new
+  path-done node from number place context findings findings' old new ready found = record {
+    ready = found.ready ready;
+    run_on = found.run_on;
+    less = omega (arith, found.less);
+  }

@@ -1,4 +1,5 @@
+pub mod Alone
 pub mod Lying
+pub mod Parameters
 pub mod Places
-pub mod TreeFindings
 pub mod WalkTasks

@@ -4,11 +4,11 @@ ghost use Rattle.tla_tree.specs.Arena.{AreThere};
 ghost use Rattle.tree_scope.specs.WalkTasks as walking;
 ghost use Rattle.tree_scope.specs.WalkTasks.{stack};
 
-use crate::tasks::{Task, push_chain, push_chosen, push_each, push_task};
+use crate::tasks::{Held, Task, push_chain, push_chosen, push_each, push_task};
 use name_context::Mark;
 use std::alloc::Global;
 use tla_symbols::Lexeme;
-use tla_tree::{Form, Tree};
+use tla_tree::Tree;
 use tool_list::Memory;
 
 // What is in the scope of the names that a node binds, and the end of the scope.
@@ -117,46 +117,28 @@ pub fn push_behind(tasks: &mut Vec<Task>, children: &[u32], at: Lexeme) -> Resul
     push_each(tasks, children)
 }
 
-// A segment that is found in no instance, with its arguments.
-fn push_missing(tasks: &mut Vec<Task>, form: Form, arguments: &[u32]) -> Result<(), Memory>
-    ensures { OnOk result (stack tasks.new.items
-        ≡ walking.missing_tasks form arguments.now (stack tasks.old.items)) }
-{
-    let Form::Segment(at) = form else {
-        return Ok(());
-    };
-    push_each(tasks, arguments)?;
-    push_task(tasks, Task::Missing { at })?;
-    Ok(())
-}
-
-// The second segment of an identifier, of which the first is no instance: later ones are not looked at.
-fn push_second(tasks: &mut Vec<Task>, tree: &Tree, segments: &[u32]) -> Result<(), Memory>
-    requires { AreThere tree.now segments.now }
-    ensures { OnOk result (walking.IsSecond tree.now segments.now (stack tasks.old.items)
-        (stack tasks.new.items)) }
-{
-    let Some((&second, _)) = segments.split_first() else {
-        return Ok(());
-    };
-    push_missing(tasks, tree.form(second), tree.children(second))?;
-    Ok(())
-}
-
-/// The second segment, where the first one means something.
-pub fn push_rest(
+/// The segments of an identifier from this one on, where the one before it leads on.
+pub fn push_path(
     tasks: &mut Vec<Task>,
-    tree: &Tree,
-    segments: &[u32],
-    known: bool,
+    node: u32,
+    from: usize,
+    number: u32,
+    held: Option<Held>,
 ) -> Result<(), Memory>
-    requires { AreThere tree.now segments.now }
-    ensures { OnOk result (walking.IsRest tree.now known segments.now (stack tasks.old.items)
-        (stack tasks.new.items)) }
+    ensures { OnOk result (stack tasks.new.items
+        ≡ walking.path_tasks node from number held (stack tasks.old.items)) }
 {
-    if !known {
+    let Some(held) = held else {
         return Ok(());
-    }
-    push_second(tasks, tree, segments)?;
+    };
+    push_task(
+        tasks,
+        Task::Path {
+            node,
+            from,
+            number,
+            held,
+        },
+    )?;
     Ok(())
 }

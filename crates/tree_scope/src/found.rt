@@ -5,13 +5,16 @@ ghost use Rattle.tla_tree.specs.Arena.{tree_at};
 ghost use Rattle.tla_model.specs.Contexts as contexts;
 ghost use Rattle.tla_model.specs.Lexemes.{LiesIn, lexemes};
 ghost use Rattle.tla_model.specs.Scopes as scopes;
-ghost use Rattle.tree_scope.specs.TreeFindings as in_trees;
+ghost use Rattle.module_model.specs.TreeFindings as in_trees;
 ghost use Rattle.name_context.specs.AsTables.{context_of};
 ghost use Rattle.declared_names.specs.Nodes.{binders_at};
 ghost use Rattle.tree_scope.specs.WalkTasks as walking;
 ghost use Rattle.tree_scope.specs.WalkTasks.{AreReady, IsDone, IsNode, IsReady, stack};
 
+use crate::paths::go_on;
+use crate::replacements::{imply, replace};
 use crate::scopes::{bind, bind_all};
+use crate::surroundings::Surround;
 use crate::tasks::Task;
 use crate::text::ModuleText;
 use crate::uses::{bind_function, use_symbol};
@@ -63,9 +66,10 @@ fn define<'a>(
 }
 
 // Does what was due next.
-fn perform<'a>(
+fn perform<'a, S: Surround>(
     alloc: Global,
     text: &ModuleText<'a>,
+    around: &S,
     tree: &Tree,
     next: Task,
     context: &mut Context<'a>,
@@ -74,21 +78,40 @@ fn perform<'a>(
 ) -> Result<(), Memory>
     requires next { IsReady text.now tree.now next }
     requires tasks { AreReady text.now tree.now (stack tasks.old.items) }
-    ensures { OnOk result (IsDone text.now tree.now next (context_of context.old)
-        (context_of context.new) findings.old findings.new (stack tasks.old.items)
-        (stack tasks.new.items)) }
+    ensures { OnOk result (IsDone text.now (S.around around.now) (S.held around.now) tree.now next
+        (context_of context.old) (context_of context.new) findings.old findings.new
+        (stack tasks.old.items) (stack tasks.new.items)) }
 {
     match next {
         Task::Visit { node } => {
-            visit(alloc, text, tree, node, context, findings, tasks)?;
+            visit(alloc, text, around, tree, node, context, findings, tasks)?;
             Ok(())
         }
         Task::Symbol { at } => {
             use_symbol(context, at, findings)?;
             Ok(())
         }
-        Task::Missing { at } => {
-            findings.push(Finding::Unknown { at })?;
+        Task::Path {
+            node,
+            from,
+            number,
+            held,
+        } => {
+            go_on(
+                text, around, tree, node, from, number, held, findings, tasks,
+            )?;
+            Ok(())
+        }
+        Task::Replace {
+            left,
+            module,
+            again,
+        } => {
+            replace(text, around, left, module, again, findings)?;
+            Ok(())
+        }
+        Task::Imply { node, module } => {
+            imply(alloc, text, around, tree, node, module, context, findings)?;
             Ok(())
         }
         Task::Bind { node } => {
@@ -112,9 +135,10 @@ fn perform<'a>(
 
 /// Appends what is found in the tree below a node, in the order of the text. The context is behind it
 /// as it was before.
-pub fn walk<'a>(
+pub fn walk<'a, S: Surround>(
     alloc: Global,
     text: &ModuleText<'a>,
+    around: &S,
     tree: &Tree,
     node: u32,
     context: &mut Context<'a>,
@@ -124,12 +148,15 @@ pub fn walk<'a>(
     requires lie { AllByRecursion (LiesIn text.now.source) (lexemes (tree_at tree.now node)) }
     ensures context { OnOk result (context_of context.new ≡ context_of context.old) }
     ensures findings { OnOk result (findings.new
-        ≡ findings.old ++ in_trees.walk text.now (context_of context.old) (tree_at tree.now node)) }
+        ≡ findings.old ++ in_trees.walk text.now (S.around around.now) (context_of context.old)
+        (tree_at tree.now node)) }
 {
     let mut tasks = Vec::new(alloc);
     tasks.push(Task::Visit { node })?;
     while let Some(next) = tasks.pop() {
-        perform(alloc, text, tree, next, context, findings, &mut tasks)?;
+        perform(
+            alloc, text, around, tree, next, context, findings, &mut tasks,
+        )?;
     }
     Ok(())
 }

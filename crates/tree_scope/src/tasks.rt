@@ -10,23 +10,60 @@ use tla_symbols::Lexeme;
 use tla_tree::{Form, Tree};
 use tool_list::{List, Memory};
 
+/// Where a path has come to, in two numbers whose meaning is known to what is round the walk.
+#[derive(Clone, Copy)]
+pub struct Held {
+    pub table: usize,
+    pub entry: usize,
+}
+
 /// What is to be done next.
 #[derive(Clone, Copy)]
 pub enum Task {
     /// To find what is found below a node.
-    Visit { node: u32 },
+    Visit {
+        node: u32,
+    },
     /// To look at the use of a symbol.
-    Symbol { at: Lexeme },
-    /// To find a segment unknown, since what stands before it is no instance.
-    Missing { at: Lexeme },
+    Symbol {
+        at: Lexeme,
+    },
+    /// To look at the segments of an identifier, the child of this index first. `number` is the number
+    /// of the path, and `held` is where the segments before have come to.
+    Path {
+        node: u32,
+        from: usize,
+        number: u32,
+        held: Held,
+    },
+    /// To look at the left side of a replacement, whose name is replaced before it or not, by the
+    /// module of an INSTANCE.
+    Replace {
+        left: Lexeme,
+        module: Lexeme,
+        again: bool,
+    },
+    /// To look at the parameters of the module of an INSTANCE that are not replaced at its node.
+    Imply {
+        node: u32,
+        module: Lexeme,
+    },
     /// To put the names that a node binds for its parts into the context.
-    Bind { node: u32 },
+    Bind {
+        node: u32,
+    },
     /// To put the name that a node defines into the context.
-    Define { node: u32 },
+    Define {
+        node: u32,
+    },
     /// To put the name of a function into the context, for its body.
-    Function { name: Lexeme },
+    Function {
+        name: Lexeme,
+    },
     /// To leave a scope, for the context of a mark.
-    Leave { mark: Mark },
+    Leave {
+        mark: Mark,
+    },
 }
 
 /// Where a form uses a symbol, and in which order its parts are looked at.
@@ -48,6 +85,8 @@ pub enum Naming {
     BoundsLast,
     /// Sets of bounds, then what is in the scope of the names; the function's name is a bound name there.
     Function(Lexeme),
+    /// What is replaced in the module of this name.
+    Instance(Lexeme),
     /// Sets of bounds, then what is in the scope of the names.
     BoundsFirst,
 }
@@ -72,6 +111,7 @@ pub fn naming_of(form: Form) -> Naming
         Form::Let => Naming::InOrder,
         Form::SetImage => Naming::BoundsLast,
         Form::FunctionDefinition(name) => Naming::Function(name),
+        Form::Instance(module) => Naming::Instance(module),
         _ => Naming::BoundsFirst,
     }
 }
@@ -101,6 +141,35 @@ pub fn push_each(tasks: &mut Vec<Task>, nodes: &[u32]) -> Result<(), Memory>
         ≡ walking.visits nodes.now ++ walking.stack tasks.old.items) }
 {
     append_visits(tasks, nodes)?;
+    Ok(())
+}
+
+/// Appends visits, the first one first.
+pub fn append_each(tasks: &mut Vec<Task>, nodes: &[u32]) -> Result<(), Memory>
+    ensures { OnOk result (tasks.new.items ≡ tasks.old.items ++ walking.visits nodes.now) }
+{
+    for node in nodes.iter().copied() {
+        tasks.push(Task::Visit { node })?;
+    }
+    Ok(())
+}
+
+// Appends tasks, the last one first.
+fn append_tasks(tasks: &mut Vec<Task>, more: &[Task]) -> Result<(), Memory>
+    ensures { OnOk result (tasks.new.items ≡ tasks.old.items ++ reverse more.now) }
+{
+    for task in more.iter().rev().copied() {
+        tasks.push(task)?;
+    }
+    Ok(())
+}
+
+/// Puts tasks on top of what is due, the first one uppermost.
+pub fn push_tasks(tasks: &mut Vec<Task>, more: &[Task]) -> Result<(), Memory>
+    ensures { OnOk result (walking.stack tasks.new.items
+        ≡ more.now ++ walking.stack tasks.old.items) }
+{
+    append_tasks(tasks, more)?;
     Ok(())
 }
 

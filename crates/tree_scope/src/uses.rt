@@ -34,8 +34,8 @@ fn prefixed(op: Op) -> Op
     }
 }
 
-// What a name means, for a use.
-fn meaning_of<'a>(context: &Context<'a>, name: Named<'a>) -> Result<Option<Meaning>, Memory>
+/// What a name means, for a use.
+pub fn meaning_of<'a>(context: &Context<'a>, name: Named<'_>) -> Result<Option<Meaning>, Memory>
     ensures { IfOk result (λ meaning. meaning
         ≡ contexts.meaning_of (context_of context.now) (meant_by name.entry)) }
 {
@@ -45,45 +45,18 @@ fn meaning_of<'a>(context: &Context<'a>, name: Named<'a>) -> Result<Option<Meani
     }
 }
 
-// Appends what a use is found to mean, and answers whether it means something.
-fn push_use(
+/// Appends what a use is found to mean.
+pub fn push_use(
     findings: &mut List<Finding>,
     at: Lexeme,
     meaning: Option<Meaning>,
-) -> Result<bool, Memory>
-    ensures known { IfOk result (λ known. known ≡ is_some meaning) }
-    ensures findings { OnOk result (findings.new ≡ findings.old ++ scopes.use_findings at meaning) }
+) -> Result<(), Memory>
+    ensures { OnOk result (findings.new ≡ findings.old ++ scopes.use_findings at meaning) }
 {
     match meaning {
-        Some(meaning) => {
-            findings.push(Finding::Means { at, meaning })?;
-            Ok(true)
-        }
-        None => {
-            findings.push(Finding::Unknown { at })?;
-            Ok(false)
-        }
+        Some(meaning) => findings.push(Finding::Means { at, meaning }),
+        None => findings.push(Finding::Unknown { at }),
     }
-}
-
-/// Looks at the use of an identifier, and answers whether it means something.
-pub fn use_name<'a>(
-    text: &ModuleText<'a>,
-    context: &Context<'a>,
-    at: Lexeme,
-    findings: &mut List<Finding>,
-) -> Result<bool, Memory>
-    requires { LiesIn text.now.source at }
-    ensures known { IfOk result (λ known. known
-        ≡ is_some
-        (contexts.meaning_of (context_of context.now) (entities.name_of text.now.source at))) }
-    ensures findings { OnOk result (findings.new
-        ≡ findings.old
-        ++ scopes.use_findings at
-        (contexts.meaning_of (context_of context.now) (entities.name_of text.now.source at))) }
-{
-    let meaning = meaning_of(context, text.name_of(at))?;
-    push_use(findings, at, meaning)
 }
 
 // Looks at the use of a symbol, unless it is built in.

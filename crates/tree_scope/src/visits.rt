@@ -5,21 +5,23 @@ ghost use Rattle.tla_model.specs.Scopes as scopes;
 ghost use Rattle.name_context.specs.AsTables.{context_of};
 ghost use Rattle.declared_names.specs.Nodes.{defined_at, form_at, parts_at};
 ghost use Rattle.tree_scope.specs.WalkTasks as walking;
-ghost use Rattle.tree_scope.specs.WalkTasks.{AreReady, IsDone, IsNode, IsPath, stack, visited};
+ghost use Rattle.tree_scope.specs.WalkTasks.{AreReady, IsDone, IsNode, stack, visited};
 
 use crate::due::{
-    push_behind, push_between, push_definitions, push_function, push_image, push_rest, push_scope,
+    push_behind, push_between, push_definitions, push_function, push_image, push_scope,
 };
+use crate::paths::begin_path;
+use crate::replacements::push_instance;
 use crate::scopes::{refuse, reserve};
+use crate::surroundings::Surround;
 use crate::tasks::{Naming, Task, naming_of, push_each};
 use crate::text::ModuleText;
-use crate::uses::{use_name, use_prefix, use_symbol};
+use crate::uses::{use_prefix, use_symbol};
 use declared_names::defined;
 use name_context::Context;
 use std::alloc::Global;
 use tla_model::Finding;
-use tla_symbols::Lexeme;
-use tla_tree::{Form, Tree};
+use tla_tree::Tree;
 use tool_list::{List, Memory};
 
 // Finds fault with the name that a node defines, where it is taken, and takes it.
@@ -49,46 +51,11 @@ fn begin<'a>(
     Ok(())
 }
 
-// The name of a segment.
-fn segment_of(form: Form) -> Option<Lexeme>
-    ensures { result ≡ walking.segment_of form }
-{
-    match form {
-        Form::Segment(name) => Some(name),
-        _ => None,
-    }
-}
-
-// Looks at the first segment of an identifier, and at the second one where the first means something.
-fn visit_segments<'a>(
-    text: &ModuleText<'a>,
-    tree: &Tree,
-    segments: &[u32],
-    context: &Context<'a>,
-    findings: &mut List<Finding>,
-    tasks: &mut Vec<Task>,
-) -> Result<(), Memory>
-    requires { IsPath text.now tree.now segments.now }
-    ensures { OnOk result
-        (walking.AreSegments text.now tree.now segments.now (context_of context.now) findings.old
-        findings.new (stack tasks.old.items) (stack tasks.new.items)) }
-{
-    let Some((&first, rest)) = segments.split_first() else {
-        return Ok(());
-    };
-    let Some(name) = segment_of(tree.form(first)) else {
-        return Ok(());
-    };
-    let known = use_name(text, context, name, findings)?;
-    push_rest(tasks, tree, rest, known)?;
-    push_each(tasks, tree.children(first))?;
-    Ok(())
-}
-
 /// Looks at a node: what is due of it is put on top.
-pub fn visit<'a>(
+pub fn visit<'a, S: Surround>(
     alloc: Global,
     text: &ModuleText<'a>,
+    around: &S,
     tree: &Tree,
     node: u32,
     context: &mut Context<'a>,
@@ -97,15 +64,15 @@ pub fn visit<'a>(
 ) -> Result<(), Memory>
     requires node { IsNode text.now tree.now node }
     requires tasks { AreReady text.now tree.now (stack tasks.old.items) }
-    ensures { OnOk result (IsDone text.now tree.now (visited node) (context_of context.old)
-        (context_of context.new) findings.old findings.new (stack tasks.old.items)
-        (stack tasks.new.items)) }
+    ensures { OnOk result (IsDone text.now (S.around around.now) (S.held around.now) tree.now
+        (visited node) (context_of context.old) (context_of context.new) findings.old findings.new
+        (stack tasks.old.items) (stack tasks.new.items)) }
 {
     let children = tree.children(node);
     let mark = context.mark()?;
     match naming_of(tree.form(node)) {
         Naming::Path => {
-            visit_segments(text, tree, children, context, findings, tasks)?;
+            begin_path(text, around, tree, node, context, findings, tasks)?;
             Ok(())
         }
         Naming::Bare(at) => {
@@ -136,6 +103,10 @@ pub fn visit<'a>(
         Naming::Function(name) => {
             begin(alloc, text, tree, node, children, context, findings)?;
             push_function(alloc, tasks, tree, node, name, children, mark)?;
+            Ok(())
+        }
+        Naming::Instance(module) => {
+            push_instance(alloc, text, tasks, tree, node, module)?;
             Ok(())
         }
         Naming::BoundsFirst => {

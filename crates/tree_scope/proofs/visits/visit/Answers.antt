@@ -1,41 +1,39 @@
-use Rattle.std.proofs.Common.{◌<◌, ◌∙◌, ◌∷◌, ◌++◌, ap, subst, sym}
-use Rattle.std.specs.Prelude.{map}
+use Rattle.std.proofs.Common.{◌<◌, ◌∙◌, ◌∷◌, ◌++◌, ap, refl, subst, sym}
 use Rattle.std.specs.List.{AllByRecursion}
-use Rattle.tla_tree.specs.Arena.{node_at, tree_at}
-use Rattle.tla_tree.specs.Syntax.{trees}
+use Rattle.tla_tree.specs.Arena.{node_at}
 use Rattle.tla_tree.proofs.Nodes.{before-there}
-use Rattle.tla_model.specs.Lexemes.{LiesIn, all_lexemes}
 use Rattle.name_context.specs.AsTables.{context_of, mark_of}
 use Rattle.declared_names.specs.Nodes.{form_at}
-use Rattle.tree_scope.specs.WalkTasks.{AreSegments, between_tasks, chain, function_tasks, image_tasks, leave, naming, scope_tasks, stack, used, visits}
+use Rattle.tree_scope.specs.WalkTasks.{between_tasks, chain, function_tasks, image_tasks, leave, naming, scope_tasks, stack, used, visits}
 use Rattle.declared_names.proofs.Nodewise.{tree-at}
-use Rattle.tree_scope.proofs.NamesInText.{held-lies, parts-lie}
-use Rattle.tree_scope.proofs.NodeTasks.{plain-done, function-done, function-lies, image-done, order-done, bare-done, before-done, behind-done, between-done, path-done}
+use Rattle.tree_scope.proofs.NamesInText.{held-lies}
+use Rattle.tree_scope.proofs.Replacing.{children-path, instance-done}
+use Rattle.tree_scope.proofs.NodeTasks.{plain-done, function-done, function-lies, instance-lies, image-done, order-done, bare-done, before-done, behind-done, between-done, path-done}
 use Rattle.tree_scope.proofs.visits.visit.Goals as goal
 
 pub push_image-requires : goal.push_image-requires
-push_image-requires c = before-there c.args.tree.now c.args.node c.children-children.result.now c.requires.node.there c.children-children.ensures.before
+push_image-requires g c = before-there c.args.tree.now c.args.node c.children-children.result.now c.requires.node.there c.children-children.ensures.before
 
 pub push_function-requires : goal.push_function-requires
-push_function-requires c = before-there c.args.tree.now c.args.node c.children-children.result.now c.requires.node.there c.children-children.ensures.before
+push_function-requires g c = before-there c.args.tree.now c.args.node c.children-children.result.now c.requires.node.there c.children-children.ensures.before
 
 pub push_scope-requires : goal.push_scope-requires
-push_scope-requires c = before-there c.args.tree.now c.args.node c.children-children.result.now c.requires.node.there c.children-children.ensures.before
+push_scope-requires g c = before-there c.args.tree.now c.args.node c.children-children.result.now c.requires.node.there c.children-children.ensures.before
 
-pub visit_segments-requires : goal.visit_segments-requires
-visit_segments-requires c =
+pub begin_path-requires-clause-path : goal.begin_path-requires-clause-path
+begin_path-requires-clause-path g c =
     let nodes = c.args.tree.now in
     let node = c.args.node in
-    let source = c.args.text.now.source in
-    let kids = c.children-children.ensures.children in
-    let whole = tree-at nodes node c.requires.node.there (subst (AllByRecursion (λ child. child < node)) kids c.children-children.ensures.before) in
-    record {
-      there = before-there nodes node c.children-children.result.now c.requires.node.there c.children-children.ensures.before;
-      lie = subst (λ z. AllByRecursion (LiesIn source) (all_lexemes (trees (map (tree_at nodes) z)))) (sym kids) (parts-lie source nodes node whole c.requires.node.lie);
-    }
+    children-path c.args.text.now nodes node c.requires.node (node_at nodes node).children refl (subst (AllByRecursion (λ child. child < node)) c.children-children.ensures.children c.children-children.ensures.before)
 
-pub returns-in_ok-visit_segments-in-Path : goal.returns-in_ok-visit_segments-in-Path
-returns-in_ok-visit_segments-in-Path c =
+pub begin-requires-clause-there : goal.begin-requires-clause-there
+begin-requires-clause-there g c = before-there c.args.tree.now c.args.node c.children-children.result.now c.requires.node.there c.children-children.ensures.before
+
+pub begin-requires-in-BoundsFirst-clause-there : goal.begin-requires-in-BoundsFirst-clause-there
+begin-requires-in-BoundsFirst-clause-there g c = before-there c.args.tree.now c.args.node c.children-children.result.now c.requires.node.there c.children-children.ensures.before
+
+pub returns-in_ok-begin_path-in-Path : goal.returns-in_ok-begin_path-in-Path
+returns-in_ok-begin_path-in-Path g c =
     let nodes = c.args.tree.now in
     let node = c.args.node in
     let kids = c.children-children.ensures.children in
@@ -43,11 +41,23 @@ returns-in_ok-visit_segments-in-Path c =
     let whole = tree-at nodes node c.requires.node.there below in
     let there = before-there nodes node (node_at nodes node).children c.requires.node.there below in
     let named = sym (ap naming c.form.ensures) ∙ sym c.naming_of.ensures ∙ c.in-Path.is in
-    path-done c.args.text.now nodes node c.requires.node whole there (context_of c.args.context.now) c.args.findings.now c.visit_segments.new.findings (stack c.args.tasks.now.items) (stack c.visit_segments.new.tasks.items) named c.requires.tasks
-    (subst (λ z. AreSegments c.args.text.now nodes z (context_of c.args.context.now) c.args.findings.now c.visit_segments.new.findings (stack c.args.tasks.now.items) (stack c.visit_segments.new.tasks.items)) kids c.in_ok-visit_segments-in-Path.ensures)
+    path-done c.args.text.now (g.S.Surround.around c.args.around.now) (g.S.Surround.held c.args.around.now) nodes node c.requires.node whole there (context_of c.args.context.now) c.args.findings.now c.begin_path.new.findings (stack c.args.tasks.now.items) (stack c.begin_path.new.tasks.items) named c.requires.tasks
+    c.in_ok-begin_path-in-Path.ensures
+
+pub returns-in_ok-push_instance-in-Instance : goal.returns-in_ok-push_instance-in-Instance
+returns-in_ok-push_instance-in-Instance g c =
+    let nodes = c.args.tree.now in
+    let node = c.args.node in
+    let kids = c.children-children.ensures.children in
+    let below = subst (AllByRecursion (λ child. child < node)) kids c.children-children.ensures.before in
+    let whole = tree-at nodes node c.requires.node.there below in
+    let there = before-there nodes node (node_at nodes node).children c.requires.node.there below in
+    let named = sym (ap naming c.form.ensures) ∙ sym c.naming_of.ensures ∙ c.in-Instance.is in
+    instance-done c.args.text.now (g.S.Surround.around c.args.around.now) (g.S.Surround.held c.args.around.now) nodes node c.requires.node whole there c.in-Instance.«module» (context_of c.args.context.now) c.args.findings.now (stack c.args.tasks.now.items) (stack c.push_instance.new.tasks.items) named
+    (instance-lies c.args.text.now (form_at nodes node) c.in-Instance.«module» named (held-lies c.args.text.now.source nodes node c.requires.node.there c.requires.node.lie)) c.requires.tasks c.in_ok-push_instance-in-Instance.ensures.whole c.in_ok-push_instance-in-Instance.ensures.due
 
 pub returns-in_ok-use_symbol-in-Bare : goal.returns-in_ok-use_symbol-in-Bare
-returns-in_ok-use_symbol-in-Bare c =
+returns-in_ok-use_symbol-in-Bare g c =
     let nodes = c.args.tree.now in
     let node = c.args.node in
     let kids = c.children-children.ensures.children in
@@ -55,10 +65,10 @@ returns-in_ok-use_symbol-in-Bare c =
     let whole = tree-at nodes node c.requires.node.there below in
     let there = before-there nodes node (node_at nodes node).children c.requires.node.there below in
     let named = sym (ap naming c.form.ensures) ∙ sym c.naming_of.ensures ∙ c.in-Bare.is in
-    bare-done c.args.text.now nodes node c.requires.node whole there c.in-Bare.at (context_of c.args.context.now) c.args.findings.now c.use_symbol.new.findings (stack c.args.tasks.now.items) named c.requires.tasks c.in_ok-use_symbol-in-Bare.ensures
+    bare-done c.args.text.now (g.S.Surround.around c.args.around.now) (g.S.Surround.held c.args.around.now) nodes node c.requires.node whole there c.in-Bare.at (context_of c.args.context.now) c.args.findings.now c.use_symbol.new.findings (stack c.args.tasks.now.items) named c.requires.tasks c.in_ok-use_symbol-in-Bare.ensures
 
 pub returns-in_ok-push_each-in-Prefix : goal.returns-in_ok-push_each-in-Prefix
-returns-in_ok-push_each-in-Prefix c =
+returns-in_ok-push_each-in-Prefix g c =
     let nodes = c.args.tree.now in
     let node = c.args.node in
     let kids = c.children-children.ensures.children in
@@ -66,11 +76,11 @@ returns-in_ok-push_each-in-Prefix c =
     let whole = tree-at nodes node c.requires.node.there below in
     let there = before-there nodes node (node_at nodes node).children c.requires.node.there below in
     let named = sym (ap naming c.form.ensures) ∙ sym c.naming_of.ensures ∙ c.in-Prefix.is in
-    before-done c.args.text.now nodes node c.requires.node whole there c.in-Prefix.at (context_of c.args.context.now) c.args.findings.now c.use_prefix.new.findings (stack c.args.tasks.now.items) (stack c.push_each.new.tasks.items) named c.requires.tasks c.in_ok-use_prefix-in-Prefix.ensures
+    before-done c.args.text.now (g.S.Surround.around c.args.around.now) (g.S.Surround.held c.args.around.now) nodes node c.requires.node whole there c.in-Prefix.at (context_of c.args.context.now) c.args.findings.now c.use_prefix.new.findings (stack c.args.tasks.now.items) (stack c.push_each.new.tasks.items) named c.requires.tasks c.in_ok-use_prefix-in-Prefix.ensures
     (c.in_ok-push_each-in-Prefix.ensures ∙ ap (λ z. visits z ++ stack c.args.tasks.now.items) kids)
 
 pub returns-in_ok-push_between-in-Infix : goal.returns-in_ok-push_between-in-Infix
-returns-in_ok-push_between-in-Infix c =
+returns-in_ok-push_between-in-Infix g c =
     let nodes = c.args.tree.now in
     let node = c.args.node in
     let kids = c.children-children.ensures.children in
@@ -78,11 +88,11 @@ returns-in_ok-push_between-in-Infix c =
     let whole = tree-at nodes node c.requires.node.there below in
     let there = before-there nodes node (node_at nodes node).children c.requires.node.there below in
     let named = sym (ap naming c.form.ensures) ∙ sym c.naming_of.ensures ∙ c.in-Infix.is in
-    between-done c.args.text.now nodes node c.requires.node whole there c.in-Infix.at (context_of c.args.context.now) c.args.findings.now (stack c.args.tasks.now.items) (stack c.push_between.new.tasks.items) named c.requires.tasks
+    between-done c.args.text.now (g.S.Surround.around c.args.around.now) (g.S.Surround.held c.args.around.now) nodes node c.requires.node whole there c.in-Infix.at (context_of c.args.context.now) c.args.findings.now (stack c.args.tasks.now.items) (stack c.push_between.new.tasks.items) named c.requires.tasks
     (c.in_ok-push_between-in-Infix.ensures ∙ ap (λ z. between_tasks c.in-Infix.at z (stack c.args.tasks.now.items)) kids)
 
 pub returns-in_ok-push_behind-in-Postfix : goal.returns-in_ok-push_behind-in-Postfix
-returns-in_ok-push_behind-in-Postfix c =
+returns-in_ok-push_behind-in-Postfix g c =
     let nodes = c.args.tree.now in
     let node = c.args.node in
     let kids = c.children-children.ensures.children in
@@ -90,11 +100,11 @@ returns-in_ok-push_behind-in-Postfix c =
     let whole = tree-at nodes node c.requires.node.there below in
     let there = before-there nodes node (node_at nodes node).children c.requires.node.there below in
     let named = sym (ap naming c.form.ensures) ∙ sym c.naming_of.ensures ∙ c.in-Postfix.is in
-    behind-done c.args.text.now nodes node c.requires.node whole there c.in-Postfix.at (context_of c.args.context.now) c.args.findings.now (stack c.args.tasks.now.items) (stack c.push_behind.new.tasks.items) named c.requires.tasks
+    behind-done c.args.text.now (g.S.Surround.around c.args.around.now) (g.S.Surround.held c.args.around.now) nodes node c.requires.node whole there c.in-Postfix.at (context_of c.args.context.now) c.args.findings.now (stack c.args.tasks.now.items) (stack c.push_behind.new.tasks.items) named c.requires.tasks
     (c.in_ok-push_behind-in-Postfix.ensures ∙ ap (λ z. visits z ++ (used c.in-Postfix.at ∷ stack c.args.tasks.now.items)) kids)
 
 pub returns-in_ok-push_definitions-in-InOrder : goal.returns-in_ok-push_definitions-in-InOrder
-returns-in_ok-push_definitions-in-InOrder c =
+returns-in_ok-push_definitions-in-InOrder g c =
     let nodes = c.args.tree.now in
     let node = c.args.node in
     let kids = c.children-children.ensures.children in
@@ -102,11 +112,11 @@ returns-in_ok-push_definitions-in-InOrder c =
     let whole = tree-at nodes node c.requires.node.there below in
     let there = before-there nodes node (node_at nodes node).children c.requires.node.there below in
     let named = sym (ap naming c.form.ensures) ∙ sym c.naming_of.ensures ∙ c.in-InOrder.is in
-    order-done c.args.text.now nodes node c.requires.node whole there (context_of c.args.context.now) c.args.findings.now (stack c.args.tasks.now.items) (stack c.push_definitions.new.tasks.items) named c.requires.tasks
+    order-done c.args.text.now (g.S.Surround.around c.args.around.now) (g.S.Surround.held c.args.around.now) nodes node c.requires.node whole there (context_of c.args.context.now) c.args.findings.now (stack c.args.tasks.now.items) (stack c.push_definitions.new.tasks.items) named c.requires.tasks
     (c.in_ok-push_definitions-in-InOrder.ensures ∙ ap (λ m. chain c.children-children.result.now ++ (leave m ∷ stack c.args.tasks.now.items)) c.in_ok-mark.ensures ∙ ap (λ z. chain z ++ (leave (mark_of (context_of c.args.context.now)) ∷ stack c.args.tasks.now.items)) kids)
 
 pub returns-in_ok-push_image-in-BoundsLast : goal.returns-in_ok-push_image-in-BoundsLast
-returns-in_ok-push_image-in-BoundsLast c =
+returns-in_ok-push_image-in-BoundsLast g c =
     let nodes = c.args.tree.now in
     let node = c.args.node in
     let kids = c.children-children.ensures.children in
@@ -114,11 +124,11 @@ returns-in_ok-push_image-in-BoundsLast c =
     let whole = tree-at nodes node c.requires.node.there below in
     let there = before-there nodes node (node_at nodes node).children c.requires.node.there below in
     let named = sym (ap naming c.form.ensures) ∙ sym c.naming_of.ensures ∙ c.in-BoundsLast.is in
-    image-done c.args.text.now nodes node c.requires.node whole there (context_of c.args.context.now) c.args.findings.now (stack c.args.tasks.now.items) (stack c.push_image.new.tasks.items) named c.requires.tasks
+    image-done c.args.text.now (g.S.Surround.around c.args.around.now) (g.S.Surround.held c.args.around.now) nodes node c.requires.node whole there (context_of c.args.context.now) c.args.findings.now (stack c.args.tasks.now.items) (stack c.push_image.new.tasks.items) named c.requires.tasks
     (c.in_ok-push_image-in-BoundsLast.ensures ∙ ap (λ m. image_tasks nodes node c.children-children.result.now m (stack c.args.tasks.now.items)) c.in_ok-mark.ensures ∙ ap (λ z. image_tasks nodes node z (mark_of (context_of c.args.context.now)) (stack c.args.tasks.now.items)) kids)
 
 pub returns-in_ok-push_function-in-Function : goal.returns-in_ok-push_function-in-Function
-returns-in_ok-push_function-in-Function c =
+returns-in_ok-push_function-in-Function g c =
     let nodes = c.args.tree.now in
     let node = c.args.node in
     let kids = c.children-children.ensures.children in
@@ -126,12 +136,12 @@ returns-in_ok-push_function-in-Function c =
     let whole = tree-at nodes node c.requires.node.there below in
     let there = before-there nodes node (node_at nodes node).children c.requires.node.there below in
     let named = sym (ap naming c.form.ensures) ∙ sym c.naming_of.ensures ∙ c.in-Function.is in
-    function-done c.args.text.now nodes node c.requires.node whole there c.in-Function.name (context_of c.args.context.now) (context_of c.begin.new.context) c.args.findings.now c.begin.new.findings (stack c.args.tasks.now.items) (stack c.push_function.new.tasks.items) named
+    function-done c.args.text.now (g.S.Surround.around c.args.around.now) (g.S.Surround.held c.args.around.now) nodes node c.requires.node whole there c.in-Function.name (context_of c.args.context.now) (context_of c.begin.new.context) c.args.findings.now c.begin.new.findings (stack c.args.tasks.now.items) (stack c.push_function.new.tasks.items) named
     (function-lies c.args.text.now (form_at nodes node) c.in-Function.name named (held-lies c.args.text.now.source nodes node c.requires.node.there c.requires.node.lie)) c.requires.tasks c.in_ok-begin-in-Function.ensures.context c.in_ok-begin-in-Function.ensures.findings
     (c.in_ok-push_function-in-Function.ensures ∙ ap (λ m. function_tasks nodes node c.in-Function.name c.children-children.result.now m (stack c.args.tasks.now.items)) c.in_ok-mark.ensures ∙ ap (λ z. function_tasks nodes node c.in-Function.name z (mark_of (context_of c.args.context.now)) (stack c.args.tasks.now.items)) kids)
 
 pub returns-in_ok-push_scope-in-BoundsFirst : goal.returns-in_ok-push_scope-in-BoundsFirst
-returns-in_ok-push_scope-in-BoundsFirst c =
+returns-in_ok-push_scope-in-BoundsFirst g c =
     let nodes = c.args.tree.now in
     let node = c.args.node in
     let kids = c.children-children.ensures.children in
@@ -139,6 +149,6 @@ returns-in_ok-push_scope-in-BoundsFirst c =
     let whole = tree-at nodes node c.requires.node.there below in
     let there = before-there nodes node (node_at nodes node).children c.requires.node.there below in
     let named = sym (ap naming c.form.ensures) ∙ sym c.naming_of.ensures ∙ c.in-BoundsFirst.is in
-    plain-done c.args.text.now nodes node c.requires.node whole there (context_of c.args.context.now) (context_of c.begin-in-BoundsFirst.new.context) c.args.findings.now c.begin-in-BoundsFirst.new.findings (stack c.args.tasks.now.items) (stack c.push_scope.new.tasks.items) named
+    plain-done c.args.text.now (g.S.Surround.around c.args.around.now) (g.S.Surround.held c.args.around.now) nodes node c.requires.node whole there (context_of c.args.context.now) (context_of c.begin-in-BoundsFirst.new.context) c.args.findings.now c.begin-in-BoundsFirst.new.findings (stack c.args.tasks.now.items) (stack c.push_scope.new.tasks.items) named
     c.requires.tasks c.in_ok-begin-in-BoundsFirst.ensures.context c.in_ok-begin-in-BoundsFirst.ensures.findings
     (c.in_ok-push_scope-in-BoundsFirst.ensures ∙ ap (λ m. scope_tasks nodes node c.children-children.result.now m (stack c.args.tasks.now.items)) c.in_ok-mark.ensures ∙ ap (λ z. scope_tasks nodes node z (mark_of (context_of c.args.context.now)) (stack c.args.tasks.now.items)) kids)

@@ -1,0 +1,90 @@
+// What is round a walk.
+ghost use Rattle.std.specs.Prelude.{◌≡◌, ℕ, [], suc, Some, IfOk};
+ghost use Rattle.tla_model.specs.Entities.{place_in};
+ghost use Rattle.module_model.specs.Exports as exports;
+ghost use Rattle.module_model.specs.Exports.{Behind};
+ghost use Rattle.module_model.specs.TreeFindings.{Surroundings};
+ghost use Rattle.name_context.specs.AsTables.{meant_by};
+ghost use Rattle.tree_scope.specs.Parameters.{entries_in};
+ghost use Rattle.tree_scope.specs.declared.tasks.Held.{Held as Spot};
+ghost use Rattle.tree_scope.specs.Alone.{alone, nowhere};
+
+use crate::parameter::Parameter;
+use crate::tasks::Held;
+use name_context::Named;
+use std::alloc::Global;
+use tla_model::Meaning;
+use tool_list::{List, Memory};
+
+/// What a walk asks of what is round it: of modules by their names, of what stands behind instances,
+/// and where paths begin.
+pub trait Surround {
+    /// What it answers by.
+    ghost around: { Self → Surroundings };
+
+    /// What stands behind a place to which a path has come.
+    ghost held: { Self → Spot → Behind };
+
+    /// What a name means among the parameters of a module: the constants and variables that it declares
+    /// or extends.
+    fn parameter(&self, module: &str, name: Named<'_>) -> Result<Option<Meaning>, Memory>
+        ensures { IfOk result (λ meaning. meaning
+            ≡ exports.entry_of ((around self.now).named module.now).parameters (meant_by name.entry)) };
+
+    /// All parameters of a module, in their order.
+    fn parameters(&self, alloc: Global, module: &str) -> Result<List<Parameter>, Memory>
+        ensures { IfOk result (λ parameters. entries_in parameters
+            ≡ ((around self.now).named module.now).parameters) };
+
+    /// Where a path comes to whose first name means this.
+    fn behind(&self, meaning: &Meaning) -> Held
+        ensures { held self.now result
+            ≡ exports.behind_meaning (around self.now).known (Some meaning.now) };
+
+    /// What a name means at a place to which a path has come.
+    fn entry(&self, at: Held, name: Named<'_>) -> Result<Option<Meaning>, Memory>
+        ensures { IfOk result (λ meaning. meaning
+            ≡ exports.entry_of (held self.now at []) (meant_by name.entry)) };
+
+    /// Where a path comes to by one name more.
+    fn onward(&self, at: Held, name: Named<'_>) -> Held
+        ensures { held self.now result ≡ exports.onward (held self.now at) (meant_by name.entry) };
+
+    /// The number of the path that begins there, from 1.
+    fn path_number(&self, start: u32) -> u32
+        ensures { result ≡ suc (place_in (around self.now).paths start) };
+}
+
+/// What is round the trees of a module that names no instance and has no INSTANCE.
+#[derive(Clone, Copy)]
+pub struct NoInstances;
+
+impl Surround for NoInstances {
+    ghost around = { λ s. alone };
+
+    ghost held = { λ s at. nowhere };
+
+    fn parameter(&self, _module: &str, _name: Named<'_>) -> Result<Option<Meaning>, Memory> {
+        Ok(None)
+    }
+
+    fn parameters(&self, alloc: Global, _module: &str) -> Result<List<Parameter>, Memory> {
+        Ok(List::new(alloc))
+    }
+
+    fn behind(&self, _meaning: &Meaning) -> Held {
+        Held { table: 0, entry: 0 }
+    }
+
+    fn entry(&self, _at: Held, _name: Named<'_>) -> Result<Option<Meaning>, Memory> {
+        Ok(None)
+    }
+
+    fn onward(&self, at: Held, _name: Named<'_>) -> Held {
+        at
+    }
+
+    fn path_number(&self, _start: u32) -> u32 {
+        1
+    }
+}
