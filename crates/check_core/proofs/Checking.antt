@@ -1,5 +1,5 @@
 -- What is found of a module, by how its check ends.
-use Rattle.std.proofs.Common.{◌≡◌, ℕ, true, false, List, [], ◌∷◌, ◌++◌, length, refl, sym, ap, subst, ◌∙◌, arith}
+use Rattle.std.proofs.Common.{◌≡◌, ℕ, true, false, List, [], ◌∷◌, length, refl, sym, ap, subst, ◌∙◌, arith}
 use mathlib.Core.Path.{fun_ext}
 use Rattle.std.specs.Prelude.{Option, None, Some, map, Result, Ok, Err, IfOk}
 use Rattle.tla_model.specs.declared.Diagnostic.{Diagnostic}

@@ -17,7 +17,11 @@ pub record Surroundings : Type 0 where
   pub known : Known
   pub paths : List ℕ
 
--- no module, no instance, and no path
+-- nothing stands there at any path
+abbrev pub nowhere : Behind
+nowhere path = []
+
+-- no module is known, nothing stands behind names, and no path is counted
 abbrev pub alone : Surroundings
 alone = record { named = λ name. nothing; known = []; paths = [] }
 

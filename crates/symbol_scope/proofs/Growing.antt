@@ -81,6 +81,7 @@ module _ (text : Text) (files : Files) where
       went-on reading (extended reading (brings text files reading l)) (extends_all text files (extended reading (brings text files reading l)) names)
       (went-extended reading (brings text files reading l)) (went-extends (extended reading (brings text files reading l)) names)
 
+module _ (text : Text) where
   went-declared : (local : Bool) (reading : Reading) (binder : Binder) → Went reading (declare text local reading binder)
   went-declared local reading binder =
       went-either (has reading.context (name_of text.source binder.name)) reading reading (with_entry local reading (name_of text.source binder.name) (meant text binder))

@@ -7,7 +7,8 @@ ghost use Rattle.tla_model.specs.Lexemes.{LexemesLie, LiesIn, lexemes, unit_lexe
 ghost use Rattle.tla_model.specs.Scopes as scopes;
 ghost use Rattle.module_model.specs.Modules as in_modules;
 ghost use Rattle.symbol_scope.specs.WithoutInstances as plain;
-ghost use Rattle.tree_scope.specs.TreeFindings as in_trees;
+ghost use Rattle.module_model.specs.TreeFindings as in_trees;
+ghost use Rattle.module_model.specs.TreeFindings.{alone};
 ghost use Rattle.module_model.specs.Modules.{Place};
 ghost use Rattle.unit_grammar.specs.UnitNodes.{HasNodes, module_of, nodes_in, unit_at};
 ghost use Rattle.tla_model.specs.Entities.{declared_by};
@@ -27,7 +28,7 @@ use tla_model::Finding;
 use tla_symbols::Lexeme;
 use tla_tree::{ModuleTree, Tree, Unit};
 use tool_list::{List, Memory};
-use tree_scope::{ModuleText, walk};
+use tree_scope::{ModuleText, NoInstances, walk};
 
 impl<'a> Reading<'a> {
     // Reads a definition, which can be used behind it.
@@ -46,10 +47,18 @@ impl<'a> Reading<'a> {
             ≡ in_modules.declare_all text.now local (reading_of self.old)
             (scopes.definition (tree_at tree.now node))) }
         ensures findings { OnOk result (findings.new
-            ≡ findings.old ++ in_trees.walk text.now (context_of self.old.names.context)
+            ≡ findings.old ++ in_trees.walk text.now alone (context_of self.old.names.context)
             (tree_at tree.now node)) }
     {
-        walk(alloc, text, tree, node, &mut self.names.context, findings)?;
+        walk(
+            alloc,
+            text,
+            &NoInstances,
+            tree,
+            node,
+            &mut self.names.context,
+            findings,
+        )?;
         self.define(alloc, text, local, tree, node)?;
         Ok(())
     }
@@ -67,10 +76,18 @@ impl<'a> Reading<'a> {
         requires lie { AllByRecursion (LiesIn text.now.source) (lexemes (tree_at tree.now node)) }
         ensures reading { OnOk result (reading_of self.new ≡ reading_of self.old) }
         ensures findings { OnOk result (findings.new
-            ≡ findings.old ++ in_trees.walk text.now (context_of self.old.names.context)
+            ≡ findings.old ++ in_trees.walk text.now alone (context_of self.old.names.context)
             (tree_at tree.now node)) }
     {
-        walk(alloc, text, tree, node, &mut self.names.context, findings)?;
+        walk(
+            alloc,
+            text,
+            &NoInstances,
+            tree,
+            node,
+            &mut self.names.context,
+            findings,
+        )?;
         Ok(())
     }
 

@@ -1,4 +1,3 @@
-pub mod Alone
 pub mod Lying
 pub mod Parameters
 pub mod Places

@@ -7,7 +7,7 @@ ghost use Rattle.module_model.specs.TreeFindings.{Surroundings};
 ghost use Rattle.name_context.specs.AsTables.{meant_by};
 ghost use Rattle.tree_scope.specs.Parameters.{entries_in};
 ghost use Rattle.tree_scope.specs.declared.tasks.Held.{Held as Spot};
-ghost use Rattle.tree_scope.specs.Alone.{alone, nowhere};
+ghost use Rattle.module_model.specs.TreeFindings.{alone, nowhere};
 
 use crate::parameter::Parameter;
 use crate::tasks::Held;

@@ -1,5 +1,6 @@
 use Rattle.std.proofs.Common.{◌∙◌, subst, sym}
 use Rattle.module_model.specs.Bindings.{AreInOrder}
+use Rattle.module_model.specs.Exports.{exported_by}
 use Rattle.module_faces.specs.Faces.{IsFace}
 use Rattle.unit_grammar.specs.UnitNodes.{module_of}
 use Rattle.check_core.specs.Outcomes.{shown}
@@ -23,4 +24,4 @@ returns-clause-face c =
     let found = c.in_ok-found.found in
     subst (λ faults. IsFace c.args.name.now (shown imports source units faults) c.with_names.result.face) (sym c.with_names.ensures.faults)
     (subst (λ exports. IsFace c.args.name.now exports c.with_names.result.face) (shown-by imports source units found.bound.faults found.exports c.in_ok-found.ensures.exports)
-    (subst (λ face. IsFace c.args.name.now _ face) (sym c.with_names.ensures.face) c.in_ok-face.ensures))
+    (subst (λ face. IsFace c.args.name.now (exported_by found.exports) face) (sym c.with_names.ensures.face) c.in_ok-face.ensures))

@@ -1,4 +1,4 @@
-use Rattle.std.proofs.Common.{◌∙◌, ap, false, sym, true, if◌then◌else◌, Some, None}
+use Rattle.std.proofs.Common.{◌∙◌, ap, sym, if◌then◌else◌, Some, None}
 use Rattle.family_facts.specs.Verdicts.{family_of, verdicts_on}
 use Rattle.family_check.proofs.Answering.{instance-same, modules-some, none-without}
 use Rattle.family_check.proofs.family.check_family.Goals as goal
