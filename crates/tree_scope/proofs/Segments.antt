@@ -41,6 +41,16 @@ segment-lies source _ l e lie = absurd (true≢false (sym (ap is_named e)))
 
 -- ---- the end of a path
 
+-- behind the only child of a node stands nothing
+only-one : (numbers : List ℕ) → length numbers ≡ 1 → drop 1 numbers ≡ []
+only-one [] e = refl
+only-one (x ∷ []) e = refl
+only-one (x ∷ (y ∷ numbers)) e = cc
+
+-- the same, of the children of a node
+pub alone : (nodes : List ArenaNode) (node : ℕ) (kids : List ℕ) → kids ≡ (node_at nodes node).children → length kids ≡ 1 → children_from nodes node 1 ≡ []
+alone nodes node kids are one = only-one (node_at nodes node).children (ap length (sym are) ∙ one)
+
 is_last : Trees → Bool
 is_last Nil = true
 is_last (Cons x rest) = false
@@ -143,6 +153,10 @@ module _ (text : Text) (around : Surroundings) (held : Held → Behind) (nodes :
   next-run context node from number None (Some meaning) behind more e = absurd (true≢false (sym (ap leads-on e)))
   next-run context node from number (Some place) None behind more e = absurd (true≢false (ap leads-on e))
 
+  next-none : (context : Context) (number : ℕ) (meaning : Option Meaning) (behind : Behind) → next_of context number meaning behind Nil ≡ []
+  next-none context number None behind = refl
+  next-none context number (Some meaning) behind = refl
+
   next-ready : (node from number : ℕ) (next : Option Held) (more : List Task) → node < length nodes → IsPath text nodes (children_from nodes node from) → AreReady text nodes more → AreReady text nodes (path_tasks node from number next more)
   next-ready node from number None more there path ready = ready
   next-ready node from number (Some place) more there path ready = ((there, path), ready)
@@ -156,8 +170,9 @@ module _ (text : Text) (around : Surroundings) (held : Held → Behind) (nodes :
 
   module _ (node from x : ℕ) (there : node < length nodes) (at : slice_get (node_at nodes node).children from ≡ Some x) (all : IsPath text nodes (children_from nodes node from)) where
     step-found : (context : Context) (number : ℕ) (used : List Finding) (meaning : Option Meaning) (behind : Behind) (next : Option Held) (due findings findings' : List Finding) (old middle new : List Task) →
-        IsWhole nodes x → AreThere nodes (node_at nodes x).children → option_map held next ≡ leads meaning behind → findings' ≡ findings ++ used →
-        middle ≡ path_tasks node (from + 1) number next old → new ≡ visits (node_at nodes x).children ++ middle →
+        IsWhole nodes x → AreThere nodes (node_at nodes x).children →
+        run text around held nodes context (path_tasks node (from + 1) number next old) ≡ emit (next_of context number meaning behind (trees_at nodes (children_from nodes node (from + 1)))) (run text around held nodes context old) →
+        findings' ≡ findings ++ used → middle ≡ path_tasks node (from + 1) number next old → new ≡ visits (node_at nodes x).children ++ middle →
         due ≡ used ++ walk_each text around context (parts_at nodes x) ++ next_of context number meaning behind (trees_at nodes (children_from nodes node (from + 1))) →
         AreFound text around held nodes (children_from nodes node from) due context findings findings' old new
     step-found context number used meaning behind next due findings findings' old middle new whole kids_there led are rest is found =
@@ -170,7 +185,7 @@ module _ (text : Text) (around : Surroundings) (held : Held → Behind) (nodes :
               (subst (AreReady text nodes) (sym rest) (next-ready node (from + 1) number next old there (path-on text nodes node from x at all) ready)));
           run_on = ap (λ z. emit z (run text around held nodes context new)) are
               ∙ ap (emit (findings ++ used)) (ap (run text around held nodes context) is ∙ each-run text around held nodes context kids middle
-              ∙ ap (emit below) (ap (run text around held nodes context) rest ∙ next-run context node (from + 1) number next meaning behind old led))
+              ∙ ap (emit below) (ap (run text around held nodes context) rest ∙ led))
               ∙ emit-append findings used (emit below (emit onward last))
               ∙ ap (emit findings) (sym (emit-append (used ++ below) onward last ∙ emit-append used below (emit onward last)))
               ∙ ap (λ z. emit findings (emit z last)) (sym found);
@@ -184,7 +199,21 @@ module _ (text : Text) (around : Surroundings) (held : Held → Behind) (nodes :
         AreFound text around held nodes (children_from nodes node from) (segments text around context (trees_at nodes (children_from nodes node from))) context findings findings' old new
     first-found context l next findings findings' old middle new whole kids_there named led are rest is =
         let m = meaning_of context (name_of source l) in
-        step-found context (path_number text around l) (use_findings l m) m (behind_meaning around.known m) next _ findings findings' old middle new whole kids_there led are rest is
+        step-found context (path_number text around l) (use_findings l m) m (behind_meaning around.known m) next _ findings findings' old middle new whole kids_there
+        (next-run context node (from + 1) (path_number text around l) next m (behind_meaning around.known m) old led) are rest is
+        (ap (λ z. segments text around context (trees_at nodes z)) (is_here text nodes node from x at all) ∙ ap (λ t. segments text around context (Cons t (trees_at nodes (children_from nodes node (from + 1))))) whole
+        ∙ first-segment context (form_at nodes x) (node_at nodes x).span (parts_at nodes x) (trees_at nodes (children_from nodes node (from + 1))) l named)
+
+    pub alone-found : (context : Context) (l : Lexeme) (findings findings' : List Finding) (old new : List Task) →
+        IsWhole nodes x → AreThere nodes (node_at nodes x).children → segment_of (form_at nodes x) ≡ Some l → children_from nodes node (from + 1) ≡ [] →
+        findings' ≡ findings ++ use_findings l (meaning_of context (name_of source l)) → new ≡ visits (node_at nodes x).children ++ old →
+        AreFound text around held nodes (children_from nodes node from) (segments text around context (trees_at nodes (children_from nodes node from))) context findings findings' old new
+    alone-found context l findings findings' old new whole kids_there named none are is =
+        let m = meaning_of context (name_of source l) in
+        let number = path_number text around l in
+        let behind = behind_meaning around.known m in
+        step-found context number (use_findings l m) m behind None _ findings findings' old old new whole kids_there
+        (ap (λ z. emit z (run text around held nodes context old)) (sym (ap (λ z. next_of context number m behind (trees_at nodes z)) none ∙ next-none context number m behind))) are refl is
         (ap (λ z. segments text around context (trees_at nodes z)) (is_here text nodes node from x at all) ∙ ap (λ t. segments text around context (Cons t (trees_at nodes (children_from nodes node (from + 1))))) whole
         ∙ first-segment context (form_at nodes x) (node_at nodes x).span (parts_at nodes x) (trees_at nodes (children_from nodes node (from + 1))) l named)
 
@@ -196,7 +225,8 @@ module _ (text : Text) (around : Surroundings) (held : Held → Behind) (nodes :
     further-found context number place l last next findings findings' old middle new whole kids_there named ends led are rest is =
         let m = entry_of (held place []) (name_of source l) in
         let behind = trees_at nodes (children_from nodes node (from + 1)) in
-        step-found context number (use_findings l (called_by number behind m)) m (onward (held place) (name_of source l)) next _ findings findings' old middle new whole kids_there led
+        step-found context number (use_findings l (called_by number behind m)) m (onward (held place) (name_of source l)) next _ findings findings' old middle new whole kids_there
+        (next-run context node (from + 1) number next m (onward (held place) (name_of source l)) old led)
         (are ∙ ap (λ z. findings ++ use_findings l (called z number m)) (ends ∙ last-at nodes node from x at) ∙ ap (λ z. findings ++ use_findings l z) (sym (called-is number behind m))) rest is
         (ap (λ z. path text around context number (held place) (trees_at nodes z)) (is_here text nodes node from x at all) ∙ ap (λ t. path text around context number (held place) (Cons t behind)) whole
         ∙ further-segment context number (held place) (form_at nodes x) (node_at nodes x).span (parts_at nodes x) behind l named)

@@ -1,7 +1,7 @@
 //! What is found of names in one tree, over the context of its place.
 //!
-//! Answers what each name in the tree means, which names are unknown or taken, what INSTANCE replaces, and
-//! where paths lead. Knows nothing of units, and of how it is known what stands round the tree.
+//! Answers what each name in the tree means, which names are unknown or taken, what INSTANCE replaces,
+//! and where paths lead. Knows nothing of units, and of how it is known what stands round the tree.
 #![tactic(auto)]
 
 mod due;

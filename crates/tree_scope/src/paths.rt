@@ -1,7 +1,6 @@
 // Segments of paths.
 ghost use Rattle.std.specs.Prelude.{◌≡◌, ◌++◌, ◌<◌, [], true, IfOk, OnOk, length};
 ghost use Rattle.std.specs.Option.{option_map};
-ghost use Rattle.tla_tree.specs.Arena.{node_at};
 ghost use Rattle.tla_model.specs.Contexts as contexts;
 ghost use Rattle.tla_model.specs.Entities as entities;
 ghost use Rattle.tla_model.specs.Lexemes.{LiesIn};
@@ -16,7 +15,7 @@ use crate::due::push_path;
 use crate::surroundings::Surround;
 use crate::tasks::{Held, Task, push_each};
 use crate::text::ModuleText;
-use crate::uses::{meaning_of, push_use};
+use crate::uses::{meaning_of, push_use, use_name};
 use name_context::Context;
 use tla_model::{Callee, Finding, Meaning};
 use tla_symbols::Lexeme;
@@ -148,8 +147,9 @@ fn use_further<'a, S: Surround>(
     Ok(next)
 }
 
-/// Looks at the first segment of an identifier. What is due of its arguments is put on top, and then
-/// the other segments, where it leads on.
+/// Looks at the first segment of an identifier. Visits of its arguments are put on top, and below
+/// them the other segments, where it leads on. Of an identifier of one segment nothing is asked but
+/// what it means.
 pub fn begin_path<'a, S: Surround>(
     text: &ModuleText<'a>,
     around: &S,
@@ -168,12 +168,18 @@ pub fn begin_path<'a, S: Surround>(
         (trees_at tree.now (children_from tree.now node 0))) (context_of context.now) findings.old
         findings.new (stack tasks.old.items) (stack tasks.new.items)) }
 {
-    let Some(&segment) = tree.children(node).first() else {
+    let segments = tree.children(node);
+    let Some(&segment) = segments.first() else {
         return Ok(());
     };
     let Some(name) = segment_of(tree.form(segment)) else {
         return Ok(());
     };
+    if segments.len() == 1 {
+        use_name(text, context, name, findings)?;
+        push_each(tasks, tree.children(segment))?;
+        return Ok(());
+    }
     let held = use_first(text, around, context, name, findings)?;
     push_path(tasks, node, 1, around.path_number(name.span.start), held)?;
     push_each(tasks, tree.children(segment))?;

@@ -1,17 +1,13 @@
 // What INSTANCE replaces.
-ghost use Rattle.std.specs.Prelude.{◌≡◌, ◌++◌, ◌∷◌, ◌<◌, [], IfOk, IfSome, OnOk, is_some, length};
-ghost use Rattle.std.specs.List.{AllByRecursion};
-ghost use Rattle.tla_tree.specs.Arena.{AreThere, node_at};
-ghost use Rattle.tla_model.specs.Contexts as contexts;
-ghost use Rattle.tla_model.specs.Entities as entities;
-ghost use Rattle.tla_model.specs.Lexemes.{LiesIn, spelled};
+ghost use Rattle.std.specs.Prelude.{◌≡◌, ◌++◌, IfOk, IfSome, OnOk};
+ghost use Rattle.tla_tree.specs.Arena.{node_at};
+ghost use Rattle.tla_model.specs.Lexemes.{LiesIn};
 ghost use Rattle.tla_model.specs.Tables as tables;
-ghost use Rattle.module_model.specs.Exports.{entry_of};
 ghost use Rattle.module_model.specs.Instances as instances;
 ghost use Rattle.module_model.specs.TreeFindings.{replaceable};
-ghost use Rattle.name_context.specs.AsTables.{context_of, meant_by};
+ghost use Rattle.name_context.specs.AsTables.{context_of};
 ghost use Rattle.declared_names.specs.Nodes.{parts_at};
-ghost use Rattle.tree_scope.specs.Parameters.{entry_in, named_in};
+ghost use Rattle.tree_scope.specs.Parameters.{entry_in};
 ghost use Rattle.tree_scope.specs.WalkTasks as walking;
 ghost use Rattle.tree_scope.specs.WalkTasks.{AreWhole, IsNode, stack};
 

@@ -1,5 +1,5 @@
 // What is round a walk.
-ghost use Rattle.std.specs.Prelude.{◌≡◌, ℕ, [], suc, Some, IfOk};
+ghost use Rattle.std.specs.Prelude.{◌≡◌, [], suc, Some, IfOk};
 ghost use Rattle.tla_model.specs.Entities.{place_in};
 ghost use Rattle.module_model.specs.Exports as exports;
 ghost use Rattle.module_model.specs.Exports.{Behind};
@@ -16,8 +16,8 @@ use std::alloc::Global;
 use tla_model::Meaning;
 use tool_list::{List, Memory};
 
-/// What a walk asks of what is round it: of modules by their names, of what stands behind instances,
-/// and where paths begin.
+/// What a walk asks of what is round it: of modules by their names, of what stands behind
+/// instances, and where paths begin. `Memory` comes where there is no room for an answer.
 pub trait Surround {
     /// What it answers by.
     ghost around: { Self → Surroundings };
@@ -25,11 +25,12 @@ pub trait Surround {
     /// What stands behind a place to which a path has come.
     ghost held: { Self → Spot → Behind };
 
-    /// What a name means among the parameters of a module: the constants and variables that it declares
-    /// or extends.
+    /// What a name means among the parameters of a module: the constants and variables that it
+    /// declares or extends.
     fn parameter(&self, module: &str, name: Named<'_>) -> Result<Option<Meaning>, Memory>
         ensures { IfOk result (λ meaning. meaning
-            ≡ exports.entry_of ((around self.now).named module.now).parameters (meant_by name.entry)) };
+            ≡ exports.entry_of ((around self.now).named module.now).parameters
+            (meant_by name.entry)) };
 
     /// All parameters of a module, in their order.
     fn parameters(&self, alloc: Global, module: &str) -> Result<List<Parameter>, Memory>

@@ -28,8 +28,8 @@ pub enum Task {
     Symbol {
         at: Lexeme,
     },
-    /// To look at the segments of an identifier, the child of this index first. `number` is the number
-    /// of the path, and `held` is where the segments before have come to.
+    /// To look at the segments of an identifier, from the child of this index on. `number` is that of
+    /// the path, and `held` is where the segments before have come to.
     Path {
         node: u32,
         from: usize,

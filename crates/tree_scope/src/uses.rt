@@ -1,6 +1,5 @@
 // Uses of names and symbols.
-ghost use Rattle.std.specs.Prelude.{◌≡◌, ◌++◌, ◌∷◌, [], IfOk, OnOk, is_some};
-ghost use Rattle.std.specs.Option.{option_map};
+ghost use Rattle.std.specs.Prelude.{◌≡◌, ◌++◌, ◌∷◌, [], IfOk, OnOk};
 ghost use Rattle.tla_model.specs.Contexts as contexts;
 ghost use Rattle.tla_model.specs.Entities as entities;
 ghost use Rattle.tla_model.specs.Lexemes.{LiesIn};
@@ -57,6 +56,23 @@ pub fn push_use(
         Some(meaning) => findings.push(Finding::Means { at, meaning }),
         None => findings.push(Finding::Unknown { at }),
     }
+}
+
+/// Looks at the use of an identifier.
+pub fn use_name<'a>(
+    text: &ModuleText<'a>,
+    context: &Context<'a>,
+    at: Lexeme,
+    findings: &mut List<Finding>,
+) -> Result<(), Memory>
+    requires { LiesIn text.now.source at }
+    ensures { OnOk result (findings.new
+        ≡ findings.old
+        ++ scopes.use_findings at
+        (contexts.meaning_of (context_of context.now) (entities.name_of text.now.source at))) }
+{
+    let meaning = meaning_of(context, text.name_of(at))?;
+    push_use(findings, at, meaning)
 }
 
 // Looks at the use of a symbol, unless it is built in.

@@ -4,7 +4,6 @@ ghost use Rattle.tla_tree.specs.Arena.{AreThere, node_at};
 ghost use Rattle.tla_model.specs.Scopes as scopes;
 ghost use Rattle.name_context.specs.AsTables.{context_of};
 ghost use Rattle.declared_names.specs.Nodes.{defined_at, form_at, parts_at};
-ghost use Rattle.tree_scope.specs.WalkTasks as walking;
 ghost use Rattle.tree_scope.specs.WalkTasks.{AreReady, IsDone, IsNode, stack, visited};
 
 use crate::due::{
