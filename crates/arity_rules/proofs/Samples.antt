@@ -167,6 +167,13 @@ a_surplus_argument = refl
 below_an_unknown_name : checked (codes "MFxUZF") (unary ∷ define 3 (one (call 4 6 (one (bare 5)))) ∷ []) ≡ []
 below_an_unknown_name = refl
 
+without_a_meaning : unresolved (codes "MFxUZF") (unary ∷ define 3 (one (call 4 6 (one (bare 5)))) ∷ []) ≡ fault 401 4 5 ∷ []
+without_a_meaning = refl
+
+-- F(x) == 1 | U == Z({F}): what stands inside of such an argument is judged by its own form
+inside_of_an_argument : checked (codes "MFxUZF") (unary ∷ define 3 (one (call 4 6 (one (node Form.SetEnumeration 5 6 (one (bare 5)))))) ∷ []) ≡ fault 502 5 6 ∷ []
+inside_of_an_argument = refl
+
 -- F(x) == 1 | U == {F}
 where_an_element_is_due : checked (codes "MFxUF") (unary ∷ define 3 (one (node Form.SetEnumeration 4 5 (one (bare 4)))) ∷ []) ≡ fault 502 4 5 ∷ []
 where_an_element_is_due = refl
@@ -233,6 +240,9 @@ an_instance_is_no_expression = refl
 no_instance : checked (codes "MFxUFGVF12G@H@") (unary ∷ define 3 (one (path 4 Nil 5 6 Nil)) ∷ define 6 (one (node Form.Identifier 7 14 (three (segment 7 (two (number 8) (number 9))) (segment 10 (one (itself 11))) (segment 12 (one (itself 13)))))) ∷ []) ≡ fault 501 7 8 ∷ fault 503 11 12 ∷ []
 no_instance = refl
 
+found_nothing : unresolved (codes "MFxUFGVF12G@H@") (unary ∷ define 3 (one (path 4 Nil 5 6 Nil)) ∷ define 6 (one (node Form.Identifier 7 14 (three (segment 7 (two (number 8) (number 9))) (segment 10 (one (itself 11))) (segment 12 (one (itself 13)))))) ∷ []) ≡ fault 401 5 6 ∷ fault 401 10 11 ∷ []
+found_nothing = refl
+
 -- F(x) == 1 | G(f(_)) == 1 | I == INSTANCE K WITH c <- 1 | U == G(I!G) | V == G(I!F) | W == G(I) | X == G(I!Z)
 an_operator_behind_an_instance : checked (codes "MFxGfIKc1UGIGVGIFWGIXGIZ") (unary ∷ taking ∷ named 5 (instance 6 (one (replacement 7 (number 8)))) ∷ define 9 (one (call 10 13 (one (path 11 Nil 12 13 Nil)))) ∷ define 13 (one (call 14 17 (one (path 15 Nil 16 17 Nil)))) ∷ define 17 (one (call 18 20 (one (bare 19)))) ∷ define 20 (one (call 21 24 (one (path 22 Nil 23 24 Nil)))) ∷ []) ≡ fault 502 15 17 ∷ fault 502 19 20 ∷ []
 an_operator_behind_an_instance = refl
@@ -250,6 +260,9 @@ replaced_by_an_expression = refl
 -- F(x) == 1 | I == INSTANCE K WITH c <- 1, c <- F, z <- F: of a parameter replaced twice the same is due, and nothing where none is replaced
 replaced_twice_or_not : checked (codes "MFxIKc1cFzF") (unary ∷ named 3 (instance 4 (three (replacement 5 (number 6)) (replacement 7 (bare 8)) (replacement 9 (bare 10)))) ∷ []) ≡ fault 502 8 9 ∷ []
 replaced_twice_or_not = refl
+
+left_sides : unresolved (codes "MFxIKc1cFzF") (unary ∷ named 3 (instance 4 (three (replacement 5 (number 6)) (replacement 7 (bare 8)) (replacement 9 (bare 10)))) ∷ []) ≡ fault 406 7 8 ∷ fault 405 9 10 ∷ []
+left_sides = refl
 
 -- c(x) == 1 | d == 1 | I == INSTANCE N
 not_written : checked (codes "McxdIN") (define 1 (two (name 2) (number 0)) ∷ define 3 (one (number 0)) ∷ named 4 (instance 5 Nil) ∷ []) ≡ fault 502 5 6 ∷ fault 502 5 6 ∷ []

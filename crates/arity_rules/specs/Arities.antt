@@ -1,5 +1,7 @@
 -- Whether operators and expressions are used as what they are.
 use Rattle.std.specs.Prelude.{ℕ, suc, Bool, true, false, ◌&&◌, ◌||◌, not, List, [], ◌∷◌, ◌++◌, Option, Some, None, if◌then◌else◌, is_some, length, map, nat_eq, nat_lt, slice_get}
+use Rattle.std.specs.List.{list_all, list_any}
+use Rattle.std.specs.Map.{lookup}
 use Rattle.tla_symbols.specs.declared.lexeme.LexKind.TheVariants as LexKind
 use Rattle.tla_symbols.specs.declared.lexeme.Span.{Span}
 use Rattle.tla_symbols.specs.declared.op.Op.TheVariants as Op
@@ -12,7 +14,6 @@ use Rattle.tla_model.specs.declared.Diagnostic.{Diagnostic}
 use Rattle.tla_model.specs.declared.entity.Entity.TheVariants as entity
 use Rattle.tla_model.specs.Entities.{Entity}
 use Rattle.tla_model.specs.Scopes.{Finding, is_free}
-use Rattle.tla_model.specs.Tables.{lookup}
 use Rattle.module_model.specs.declared.bound.Implied.{Implied}
 use Rattle.module_model.specs.Bindings.{faults as name_faults, implied, resolved}
 use Rattle.module_model.specs.Instances.{unit_trees}
@@ -42,14 +43,9 @@ abbrev pub is_instance : Entity → Bool
 is_instance (entity.Instance orders) = true
 is_instance _ = false
 
--- all of these parameters are expressions
-abbrev pub all_zero : List ℕ → Bool
-all_zero [] = true
-all_zero (order ∷ orders) = nat_eq order 0 && all_zero orders
-
 -- the parameters of the name are expressions; only a definition can have others
 abbrev pub takes_expressions : Entity → Bool
-takes_expressions (entity.Definition orders) = all_zero orders
+takes_expressions (entity.Definition orders) = list_all (λ order. nat_eq order 0) orders
 takes_expressions _ = true
 
 -- of what order the argument with an index is: 0 for an expression, or the arity of an operator; a surplus one has none
@@ -196,10 +192,14 @@ module _ (means : ℕ → Option Entity) where
     part_faults r inside index Nil = []
     part_faults r inside index (Cons x rest) = tree_faults (part_due r index (span x)) (is_part_inside r inside (form x)) x ++ part_faults r inside (suc index) rest
 
-  -- the faults of the trees of units
-  abbrev pub unit_faults : List UnitTree → List Diagnostic
-  unit_faults [] = []
-  unit_faults (unit ∷ units) = part_faults role.Other false 0 (unit_trees unit) ++ unit_faults units
+  -- the faults of the trees of a unit
+  abbrev pub unit_faults : UnitTree → List Diagnostic
+  unit_faults unit = part_faults role.Other false 0 (unit_trees unit)
+
+  -- the same of several units
+  abbrev pub all_unit_faults : List UnitTree → List Diagnostic
+  all_unit_faults [] = []
+  all_unit_faults (unit ∷ units) = unit_faults unit ++ all_unit_faults units
 
 -- ---- faults of a module
 
@@ -212,24 +212,31 @@ abbrev pub implied_faults : List Implied → List Diagnostic
 implied_faults [] = []
 implied_faults (replaced ∷ rest) = implied_fault replaced ++ implied_faults rest
 
+-- the codes of a name that means nothing, and of a left side that is no parameter
+abbrev pub is_unknown_code : ℕ → Bool
+is_unknown_code code = nat_eq code 401 || nat_eq code 405
+
 -- a fault of the name that begins here: it means nothing
 abbrev pub says_unknown : ℕ → Diagnostic → Bool
-says_unknown start fault = nat_eq fault.span.start start && (nat_eq fault.code 401 || nat_eq fault.code 405)
+says_unknown start fault = nat_eq start fault.span.start && is_unknown_code fault.code
 
 -- one of these faults is of the name that begins here, which means nothing
 abbrev pub is_unknown : List Diagnostic → ℕ → Bool
-is_unknown [] start = false
-is_unknown (fault ∷ faults) start = says_unknown start fault || is_unknown faults start
+is_unknown faults start = list_any (says_unknown start) faults
 
 -- a name that neither means a declaration nor is unknown is built in, and is as a declared constant
 abbrev pub or_built_in : Option Entity → Bool → Option Entity
 or_built_in (Some e) unknown = Some e
 or_built_in None unknown = if unknown then None else Some (entity.Constant 0)
 
+-- the entities that names are found to mean, under where the names begin
+abbrev pub declared : List Finding → List (ℕ × Entity)
+declared found = map (λ r. (r.«use».name.start, r.entity)) (resolved found)
+
 -- what a name means that begins here, by what is found
 abbrev pub meaning : List Finding → ℕ → Option Entity
-meaning found start = or_built_in (lookup nat_eq (map (λ r. (r.«use».name.start, r.entity)) (resolved found)) start) (is_unknown (name_faults found) start)
+meaning found start = or_built_in (lookup (nat_eq start) (declared found)) (is_unknown (name_faults found) start)
 
 -- the faults of arity in these units, by what is found at their names: those of their trees, and then those of replacements that are not written
 abbrev pub arity_faults : List Finding → List UnitTree → List Diagnostic
-arity_faults found units = unit_faults (meaning found) units ++ implied_faults (implied found)
+arity_faults found units = all_unit_faults (meaning found) units ++ implied_faults (implied found)

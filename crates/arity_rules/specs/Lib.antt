@@ -1,1 +1,3 @@
 pub mod Arities
+pub mod Noted
+pub mod Walking
