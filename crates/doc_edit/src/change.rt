@@ -1,0 +1,130 @@
+//! One change of a text.
+ghost use Rattle.std.specs.Prelude.{◌≡◌, ◌<◌, ◌^◌, ◌++◌, ◌∷◌, [], false, length, IfErr, IfOk, MatchOption, OnOk};
+ghost use Rattle.std.specs.Str.{IsCharBoundary, IsUtf8};
+ghost use Rattle.std.specs.declared.option.Option.TheVariants.{None};
+ghost use Rattle.tla_text.specs.Places.{spliced};
+ghost use Rattle.doc_edit.specs.Edits.{is_after, is_backward, first_backward, start_of, end_of};
+ghost use Rattle.doc_edit.specs.Edits.{after_change, first_excess, most_bytes, IsRefused};
+
+use crate::EditError;
+use lsp_wire::{Area, Change, Position};
+use std::alloc::Global;
+use tla_text::{Text, TextError};
+use tool_list::Memory;
+
+// The most bytes that a text may have after a change.
+const MOST_BYTES: usize = 1 << 25;
+
+// Whether a position is after another, by its numbers.
+fn is_after(a: Position, b: Position) -> bool
+    ensures { result ≡ is_after a b }
+{
+    a.line > b.line || (a.line == b.line && a.unit > b.unit)
+}
+
+// Whether an area starts after its end.
+fn is_backward(area: Option<Area>) -> bool
+    ensures { result ≡ is_backward area }
+{
+    match area {
+        Some(area) => is_after(area.start, area.end),
+        None => false,
+    }
+}
+
+/// The first change, and those behind it.
+pub fn first_of(changes: &[Change]) -> Option<(&Change, &[Change])>
+    ensures { MatchOption result (changes.now ≡ []) (λ p. changes.now ≡ p.0.now ∷ p.1.now) }
+{
+    changes.split_first()
+}
+
+/// The index, from 0, of the first change whose area starts after its end.
+pub fn first_backward(changes: &[Change]) -> Option<u64>
+    ensures { result ≡ first_backward changes.now }
+{
+    let mut index = 0;
+    let mut rest = changes;
+    'changes: while let Some((change, more)) = first_of(rest) {
+        if is_backward(change.area) {
+            return Some(index);
+        }
+        index += 1;
+        rest = more;
+    }
+    None
+}
+
+// The offset at which what is replaced starts.
+fn start_of(text: &Text, area: Option<Area>) -> usize
+    ensures { result ≡ start_of text.now area }
+{
+    match area {
+        Some(area) => text.offset_utf16(area.start.line, area.start.unit) as usize,
+        None => 0,
+    }
+}
+
+// The offset at which what is replaced ends.
+fn end_of(text: &Text, area: Option<Area>) -> usize
+    ensures { result ≡ end_of text.now area }
+{
+    match area {
+        Some(area) => text.offset_utf16(area.end.line, area.end.unit) as usize,
+        None => text.bytes().len(),
+    }
+}
+
+// The text that these bytes are.
+fn text_of(alloc: Global, bytes: &[u8]) -> Result<Text, Memory>
+    requires fits { length bytes.now < 2 ^ 31 }
+    requires utf8 { IsUtf8 bytes.now }
+    ensures { IfOk result (λ text. text ≡ bytes.now) }
+{
+    match Text::read(alloc, bytes) {
+        Ok(text) => Ok(text),
+        Err(TextError::Memory) => Err(Memory),
+        Err(TextError::NotUtf8 { at: _ }) => unreachable!(),
+    }
+}
+
+// A text with a piece in place of the bytes from `start` to `end`.
+fn spliced(
+    alloc: Global,
+    text: &Text,
+    start: usize,
+    end: usize,
+    piece: &str,
+) -> Result<Text, Memory>
+    requires start_at_char { IsCharBoundary text.now start }
+    requires end_at_char { IsCharBoundary text.now end }
+    requires fits { length (spliced text.now start end piece.now) < 2 ^ 31 }
+    ensures { IfOk result (λ made. made ≡ spliced text.now start end piece.now) }
+{
+    let bytes = text.bytes();
+    let mut made = Vec::new(alloc);
+    made.extend_from_slice(&bytes[..start])?;
+    made.extend_from_slice(piece.as_bytes())?;
+    made.extend_from_slice(&bytes[end..])?;
+    text_of(alloc, made.as_slice())
+}
+
+/// A text after one change, whose area is not backward. `TooLarge` comes exactly where it would have
+/// more than 2^25 bytes.
+pub fn edited(alloc: Global, text: &Text, change: &Change) -> Result<Text, EditError>
+    requires { is_backward change.now.area ≡ false }
+    ensures ok { IfOk result (λ made. made ≡ after_change text.now change.now) }
+    ensures short { OnOk result (first_excess text.now (change.now ∷ []) ≡ None) }
+    ensures cause { IfErr result (IsRefused None (first_excess text.now (change.now ∷ []))) }
+{
+    let start = start_of(text, change.area);
+    let end = end_of(text, change.area);
+    let piece = change.text.as_str();
+    let bytes = text.bytes().len() - (end - start) + piece.len();
+    if bytes > MOST_BYTES {
+        return Err(EditError::TooLarge {
+            bytes: bytes as u64,
+        });
+    }
+    Ok(spliced(alloc, text, start, end, piece)?)
+}
