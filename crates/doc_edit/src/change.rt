@@ -109,8 +109,8 @@ fn spliced(
     text_of(alloc, made.as_slice())
 }
 
-/// A text after one change, whose area is not backward. `TooLarge` comes exactly where it would have
-/// more than 2^25 bytes.
+/// A text after one change, whose area is not backward. `TooLarge` comes exactly where it would
+/// have more than 2^25 bytes.
 pub fn edited(alloc: Global, text: &Text, change: &Change) -> Result<Text, EditError>
     requires { is_backward change.now.area ≡ false }
     ensures ok { IfOk result (λ made. made ≡ after_change text.now change.now) }

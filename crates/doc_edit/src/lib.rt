@@ -45,8 +45,8 @@ impl From<Memory> for EditError {
 /// and a place inside a surrogate pair means the pair's start.
 ///
 /// `BackwardRange` comes exactly where an area starts after its end, by the numbers as sent.
-/// `TooLarge` comes exactly where none does, and the text would have more than 2^25 bytes after some
-/// change. After a refusal the text is as before.
+/// `TooLarge` comes exactly where none does, and the text would have more than 2^25 bytes after
+/// some change. After a refusal the text is as before.
 pub fn apply(alloc: Global, text: &mut Text, changes: &List<Change>) -> Result<(), EditError>
     ensures ok { OnOk result (text.new ≡ after_changes text.old changes.now) }
     ensures err { OnErr result (text.new ≡ text.old) }
