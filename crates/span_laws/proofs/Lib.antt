@@ -1,0 +1,3 @@
+mod Covers
+mod CoversTrees
+pub mod CoversUnits
