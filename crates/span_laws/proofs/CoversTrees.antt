@@ -6,8 +6,8 @@ use Rattle.tla_tree.specs.declared.form.Form.{Form}
 use Rattle.tla_tree.specs.Syntax.{Tree, Trees}
 use Rattle.tla_tree.specs.Headings as h
 use Rattle.tla_tree.specs.Derivation as d
-use Rattle.span_laws.specs.NodeSpans.{TreeSpans, PartSpans}
-use Rattle.span_laws.proofs.Covers.{Within, Covers, none, node, itself, next, other, both, before, last, thens}
+use Rattle.span_laws.specs.NodeSpans.{SpansLexemes, TreeSpans, PartSpans}
+use Rattle.span_laws.proofs.Covers.{Covers, none, node, itself, next, other, both, before, last, thens}
 
 -- behind the first
 abbrev tail : List Lexeme → List Lexeme
@@ -15,48 +15,48 @@ tail [] = []
 tail (t ∷ a) = a
 
 -- a tree over lexemes
-abbrev pub Over : (S E : ℕ → Type 0) → Tree → List Lexeme → Type 0
-Over S E x a = Covers S E (TreeSpans (Within S E) x) a
+abbrev pub Over : List Lexeme → Tree → List Lexeme → Type 0
+Over ls x a = Covers ls (TreeSpans (SpansLexemes ls) x) a
 
 -- parts over lexemes
-abbrev pub PartsOver : (S E : ℕ → Type 0) → Trees → List Lexeme → Type 0
-PartsOver S E xs a = Covers S E (PartSpans (Within S E) xs) a
+abbrev pub PartsOver : List Lexeme → Trees → List Lexeme → Type 0
+PartsOver ls xs a = Covers ls (PartSpans (SpansLexemes ls) xs) a
 
-module _ {S E : ℕ → Type 0} where
-  name-list-in : {xs : Trees} {a : List Lexeme} → h.DerivesNameList xs a → PartsOver S E xs a
+module _ {ls : List Lexeme} where
+  name-list-in : {xs : Trees} {a : List Lexeme} → h.DerivesNameList xs a → PartsOver ls xs a
   name-list-in (h.last_name k) = last itself
   name-list-in (h.more_names {t = t} k l ds) = next (other t (name-list-in ds))
 
-  names-in : {x : Tree} {a : List Lexeme} → h.DerivesNames x a → Over S E x a
+  names-in : {x : Tree} {a : List Lexeme} → h.DerivesNames x a → Over ls x a
   names-in (h.names ds) = node (name-list-in ds)
 
-  tuple-names-in : {xs : Trees} {a : List Lexeme} → h.DerivesTupleNames xs a → PartsOver S E xs a
+  tuple-names-in : {xs : Trees} {a : List Lexeme} → h.DerivesTupleNames xs a → PartsOver ls xs a
   tuple-names-in (h.tuple_names t u k l ds) = other t (before _ (name-list-in ds))
 
-  binder-in : {x : Tree} {a : List Lexeme} → h.DerivesBinder x a → Over S E x a
+  binder-in : {x : Tree} {a : List Lexeme} → h.DerivesBinder x a → Over ls x a
   binder-in (h.binder_name k) = node (last itself)
   binder-in (h.binder_tuple ds) = node (tuple-names-in ds)
 
-  parameter-in : {x : Tree} {a : List Lexeme} → h.DerivesParameter x a → Over S E x a
+  parameter-in : {x : Tree} {a : List Lexeme} → h.DerivesParameter x a → Over ls x a
   parameter-in (h.plain k) = itself
   parameter-in (h.of_places u k l m ds) = node none
   parameter-in (h.prefix_symbol k l) = node none
   parameter-in (h.infix_symbol k l m q) = node none
   parameter-in (h.postfix_symbol k l m) = node none
 
-  pub parameters-in : {xs : Trees} {a : List Lexeme} → h.DerivesParameters xs a → PartsOver S E xs a
+  pub parameters-in : {xs : Trees} {a : List Lexeme} → h.DerivesParameters xs a → PartsOver ls xs a
   parameters-in (h.last_parameter x) = last (parameter-in x)
   parameters-in (h.more_parameters t k x xs) = both (parameter-in x) (other t (parameters-in xs))
 
-  head-in : {n : Lexeme} {xs : Trees} {a : List Lexeme} → h.DerivesHead n xs a → PartsOver S E xs a
+  head-in : {n : Lexeme} {xs : Trees} {a : List Lexeme} → h.DerivesHead n xs a → PartsOver ls xs a
   head-in (h.constant k) = none
   head-in (h.with_parameters u k t v xs) = other _ (other _ (before _ (parameters-in xs)))
 
   mutual
-    pub expression-in : {x : Tree} {a : List Lexeme} {i : ℕ} {o : Option Lexeme} → d.Derives x a i o → Over S E x a
+    pub expression-in : {x : Tree} {a : List Lexeme} {i : ℕ} {o : Option Lexeme} → d.Derives x a i o → Over ls x a
     expression-in (d.node s) = node (form-in s)
 
-    form-in : {form : Form} {xs : Trees} {a : List Lexeme} {i : ℕ} {o : Option Lexeme} → d.Spells form xs a i o → PartsOver S E xs a
+    form-in : {form : Form} {xs : Trees} {a : List Lexeme} {i : ℕ} {o : Option Lexeme} → d.Spells form xs a i o → PartsOver ls xs a
     form-in (d.identifier xs) = segments-in xs
     form-in (d.number k) = none
     form-in (d.text k) = none
@@ -92,78 +92,78 @@ module _ {S E : ℕ → Type 0} where
     form-in (d.let_in {xs = xs} {x = x} t k l ds y) = other _ (thens xs x (definitions-in ds) (other t (expression-in y)))
     form-in (d.junctions {t = t} k l xs m) = other t (items-in xs)
 
-    list-in : {xs : Trees} {a : List Lexeme} {i : ℕ} {o : Option Lexeme} → d.DerivesList xs a i o → PartsOver S E xs a
+    list-in : {xs : Trees} {a : List Lexeme} {i : ℕ} {o : Option Lexeme} → d.DerivesList xs a i o → PartsOver ls xs a
     list-in (d.last x) = last (expression-in x)
     list-in (d.more t k x xs) = both (expression-in x) (other t (list-in xs))
 
-    factors-in : {xs : Trees} {a : List Lexeme} {i : ℕ} {o : Option Lexeme} → d.DerivesFactors xs a i o → PartsOver S E xs a
+    factors-in : {xs : Trees} {a : List Lexeme} {i : ℕ} {o : Option Lexeme} → d.DerivesFactors xs a i o → PartsOver ls xs a
     factors-in (d.last_factor k x) = last (expression-in x)
     factors-in (d.more_factors t k l m x xs) = both (expression-in x) (other t (factors-in xs))
 
-    segments-in : {xs : Trees} {a : List Lexeme} {i : ℕ} → d.DerivesSegments xs a i → PartsOver S E xs a
+    segments-in : {xs : Trees} {a : List Lexeme} {i : ℕ} → d.DerivesSegments xs a i → PartsOver ls xs a
     segments-in (d.last_segment x) = last (segment-in x)
     segments-in (d.more_segments t k x xs) = both (segment-in x) (other t (segments-in xs))
 
-    segment-in : {x : Tree} {a : List Lexeme} {i : ℕ} → d.DerivesSegment x a i → Over S E x a
+    segment-in : {x : Tree} {a : List Lexeme} {i : ℕ} → d.DerivesSegment x a i → Over ls x a
     segment-in (d.bare k) = itself
     segment-in (d.applied t u m k l xs) = node (other _ (other t (before _ (arguments-in xs))))
 
-    arguments-in : {xs : Trees} {a : List Lexeme} {i : ℕ} {o : Option Lexeme} → d.DerivesArguments xs a i o → PartsOver S E xs a
+    arguments-in : {xs : Trees} {a : List Lexeme} {i : ℕ} {o : Option Lexeme} → d.DerivesArguments xs a i o → PartsOver ls xs a
     arguments-in (d.last_argument x) = last (argument-in x)
     arguments-in (d.more_arguments t k x xs) = both (argument-in x) (other t (arguments-in xs))
 
-    argument-in : {x : Tree} {a : List Lexeme} {i : ℕ} {o : Option Lexeme} → d.DerivesArgument x a i o → Over S E x a
+    argument-in : {x : Tree} {a : List Lexeme} {i : ℕ} {o : Option Lexeme} → d.DerivesArgument x a i o → Over ls x a
     argument-in (d.expression x) = expression-in x
     argument-in (d.passed k l) = itself
 
-    bound-in : {x : Tree} {a : List Lexeme} {i : ℕ} {o : Option Lexeme} → d.DerivesBound x a i o → Over S E x a
+    bound-in : {x : Tree} {a : List Lexeme} {i : ℕ} {o : Option Lexeme} → d.DerivesBound x a i o → Over ls x a
     bound-in (d.bound {xs = xs} {x = x} m k l ns y) = node (thens xs x (name-list-in ns) (other m (expression-in y)))
     bound-in (d.tuple_bound {xs = xs} {x = x} m k l ns y) = node (thens xs x (tuple-names-in ns) (other m (expression-in y)))
 
-    bounds-in : {xs : Trees} {a : List Lexeme} {i : ℕ} {o : Option Lexeme} → d.DerivesBounds xs a i o → PartsOver S E xs a
+    bounds-in : {xs : Trees} {a : List Lexeme} {i : ℕ} {o : Option Lexeme} → d.DerivesBounds xs a i o → PartsOver ls xs a
     bounds-in (d.last_bound x) = last (bound-in x)
     bounds-in (d.more_bounds t k x xs) = both (bound-in x) (other t (bounds-in xs))
 
-    field-in : {mark : Mark} {x : Tree} {a : List Lexeme} {i : ℕ} {o : Option Lexeme} → d.DerivesField mark x a i o → Over S E x a
+    field-in : {mark : Mark} {x : Tree} {a : List Lexeme} {i : ℕ} {o : Option Lexeme} → d.DerivesField mark x a i o → Over ls x a
     field-in (d.named k m x) = node (other _ (other _ (last (expression-in x))))
 
-    fields-in : {mark : Mark} {xs : Trees} {a : List Lexeme} {i : ℕ} {o : Option Lexeme} → d.DerivesFields mark xs a i o → PartsOver S E xs a
+    fields-in : {mark : Mark} {xs : Trees} {a : List Lexeme} {i : ℕ} {o : Option Lexeme} → d.DerivesFields mark xs a i o → PartsOver ls xs a
     fields-in (d.last_field x) = last (field-in x)
     fields-in (d.more_fields t k x xs) = both (field-in x) (other t (fields-in xs))
 
-    update-in : {x : Tree} {a : List Lexeme} {i : ℕ} {o : Option Lexeme} → d.DerivesUpdate x a i o → Over S E x a
+    update-in : {x : Tree} {a : List Lexeme} {i : ℕ} {o : Option Lexeme} → d.DerivesUpdate x a i o → Over ls x a
     update-in (d.update {xs = xs} {x = x} t e k l ss y) = node (other t (thens xs x (steps-in ss) (other e (expression-in y))))
 
-    updates-in : {xs : Trees} {a : List Lexeme} {i : ℕ} {o : Option Lexeme} → d.DerivesUpdates xs a i o → PartsOver S E xs a
+    updates-in : {xs : Trees} {a : List Lexeme} {i : ℕ} {o : Option Lexeme} → d.DerivesUpdates xs a i o → PartsOver ls xs a
     updates-in (d.last_update x) = last (update-in x)
     updates-in (d.more_updates t k x xs) = both (update-in x) (other t (updates-in xs))
 
-    step-in : {x : Tree} {a : List Lexeme} {i : ℕ} → d.DerivesStep x a i → Over S E x a
+    step-in : {x : Tree} {a : List Lexeme} {i : ℕ} → d.DerivesStep x a i → Over ls x a
     step-in (d.field_step {t = t} k l) = other t itself
     step-in (d.index_step t u k l xs) = node (other t (before _ (list-in xs)))
 
-    steps-in : {xs : Trees} {a : List Lexeme} {i : ℕ} → d.DerivesSteps xs a i → PartsOver S E xs a
+    steps-in : {xs : Trees} {a : List Lexeme} {i : ℕ} → d.DerivesSteps xs a i → PartsOver ls xs a
     steps-in (d.last_step x) = last (step-in x)
     steps-in (d.more_steps x xs) = both (step-in x) (steps-in xs)
 
-    arms-in : {xs : Trees} {a : List Lexeme} {i : ℕ} {o : Option Lexeme} → d.DerivesArms xs a i o → PartsOver S E xs a
+    arms-in : {xs : Trees} {a : List Lexeme} {i : ℕ} {o : Option Lexeme} → d.DerivesArms xs a i o → PartsOver ls xs a
     arms-in (d.last_arm x k) = last (arm-in x)
     arms-in (d.other_arm k l x) = last (node (other _ (other _ (last (expression-in x)))))
     arms-in (d.more_arms t k x xs) = both (arm-in x) (other t (arms-in xs))
 
-    arm-in : {x : Tree} {a : List Lexeme} {i : ℕ} {o : Option Lexeme} → d.DerivesArm x a i o → Over S E x a
+    arm-in : {x : Tree} {a : List Lexeme} {i : ℕ} {o : Option Lexeme} → d.DerivesArm x a i o → Over ls x a
     arm-in (d.arm t k x y) = node (both (expression-in x) (other t (last (expression-in y))))
 
     -- the first bullet is held by the list itself
-    items-in : {first : Lexeme} {xs : Trees} {a : List Lexeme} {o : Option Lexeme} → d.DerivesItems first xs a o → PartsOver S E xs (tail a)
+    items-in : {first : Lexeme} {xs : Trees} {a : List Lexeme} {o : Option Lexeme} → d.DerivesItems first xs a o → PartsOver ls xs (tail a)
     items-in (d.last_item k l x) = last (expression-in x)
     items-in (d.more_items u k l x xs) = both (expression-in x) (other u (items-in xs))
 
-    definitions-in : {xs : Trees} {a : List Lexeme} {i : ℕ} {o : Option Lexeme} → d.DerivesDefinitions xs a i o → PartsOver S E xs a
+    definitions-in : {xs : Trees} {a : List Lexeme} {i : ℕ} {o : Option Lexeme} → d.DerivesDefinitions xs a i o → PartsOver ls xs a
     definitions-in (d.last_definition x) = last (definition-in x)
     definitions-in (d.more_definitions t x xs) = both (definition-in x) (definitions-in xs)
 
-    pub definition-in : {x : Tree} {a : List Lexeme} {i : ℕ} {o : Option Lexeme} → d.DerivesDefinition x a i o → Over S E x a
+    pub definition-in : {x : Tree} {a : List Lexeme} {i : ℕ} {o : Option Lexeme} → d.DerivesDefinition x a i o → Over ls x a
     definition-in (d.operator {xs = xs} {x = x} m head k y) = node (thens xs x (head-in head) (other m (expression-in y)))
     definition-in (d.prefix_operator k l m x) = node (other _ (next (other _ (last (expression-in x)))))
     definition-in (d.infix_operator k l o p q x) = node (next (other _ (next (other _ (last (expression-in x))))))
@@ -171,14 +171,14 @@ module _ {S E : ℕ → Type 0} where
     definition-in (d.function_of {bounds = xs} {x = x} u e k l m o bs y) = node (other _ (other _ (thens xs x (bounds-in bs) (other u (other e (expression-in y))))))
     definition-in (d.module_of {xs = xs} {x = x} m head k y) = node (thens xs x (head-in head) (other m (instance-in y)))
 
-    pub instance-in : {x : Tree} {a : List Lexeme} {i : ℕ} {o : Option Lexeme} → d.DerivesInstance x a i o → Over S E x a
+    pub instance-in : {x : Tree} {a : List Lexeme} {i : ℕ} {o : Option Lexeme} → d.DerivesInstance x a i o → Over ls x a
     instance-in (d.without k l) = node none
     instance-in (d.with_replacements k l n xs) = node (other _ (other _ (other _ (replacements-in xs))))
 
-    replacements-in : {xs : Trees} {a : List Lexeme} {i : ℕ} {o : Option Lexeme} → d.DerivesReplacements xs a i o → PartsOver S E xs a
+    replacements-in : {xs : Trees} {a : List Lexeme} {i : ℕ} {o : Option Lexeme} → d.DerivesReplacements xs a i o → PartsOver ls xs a
     replacements-in (d.last_replacement x) = last (replacement-in x)
     replacements-in (d.more_replacements t k x xs) = both (replacement-in x) (other t (replacements-in xs))
 
-    replacement-in : {x : Tree} {a : List Lexeme} {i : ℕ} {o : Option Lexeme} → d.DerivesReplacement x a i o → Over S E x a
+    replacement-in : {x : Tree} {a : List Lexeme} {i : ℕ} {o : Option Lexeme} → d.DerivesReplacement x a i o → Over ls x a
     replacement-in (d.replaced k t x) = node (other _ (other _ (last (expression-in x))))
     replacement-in (d.replaced_by_symbol k t l m) = node (other _ (other _ (last itself)))

@@ -1,3 +1,7 @@
 mod Covers
 mod CoversTrees
-pub mod CoversUnits
+mod CoversUnits
+mod LastByte
+mod Gaps
+mod Placing
+mod PlacedNodes

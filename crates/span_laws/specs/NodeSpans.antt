@@ -1,22 +1,26 @@
 -- Where the nodes of trees stand.
-use Rattle.std.specs.Prelude.{◌≡◌, ℕ, List}
-use Rattle.std.specs.List.{AllByRecursion, Contains}
+use Rattle.std.specs.Prelude.{◌≡◌, ℕ, ◌≤◌, List, ◌∷◌, ◌++◌}
+use Rattle.std.specs.List.{AllByRecursion}
 use Rattle.tla_symbols.specs.declared.lexeme.Lexeme.{Lexeme}
 use Rattle.tla_symbols.specs.declared.lexeme.Span.{Span}
+use Rattle.tla_lexeme.specs.Spans.{IsPlaced}
+use Rattle.tla_tree.specs.Lexemes.{place}
 use Rattle.tla_tree.specs.Syntax.{Tree, Trees, Node, Nil, Cons}
 use Rattle.unit_grammar.specs.Units.{UnitTree, Constants, OperatorDefinition, FunctionDefinition, ModuleDefinition, Instance, Assumption, Theorem, ModuleUnits}
 
--- a lexeme of a list begins at this offset
-abbrev pub BeginsAt : List Lexeme → ℕ → Type 0
-BeginsAt lexemes at = (l : Lexeme) × Contains lexemes l × (l.span.start ≡ at)
+-- a span from the first to the last of one or more lexemes that stand side by side in a list
+pub record SpansLexemes (lexemes : List Lexeme) (span : Span) : Type 0 where
+  pub before : List Lexeme
+  pub first : Lexeme
+  pub more : List Lexeme
+  pub behind : List Lexeme
+  pub among : lexemes ≡ before ++ ((first ∷ more) ++ behind)
+  pub is : span ≡ place (first ∷ more)
 
--- a lexeme of a list ends at this offset
-abbrev pub EndsAt : List Lexeme → ℕ → Type 0
-EndsAt lexemes at = (l : Lexeme) × Contains lexemes l × (l.span.end ≡ at)
-
--- a span begins where a lexeme of a list does, and ends where one does
-abbrev pub SpansLexemes : List Lexeme → Span → Type 0
-SpansLexemes lexemes span = BeginsAt lexemes span.start × EndsAt lexemes span.end
+-- a span whose ends stand in order, both at characters of a text
+pub record SpansText (text : List ℕ) (span : Span) : Type 0 where
+  pub order : span.start ≤ span.end
+  pub placed : IsPlaced text span
 
 -- the spans of all nodes of a tree have a property
 abbrev mutual

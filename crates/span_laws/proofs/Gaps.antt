@@ -1,0 +1,122 @@
+-- A character begins behind blanks and comments, and behind a lexeme.
+use Rattle.std.proofs.Common.{◌≡◌, ℕ, zero, suc, ◌+◌, ◌-◌, ◌<◌, ◌≤◌, Bool, true, false, ◌||◌, eqb, leb, cond, List, [], ◌∷◌, length, get_or, take, drop, slice_index, codes, Option, Some, refl, sym, ap, ◌∙◌, subst, ⊎_elim, ◌⊎◌, arith, length-drop, length-take}
+use Rattle.std.proofs.lemmas.Bool.{cases_lt, or_cases, both_ways, eqb-true, not-false}
+use Rattle.std.proofs.lemmas.List.{get_or-drop, get_or-take}
+use Rattle.std.proofs.lemmas.List.Sums.{prefix_len_stops, prefix_len-le-length}
+use Rattle.std.proofs.lemmas.Slice.Eq.{bytes_eq-Decides}
+use Rattle.std.proofs.lemmas.Str.{IsCharBoundary-after_ascii, IsCharBoundary-before_ascii, IsCharBoundary-end}
+use Rattle.std.specs.Str.{IsUtf8, IsCharBoundary}
+use Rattle.tla_symbols.specs.declared.lexeme.LexKind.{LexKind}
+use Rattle.tla_lexeme.specs.declared.class.Class.TheVariants.{InLine, Blank}
+use Rattle.tla_lexeme.specs.LexemeSets.{is_in, kind_of}
+use Rattle.tla_lexeme.specs.Lexing.{begins, line_len, comment_end, comment_len}
+use Rattle.tla_lexeme.specs.Longest.{IsGap, Passes, IsTaken}
+use Rattle.span_laws.proofs.LastByte.{end-low}
+
+-- behind a byte of ASCII
+behind-low : (text : List ℕ) (at n : ℕ) → IsUtf8 text → suc n ≤ length (drop at text) → get_or (drop at text) n 0 < 128 → IsCharBoundary text (at + suc n)
+behind-low text at n utf8 inside low =
+    let place : at + n + 1 ≡ at + suc n = omega arith in
+    subst (λ i. IsCharBoundary text i) place (IsCharBoundary-after_ascii text (at + n) utf8 (omega (arith, inside, length-drop at text)) (subst (λ b. b < 128) (get_or-drop at text n 0) low))
+
+-- ---- comments
+
+begins-longer : (f xs : List ℕ) → begins xs f ≡ true → length f ≤ length xs
+begins-longer f xs h = let e : f ≡ take (length f) xs = (bytes_eq-Decides f (take (length f) xs)).0 h in omega (arith, ap length e, length-take (length f) xs)
+
+front-byte : (f xs : List ℕ) (i : ℕ) → begins xs f ≡ true → i < length f → get_or xs i 0 ≡ get_or f i 0
+front-byte f xs i h l = let e : f ≡ take (length f) xs = (bytes_eq-Decides f (take (length f) xs)).0 h in sym (get_or-take (length f) xs i 0 l) ∙ sym (ap (λ k. get_or k i 0) e)
+
+-- where a comment ends, its last byte is a parenthesis
+record EndsComment (at n : ℕ) (xs : List ℕ) : Type 0 where
+  pub last_at : ℕ
+  pub size : n ≡ at + suc last_at
+  pub inside : last_at < length xs
+  pub paren : get_or xs last_at 0 ≡ 41
+
+comment-shift : (at n c : ℕ) (cs : List ℕ) → EndsComment (at + 1) n cs → EndsComment at n (c ∷ cs)
+comment-shift at n c cs h = record { last_at = suc h.last_at; size = omega (arith, h.size); inside = omega (arith, h.inside); paren = h.paren }
+
+some-same : (a b : ℕ) → (let o : Option ℕ = Some a in o) ≡ Some b → a ≡ b
+some-same a b e = cc
+
+comment-ends : (at depth skip : ℕ) (xs : List ℕ) (n : ℕ) → comment_end at depth skip xs ≡ Some n → EndsComment at n xs
+comment-ends at depth skip [] n h = absurd (cc)
+comment-ends at depth (suc skip) (c ∷ cs) n h = comment-shift at n c cs (comment-ends (at + 1) depth skip cs n h)
+comment-ends at depth zero (c ∷ cs) n h = by_begin (begins (c ∷ cs) (codes "(*")) (begins (c ∷ cs) (codes "*)")) (leb depth 1) refl h (λ d s g. comment-shift at n c cs (comment-ends (at + 1) d s cs n g))
+  where
+    by_begin : (opens closes ends : Bool) → begins (c ∷ cs) (codes "*)") ≡ closes → cond opens (comment_end (at + 1) (depth + 1) 1 cs) (cond closes (cond ends (Some (at + 2)) (comment_end (at + 1) (depth - 1) 1 cs)) (comment_end (at + 1) depth 0 cs)) ≡ Some n → ((d s : ℕ) → comment_end (at + 1) d s cs ≡ Some n → EndsComment at n (c ∷ cs)) → EndsComment at n (c ∷ cs)
+    by_begin true closes ends e g more = more (depth + 1) 1 g
+    by_begin false true true e g more = record {
+      last_at = 1;
+      size = let same = some-same (at + 2) n g in omega (arith, same);
+      inside = omega (arith, begins-longer (codes "*)") (c ∷ cs) e);
+      paren = front-byte (codes "*)") (c ∷ cs) 1 e (omega arith);
+    }
+    by_begin false true false e g more = more (depth - 1) 1 g
+    by_begin false false ends e g more = more depth 0 g
+
+comment-cut : (text : List ℕ) (at len : ℕ) → IsUtf8 text → comment_len (drop at text) ≡ Some len → IsCharBoundary text (at + len)
+comment-cut text at len utf8 e =
+    let ends = comment-ends 0 0 0 (drop at text) len e in
+    let size : suc ends.last_at ≡ len = omega (arith, ends.size) in
+    subst (λ n. IsCharBoundary text (at + n)) size (behind-low text at ends.last_at utf8 ends.inside (omega (arith, ends.paren)))
+
+-- a comment to the line's end stops at a byte of a line end, or at the text's end
+line-stops : (b : ℕ) → is_in InLine b ≡ false → b < 128
+line-stops b h = ⊎_elim (λ (e : eqb b 10 ≡ true). omega (arith, eqb-true b 10 e)) (λ (e : eqb b 13 ≡ true). omega (arith, eqb-true b 13 e)) (or_cases (eqb b 10) (eqb b 13) (not-false (eqb b 10 || eqb b 13) h))
+
+line-cut : (text : List ℕ) (at : ℕ) → at ≤ length text → IsCharBoundary text (at + line_len (drop at text))
+line-cut text at l =
+    let n : ℕ = line_len (drop at text) in
+    let fits = prefix_len-le-length (is_in InLine) (drop at text) in
+    ⊎_elim
+    (λ (lt : at + n < length text). IsCharBoundary-before_ascii text (at + n) lt (subst (λ b. b < 128) (get_or-drop at text n 0) (line-stops (get_or (drop at text) n 0) (prefix_len_stops (is_in InLine) (drop at text) 0 (omega (arith, length-drop at text))))))
+    (λ (ge : length text ≤ at + n). subst (λ i. IsCharBoundary text i) (let e : length text ≡ at + n = omega (arith, fits, length-drop at text) in e) (IsCharBoundary-end text))
+    (cases_lt (at + n) (length text))
+
+-- ---- blanks
+
+blank-low : (b : ℕ) → is_in Blank b ≡ true → b < 128
+blank-low b h =
+    ⊎_elim
+    (λ (first : (eqb b 32 || eqb b 9 || eqb b 12 || eqb b 10) ≡ true).
+    ⊎_elim
+    (λ (second : (eqb b 32 || eqb b 9 || eqb b 12) ≡ true).
+    ⊎_elim (λ (third : (eqb b 32 || eqb b 9) ≡ true). ⊎_elim (λ (e : eqb b 32 ≡ true). omega (arith, eqb-true b 32 e)) (λ (e : eqb b 9 ≡ true). omega (arith, eqb-true b 9 e)) (or_cases (eqb b 32) (eqb b 9) third)) (λ (e : eqb b 12 ≡ true). omega (arith, eqb-true b 12 e))
+    (or_cases (eqb b 32 || eqb b 9) (eqb b 12) second))
+    (λ (e : eqb b 10 ≡ true). omega (arith, eqb-true b 10 e))
+    (or_cases (eqb b 32 || eqb b 9 || eqb b 12) (eqb b 10) first))
+    (λ (e : eqb b 13 ≡ true). omega (arith, eqb-true b 13 e))
+    (or_cases (eqb b 32 || eqb b 9 || eqb b 12 || eqb b 10) (eqb b 13) h)
+
+blank-first : (xs : List ℕ) → is_in Blank (slice_index xs 0) ≡ true → (1 ≤ length xs) × (get_or xs 0 0 < 128)
+blank-first [] h = absurd (both_ways false refl h)
+blank-first (c ∷ cs) h = (omega arith, blank-low c h)
+
+blank-cut : (text : List ℕ) (at : ℕ) → IsUtf8 text → is_in Blank (slice_index (drop at text) 0) ≡ true → IsCharBoundary text (at + 1)
+blank-cut text at utf8 h = let first = blank-first (drop at text) h in behind-low text at 0 utf8 first.0 first.1
+
+-- ---- in a text
+
+gap-cut : (text : List ℕ) (at len : ℕ) → IsUtf8 text → IsCharBoundary text at → IsGap (drop at text) len → IsCharBoundary text (at + len)
+gap-cut text at len utf8 cut gap =
+    ⊎_elim
+    (λ (blank : (len ≡ 1) × (is_in Blank (slice_index (drop at text) 0) ≡ true)). subst (λ n. IsCharBoundary text (at + n)) (sym blank.0) (blank-cut text at utf8 blank.1))
+    (λ (comment : ((begins (drop at text) (codes "\\*") ≡ true) × (len ≡ line_len (drop at text))) ⊎ ((begins (drop at text) (codes "(*") ≡ true) × (comment_len (drop at text) ≡ Some len))).
+    ⊎_elim
+    (λ (line : (begins (drop at text) (codes "\\*") ≡ true) × (len ≡ line_len (drop at text))). subst (λ n. IsCharBoundary text (at + n)) (sym line.1) (line-cut text at cut.0))
+    (λ (block : (begins (drop at text) (codes "(*") ≡ true) × (comment_len (drop at text) ≡ Some len)). comment-cut text at len utf8 block.1)
+    comment)
+    gap
+
+pub gaps-cut : (text : List ℕ) (at : ℕ) (lens : List ℕ) (to : ℕ) → IsUtf8 text → IsCharBoundary text at → Passes text at lens to → IsCharBoundary text to
+gaps-cut text at [] to utf8 cut h = subst (λ n. IsCharBoundary text n) (sym h) cut
+gaps-cut text at (len ∷ lens) to utf8 cut h = gaps-cut text (at + len) lens to utf8 (gap-cut text at len utf8 cut h.0) h.1
+
+taken-by : (text : List ℕ) (at : ℕ) (kind : LexKind) (len : ℕ) → IsUtf8 text → 0 < len → len ≤ length (drop at text) → kind_of (take len (drop at text)) ≡ Some kind → IsCharBoundary text (at + len)
+taken-by text at kind zero utf8 some fits is = absurd (omega (arith, some))
+taken-by text at kind (suc n) utf8 some fits is = behind-low text at n utf8 fits (end-low n (drop at text) kind fits is)
+
+pub taken-cut : (text : List ℕ) (at : ℕ) (kind : LexKind) (len : ℕ) → IsUtf8 text → IsTaken (drop at text) kind len → IsCharBoundary text (at + len)
+taken-cut text at kind len utf8 taken = taken-by text at kind len utf8 taken.some taken.fits taken.is
