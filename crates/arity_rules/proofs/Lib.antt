@@ -1,3 +1,4 @@
+pub mod FaultPlaces
 mod Noting
 mod Samples
 mod Tasks

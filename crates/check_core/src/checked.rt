@@ -1,13 +1,17 @@
 // A module that was checked.
-ghost use Rattle.std.specs.Prelude.{◌≡◌, [], ◌+◌, ◌-◌, ◌^◌, min, IfOk};
+ghost use Rattle.std.specs.Prelude.{◌≡◌, [], ◌++◌, ◌+◌, ◌-◌, ◌^◌, min, IfOk};
 ghost use Rattle.unit_grammar.specs.UnitNodes.{module_of};
 ghost use Rattle.tla_model.specs.Lexemes.{spelled};
 ghost use Rattle.module_model.specs.Given.{IsReadable, IsWithoutInstances};
 ghost use Rattle.module_facts.specs.Checks.{IsChecked, given_in};
 ghost use Rattle.module_faces.specs.Faces.{IsFace};
-ghost use Rattle.check_core.specs.Outcomes.{IsRefused, IsResolved, shown};
+ghost use Rattle.module_model.specs.Bindings.{AreInOrder};
+ghost use Rattle.module_model.specs.Exports.{exported_by};
+ghost use Rattle.module_facts.specs.Checks as checks;
+ghost use Rattle.check_core.specs.Outcomes.{IsJudged, IsRefused, IsResolved, IsWithArities, shown};
 ghost use Rattle.std.specs.Arc.{arc_value};
 
+use arity_rules::check_arity;
 use module_faces::{import_faults, shared_face};
 use module_graph::{lexemes_lie_names, named_modules};
 use module_model::{Bound, Face, Imported, in_order};
@@ -16,7 +20,7 @@ use std::marker::Model;
 use std::sync::Arc;
 use step_count::Steps;
 use symbol_scope::{Resolved, resolve};
-use tla_model::{Decl, Diagnostic, Use};
+use tla_model::{Decl, Diagnostic, NameTable, Use};
 use tla_tree::ModuleTree;
 use tool_list::{List, Memory};
 
@@ -40,8 +44,8 @@ impl Model for Checked {
 }
 
 impl Checked {
-    /// The faults of imports, or else those of names: by start, then end, then code. A module is
-    /// accepted where there is none.
+    /// The faults of imports, or else those of names and arities: by start, then end, then code. A module
+    /// is accepted where there is none.
     pub fn faults(&self) -> &List<Diagnostic>
         ensures { result.now ≡ self.now.faults }
     {
@@ -108,6 +112,64 @@ fn with_names(bound: Bound, face: Arc<Face>) -> Checked
     }
 }
 
+// Faults with others behind them, in order.
+fn joined(faults: List<Diagnostic>, more: List<Diagnostic>) -> Result<List<Diagnostic>, Memory>
+    ensures { IfOk result (λ all. AreInOrder (faults ++ more) all) }
+{
+    let mut all = faults;
+    for fault in more.into_vec() {
+        all.push(fault)?;
+    }
+    Ok(in_order(all))
+}
+
+// The table, unless there is a fault.
+fn unless_any(faults: &List<Diagnostic>, exports: Option<NameTable>) -> Option<NameTable>
+    ensures { exported_by result ≡ checks.unless_any faults.now (exported_by exports) }
+{
+    if faults.is_empty() { exports } else { None }
+}
+
+// What names stand for, with faults of arities among those of names.
+fn with_arities(found: Resolved, arities: List<Diagnostic>) -> Result<Resolved, Memory>
+    ensures { IfOk result (λ judged. IsWithArities arities found.bound found.exports judged.bound
+        judged.exports) }
+{
+    let Resolved { bound, exports } = found;
+    let exports = unless_any(&arities, exports);
+    let Bound {
+        uses,
+        entities,
+        callees,
+        implied,
+        decls,
+        faults,
+    } = bound;
+    let faults = joined(faults, arities)?;
+    let bound = Bound {
+        uses,
+        entities,
+        callees,
+        implied,
+        decls,
+        faults,
+    };
+    Ok(Resolved { bound, exports })
+}
+
+// What the names of a module stand for whose imports are accepted, and what is at fault with names and
+// arities.
+fn judged(alloc: Global, tree: &ModuleTree, imported: &Imported) -> Result<Resolved, Memory>
+    requires readable { IsReadable tree.now }
+    requires instances { IsWithoutInstances imported.now (module_of tree.now) }
+    ensures { IfOk result (λ judged. IsJudged imported.now tree.now.source (module_of tree.now)
+        judged.bound judged.exports) }
+{
+    let found = resolve(alloc, tree, imported)?;
+    let arities = check_arity(alloc, tree, &found.bound)?;
+    with_arities(found, arities)
+}
+
 // A module whose imports are accepted.
 fn resolved(
     alloc: Global,
@@ -122,7 +184,7 @@ fn resolved(
     ensures face { IfOk result (λ checked. IsFace name.now
         (shown imported.now tree.now.source (module_of tree.now) checked.faults) checked.face) }
 {
-    let found = resolve(alloc, tree, imported)?;
+    let found = judged(alloc, tree, imported)?;
     let Resolved { bound, exports } = found;
     let face = shared_face(alloc, name, exports)?;
     Ok(with_names(bound, face))

@@ -1,5 +1,5 @@
 -- What is answered on the files of a family.
-use Rattle.std.proofs.Common.{◌≡◌, ◌<◌, ◌≤◌, ◌^◌, ◌-◌, min, ℕ, zero, suc, ◌+◌, List, [], ◌∷◌, Some, Result, Ok, Err, IfOk, refl, sym, ap, ◌∙◌, map, take, arith, true, false, Bool, ◌||◌, subst}
+use Rattle.std.proofs.Common.{◌≡◌, ◌<◌, ◌≤◌, ◌^◌, ◌-◌, min, ℕ, zero, suc, ◌+◌, List, [], ◌∷◌, Some, Result, Ok, Err, IfOk, refl, sym, ap, ◌∙◌, take, arith, true, false, Bool, ◌||◌, subst}
 use Rattle.std.specs.Prelude.{Contains, sum_by}
 use Rattle.std.specs.List.{All, AllZip, list_any}
 use Rattle.std.proofs.Math.Seq.{take-length}
@@ -7,10 +7,9 @@ use Rattle.std.proofs.lemmas.Bool.{both_ways}
 use Rattle.std.proofs.lemmas.List.Sums.{sum_by-cons}
 use Rattle.tool_list.specs.declared.Memory.{Memory}
 use Rattle.tla_lexeme.specs.Spans.{IsPlaced}
-use Rattle.tla_symbols.specs.declared.lexeme.Lexeme.{Lexeme}
 use Rattle.tla_model.specs.declared.Diagnostic.{Diagnostic}
 use Rattle.module_model.specs.Exports.{ModuleView}
-use Rattle.tla_model.specs.Lexemes.{LexemesLie, module_lexemes}
+use Rattle.tla_model.specs.Lexemes.{LexemesLie}
 use Rattle.front_laws.specs.Fronts.{Front, Tree, Fault, IsFront, read}
 use Rattle.unit_grammar.specs.Units.{ModuleUnits}
 use Rattle.unit_grammar.specs.UnitNodes.{module_of}
@@ -32,7 +31,7 @@ use Rattle.family_facts.proofs.Members.{AreOneEach, member-there}
 use Rattle.family_facts.proofs.Saying.{file-there}
 use Rattle.family_facts.proofs.OneVerdict.{HasNoOther, IsCheckedOf, Found, of_fault, of_tree, found-of, fault-same, tree-same, tree-no-fault}
 use Rattle.family_check.proofs.Checking.{ticks-within}
-use Rattle.family_tables.proofs.LexemesInText.{span-placed}
+use Rattle.span_laws.specs.NodeSpans.{NodeSpans, SpansText}
 use Rattle.family_tables.proofs.Holding.{all-by, any-here}
 
 pub modules-some : (family : List Member) (entries : List Entry) → AreModules family entries → All (λ (entry : Entry). IsSomeModule entry.0 entry.1) entries
@@ -66,13 +65,16 @@ verdicts-are files outcomes verdicts are said = zip-map (IsSaid outcomes) (IsVer
 
 -- ---- places
 
-abbrev pub FaultsAtLexemes : Type 0
-FaultsAtLexemes = (given : List ℕ → ImportStatus) → (source : List ℕ) → (units : ModuleUnits) → All (λ fault. Contains (map (λ l. l.span) (module_lexemes units)) fault.span) (all_faults given source units)
+abbrev pub FaultsInText : Type 0
+FaultsInText = (given : List ℕ → ImportStatus) → (source : List ℕ) → (units : ModuleUnits) → LexemesLie source units → NodeSpans (SpansText source) units → All (λ fault. SpansText source fault.span) (all_faults given source units)
+
+abbrev pub NodesInText : Type 0
+NodesInText = (name bytes : List ℕ) → (found : ModuleUnits) → IsFront name bytes (Tree found) → NodeSpans (SpansText bytes) found
 
 tree-text : {name bytes : List ℕ} {found : ModuleUnits} → IsFront name bytes (Tree found) → text_of bytes ≡ bytes
 tree-text {name} {bytes} (read whole few part front) = ap (λ n. take n bytes) whole ∙ take-length bytes
 
-module _ (one : HasNoOther) (law : FaultsAtLexemes) (family : List Member) (m : Member) where
+module _ (one : HasNoOther) (law : FaultsInText) (nodes : NodesInText) (family : List Member) (m : Member) where
   fault-placed : (name : List ℕ) (r : reading.the_data) (fault : Diagnostic) → name ≡ m.name → IsReading name m.bytes r → IsFront m.name m.bytes (Fault fault) → IsPlaced (text_of m.bytes) fault.span
   fault-placed name (reading.Tree tree) fault named is front = absurd (tree-no-fault (one m.name m.bytes (Tree (module_of tree)) (Fault fault) (subst (λ n. IsFront n m.bytes (Tree (module_of tree))) named is.front) front))
   fault-placed name (reading.Fault f) fault named is front =
@@ -89,16 +91,16 @@ module _ (one : HasNoOther) (law : FaultsAtLexemes) (family : List Member) (m : 
   tree-placed units d front lie k fault h =
       let listed : Contains k.list fault = subst (λ (x : Diagnosed). Contains x.faults fault) k.is h in
       let all : Contains (all_faults k.given m.bytes units) fault = (k.ordered.same fault).0 listed in
-      subst (λ t. IsPlaced t fault.span) (sym (tree-text front)) (span-placed m.bytes units fault.span lie (subst (λ (f : Diagnostic). Contains (map (λ (x : Lexeme). x.span) (module_lexemes units)) f.span) all.2 (law k.given m.bytes units all.0 fault all.1)))
+      subst (λ t. IsPlaced t fault.span) (sym (tree-text front)) (subst (λ (f : Diagnostic). SpansText m.bytes f.span) all.2 (law k.given m.bytes units lie (nodes m.name m.bytes units front) all.0 fault all.1)).placed
 
-module _ (one : HasNoOther) (law : FaultsAtLexemes) (family : List Member) (distinct : AreOneEach family) (entries : List Entry) (are : AreModules family entries) where
+module _ (one : HasNoOther) (law : FaultsInText) (nodes : NodesInText) (family : List Member) (distinct : AreOneEach family) (entries : List Entry) (are : AreModules family entries) where
   found-placed : (m : Member) (d : Diagnosed) → Contains family m → Found family m.name d → (fault : Diagnostic) → Contains d.faults fault → IsPlaced (text_of m.bytes) fault.span
   found-placed m d there (of_fault m' fault' there' named' front' is) fault h =
       let same : m' ≡ m = distinct m' m there' there named' in
       let front : IsFront m.name m.bytes (Fault fault') = subst (λ (x : Member). IsFront x.name x.bytes (Fault fault')) same front' in
       let e = zip-left IsEntry family entries m are there in
       let at : fault' ≡ fault = one-fault fault' fault (subst (λ (x : Diagnosed). Contains x.faults fault) is h) in
-      subst (λ (x : Diagnostic). IsPlaced (text_of m.bytes) x.span) at (fault-placed one law family m (e.0).0 (e.0).1.reading fault' (e.2).named (e.2).is.reading front)
+      subst (λ (x : Diagnostic). IsPlaced (text_of m.bytes) x.span) at (fault-placed one law nodes family m (e.0).0 (e.0).1.reading fault' (e.2).named (e.2).is.reading front)
     where
       one-fault : (x y : Diagnostic) → Contains (x ∷ []) y → x ≡ y
       one-fault x y (zero, l, s) = s
@@ -107,16 +109,16 @@ module _ (one : HasNoOther) (law : FaultsAtLexemes) (family : List Member) (dist
       let same : m' ≡ m = distinct m' m there' there named' in
       let front : IsFront m.name m.bytes (Tree units) = subst (λ (x : Member). IsFront x.name x.bytes (Tree units)) same front' in
       let e = zip-left IsEntry family entries m are there in
-      tree-placed one law family m units d front (tree-lies one law family m (e.0).0 (e.0).1.reading units (e.2).named (e.2).is.reading front) (subst (λ (x : Member). IsCheckedOf family x units d) same k) fault h
+      tree-placed one law nodes family m units d front (tree-lies one law nodes family m (e.0).0 (e.0).1.reading units (e.2).named (e.2).is.reading front) (subst (λ (x : Member). IsCheckedOf family x units d) same k) fault h
 
 -- the faults of verdicts stand in their texts
-pub verdicts-placed : HasNoOther → FaultsAtLexemes → (files : List File) (entries : List Entry) (verdicts : List Verdict) → AreOneEach (family_of files) → AreModules (family_of files) entries → AreVerdicts files verdicts → All IsVerdictPlaced verdicts
-verdicts-placed one law files entries verdicts distinct are said = all-by IsVerdictPlaced verdicts (λ v h.
+pub verdicts-placed : HasNoOther → FaultsInText → NodesInText → (files : List File) (entries : List Entry) (verdicts : List Verdict) → AreOneEach (family_of files) → AreModules (family_of files) entries → AreVerdicts files verdicts → All IsVerdictPlaced verdicts
+verdicts-placed one law nodes files entries verdicts distinct are said = all-by IsVerdictPlaced verdicts (λ v h.
     let f = zip-right (IsVerdict (family_of files)) files verdicts v said h in
     let is : IsVerdict (family_of files) f.0 v = f.2 in
     all-by (λ (fault : Diagnostic). IsPlaced v.text fault.span) v.faults (λ fault c.
     subst (λ t. IsPlaced t fault.span) (sym is.text)
-    (found-placed one law (family_of files) distinct entries are (member_of f.0) is.found (file-there files f.0 f.1) (found-of is.diagnosed) fault (subst (λ fs. Contains fs fault) is.faults c))))
+    (found-placed one law nodes (family_of files) distinct entries are (member_of f.0) is.found (file-there files f.0 f.1) (found-of is.diagnosed) fault (subst (λ fs. Contains fs fault) is.faults c))))
 
 -- ---- steps
 
@@ -184,10 +186,10 @@ pub verdicts-answer : (files : List File) → ((verdicts : List Verdict) → Are
 verdicts-answer files one outcomes (Ok verdicts) are said = one verdicts (verdicts-are files outcomes verdicts are said)
 verdicts-answer files one outcomes (Err e) are said = tt
 
-pub placed-answer : HasNoOther → FaultsAtLexemes → (files : List File) (entries : List Entry) (outcomes : List (List ℕ × Outcome)) (r : Result (List Verdict) Memory) → AreOneEach (family_of files) → AreModules (family_of files) entries → AreOutcomes (family_of files) outcomes →
+pub placed-answer : HasNoOther → FaultsInText → NodesInText → (files : List File) (entries : List Entry) (outcomes : List (List ℕ × Outcome)) (r : Result (List Verdict) Memory) → AreOneEach (family_of files) → AreModules (family_of files) entries → AreOutcomes (family_of files) outcomes →
     IfOk r (AllZip (IsSaid outcomes) files) → IfOk r (All IsVerdictPlaced)
-placed-answer one law files entries outcomes (Ok verdicts) distinct modules are said = verdicts-placed one law files entries verdicts distinct modules (verdicts-are files outcomes verdicts are said)
-placed-answer one law files entries outcomes (Err e) distinct modules are said = tt
+placed-answer one law nodes files entries outcomes (Ok verdicts) distinct modules are said = verdicts-placed one law nodes files entries verdicts distinct modules (verdicts-are files outcomes verdicts are said)
+placed-answer one law nodes files entries outcomes (Err e) distinct modules are said = tt
 
 pub steps-answer : HasNoOther → (files : List File) (entries : List Entry) (old new count : ℕ) (r : Result (List Verdict) Memory) → AreModules (family_of files) entries → count < 2 ^ 64 → count ≡ old → new ≡ after_ticks (trees_in entries) old → IfOk r (λ _. new ≡ after_checks (checks_of files) old)
 steps-answer one files entries old new count (Ok verdicts) are few is ticks = steps-are one files entries old new are (subst (λ n. n < 2 ^ 64) is few) ticks

@@ -10,7 +10,8 @@ use crate::outcomes::check_all;
 use family_facts::{File, Verdict, verdicts_are};
 use family_read::read_family;
 use family_tables::{Module, Table, plan_of, some_instance, verdicts_of};
-use module_facts::faults_stand_at_lexemes;
+use module_facts::faults_stand_in_text;
+use span_laws::front_nodes_placed;
 use std::alloc::Global;
 use step_count::Steps;
 use tool_list::{List, Memory};
@@ -31,7 +32,8 @@ fn verdicts_on<L>(
     ensures steps { IfOk result (λ _. steps.new ≡ after_checks (checks_of files.now) steps.old) }
 {
     front_laws::one_front();
-    faults_stand_at_lexemes();
+    faults_stand_in_text();
+    front_nodes_placed();
     verdicts_are();
     // The proof needs that a count is below 2^64.
     let _count = steps.count();

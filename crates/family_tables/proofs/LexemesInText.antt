@@ -1,14 +1,12 @@
 -- What stands at the lexemes of a module lies in its text.
-use Rattle.std.proofs.Common.{ℕ, zero, suc, List, [], ◌∷◌, map, arith, subst}
+use Rattle.std.proofs.Common.{ℕ, zero, suc, List, [], ◌∷◌, arith, subst}
 use Rattle.std.specs.Prelude.{Contains}
 use Rattle.std.specs.List.{All, AllByRecursion}
-use Rattle.tla_lexeme.specs.Spans.{IsPlaced}
 use Rattle.tla_symbols.specs.declared.lexeme.Lexeme.{Lexeme}
-use Rattle.tla_symbols.specs.declared.lexeme.Span.{Span}
 use Rattle.tla_model.specs.Lexemes.{LexemesLie, LiesIn, module_lexemes}
 use Rattle.module_graph.specs.Imports.{imports_of}
 use Rattle.unit_grammar.specs.Units.{ModuleUnits}
-use Rattle.family_facts.proofs.Lists.{behind, here, mapped}
+use Rattle.family_facts.proofs.Lists.{behind, here}
 
 all-there : {A : Type 0} (P : A → Type 0) (xs : List A) (x : A) → AllByRecursion P xs → Contains xs x → P x
 all-there P [] x all h = absurd (omega (arith, h.1))
@@ -23,10 +21,3 @@ each-there P (x ∷ xs) f = (f x (here x xs), each-there P xs (λ z h. f z (behi
 pub imports-lie : (source : List ℕ) (units : ModuleUnits) → All (Contains (module_lexemes units)) (imports_of source units) → LexemesLie source units → AllByRecursion (LiesIn source) (imports_of source units)
 imports-lie source units among lie = each-there (LiesIn source) (imports_of source units) (λ l h.
     all-there (LiesIn source) (module_lexemes units) l lie (subst (λ (x : Lexeme). Contains (module_lexemes units) x) h.2 (among h.0 l h.1)))
-
--- a span of a lexeme is placed
-pub span-placed : (source : List ℕ) (units : ModuleUnits) (span : Span) → LexemesLie source units → Contains (map (λ (l : Lexeme). l.span) (module_lexemes units)) span → IsPlaced source span
-span-placed source units span lie h =
-    let l = mapped (λ (x : Lexeme). x.span) (module_lexemes units) span h in
-    let is : LiesIn source l.0 = all-there (LiesIn source) (module_lexemes units) l.0 lie l.1 in
-    subst (λ s. IsPlaced source s) l.2 (record { start = is.start; end = is.end })

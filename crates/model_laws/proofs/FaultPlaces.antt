@@ -39,7 +39,7 @@ all-either P true xs ys all more = all
 all-either P false xs ys all more = more
 
 module _ (P : Lexeme → Type 0) where
-  abbrev Stands : Finding → Type 0
+  abbrev pub Stands : Finding → Type 0
   Stands (Means l meaning) = P l
   Stands (Unknown l) = P l
   Stands (Taken l) = P l
@@ -308,7 +308,7 @@ module _ (P : Lexeme → Type 0) where
 -- ---- faults
 
 module _ (P : Span → Type 0) where
-  abbrev At : Lexeme → Type 0
+  abbrev pub At : Lexeme → Type 0
   At l = P l.span
 
   faults-of : (found : List Finding) → AllByRecursion (Stands At) found → AllByRecursion (λ (f : Diagnostic). P f.span) (faults found)

@@ -16,6 +16,8 @@ use Rattle.module_model.specs.Resolution.{findings, outside_in}
 use Rattle.module_graph.specs.Imports.{enclosing_of, imports_of}
 use Rattle.unit_grammar.specs.Units.{ModuleUnits}
 use Rattle.std.specs.Arc.{arc_value}
+use Rattle.arity_rules.specs.Arities.{arity_faults}
+use Rattle.tla_model.specs.Scopes.{Finding}
 use Rattle.module_facts.specs.Ordered.{in_order}
 
 -- what a module is to one that names it
@@ -71,14 +73,18 @@ outside_by _ = nothing
 abbrev pub files_given : (List ℕ → ImportStatus) → List ℕ → ModuleView
 files_given given name = outside_by (given name)
 
--- all faults of imports, or else all faults of names
+-- all faults of imports, or else all others
 abbrev pub or_else : List Diagnostic → List Diagnostic → List Diagnostic
 or_else [] others = others
 or_else (fault ∷ rest) others = fault ∷ rest
 
+-- the faults of names, by what is found at them, and those of arities
+abbrev pub name_faults : List Finding → ModuleUnits → List Diagnostic
+name_faults found units = faults found ++ arity_faults found units.units
+
 -- what is at fault in a module, by what the modules are that it names
 abbrev pub all_faults : (List ℕ → ImportStatus) → List ℕ → ModuleUnits → List Diagnostic
-all_faults given source units = or_else (import_faults given source units) (faults (findings (files_given given) source units))
+all_faults given source units = or_else (import_faults given source units) (name_faults (findings (files_given given) source units) units)
 
 -- uses and declarations, but for a module with faults of imports
 abbrev pub unless_any : {A : Type 0} → List Diagnostic → List A → List A

@@ -1,14 +1,14 @@
 // What follows from the definitions alone.
-ghost use Rattle.std.specs.Prelude.{◌≡◌, [], ℕ, List, map, Contains};
+ghost use Rattle.std.specs.Prelude.{◌≡◌, [], ℕ, List};
 ghost use Rattle.std.specs.List.{All};
 ghost use Rattle.unit_grammar.specs.Units.{ModuleUnits};
 ghost use Rattle.tla_model.specs.declared.Diagnostic.{Diagnostic};
 ghost use Rattle.module_model.specs.Bindings.{AreInOrder};
-ghost use Rattle.tla_model.specs.Lexemes.{module_lexemes};
+ghost use Rattle.tla_model.specs.Lexemes.{LexemesLie};
+ghost use Rattle.span_laws.specs.NodeSpans.{NodeSpans, SpansText};
 ghost use Rattle.module_facts.specs.Checks.{ImportStatus, all_faults};
 ghost use Rattle.module_facts.specs.Ordered as ordered;
 
-use model_laws::faults_at_lexemes;
 use module_graph::{enclosing_are_lexemes, imports_are_lexemes};
 
 /// Diagnostics have one order.
@@ -30,13 +30,13 @@ pub fn none_in_order()
     ensures any { (all : List Diagnostic) → AreInOrder all [] → all ≡ [] }
 {}
 
-/// Each fault of a module stands at a name or a symbol that the module holds.
-pub fn faults_stand_at_lexemes()
+/// Each fault of a module stands in its text, from one character to a later one or itself, where its
+/// names and its nodes do.
+pub fn faults_stand_in_text()
     ensures { (given : List ℕ → ImportStatus) → (source : List ℕ) → (units : ModuleUnits)
-        → All (λ fault. Contains (map (λ l. l.span) (module_lexemes units)) fault.span)
-        (all_faults given source units) }
+        → LexemesLie source units → NodeSpans (SpansText source) units
+        → All (λ fault. SpansText source fault.span) (all_faults given source units) }
 {
     imports_are_lexemes();
     enclosing_are_lexemes();
-    faults_at_lexemes();
 }

@@ -1,6 +1,6 @@
 //! What is found of one module, as a function of its text and of what the modules are that it names:
-//! the faults of its imports, or else those of its names; its uses and declarations; and what it is to
-//! others.
+//! the faults of its imports, or else those of its names and arities; its uses and declarations; and what
+//! it is to others.
 //!
 //! No code: the definitions say what a check of a module answers, and the functions state laws on
 //! them. Knows nothing of how any of it is found, and of families of modules.
@@ -8,4 +8,4 @@
 
 mod laws;
 
-pub use laws::{faults_stand_at_lexemes, in_order, none_in_order, one_order};
+pub use laws::{faults_stand_in_text, in_order, none_in_order, one_order};

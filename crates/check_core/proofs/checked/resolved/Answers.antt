@@ -4,16 +4,15 @@ use Rattle.module_model.specs.Exports.{exported_by}
 use Rattle.module_faces.specs.Faces.{IsFace}
 use Rattle.unit_grammar.specs.UnitNodes.{module_of}
 use Rattle.check_core.specs.Outcomes.{shown}
-use Rattle.check_core.proofs.Checking.{shown-by}
 use Rattle.check_core.proofs.checked.resolved.Goals as goal
 
 pub returns-clause-found : goal.returns-clause-found
 returns-clause-found c =
     let found = c.in_ok-found.found in
     record {
-      faults = subst (AreInOrder _) (sym c.with_names.ensures.faults) c.in_ok-found.ensures.bound.faults;
-      uses = c.with_names.ensures.uses ∙ c.in_ok-found.ensures.bound.uses;
-      decls = c.with_names.ensures.decls ∙ c.in_ok-found.ensures.bound.decls;
+      faults = subst (AreInOrder _) (sym c.with_names.ensures.faults) c.in_ok-found.ensures.faults;
+      uses = c.with_names.ensures.uses ∙ c.in_ok-found.ensures.uses;
+      decls = c.with_names.ensures.decls ∙ c.in_ok-found.ensures.decls;
     }
 
 pub returns-clause-face : goal.returns-clause-face
@@ -23,5 +22,5 @@ returns-clause-face c =
     let units = module_of c.args.tree.now in
     let found = c.in_ok-found.found in
     subst (λ faults. IsFace c.args.name.now (shown imports source units faults) c.with_names.result.face) (sym c.with_names.ensures.faults)
-    (subst (λ exports. IsFace c.args.name.now exports c.with_names.result.face) (shown-by imports source units found.bound.faults found.exports c.in_ok-found.ensures.exports)
+    (subst (λ exports. IsFace c.args.name.now exports c.with_names.result.face) c.in_ok-found.ensures.exports
     (subst (λ face. IsFace c.args.name.now (exported_by found.exports) face) (sym c.with_names.ensures.face) c.in_ok-face.ensures))

@@ -22,7 +22,7 @@ pub returns-clause-placed : goal.returns-clause-placed
 returns-clause-placed g c =
     let distinct = members-differ c.args.files.now c.requires.distinct in
     let outcomes = c.in_ok-outcomes.ensures.outcomes (family_of c.args.files.now) c.requires.modules in
-    placed-answer c.one_front.ensures.same c.faults_stand_at_lexemes.ensures c.args.files.now c.args.modules.now c.in_ok-outcomes.outcomes c.verdicts_of.result distinct c.requires.modules outcomes c.verdicts_of.ensures
+    placed-answer c.one_front.ensures.same c.faults_stand_in_text.ensures c.front_nodes_placed.ensures c.args.files.now c.args.modules.now c.in_ok-outcomes.outcomes c.verdicts_of.result distinct c.requires.modules outcomes c.verdicts_of.ensures
 
 pub returns-clause-steps : goal.returns-clause-steps
 returns-clause-steps g c = steps-answer c.one_front.ensures.same c.args.files.now c.args.modules.now c.args.steps.now c.check_all.new.steps c.count-count.result c.verdicts_of.result c.requires.modules c.count-count.type_inv c.count-count.ensures c.in_ok-outcomes.ensures.steps
