@@ -1,4 +1,5 @@
 // Whole runs over objects in memory.
+mod arities;
 mod devices;
 mod families;
 mod files;
@@ -139,6 +140,11 @@ fn reports_on_each(rt: &impl Abort, alloc: Global, rows: &'static [Single]) -> R
 #[test]
 fn reports_on_scopes(rt: HostRuntime) -> Result<(), Fail> {
     reports_on_each(&rt, rt.alloc(), &scopes::SCOPES)
+}
+
+#[test]
+fn reports_on_arities(rt: HostRuntime) -> Result<(), Fail> {
+    reports_on_each(&rt, rt.alloc(), &arities::ARITIES)
 }
 
 #[test]
