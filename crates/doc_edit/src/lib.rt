@@ -5,8 +5,6 @@
 #![tactic(auto)]
 
 mod change;
-#[cfg(test)]
-mod tests;
 
 ghost use Rattle.std.specs.Prelude.{◌≡◌, IfErr, IfOk, OnErr, OnOk};
 ghost use Rattle.std.specs.declared.option.Option.TheVariants.{None};

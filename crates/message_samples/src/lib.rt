@@ -1,6 +1,8 @@
-//! What no clause says of frames, messages and sessions, over what editors send: tests alone.
+//! What no clause says of frames, messages, sessions and changes, over what editors send: tests alone.
 #![tactic(auto)]
 
+#[cfg(test)]
+mod changes;
 #[cfg(test)]
 mod frames;
 #[cfg(test)]

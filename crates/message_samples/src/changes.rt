@@ -1,5 +1,5 @@
 // The words of LSP on small texts, as an editor sends them.
-use crate::{EditError, apply};
+use doc_edit::{EditError, apply};
 use lsp_wire::{Area, Change, Position};
 use std::alloc::Global;
 use std::process::Abort;
