@@ -1,1 +1,3 @@
+mod Noting
 pub mod Stretching
+mod Placing

@@ -3,5 +3,7 @@ pub mod Stretches
 pub mod Lexemes
 pub mod ModuleNames
 pub mod Entities
+pub mod EntityKinds
+pub mod Starting
 pub mod Contexts
 pub mod Scopes

@@ -1,10 +1,9 @@
 -- The names of modules in a text: behind EXTENDS and INSTANCE.
-use Rattle.std.specs.Prelude.{Bool, true, false, List, [], ◌∷◌, ◌++◌}
-use Rattle.std.specs.List.{list_any}
+use Rattle.std.specs.Prelude.{List, [], ◌∷◌, ◌++◌}
 use Rattle.tla_symbols.specs.declared.lexeme.Lexeme.{Lexeme}
 use Rattle.tla_tree.specs.declared.form.Form.{Form}
 use Rattle.tla_tree.specs.Syntax.{Tree, Trees, Node, Nil, Cons}
-use Rattle.unit_grammar.specs.Units.{UnitTree, OperatorDefinition, FunctionDefinition, ModuleDefinition, Instance, Assumption, Theorem, ModuleBegin, ModuleUnits}
+use Rattle.unit_grammar.specs.Units.{UnitTree, OperatorDefinition, FunctionDefinition, ModuleDefinition, Instance, Assumption, Theorem, ModuleBegin}
 
 -- the name after INSTANCE, where a form has one
 abbrev pub instantiated : Form → List Lexeme
@@ -35,15 +34,6 @@ module_names _ = []
 abbrev pub instance_names : UnitTree → List Lexeme
 instance_names (ModuleBegin name extends) = []
 instance_names unit = module_names unit
-
--- there is a name
-abbrev pub is_some_name : List Lexeme → Bool
-is_some_name [] = false
-is_some_name (name ∷ names) = true
-
--- the word INSTANCE stands in the module
-abbrev pub holds_instance : ModuleUnits → Bool
-holds_instance found = list_any (λ unit. is_some_name (instance_names unit)) found.units
 
 -- the names behind INSTANCE in a text, in its order
 abbrev pub instances_from : List UnitTree → List Lexeme

@@ -9,13 +9,17 @@ mod entity;
 mod ids;
 mod names;
 mod spelling;
+mod starts;
+mod stretch;
 mod table;
 
 pub use entity::{Decl, Entity, Level, Use};
 pub use ids::{Callee, DeclId, ModuleId, UnitId};
 pub use names::{Binder, Binding, Finding, Meaning};
 pub use spelling::spelled;
-pub use table::{NameTable, Words};
+pub use starts::Starts;
+pub use stretch::{Stretch, Words};
+pub use table::NameTable;
 
 /// A fault of a module: its code, and where it stands in the module's text, in bytes.
 #[derive(Clone, Copy, Debug, PartialEq, Eq)]

@@ -1,5 +1,6 @@
 // What is found at the names of a text.
 ghost use Rattle.std.specs.Prelude.{◌≡◌, IfOk};
+ghost use Rattle.tla_model.specs.EntityKinds as kinds;
 
 use crate::entity::Entity;
 use crate::ids::Callee;
@@ -26,6 +27,45 @@ impl Meaning {
                 entity: entity.copied()?,
                 callee: callee.copied()?,
             }),
+        }
+    }
+
+    /// Whether INSTANCE replaces it: a constant or a variable.
+    pub fn is_parameter(&self) -> bool
+        ensures { result ≡ kinds.is_meant kinds.stands_for_parameter self.now }
+    {
+        match self {
+            Meaning::Declared {
+                entity: Entity::Constant { .. } | Entity::Variable,
+                ..
+            } => true,
+            _ => false,
+        }
+    }
+
+    /// Whether it is an instance.
+    pub fn is_instance(&self) -> bool
+        ensures { result ≡ kinds.is_meant kinds.is_instance self.now }
+    {
+        match self {
+            Meaning::Declared {
+                entity: Entity::Instance { .. },
+                ..
+            } => true,
+            _ => false,
+        }
+    }
+
+    /// Whether it can be named behind an instance: a definition or an instance.
+    pub fn stands_behind(&self) -> bool
+        ensures { result ≡ kinds.is_meant kinds.stands_behind self.now }
+    {
+        match self {
+            Meaning::Declared {
+                entity: Entity::Definition { .. } | Entity::Instance { .. },
+                ..
+            } => true,
+            _ => false,
         }
     }
 }

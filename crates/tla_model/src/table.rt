@@ -1,20 +1,19 @@
 // Names with what they mean, in stretches that tables share.
-ghost use Rattle.std.specs.Prelude.{◌≡◌, ◌++◌, ◌∷◌, [], length, option_copied, option_map, slice_get, take, IfOk, IfNone, IfSome, OnOk};
+ghost use Rattle.std.specs.Prelude.{◌≡◌, ◌++◌, ◌∷◌, [], length, option_copied, option_map, map, slice_get, take, IfOk, IfNone, IfSome, OnOk};
 ghost use Rattle.std.specs.Str.{bytes_eq};
 ghost use Rattle.tla_model.specs.Tables as tables;
 ghost use Rattle.tla_model.specs.Tables.{AreNew};
 ghost use Rattle.tla_model.specs.Stretches.{all_words, shown, words_of};
+ghost use Rattle.tla_model.specs.EntityKinds.{is_instance, stands_for_parameter, words_meant};
 
 use crate::names::Meaning;
+use crate::stretch::{Stretch, Words, entry_at};
 use indexmap::IndexMap;
 use std::alloc::Global;
 use std::marker::Model;
 use std::sync::Arc;
 use tla_symbols::Op;
 use tool_list::{List, Memory};
-
-/// Words with what they mean, in the order in which they were put.
-pub type Words = IndexMap<String, Meaning>;
 
 /// Names with what they mean, each word once. Contracts see the table, by the order in which the
 /// names were put.
@@ -24,7 +23,7 @@ pub type Words = IndexMap<String, Meaning>;
 /// few times, and it is looked up in few stretches.
 #[derive(Drop)]
 pub struct NameTable {
-    stretches: List<Arc<Words>>,
+    stretches: List<Arc<Stretch>>,
     // How many words there are.
     len: usize,
     // There are few symbols, so they are copied.
@@ -46,7 +45,7 @@ impl Model for NameTable {
 }
 
 // The same stretches.
-fn shared(alloc: Global, stretches: &[Arc<Words>]) -> Result<Vec<Arc<Words>>, Memory>
+fn shared(alloc: Global, stretches: &[Arc<Stretch>]) -> Result<Vec<Arc<Stretch>>, Memory>
     ensures { IfOk result (λ copies. all_words copies.items ≡ all_words stretches.now) }
 {
     let mut copies = Vec::new(alloc);
@@ -85,7 +84,7 @@ fn joined(alloc: Global, first: &Words, second: &Words) -> Result<Words, Memory>
 }
 
 // Whether the last stretch is short of one that is to follow it: less than twice as long.
-fn is_short(stretches: &[Arc<Words>], next: usize) -> bool {
+fn is_short(stretches: &[Arc<Stretch>], next: usize) -> bool {
     match stretches.last() {
         Some(stretch) => stretch.len() / 2 < next,
         None => false,
@@ -93,7 +92,7 @@ fn is_short(stretches: &[Arc<Words>], next: usize) -> bool {
 }
 
 // Takes the last stretch out where it is short of one that is to follow it.
-fn take_short(stretches: &mut Vec<Arc<Words>>, next: usize) -> Option<Arc<Words>>
+fn take_short(stretches: &mut Vec<Arc<Stretch>>, next: usize) -> Option<Arc<Stretch>>
     ensures taken { IfSome result (λ stretch. stretches.old.items ≡ stretches.new.items ++ stretch
         ∷ []) }
     ensures none { IfNone result (stretches.new.items ≡ stretches.old.items) }
@@ -106,16 +105,21 @@ fn take_short(stretches: &mut Vec<Arc<Words>>, next: usize) -> Option<Arc<Words>
 }
 
 // Puts a stretch behind others, joined with those before it that are short.
-fn push_stretch(alloc: Global, stretches: &mut Vec<Arc<Words>>, words: Words) -> Result<(), Memory>
+fn push_stretch(
+    alloc: Global,
+    stretches: &mut Vec<Arc<Stretch>>,
+    words: Words,
+) -> Result<(), Memory>
     requires { AreNew bytes_eq [] (all_words stretches.old.items ++ words_of words.entries) }
     ensures { OnOk result (all_words stretches.new.items
         ≡ all_words stretches.old.items ++ words_of words.entries) }
 {
     let mut words = words;
     while let Some(before) = take_short(stretches, words.len()) {
-        words = joined(alloc, &before, &words)?;
+        words = joined(alloc, before.words(), &words)?;
     }
-    stretches.push(Arc::new(alloc, words)?)?;
+    let stretch = Stretch::new(alloc, words)?;
+    stretches.push(Arc::new(alloc, stretch)?)?;
     Ok(())
 }
 
@@ -126,16 +130,6 @@ fn word_in<'a>(words: &'a Words, count: usize, word: &str) -> Option<&'a Meaning
 {
     match words.get_full(word) {
         Some((index, _, meaning)) => { if index < count { Some(meaning) } else { None } }
-        None => None,
-    }
-}
-
-// Which word stands at a place of a stretch, and what it means.
-fn entry_at(words: &Words, index: usize) -> Option<(&str, &Meaning)>
-    ensures { option_map shown result ≡ slice_get (words_of words.now.entries) index }
-{
-    match words.get_index(index) {
-        Some((word, meaning)) => Some((word.as_str(), meaning)),
         None => None,
     }
 }
@@ -167,7 +161,7 @@ impl NameTable {
     {
         let mut left = count;
         for stretch in self.stretches.as_slice() {
-            if let Some(meaning) = word_in(stretch, left, word) {
+            if let Some(meaning) = word_in(stretch.words(), left, word) {
                 return Some(meaning);
             }
             left = left.saturating_sub(stretch.len());
@@ -181,7 +175,7 @@ impl NameTable {
     {
         let mut left = index;
         for stretch in self.stretches.as_slice() {
-            if let Some(entry) = entry_at(stretch, left) {
+            if let Some(entry) = entry_at(stretch.words(), left) {
                 return Some(entry);
             }
             left = left.saturating_sub(stretch.len());
@@ -190,10 +184,36 @@ impl NameTable {
     }
 
     /// The words, stretch by stretch.
-    pub fn stretches(&self) -> &[Arc<Words>]
+    pub fn stretches(&self) -> &[Arc<Stretch>]
         ensures { all_words result.now ≡ self.now.words }
     {
         self.stretches.as_slice()
+    }
+
+    /// The words that stand for parameters: constants and variables, in the order of the table. The work
+    /// is in proportion to what is answered, and to the stretches.
+    pub fn parameters(&self, alloc: Global) -> Result<Vec<(&str, &Meaning)>, Memory>
+        ensures { IfOk result (λ found. map shown found.items
+            ≡ words_meant stands_for_parameter self.now.words) }
+    {
+        let mut found = Vec::new(alloc);
+        for stretch in self.stretches.as_slice() {
+            stretch.push_parameters(&mut found)?;
+        }
+        Ok(found)
+    }
+
+    /// The words that name instances, in the order of the table. The work is in proportion to what is
+    /// answered, and to the stretches.
+    pub fn instances(&self, alloc: Global) -> Result<Vec<(&str, &Meaning)>, Memory>
+        ensures { IfOk result (λ found. map shown found.items
+            ≡ words_meant is_instance self.now.words) }
+    {
+        let mut found = Vec::new(alloc);
+        for stretch in self.stretches.as_slice() {
+            stretch.push_instances(&mut found)?;
+        }
+        Ok(found)
     }
 
     /// The symbols.

@@ -16,4 +16,4 @@ joined-requires c =
     let all : rest ++ (before ++ words) ≡ all_words c.args.stretches.now.items ++ words_of c.args.words.entries =
     sym (append_assoc rest before words) ∙ ap (λ z. z ++ words) (sym parts) ∙ c.loop-before.invariant in
     let new = new-alone bytes_eq [] rest (before ++ words) (subst (λ z. AreNew bytes_eq [] z) (sym all) c.requires) in
-    subst (λ z. AreNew bytes_eq [] (words_of z.entries ++ words)) (sym c.deref.ensures) new
+    subst (λ z. AreNew bytes_eq [] (z ++ words)) (sym (c.words-in-Some.ensures ∙ c.deref.ensures)) new

@@ -1,0 +1,170 @@
+// Words that tables share.
+ghost use Rattle.std.specs.Prelude.{◌≡◌, ◌++◌, ◌∷◌, [], IfOk, OnOk, if◌then◌else◌, length, map, option_map, slice_get};
+ghost use Rattle.tla_model.specs.EntityKinds.{is_instance, stands_for_parameter, words_meant};
+ghost use Rattle.tla_model.specs.Stretches.{AreAt, one_of, shown, words_at, words_of};
+
+use crate::names::Meaning;
+use indexmap::IndexMap;
+use std::alloc::Global;
+use std::marker::Model;
+use tool_list::Memory;
+
+/// Words with what they mean, in the order in which they were put.
+pub type Words = IndexMap<String, Meaning>;
+
+/// Words that tables share. Contracts see them in order, with what they mean. Where parameters and where
+/// instances stand among them is noted once.
+#[derive(Drop)]
+pub struct Stretch {
+    words: Words,
+    // The places of the constants and variables, and those of the instances.
+    parameters: Vec<usize>,
+    instances: Vec<usize>,
+}
+
+impl Model for Stretch {
+    ghost use Rattle.std.specs.Prelude.{ℕ, List};
+    ghost use Rattle.tla_model.specs.Entities.{Meaning};
+    ghost use Rattle.tla_model.specs.EntityKinds.{is_instance, stands_for_parameter};
+    ghost use Rattle.tla_model.specs.Stretches.{AreAt, words_of};
+
+    ghost Value = { List (List ℕ × Meaning) };
+
+    ghost view = { λ s. words_of s.words.entries };
+
+    ghost invariant = { λ s. AreAt stands_for_parameter (words_of s.words.entries) s.parameters.items × AreAt is_instance (words_of s.words.entries) s.instances.items };
+}
+
+// Notes a place, if it is one of those.
+fn note(places: &mut Vec<usize>, is_one: bool, place: usize) -> Result<(), Memory>
+    ensures { OnOk result (places.new.items ≡ places.old.items
+        ++ (if is_one then place ∷ [] else [])) }
+{
+    if !is_one {
+        return Ok(());
+    }
+    places.push(place)?;
+    Ok(())
+}
+
+// Where parameters stand among words.
+fn parameter_places(alloc: Global, words: &Words) -> Result<Vec<usize>, Memory>
+    ensures { IfOk result (λ places. AreAt stands_for_parameter (words_of words.now.entries)
+        places.items) }
+{
+    let mut places = Vec::new(alloc);
+    for index in 0..words.len() {
+        let Some((_, meaning)) = words.get_index(index) else {
+            unreachable!();
+        };
+        note(&mut places, meaning.is_parameter(), index)?;
+    }
+    Ok(places)
+}
+
+// Where instances stand among words.
+fn instance_places(alloc: Global, words: &Words) -> Result<Vec<usize>, Memory>
+    ensures { IfOk result (λ places. AreAt is_instance (words_of words.now.entries)
+        places.items) }
+{
+    let mut places = Vec::new(alloc);
+    for index in 0..words.len() {
+        let Some((_, meaning)) = words.get_index(index) else {
+            unreachable!();
+        };
+        note(&mut places, meaning.is_instance(), index)?;
+    }
+    Ok(places)
+}
+
+/// Which word stands at a place, and what it means.
+pub fn entry_at(words: &Words, index: usize) -> Option<(&str, &Meaning)>
+    ensures { option_map shown result ≡ slice_get (words_of words.now.entries) index }
+{
+    match words.get_index(index) {
+        Some((word, meaning)) => Some((word.as_str(), meaning)),
+        None => None,
+    }
+}
+
+// Appends the word that stands at a place.
+fn push_at<'b>(
+    found: &mut Vec<(&'b str, &'b Meaning)>,
+    words: &'b Words,
+    place: usize,
+) -> Result<(), Memory>
+    ensures { OnOk result (map shown found.new.items ≡ map shown found.old.items
+        ++ one_of (slice_get (words_of words.now.entries) place)) }
+{
+    let Some(entry) = entry_at(words, place) else {
+        return Ok(());
+    };
+    found.push(entry)?;
+    Ok(())
+}
+
+// Appends the words that stand at these places.
+fn push_all<'b>(
+    found: &mut Vec<(&'b str, &'b Meaning)>,
+    words: &'b Words,
+    places: &[usize],
+) -> Result<(), Memory>
+    ensures { OnOk result (map shown found.new.items ≡ map shown found.old.items
+        ++ words_at (words_of words.now.entries) places.now) }
+{
+    for place in places {
+        push_at(found, words, *place)?;
+    }
+    Ok(())
+}
+
+impl Stretch {
+    /// These words.
+    pub fn new(alloc: Global, words: Words) -> Result<Stretch, Memory>
+        ensures { IfOk result (λ stretch. stretch ≡ words_of words.entries) }
+    {
+        let parameters = parameter_places(alloc, &words)?;
+        let instances = instance_places(alloc, &words)?;
+        Ok(Stretch {
+            words,
+            parameters,
+            instances,
+        })
+    }
+
+    /// The words.
+    pub fn words(&self) -> &Words
+        ensures { words_of result.now.entries ≡ self.now }
+    {
+        &self.words
+    }
+
+    /// How many words there are.
+    pub fn len(&self) -> usize
+        ensures { result ≡ length self.now }
+    {
+        self.words.len()
+    }
+
+    /// Appends the words that stand for parameters, in order.
+    pub fn push_parameters<'b>(
+        &'b self,
+        found: &mut Vec<(&'b str, &'b Meaning)>,
+    ) -> Result<(), Memory>
+        ensures { OnOk result (map shown found.new.items ≡ map shown found.old.items
+            ++ words_meant stands_for_parameter self.now) }
+    {
+        push_all(found, &self.words, self.parameters.as_slice())
+    }
+
+    /// Appends the words that name instances, in order.
+    pub fn push_instances<'b>(
+        &'b self,
+        found: &mut Vec<(&'b str, &'b Meaning)>,
+    ) -> Result<(), Memory>
+        ensures { OnOk result (map shown found.new.items ≡ map shown found.old.items
+            ++ words_meant is_instance self.now) }
+    {
+        push_all(found, &self.words, self.instances.as_slice())
+    }
+}
