@@ -1,2 +1,3 @@
 mod Importing
 pub mod Ordering
+pub mod PartTables

@@ -1,15 +1,15 @@
 -- What modules are to those that name them, and where it comes from for the imported ones: from their faces.
-use Rattle.std.specs.Prelude.{ℕ, Bool, true, false, List, [], ◌∷◌, ◌++◌, Option, Some, None, filter, if◌then◌else◌, map}
+use Rattle.std.specs.Prelude.{ℕ, List, [], ◌∷◌, ◌++◌, Option, Some, None, filter, if◌then◌else◌}
 use Rattle.tla_symbols.specs.declared.op.Op.{Op}
 use Rattle.tla_model.specs.declared.names.Meaning.TheVariants.{BuiltIn, Declared}
-use Rattle.tla_model.specs.declared.entity.Entity.TheVariants as entity
 use Rattle.module_model.specs.declared.face.Face.{Face}
-use Rattle.module_model.specs.declared.face.Instance.{Instance}
 use Rattle.tla_model.specs.declared.ids.DeclId.{DeclId}
 use Rattle.module_model.specs.declared.imported.Import.{Import}
 use Rattle.module_model.specs.Imports.{Imports, import_of}
+use Rattle.module_model.specs.Parts.{ByText, first_of, reached}
 use Rattle.tla_model.specs.Tables.{Table, Named, Word, Symbol, lookup, same_named}
-use Rattle.tla_model.specs.Entities.{Entity, Meaning, same_decl}
+use Rattle.tla_model.specs.Entities.{Meaning, same_decl}
+pub use Rattle.tla_model.specs.EntityKinds.{is_instance, is_meant, stands_behind, stands_for_parameter}
 use Rattle.std.specs.Arc.{arc_value}
 
 -- names with what they mean outside the module
@@ -17,28 +17,6 @@ abbrev pub Exports : Type 0
 Exports = List (Named × Meaning)
 
 -- ---- kinds of entries
-
--- what INSTANCE replaces
-abbrev pub stands_for_parameter : Entity → Bool
-stands_for_parameter (entity.Constant arity) = true
-stands_for_parameter entity.Variable = true
-stands_for_parameter _ = false
-
--- what can be named behind an instance
-abbrev pub stands_behind : Entity → Bool
-stands_behind (entity.Definition orders) = true
-stands_behind (entity.Instance orders) = true
-stands_behind _ = false
-
--- behind what something stands
-abbrev pub is_instance : Entity → Bool
-is_instance (entity.Instance orders) = true
-is_instance _ = false
-
--- a meaning is an entity of this kind; what is built in is no entity
-abbrev pub is_meant : (Entity → Bool) → Meaning → Bool
-is_meant which BuiltIn = false
-is_meant which (Declared entity callee) = which entity
 
 -- the declared constants and variables among entries: INSTANCE replaces them
 abbrev pub parameters_in : Exports → Exports
@@ -62,9 +40,21 @@ Path = List Named
 abbrev pub Behind : Type 0
 Behind = Path → Exports
 
--- what stands behind instances, by their declarations
+-- what stands behind instances, by their declarations, as far as that is known
 abbrev pub Known : Type 0
-Known = List (DeclId × Behind)
+Known = DeclId → Option Behind
+
+-- nothing is known
+abbrev pub none_known : Known
+none_known decl = None
+
+-- what stands behind one instance
+abbrev pub known_as : DeclId → Behind → Known
+known_as instance behind decl = if same_decl decl instance then Some behind else None
+
+-- what was known stays, and more is
+abbrev pub and_known : Known → Known → Known
+and_known known more decl = first_of (known decl) (more decl)
 
 -- what is found, and no entries where nothing is
 abbrev pub at_path : Option Behind → Path → Exports
@@ -75,7 +65,7 @@ at_path (Some behind) path = behind path
 abbrev pub behind_meaning : Known → Option Meaning → Behind
 behind_meaning known None path = []
 behind_meaning known (Some BuiltIn) path = []
-behind_meaning known (Some (Declared entity callee)) path = at_path (lookup same_decl known callee.decl) path
+behind_meaning known (Some (Declared entity callee)) path = if is_instance entity then at_path (known callee.decl) path else []
 
 -- the entries at each path from these; the empty one leads to themselves
 abbrev pub entries_from : Known → Exports → Path → Exports
@@ -112,13 +102,13 @@ behind_instance view (name ∷ path) = view.entries (name ∷ path)
 
 -- what stands behind an entry, where it is an instance
 abbrev pub known_by : Behind → Meaning → Known
-known_by behind BuiltIn = []
-known_by behind (Declared entity callee) = if is_instance entity then (callee.decl, behind) ∷ [] else []
+known_by behind BuiltIn = none_known
+known_by behind (Declared entity callee) = if is_instance entity then known_as callee.decl behind else none_known
 
 -- what stands behind the instances among entries of a module
 abbrev pub known_among : ModuleView → Exports → Known
-known_among view [] = []
-known_among view (entry ∷ rest) = known_by (onward view.entries entry.0) entry.1 ++ known_among view rest
+known_among view [] = none_known
+known_among view (entry ∷ rest) = and_known (known_by (onward view.entries entry.0) entry.1) (known_among view rest)
 
 -- ---- tables as lists
 
@@ -143,47 +133,56 @@ exported_by (Some table) = exports_of table
 
 -- ---- faces
 
--- instances by their declarations, each with the entries that stand behind it
+-- what the modules of instances export, by the declarations of these
 abbrev pub Instances : Type 0
-Instances = List (DeclId × Exports)
+Instances = DeclId → Option Exports
 
--- an instance that a face reaches
-abbrev pub standing : Instance → DeclId × Exports
-standing instance = (instance.name, instantiable (exports_of instance.exports))
+-- what the module of an instance exports, by a table of it
+abbrev pub standing : Option (Table Meaning) → Option Exports
+standing None = None
+standing (Some table) = Some (exports_of table)
+
+-- the instances of parts
+abbrev pub instances_in : ByText → Instances
+instances_in parts decl = standing (reached parts decl)
 
 -- the instances of a face
 abbrev pub face_instances : Face → Instances
-face_instances face = map (λ shared. standing (arc_value shared)) face.instances
+face_instances face = instances_in face.parts
+
+-- what a face exports
+abbrev pub face_exports : Face → Exports
+face_exports face = exports_of (arc_value face.exports)
 
 -- what is found, and no entries where nothing is
 abbrev pub or_none : Option Exports → Exports
 or_none None = []
 or_none (Some exports) = exports
 
--- what stands behind a name that means this, among the instances of a face
+-- what the module exports of an instance that a name means, among those of a face; what is no instance has none
 abbrev pub found_behind : Instances → Option Meaning → Exports
 found_behind instances None = []
 found_behind instances (Some BuiltIn) = []
-found_behind instances (Some (Declared entity callee)) = or_none (lookup same_decl instances callee.decl)
+found_behind instances (Some (Declared entity callee)) = if is_instance entity then or_none (instances callee.decl) else []
+
+-- what stands behind an instance whose module exports these: its definitions and instances, and what stands behind these
+abbrev pub behind_along : Instances → Exports → Behind
+behind_along instances entries [] = instantiable entries
+behind_along instances entries (name ∷ path) = behind_along instances (found_behind instances (entry_of entries name)) path
 
 -- the entries at each path from these, by the instances of a face
 abbrev pub entries_along : Instances → Exports → Path → Exports
 entries_along instances entries [] = entries
-entries_along instances entries (name ∷ path) = entries_along instances (found_behind instances (entry_of entries name)) path
+entries_along instances entries (name ∷ path) = behind_along instances (found_behind instances (entry_of entries name)) path
 
 -- what a module with this face is to one that names it
 abbrev pub face_outside : Face → ModuleView
-face_outside face = record { entries = entries_along (face_instances face) (exports_of face.exports); parameters = parameters_in (exports_of face.exports) }
+face_outside face = record { entries = entries_along (face_instances face) (face_exports face); parameters = parameters_in (face_exports face) }
 
 -- what an import is to the module that names it; one at fault is nothing
 abbrev pub import_outside : Option Import → ModuleView
 import_outside (Some (Import.Module face)) = face_outside (arc_value face)
 import_outside _ = nothing
-
--- the instances that an import brings
-abbrev pub import_instances : Option Import → Instances
-import_instances (Some (Import.Module face)) = face_instances (arc_value face)
-import_instances _ = []
 
 -- the imported module of a name
 abbrev pub files_of : Imports → List ℕ → ModuleView

@@ -80,10 +80,15 @@ unit_trees (Assumption word name x) = Cons x Nil
 unit_trees (Theorem word name x) = Cons x Nil
 unit_trees _ = Nil
 
+-- the module name behind the first INSTANCE among these
+abbrev pub instance_among : Trees → Option Lexeme
+instance_among Nil = None
+instance_among (Cons (Node (Form.Instance l) s parts) rest) = Some l
+instance_among (Cons x rest) = instance_among rest
+
 -- the name of an instance, with the name of its module
-abbrev pub named_instance : Form.the_data → Trees → List (Lexeme × Lexeme)
-named_instance (Form.ModuleDefinition name) (Cons (Node (Form.Instance l) s parts) rest) = (name, l) ∷ []
-named_instance (Form.ModuleDefinition name) (Cons x rest) = named_instance (Form.ModuleDefinition name) rest
+abbrev pub named_instance : Form.the_data → Trees → List (Lexeme × Option Lexeme)
+named_instance (Form.ModuleDefinition name) parts = (name, instance_among parts) ∷ []
 named_instance form parts = []
 
 -- where a path begins that leads through an instance
@@ -93,11 +98,11 @@ path_start form parts = []
 
 abbrev mutual
   -- the instances that a tree names, with the names of their modules, in the order of the text
-  pub named_instances : Tree → List (Lexeme × Lexeme)
+  pub named_instances : Tree → List (Lexeme × Option Lexeme)
   named_instances (Node form s parts) = named_instance form parts ++ all_named_instances parts
 
   -- the same of several trees
-  pub all_named_instances : Trees → List (Lexeme × Lexeme)
+  pub all_named_instances : Trees → List (Lexeme × Option Lexeme)
   all_named_instances Nil = []
   all_named_instances (Cons x rest) = named_instances x ++ all_named_instances rest
 

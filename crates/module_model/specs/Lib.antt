@@ -1,8 +1,10 @@
+pub mod Parts
 pub mod Imports
 pub mod Exports
 pub mod Modules
 pub mod Instances
 pub mod TreeFindings
+pub mod NamedModules
 pub mod Resolution
 pub mod Substitutions
 pub mod Bindings

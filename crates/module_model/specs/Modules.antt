@@ -7,20 +7,21 @@ use Rattle.tla_model.specs.declared.names.Finding.TheVariants.{Clashes}
 use Rattle.tla_model.specs.declared.names.Binder.{Binder}
 use Rattle.tla_model.specs.declared.names.Binding.TheVariants as as_binding
 use Rattle.tla_model.specs.Tables.{Table, Named, empty, find, has, put}
-use Rattle.tla_model.specs.Entities.{Meaning, Text, meant, name_of, same_meaning, declared_among, declaring}
+use Rattle.tla_model.specs.Entities.{Meaning, Text, meant, name_of, same_meaning, all_placed, bound_as, declaring}
 use Rattle.tla_model.specs.Lexemes.{spelled}
 use Rattle.tla_model.specs.Contexts.{Context, built_in}
-use Rattle.module_model.specs.Exports.{Exports, exports_of}
+use Rattle.module_model.specs.Exports.{Exports, Known, ModuleView, exported, exports_of}
+use Rattle.module_model.specs.Instances.{nested_view}
 use Rattle.tla_model.specs.Scopes.{Finding}
 use Rattle.module_scope.specs.Environments.{Environment, behind, inside, is_taken, meaning, outermost}
 
 -- a module that is read: its name, its context, what it exports so far, and the modules that can be named there, with what
--- nested ones export
+-- nested ones are to those that name them
 pub record Reading : Type 0 where
   pub name : List ℕ
   pub context : Context
   pub exports : Table Meaning
-  pub modules : Environment Exports
+  pub modules : Environment ModuleView
 
 -- the name is there with another meaning
 abbrev pub differs : Option (Option Meaning) → Meaning → Bool
@@ -52,14 +53,14 @@ brings_clash reading [] = false
 brings_clash reading (entry ∷ rest) = clashes reading.context entry || brings_clash (if clashes reading.context entry then reading else with_entry false reading entry.0 entry.1) rest
 
 -- what the nested module of a name exports, or else the file
-abbrev pub exports_under : (List ℕ → Exports) → Option (Option Exports) → List ℕ → Exports
+abbrev pub exports_under : (List ℕ → Exports) → Option (Option ModuleView) → List ℕ → Exports
 exports_under files None name = files name
 exports_under files (Some None) name = []
-exports_under files (Some (Some exports)) name = exports
+exports_under files (Some (Some view)) name = exported view
 
 -- the constants that a CONSTANT declares
 abbrev pub constants : Trees → List Binder
-constants declarations = declared_among as_binding.Constant declarations
+constants declarations = bound_as as_binding.Constant (all_placed declarations)
 
 -- the innermost module that is read, and those round it
 pub record Place : Type 0 where
@@ -71,13 +72,13 @@ abbrev pub begun_in : Reading → List ℕ → Reading
 begun_in reading title = record { name = title; context = reading.context; exports = empty; modules = inside reading.modules title }
 
 -- a module behind one that is nested in it, which can be named unless its name is taken
-abbrev pub behind_nested : Reading → Reading → Reading
-behind_nested inner outer = record outer { modules = behind outer.modules inner.name (exports_of inner.exports) }
+abbrev pub behind_nested : Known → Reading → Reading → Reading
+behind_nested known inner outer = record outer { modules = behind outer.modules inner.name (nested_view known outer.context (exports_of inner.exports)) }
 
--- behind the innermost module
-abbrev pub left : Reading → List Reading → Place
-left inner [] = record { here = inner; round = [] }
-left inner (outer ∷ round) = record { here = behind_nested inner outer; round = round }
+-- behind the innermost module, by what stands behind instances
+abbrev pub left : Known → Reading → List Reading → Place
+left known inner [] = record { here = inner; round = [] }
+left known inner (outer ∷ round) = record { here = behind_nested known inner outer; round = round }
 
 module _ (text : Text) where
   -- a declaration or a definition of the module; LOCAL ones are not exported

@@ -8,7 +8,7 @@ use Rattle.tla_model.specs.Entities.{Text, defined, name_of, place_in}
 use Rattle.tla_model.specs.Contexts.{Context, bind_all, meaning_of}
 use Rattle.tla_model.specs.Lexemes.{spelled}
 use Rattle.tla_model.specs.Scopes.{Finding, all_refused, behind, binders, use_findings, has_set, inside, itself, prefixed, reserved, scope, symbol_findings}
-use Rattle.module_model.specs.Exports.{Behind, Exports, Known, ModuleView, behind_meaning, entry_of, nothing, onward}
+use Rattle.module_model.specs.Exports.{Behind, Exports, Known, ModuleView, behind_meaning, entry_of, onward}
 use Rattle.module_model.specs.Instances.{called_by, implied, left_sides, replaced_as}
 
 -- the modules by their names, what stands behind instances, and where paths begin
@@ -20,10 +20,6 @@ pub record Surroundings : Type 0 where
 -- nothing stands there at any path
 abbrev pub nowhere : Behind
 nowhere path = []
-
--- no module is known, nothing stands behind names, and no path is counted
-abbrev pub alone : Surroundings
-alone = record { named = λ name. nothing; known = []; paths = [] }
 
 module _ (text : Text) (around : Surroundings) where
   -- the parameters of the module of a name
@@ -52,6 +48,7 @@ module _ (text : Text) (around : Surroundings) where
         ++ all_refused text (inside text context form parts) (binders form parts)
         ++ walk_rest (scope text context form parts) parts
 
+    -- the same of several trees
     pub walk_each : Context → Trees → List Finding
     walk_each context Nil = []
     walk_each context (Cons x rest) = walk context x ++ walk_each context rest
@@ -71,6 +68,7 @@ module _ (text : Text) (around : Surroundings) where
     walk_sets context Nil = []
     walk_sets context (Cons (Node form s parts) rest) = (if has_set form then walk context (Node form s parts) else []) ++ walk_sets context rest
 
+    -- the parts that are no sets
     pub walk_rest : Context → Trees → List Finding
     walk_rest context Nil = []
     walk_rest context (Cons (Node form s parts) rest) = (if has_set form then [] else walk context (Node form s parts)) ++ walk_rest context rest

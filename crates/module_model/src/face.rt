@@ -1,7 +1,8 @@
 // What a checked module is to those that name it.
+use crate::parts::Parts;
 use std::sync::Arc;
-use tla_model::{Callee, DeclId, Entity, NameTable};
-use tool_list::{Chars, List};
+use tla_model::{Callee, Entity, NameTable};
+use tool_list::Chars;
 
 /// What a checked module is to those that name it: what it exports, and what its exports reach. A face
 /// holds no other face, so that a chain of modules is no chain of faces.
@@ -10,18 +11,9 @@ pub struct Face {
     /// The module.
     pub module: Chars,
     /// The names that it exports. The constants and variables among them are its parameters.
-    pub exports: NameTable,
-    /// The instances that its exports reach, each once, shared by all faces that reach it.
-    pub instances: List<Arc<Instance>>,
-}
-
-/// An instance that others reach.
-#[derive(Drop)]
-pub struct Instance {
-    /// The declaration of its name.
-    pub name: DeclId,
-    /// What its module exports. The definitions and instances among these stand behind it.
-    pub exports: NameTable,
+    pub exports: Arc<NameTable>,
+    /// The instances that its exports reach, each once.
+    pub parts: Parts,
 }
 
 /// What stands for a parameter of an instantiated module.

@@ -8,8 +8,10 @@ mod bound;
 mod face;
 mod imported;
 mod order;
+mod parts;
 
 pub use bound::{Bound, Implied};
-pub use face::{Face, Instance, Replacement};
+pub use face::{Face, Replacement};
 pub use imported::{Import, Imported};
 pub use order::in_order;
+pub use parts::{Part, Parts};
