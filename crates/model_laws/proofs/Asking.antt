@@ -1,6 +1,6 @@
 -- A module that is read asks the files of its needs alone.
-use Rattle.std.proofs.Common.{◌≡◌, ℕ, Bool, true, false, cond, List, [], ◌∷◌, ◌++◌, Option, Some, None, is_some, if◌then◌else◌, refl, ap, sym, subst, ◌∙◌}
-use Rattle.std.specs.Prelude.{⊤, ◌||◌, ◌&&◌, filter, map, not}
+use Rattle.std.proofs.Common.{◌≡◌, ℕ, true, false, List, [], ◌∷◌, ◌++◌, Option, Some, None, is_some, if◌then◌else◌, refl, ap, sym, subst, ◌∙◌}
+use Rattle.std.specs.Prelude.{⊤, ◌||◌, ◌&&◌, filter, not}
 use Rattle.std.specs.List.{AllByRecursion}
 use Rattle.std.specs.Str.{bytes_eq}
 use Rattle.tla_symbols.specs.declared.lexeme.Lexeme.{Lexeme}
@@ -15,38 +15,35 @@ use Rattle.tla_model.specs.ModuleNames.{instances, instances_in, instantiated, m
 use Rattle.tla_model.specs.Scopes.{Finding}
 use Rattle.module_scope.specs.Environments.{Environment, Scope, begun, first, inside, is_round, is_taken, meaning}
 use Rattle.module_scope.specs.Imports.{imports_from, imports_of, is_needed, scope_at}
-use Rattle.module_model.specs.Exports.{Exports, ModuleView, behind_instance, entries_from, exported, exports_by, exports_of, known_among, parameters_in}
+use Rattle.module_model.specs.Exports.{ModuleView, and_known, behind_instance, entries_from, exported, exports_by, exports_of, known_as, none_known, parameters_in}
 use Rattle.module_model.specs.Instances as i
 use Rattle.module_model.specs.Modules as m
 use Rattle.module_model.specs.Modules.{Reading, text_of}
+use Rattle.module_model.specs.NamedModules as n
 use Rattle.module_model.specs.Resolution as r
 use Rattle.module_model.specs.Resolution.{ReadState}
 use Rattle.module_model.specs.TreeFindings.{walk}
 use Rattle.model_laws.proofs.Forgetting.{extends-keep, forget, forget-added, joined-keeps, scope_of, scope-after, taken-forget}
+use Rattle.model_laws.proofs.Items.{all-kept, all-weaker}
 use Rattle.model_laws.proofs.Walking.{walk-same}
-
--- what holds of those that pass a test
-all-kept : (P : Lexeme → Type 0) (test : Lexeme → Bool) (names : List Lexeme) → AllByRecursion P (filter test names) → AllByRecursion (λ l. test l ≡ true → P l) names
-all-kept P test [] all = tt
-all-kept P test (name ∷ names) all = by (test name) refl (all-kept P test names) all
-  where
-    by : (b : Bool) → test name ≡ b → (AllByRecursion P (filter test names) → AllByRecursion (λ l. test l ≡ true → P l) names) → AllByRecursion P (cond b (name ∷ filter test names) (filter test names)) → (test name ≡ true → P name) × AllByRecursion (λ l. test l ≡ true → P l) names
-    by true is rest all = ((λ passes. all.0), rest all.1)
-    by false is rest all = ((λ passes. cc (passes, is)), rest all)
-
-all-weaker : (P Q : Lexeme → Type 0) → ((l : Lexeme) → P l → Q l) → (names : List Lexeme) → AllByRecursion P names → AllByRecursion Q names
-all-weaker P Q weaker [] all = tt
-all-weaker P Q weaker (name ∷ names) all = (weaker name all.0, all-weaker P Q weaker names all.1)
 
 -- the names of modules of instances are among the names behind INSTANCE
 module _ (P : Lexeme → Type 0) where
-  abbrev Names : Lexeme × Lexeme → Type 0
-  Names instance = P instance.1
+  -- it holds of a name of a module, if there is one
+  abbrev OfThat : Option Lexeme → Type 0
+  OfThat None = ⊤
+  OfThat (Some l) = P l
+
+  abbrev Names : Lexeme × Option Lexeme → Type 0
+  Names instance = OfThat instance.1
+
+  instance-among : (parts : Trees) → AllByRecursion P (instances_in parts) → OfThat (i.instance_among parts)
+  instance-among Nil all = tt
+  instance-among (Cons (Node (Form.Instance l) span parts) rest) all = all.0
+  instance-among (Cons (Node form span parts) rest) all = instance-among rest (all-right P (instances (Node form span parts)) (instances_in rest) all)
 
   named-instance : (form : Form.the_data) (parts : Trees) → AllByRecursion P (instances_in parts) → AllByRecursion Names (i.named_instance form parts)
-  named-instance (Form.ModuleDefinition name) Nil all = tt
-  named-instance (Form.ModuleDefinition name) (Cons (Node (Form.Instance l) span parts) rest) all = (all.0, tt)
-  named-instance (Form.ModuleDefinition name) (Cons (Node form span parts) rest) all = named-instance (Form.ModuleDefinition name) rest (all-right P (instances (Node form span parts)) (instances_in rest) all)
+  named-instance (Form.ModuleDefinition name) parts all = (instance-among parts all, tt)
   named-instance _ parts all = tt
 
   mutual
@@ -65,11 +62,11 @@ module _ (text : Text) (files others : List ℕ → ModuleView) where
   Same l = files (spelled text.source l) ≡ others (spelled text.source l)
 
   -- a name that means a file is that of a file which is the same
-  abbrev Asks : Environment Exports → Lexeme → Type 0
+  abbrev Asks : Environment ModuleView → Lexeme → Type 0
   Asks modules l = is_taken modules (spelled text.source l) ≡ false → Same l
 
   -- those that are needed are the same
-  asks-all : (modules : Environment Exports) (scope : Scope ⊤) (names : List Lexeme) → forget modules ≡ scope.here → AllByRecursion Same (filter (is_needed text.source text.file scope) names) → AllByRecursion (Asks modules) names
+  asks-all : (modules : Environment ModuleView) (scope : Scope ⊤) (names : List Lexeme) → forget modules ≡ scope.here → AllByRecursion Same (filter (is_needed text.source text.file scope) names) → AllByRecursion (Asks modules) names
   asks-all modules scope names is all =
       all-weaker (λ l. is_needed text.source text.file scope l ≡ true → Same l) (Asks modules) (λ l same free. same (needed l free)) names (all-kept Same (is_needed text.source text.file scope) names all)
     where
@@ -78,10 +75,10 @@ module _ (text : Text) (files others : List ℕ → ModuleView) where
 
   -- ---- what a module brings
 
-  under-same : (found : Option (Option Exports)) (name : List ℕ) → (is_some found ≡ false → files name ≡ others name) → m.exports_under (exports_by files) found name ≡ m.exports_under (exports_by others) found name
+  under-same : (found : Option (Option ModuleView)) (name : List ℕ) → (is_some found ≡ false → files name ≡ others name) → m.exports_under (exports_by files) found name ≡ m.exports_under (exports_by others) found name
   under-same None name same = ap exported (same refl)
   under-same (Some None) name same = refl
-  under-same (Some (Some exports)) name same = refl
+  under-same (Some (Some view)) name same = refl
 
   brings-same : (reading : Reading) (l : Lexeme) → Asks reading.modules l → m.brings text (exports_by files) reading l ≡ m.brings text (exports_by others) reading l
   brings-same reading l same = under-same (meaning reading.modules (spelled text.source l)) (spelled text.source l) same
@@ -103,44 +100,47 @@ module _ (text : Text) (files others : List ℕ → ModuleView) where
   module _ (words : List ℕ) where
     -- ---- what a module name means
 
-    module-same : (nested : List (List ℕ × ModuleView)) (found : Option (Option Exports)) (name : List ℕ) → (is_some found ≡ false → files name ≡ others name) → r.module_under text files words nested found name ≡ r.module_under text others words nested found name
-    module-same nested None name same = same refl
-    module-same nested (Some None) name same = refl
-    module-same nested (Some (Some exports)) name same = refl
+    module-same : (found : Option (Option ModuleView)) (name : List ℕ) → (is_some found ≡ false → files name ≡ others name) → n.module_under files found name ≡ n.module_under others found name
+    module-same None name same = same refl
+    module-same (Some None) name same = refl
+    module-same (Some (Some view)) name same = refl
 
     abbrev Means : ReadState → Lexeme → Type 0
     Means state l = r.module_named text files words state (spelled text.source l) ≡ r.module_named text others words state (spelled text.source l)
 
     means-all : (state : ReadState) (names : List Lexeme) → AllByRecursion (Asks state.place.here.modules) names → AllByRecursion (Means state) names
     means-all state names all =
-        all-weaker (Asks state.place.here.modules) (Means state) (λ l same. module-same state.nested (meaning state.place.here.modules (spelled text.source l)) (spelled text.source l) same) names all
+        all-weaker (Asks state.place.here.modules) (Means state) (λ l same. module-same (meaning state.place.here.modules (spelled text.source l)) (spelled text.source l) same) names all
 
     instance-brings : (state : ReadState) (x : Tree) → AllByRecursion (Means state) (instances x) → r.instance_brings text files words state x ≡ r.instance_brings text others words state x
-    instance-brings state (Node (Form.Instance l) span parts) all = ap (i.brought_by (r.unit_of text files words l)) all.0
+    instance-brings state (Node (Form.Instance l) span parts) all = ap (i.brought_by (n.unit_of text words l)) all.0
     instance-brings state (Node form span parts) all = refl
 
     clash-same : (state : ReadState) (x : Tree) → AllByRecursion (Means state) (instances x) → r.clash_by text files words state x ≡ r.clash_by text others words state x
     clash-same state (Node (Form.Instance l) span parts) all =
-        ap (λ brought. if m.brings_clash state.place.here (i.brought_by (r.unit_of text files words l) brought) then InstanceClashes l ∷ [] else []) all.0
+        ap (λ brought. if m.brings_clash state.place.here (i.brought_by (n.unit_of text words l) brought) then InstanceClashes l ∷ [] else []) all.0
     clash-same state (Node form span parts) all = refl
 
     -- ---- what stands behind instances
 
-    known-from : (state : ReadState) (l : Lexeme) → Means state l → r.known_from text files words state l ≡ r.known_from text others words state l
-    known-from state l same = ap (λ (view : ModuleView). known_among view (exported view)) same
-
-    known-from-all : (state : ReadState) (names : List Lexeme) → AllByRecursion (Means state) names → r.known_from_all text files words state names ≡ r.known_from_all text others words state names
+    known-from-all : (state : ReadState) (names : List Lexeme) → AllByRecursion (Means state) names
+        → n.known_from_all text (r.module_named text files words state) names ≡ n.known_from_all text (r.module_named text others words state) names
     known-from-all state [] all = refl
-    known-from-all state (l ∷ rest) all = λ k. known-from state l all.0 k ++ known-from-all state rest all.1 k
+    known-from-all state (l ∷ rest) all = λ k. and_known (n.exported_known (all.0 k)) (known-from-all state rest all.1 k)
 
     known-brought : (state : ReadState) (x : Tree) → AllByRecursion (Means state) (instances x) → r.known_brought text files words state x ≡ r.known_brought text others words state x
-    known-brought state (Node (Form.Instance l) span parts) all = known-from state l all.0
+    known-brought state (Node (Form.Instance l) span parts) all = ap n.exported_known all.0
     known-brought state (Node form span parts) all = refl
 
-    known-at : (state : ReadState) (names : List (Lexeme × Lexeme)) → AllByRecursion (λ (instance : Lexeme × Lexeme). Means state instance.1) names
-        → map (r.known_at text files words state) names ≡ map (r.known_at text others words state) names
-    known-at state [] all = refl
-    known-at state (instance ∷ names) all = λ k. (declaration text instance.0, behind_instance (all.0 k)) ∷ known-at state names all.1 k
+    behind-named : (state : ReadState) (name : Option Lexeme) → OfThat (Means state) name
+        → n.behind_named text (r.module_named text files words state) name ≡ n.behind_named text (r.module_named text others words state) name
+    behind-named state None same = refl
+    behind-named state (Some l) same = ap behind_instance same
+
+    known-named : (state : ReadState) (names : List (Lexeme × Option Lexeme)) → AllByRecursion (Names (Means state)) names
+        → n.known_named text (r.module_named text files words state) names ≡ n.known_named text (r.module_named text others words state) names
+    known-named state [] all = refl
+    known-named state (instance ∷ names) all = λ k. and_known (known_as (declaration text instance.0) (behind-named state instance.1 all.0 k)) (known-named state names all.1 k)
 
     -- ---- units
 
@@ -176,7 +176,7 @@ module _ (text : Text) (files others : List ℕ → ModuleView) where
 
     known-in : (state : ReadState) (unit : UnitTree) → Holds state unit → r.known_in text files words state unit ≡ r.known_in text others words state unit
     known-in state unit all =
-        ap (λ z. state.known ++ z) (known-at state (i.all_named_instances (i.unit_trees unit)) (all-instances-named (Means state) (i.unit_trees unit) (names-mean state unit all)))
+        ap (λ z. and_known state.known z) (known-named state (i.all_named_instances (i.unit_trees unit)) (all-instances-named (Means state) (i.unit_trees unit) (names-mean state unit all)))
 
     read-on : (state : ReadState) (unit : UnitTree) (one two : Reading) → one ≡ two → Holds state unit → r.read_on text files words state unit one ≡ r.read_on text others words state unit two
     read-on state unit one two same all = λ k. record state { place = record { here = same k; round = state.place.round }; known = known-in state unit all k }
@@ -197,7 +197,7 @@ module _ (text : Text) (files others : List ℕ → ModuleView) where
         → r.after text files words state (ModuleBegin name extends) ≡ r.after text others words state (ModuleBegin name extends)
     begins-same state name extends asks =
         ap (r.with_known text files words (r.inside_nested text files words state name extends)) (known-from-all (r.inside_nested text files words state name extends) extends (inside-means state name extends asks))
-        ∙ ap (λ within. r.with_known text others words within (r.known_from_all text others words within extends)) (inside-same state name extends asks)
+        ∙ ap (λ within. r.with_known text others words within (n.known_from_all text (r.module_named text others words within) extends)) (inside-same state name extends asks)
 
     after-same : (state : ReadState) (unit : UnitTree) → Holds state unit → r.after text files words state unit ≡ r.after text others words state unit
     after-same state (Variables names) all = read-on state (Variables names) _ _ refl all
@@ -288,7 +288,7 @@ module _ (files others : List ℕ → ModuleView) (source : List ℕ) (units : M
   extends-asked = all-weaker Agrees (Asks read files others (m.unread read).modules) (λ l same free. same) units.extends needs-extended
 
   begun-same : r.begun_state files source units ≡ r.begun_state others source units
-  begun-same = ap (λ here. record { place = record { here = here; round = [] }; nested = []; known = [] }) (extends-same read files others (m.unread read) units.extends extends-asked)
+  begun-same = ap (λ here. record { place = record { here = here; round = [] }; known = none_known }) (extends-same read files others (m.unread read) units.extends extends-asked)
 
   begun-means : AllByRecursion (Means read files others words (r.begun_state files source units)) units.extends
   begun-means =
@@ -298,7 +298,7 @@ module _ (files others : List ℕ → ModuleView) (source : List ℕ) (units : M
   first-same : r.first files source units ≡ r.first others source units
   first-same =
       ap (r.with_known read files words (r.begun_state files source units)) (known-from-all read files others words (r.begun_state files source units) units.extends begun-means)
-      ∙ ap (λ begun. r.with_known read others words begun (r.known_from_all read others words begun units.extends)) begun-same
+      ∙ ap (λ begun. r.with_known read others words begun (n.known_from_all read (r.module_named read others words begun) units.extends)) begun-same
 
   first-scope : scope_of (r.first files source units).place ≡ first title
   first-scope = ap (λ modules. record { here = forget modules; round = [] }) (extends-keep read files words (m.unread read) units.extends).modules

@@ -276,7 +276,7 @@ module _ (P : Lexeme → Type 0) where
 
       unit-at : (state : ReadState) (unit : UnitTree) → AllByRecursion P (unit_lexemes unit) → AllByRecursion Stands (r.found_in text files words paths state unit)
       unit-at state (Variables names) all = all-refused-at text (round state (Variables names)) state.place.here.context (variables names) (variables-at names all)
-      unit-at state (Constants declarations) all = all-refused-at text (round state (Constants declarations)) state.place.here.context (m.constants declarations) (among-at as_binding.Constant declarations all)
+      unit-at state (Constants declarations) all = all-refused-at text (round state (Constants declarations)) state.place.here.context (m.constants declarations) (bound-at as_binding.Constant (all_placed declarations) (all-placed-at declarations all))
       unit-at state (OperatorDefinition local x) all = walk-at text (round state (OperatorDefinition local x)) state.place.here.context x all
       unit-at state (FunctionDefinition local x) all = walk-at text (round state (FunctionDefinition local x)) state.place.here.context x all
       unit-at state (ModuleDefinition local x) all = walk-at text (round state (ModuleDefinition local x)) state.place.here.context x all

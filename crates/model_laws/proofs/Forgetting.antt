@@ -12,18 +12,19 @@ use Rattle.tla_model.specs.Lexemes.{spelled}
 use Rattle.tla_model.specs.Scopes.{definition}
 use Rattle.module_scope.specs.Environments.{Environment, Scope, is_taken}
 use Rattle.module_scope.specs.Imports.{scope_at}
-use Rattle.module_model.specs.Exports.{Exports, ModuleView, exports_by, exports_of}
+use Rattle.module_model.specs.Exports.{Exports, Known, ModuleView, exports_by, exports_of}
+use Rattle.module_model.specs.Instances.{nested_view}
 use Rattle.module_model.specs.Modules as m
 use Rattle.module_model.specs.Modules.{Place, Reading, clashes, with_entry}
 use Rattle.module_model.specs.Resolution as r
 use Rattle.module_model.specs.Resolution.{ReadState}
 
--- a module is known, whatever it exports
-abbrev unknown : Option Exports → Option ⊤
+-- a module is known, whatever it is
+abbrev unknown : Option ModuleView → Option ⊤
 unknown None = None
-unknown (Some exports) = Some tt
+unknown (Some view) = Some tt
 
-abbrev pub forget : Environment Exports → Environment ⊤
+abbrev pub forget : Environment ModuleView → Environment ⊤
 forget modules = map (λ entry. (entry.0, unknown entry.1)) modules
 
 abbrev round_of : List ℕ → List Reading → List (List ℕ × Environment ⊤)
@@ -33,7 +34,7 @@ round_of name (outer ∷ round) = (name, forget outer.modules) ∷ round_of oute
 abbrev pub scope_of : Place → Scope ⊤
 scope_of place = record { here = forget place.here.modules; round = round_of place.here.name place.round }
 
-pub taken-forget : (modules : Environment Exports) (name : List ℕ) → is_taken (forget modules) name ≡ is_taken modules name
+pub taken-forget : (modules : Environment ModuleView) (name : List ℕ) → is_taken (forget modules) name ≡ is_taken modules name
 taken-forget [] name = refl
 taken-forget (entry ∷ modules) name = by (bytes_eq name entry.0) (taken-forget modules name)
   where
@@ -41,12 +42,12 @@ taken-forget (entry ∷ modules) name = by (bytes_eq name entry.0) (taken-forget
     by true rest = refl
     by false rest = rest
 
-pub forget-added : (modules : Environment Exports) (name : List ℕ) (known : Option Exports) → forget (added bytes_eq modules name known) ≡ added bytes_eq (forget modules) name (unknown known)
+pub forget-added : (modules : Environment ModuleView) (name : List ℕ) (known : Option ModuleView) → forget (added bytes_eq modules name known) ≡ added bytes_eq (forget modules) name (unknown known)
 forget-added modules name known = by (is_taken modules name) (taken-forget modules name)
   where
     by : (b : Bool) → is_taken (forget modules) name ≡ b → forget (cond b modules (modules ++ (name, known) ∷ [])) ≡ added bytes_eq (forget modules) name (unknown known)
     by true same = rw same refl
-    by false same = rw same (map-append (λ (entry : List ℕ × Option Exports). (entry.0, unknown entry.1)) modules ((name, known) ∷ []))
+    by false same = rw same (map-append (λ (entry : List ℕ × Option ModuleView). (entry.0, unknown entry.1)) modules ((name, known) ∷ []))
 
 -- ---- what a step leaves of a module: its name, and the modules that can be named there
 
@@ -87,9 +88,9 @@ module _ (text : Text) (files : List ℕ → ModuleView) (words : List ℕ) wher
   at-here : (state : ReadState) (reading : Reading) → Keeps state.place.here reading → scope_of (record { here = reading; round = state.place.round }) ≡ scope_of state.place
   at-here state reading kept = λ i. record { here = forget (kept.modules i); round = round_of (kept.name i) state.place.round }
 
-  left-scope : (inner : Reading) (round : List Reading) (closing : Lexeme) → scope_of (m.left inner round) ≡ scope_at text.source (scope_of (record { here = inner; round = round })) (ModuleEnd closing)
-  left-scope inner [] closing = refl
-  left-scope inner (outer ∷ round) closing = λ i. record { here = forget-added outer.modules inner.name (Some (exports_of inner.exports)) i; round = round_of outer.name round }
+  left-scope : (known : Known) (inner : Reading) (round : List Reading) (closing : Lexeme) → scope_of (m.left known inner round) ≡ scope_at text.source (scope_of (record { here = inner; round = round })) (ModuleEnd closing)
+  left-scope known inner [] closing = refl
+  left-scope known inner (outer ∷ round) closing = λ i. record { here = forget-added outer.modules inner.name (Some (nested_view known outer.context (exports_of inner.exports))) i; round = round_of outer.name round }
 
   -- behind a unit, the scope is that of the needs
   pub scope-after : (state : ReadState) (unit : UnitTree) → scope_of (r.after text files words state unit).place ≡ scope_at text.source (scope_of state.place) unit
@@ -106,4 +107,4 @@ module _ (text : Text) (files : List ℕ → ModuleView) (words : List ℕ) wher
       let here : Reading = state.place.here in
       let kept : Keeps (m.nested text here name) (m.extends_all text (exports_by files) (m.nested text here name) extends) = extends-keep (m.nested text here name) extends in
       λ i. record { here = (ap forget kept.modules ∙ forget-added here.modules (spelled text.source name) None) i; round = (kept.name i, forget here.modules) ∷ round_of here.name state.place.round }
-  scope-after state (ModuleEnd closing) = left-scope state.place.here state.place.round closing
+  scope-after state (ModuleEnd closing) = left-scope state.known state.place.here state.place.round closing

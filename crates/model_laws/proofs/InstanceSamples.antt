@@ -18,7 +18,7 @@ use Rattle.tla_model.specs.declared.Diagnostic.{Diagnostic}
 use Rattle.tla_model.specs.declared.entity.Entity.TheVariants as entity
 use Rattle.module_model.specs.Bindings.{faults, implied}
 use Rattle.tla_model.specs.Entities.{Meaning}
-use Rattle.module_model.specs.Exports.{Exports, Known, ModuleView, entries_from, nothing, parameters_in}
+use Rattle.module_model.specs.Exports.{Exports, Known, ModuleView, entries_from, known_as, none_known, nothing, parameters_in}
 use Rattle.module_model.specs.Resolution.{exports_in, findings, outside_in}
 use Rattle.tla_model.specs.Scopes.{Finding}
 use Rattle.tla_model.specs.Tables.{Word, Symbol}
@@ -43,7 +43,7 @@ of_r = (Word (codes "c"), there (codes "R") (entity.Constant 0) 0) ∷ (Word (co
 
 -- behind the instance of P in R
 abbrev behind_j : Known
-behind_j = (record { «module» = codes "R"; place = 1 }, entries_from [] ((Word (codes "F"), there (codes "P") value_of 1) ∷ [])) ∷ []
+behind_j = known_as (record { «module» = codes "R"; place = 1 }) (entries_from none_known ((Word (codes "F"), there (codes "P") value_of 1) ∷ []))
 
 abbrev files : List ℕ → ModuleView
 files file =

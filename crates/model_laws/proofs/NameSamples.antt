@@ -19,7 +19,7 @@ use Rattle.tla_model.specs.declared.entity.Entity.TheVariants as entity
 use Rattle.tla_model.specs.declared.ids.Callee.{Callee}
 use Rattle.module_model.specs.Bindings.{Resolved, faults, resolved}
 use Rattle.tla_model.specs.Entities.{Meaning, declaring}
-use Rattle.module_model.specs.Exports.{Exports, ModuleView, entries_from, nothing, parameters_in}
+use Rattle.module_model.specs.Exports.{Exports, ModuleView, entries_from, none_known, nothing, parameters_in}
 use Rattle.module_model.specs.Modules.{text_of}
 use Rattle.module_model.specs.Resolution.{exports_in, findings, first, read_all}
 use Rattle.tla_model.specs.Scopes.{Finding}
@@ -119,7 +119,7 @@ brought file = Declared (entity.Constant 0) (callee file 0)
 
 -- a module that exports these, and no instance
 abbrev pub module_of : Exports → ModuleView
-module_of exports = record { entries = entries_from [] exports; parameters = parameters_in exports }
+module_of exports = record { entries = entries_from none_known exports; parameters = parameters_in exports }
 
 abbrev files : List ℕ → ModuleView
 files file =
@@ -339,9 +339,15 @@ modules_are_named_apart = refl
 clash_with_a_name_round_it : found_with (at 1 ∷ []) (codes "MANBFx") (ModuleBegin (at 2) (at 3 ∷ []) ∷ define 4 (bare 5) ∷ end ∷ []) ≡ Clashes (at 3) ∷ Means (at 5) (brought (codes "A")) ∷ []
 clash_with_a_name_round_it = refl
 
+-- what a module exports, if it is there and can be named
+abbrev exports_there : Option (Option ModuleView) → Option (Option Exports)
+exports_there None = None
+exports_there (Some None) = Some None
+exports_there (Some (Some view)) = Some (Some (view.entries []))
+
 -- what the nested module of a name exports behind these units
 abbrev nested_exports : List Lexeme → List ℕ → List UnitTree → List ℕ → Option (Option Exports)
-nested_exports extends text units file = lookup bytes_eq (read_all (text_of text (module_with extends units)) files [] (first files text (module_with extends units)) units).place.here.modules file
+nested_exports extends text units file = exports_there (lookup bytes_eq (read_all (text_of text (module_with extends units)) files [] (first files text (module_with extends units)) units).place.here.modules file)
 
 -- EXTENDS A | MODULE N EXTENDS C | F == 1 | end
 nested_exports_what_it_brings : nested_exports (at 1 ∷ []) (codes "MANCF") (ModuleBegin (at 2) (at 3 ∷ []) ∷ defined 4 ∷ end ∷ []) (codes "N") ≡ Some (Some ((Word (codes "x"), brought (codes "A")) ∷ (Word (codes "F"), own value 1) ∷ []))

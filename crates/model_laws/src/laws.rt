@@ -1,13 +1,14 @@
 // What follows from the definitions alone.
 ghost use Rattle.std.specs.Prelude.{◌≡◌, ℕ, List, Some, true, map, slice_get, Contains};
 ghost use Rattle.std.specs.List.{All};
-ghost use Rattle.unit_grammar.specs.Units.{ModuleUnits};
+ghost use Rattle.unit_grammar.specs.Units.{ModuleUnits, UnitTree};
 ghost use Rattle.module_model.specs.Bindings.{faults};
-ghost use Rattle.tla_model.specs.Entities.{Meaning};
+ghost use Rattle.tla_model.specs.Entities.{Meaning, Text};
 ghost use Rattle.module_model.specs.Exports.{Exports, ModuleView};
 ghost use Rattle.tla_model.specs.Lexemes.{module_lexemes};
-ghost use Rattle.module_model.specs.Resolution.{findings};
+ghost use Rattle.module_model.specs.Resolution.{ReadState, after, findings, first};
 ghost use Rattle.model_laws.specs.Needed.{AsksNeeded};
+ghost use Rattle.model_laws.specs.Settled.{IsSettled};
 ghost use Rattle.module_model.specs.Substitutions.{AreApart, is_declared, replacement_of};
 ghost use Rattle.tla_model.specs.Tables.{Named};
 ghost use Rattle.module_model.specs.declared.face.Replacement.{Replacement};
@@ -34,4 +35,14 @@ pub fn replaced_by_declaration()
 /// what stands at each path of names through instances.
 pub fn asks_needed()
     ensures { (source : List ℕ) → (units : ModuleUnits) → AsksNeeded source units }
+{}
+
+/// While a module is read, it is known what stands behind each instance that it exports so far, and
+/// that one round it does: behind what it extends, and behind a unit where it was known before it.
+pub fn instances_are_known()
+    ensures begun { (files : List ℕ → ModuleView) → (source : List ℕ) → (units : ModuleUnits)
+        → IsSettled (first files source units) }
+    ensures kept { (text : Text) → (files : List ℕ → ModuleView) → (words : List ℕ)
+        → (state : ReadState) → (unit : UnitTree) → IsSettled state
+        → IsSettled (after text files words state unit) }
 {}

@@ -6,4 +6,4 @@
 
 mod laws;
 
-pub use laws::{asks_needed, faults_at_lexemes, replaced_by_declaration};
+pub use laws::{asks_needed, faults_at_lexemes, instances_are_known, replaced_by_declaration};
