@@ -9,4 +9,4 @@ mod parts;
 
 pub use declared::{declaring, push_unit};
 pub use forms::{binding_in, follows_first};
-pub use parts::{binders, defined, push_placed};
+pub use parts::{binders, defined, push_all_placed, push_placed};

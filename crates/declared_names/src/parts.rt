@@ -29,8 +29,8 @@ pub fn push_placed(names: &mut List<Binder>, binding: Binding, form: Form) -> Re
     Ok(())
 }
 
-// Appends the names of nodes, as what they are bound.
-fn push_all_placed(
+/// Appends the names of nodes, as what they are bound. What stands below these nodes is not looked at.
+pub fn push_all_placed(
     names: &mut List<Binder>,
     binding: Binding,
     tree: &Tree,
