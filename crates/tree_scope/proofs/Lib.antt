@@ -7,4 +7,3 @@ mod NamesInText
 mod Segments
 mod Noting
 mod Replacing
-mod Placing

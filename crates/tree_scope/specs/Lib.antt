@@ -1,4 +1,3 @@
 pub mod Lying
 pub mod Parameters
-pub mod Places
 pub mod WalkTasks

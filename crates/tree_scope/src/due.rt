@@ -14,7 +14,7 @@ use tool_list::Memory;
 // What is in the scope of the names that a node binds, and the end of the scope.
 fn push_inside(
     alloc: Global,
-    tasks: &mut Vec<Task>,
+    tasks: &mut Vec<Task<'_>>,
     tree: &Tree,
     node: u32,
     children: &[u32],
@@ -33,7 +33,7 @@ fn push_inside(
 /// Sets of bounds, and then what is in the scope of the names.
 pub fn push_scope(
     alloc: Global,
-    tasks: &mut Vec<Task>,
+    tasks: &mut Vec<Task<'_>>,
     tree: &Tree,
     node: u32,
     children: &[u32],
@@ -50,7 +50,7 @@ pub fn push_scope(
 /// The same of a function, whose name is a bound name in its body.
 pub fn push_function(
     alloc: Global,
-    tasks: &mut Vec<Task>,
+    tasks: &mut Vec<Task<'_>>,
     tree: &Tree,
     node: u32,
     name: Lexeme,
@@ -70,7 +70,7 @@ pub fn push_function(
 /// What is in the scope of the names, and then the sets of their bounds.
 pub fn push_image(
     alloc: Global,
-    tasks: &mut Vec<Task>,
+    tasks: &mut Vec<Task<'_>>,
     tree: &Tree,
     node: u32,
     children: &[u32],
@@ -85,7 +85,11 @@ pub fn push_image(
 }
 
 /// Definitions one after another, with what is in their scope, and the end of the scope.
-pub fn push_definitions(tasks: &mut Vec<Task>, children: &[u32], mark: Mark) -> Result<(), Memory>
+pub fn push_definitions(
+    tasks: &mut Vec<Task<'_>>,
+    children: &[u32],
+    mark: Mark,
+) -> Result<(), Memory>
     ensures { OnOk result (stack tasks.new.items
         ≡ walking.chain children.now ++ (walking.leave mark ∷ stack tasks.old.items)) }
 {
@@ -94,7 +98,7 @@ pub fn push_definitions(tasks: &mut Vec<Task>, children: &[u32], mark: Mark) -> 
 }
 
 /// Operands, with a symbol behind the first of them.
-pub fn push_between(tasks: &mut Vec<Task>, children: &[u32], at: Lexeme) -> Result<(), Memory>
+pub fn push_between(tasks: &mut Vec<Task<'_>>, children: &[u32], at: Lexeme) -> Result<(), Memory>
     ensures { OnOk result (stack tasks.new.items
         ≡ walking.between_tasks at children.now (stack tasks.old.items)) }
 {
@@ -109,7 +113,7 @@ pub fn push_between(tasks: &mut Vec<Task>, children: &[u32], at: Lexeme) -> Resu
 }
 
 /// Operands, and a symbol behind them.
-pub fn push_behind(tasks: &mut Vec<Task>, children: &[u32], at: Lexeme) -> Result<(), Memory>
+pub fn push_behind(tasks: &mut Vec<Task<'_>>, children: &[u32], at: Lexeme) -> Result<(), Memory>
     ensures { OnOk result (stack tasks.new.items
         ≡ walking.visits children.now ++ (walking.used at ∷ stack tasks.old.items)) }
 {
@@ -118,15 +122,15 @@ pub fn push_behind(tasks: &mut Vec<Task>, children: &[u32], at: Lexeme) -> Resul
 }
 
 /// The segments of an identifier from this one on, where the one before it leads on.
-pub fn push_path(
-    tasks: &mut Vec<Task>,
+pub fn push_path<'a>(
+    tasks: &mut Vec<Task<'a>>,
     node: u32,
     from: usize,
     number: u32,
-    held: Option<Held>,
+    held: Option<Held<'a>>,
 ) -> Result<(), Memory>
     ensures { OnOk result (stack tasks.new.items
-        ≡ walking.path_tasks node from number held (stack tasks.old.items)) }
+        ≡ walking.path_tasks node from number held.entry (stack tasks.old.items)) }
 {
     let Some(held) = held else {
         return Ok(());

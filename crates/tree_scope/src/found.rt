@@ -66,19 +66,19 @@ fn define<'a>(
 }
 
 // Does what was due next.
-fn perform<'a, S: Surround>(
+fn perform<'a, S: Surround<'a>>(
     alloc: Global,
     text: &ModuleText<'a>,
     around: &S,
     tree: &Tree,
-    next: Task,
+    next: Task<'a>,
     context: &mut Context<'a>,
     findings: &mut List<Finding>,
-    tasks: &mut Vec<Task>,
+    tasks: &mut Vec<Task<'a>>,
 ) -> Result<(), Memory>
     requires next { IsReady text.now tree.now next }
     requires tasks { AreReady text.now tree.now (stack tasks.old.items) }
-    ensures { OnOk result (IsDone text.now (S.around around.now) (S.held around.now) tree.now next
+    ensures { OnOk result (IsDone text.now (S.around around.now) (S.held around.now) tree.now next.entry
         (context_of context.old) (context_of context.new) findings.old findings.new
         (stack tasks.old.items) (stack tasks.new.items)) }
 {
@@ -135,7 +135,7 @@ fn perform<'a, S: Surround>(
 
 /// Appends what is found in the tree below a node, in the order of the text. The context is behind it
 /// as it was before.
-pub fn walk<'a, S: Surround>(
+pub fn walk<'a, S: Surround<'a>>(
     alloc: Global,
     text: &ModuleText<'a>,
     around: &S,

@@ -19,6 +19,6 @@ mod visits;
 pub use found::walk;
 pub use parameter::{Name, Parameter};
 pub use scopes::refuse;
-pub use surroundings::{NoInstances, Surround};
+pub use surroundings::Surround;
 pub use tasks::Held;
 pub use text::ModuleText;

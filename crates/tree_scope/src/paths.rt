@@ -33,7 +33,7 @@ fn segment_of(form: Form) -> Option<Lexeme>
 }
 
 // Where a path comes to whose first name means this.
-fn behind<S: Surround>(around: &S, meaning: &Option<Meaning>) -> Option<Held>
+fn behind<'a, S: Surround<'a>>(around: &S, meaning: &Option<Meaning>) -> Option<Held<'a>>
     ensures { option_map (S.held around.now) result
         ≡ walking.leads meaning.now
         (exports.behind_meaning (S.around around.now).known meaning.now) }
@@ -45,13 +45,13 @@ fn behind<S: Surround>(around: &S, meaning: &Option<Meaning>) -> Option<Held>
 }
 
 // Looks at the use of the first name of a path, and answers where it leads.
-fn use_first<'a, S: Surround>(
+fn use_first<'a, S: Surround<'a>>(
     text: &ModuleText<'a>,
     around: &S,
     context: &Context<'a>,
     at: Lexeme,
     findings: &mut List<Finding>,
-) -> Result<Option<Held>, Memory>
+) -> Result<Option<Held<'a>>, Memory>
     requires { LiesIn text.now.source at }
     ensures held { IfOk result (λ held. option_map (S.held around.now) held
         ≡ walking.leads
@@ -102,17 +102,17 @@ fn called(last: bool, number: u32, meaning: Option<Meaning>) -> Option<Meaning>
 }
 
 // Where a path comes to by a name more, which means this.
-fn onward<'a, S: Surround>(
+fn onward<'a, S: Surround<'a>>(
     text: &ModuleText<'a>,
     around: &S,
-    held: Held,
+    held: Held<'a>,
     at: Lexeme,
     meaning: &Option<Meaning>,
-) -> Option<Held>
+) -> Option<Held<'a>>
     requires { LiesIn text.now.source at }
     ensures { option_map (S.held around.now) result
         ≡ walking.leads meaning.now
-        (exports.onward (S.held around.now held) (entities.name_of text.now.source at)) }
+        (exports.onward (S.held around.now held.entry) (entities.name_of text.now.source at)) }
 {
     match meaning {
         Some(_) => Some(around.onward(held, text.name_of(at))),
@@ -121,25 +121,25 @@ fn onward<'a, S: Surround>(
 }
 
 // Looks at the use of a further name of a path, and answers where it leads.
-fn use_further<'a, S: Surround>(
+fn use_further<'a, S: Surround<'a>>(
     text: &ModuleText<'a>,
     around: &S,
-    held: Held,
+    held: Held<'a>,
     number: u32,
     at: Lexeme,
     last: bool,
     findings: &mut List<Finding>,
-) -> Result<Option<Held>, Memory>
+) -> Result<Option<Held<'a>>, Memory>
     requires { LiesIn text.now.source at }
     ensures held { IfOk result (λ next. option_map (S.held around.now) next
         ≡ walking.leads
-        (exports.entry_of (S.held around.now held []) (entities.name_of text.now.source at))
-        (exports.onward (S.held around.now held) (entities.name_of text.now.source at))) }
+        (exports.entry_of (S.held around.now held.entry []) (entities.name_of text.now.source at))
+        (exports.onward (S.held around.now held.entry) (entities.name_of text.now.source at))) }
     ensures findings { OnOk result (findings.new
         ≡ findings.old
         ++ scopes.use_findings at
         (walking.called last number
-        (exports.entry_of (S.held around.now held []) (entities.name_of text.now.source at)))) }
+        (exports.entry_of (S.held around.now held.entry []) (entities.name_of text.now.source at)))) }
 {
     let meaning = around.entry(held, text.name_of(at))?;
     let next = onward(text, around, held, at, &meaning);
@@ -150,14 +150,14 @@ fn use_further<'a, S: Surround>(
 /// Looks at the first segment of an identifier. Visits of its arguments are put on top, and below
 /// them the other segments, where it leads on. Of an identifier of one segment nothing is asked but
 /// what it means.
-pub fn begin_path<'a, S: Surround>(
+pub fn begin_path<'a, S: Surround<'a>>(
     text: &ModuleText<'a>,
     around: &S,
     tree: &Tree,
     node: u32,
     context: &Context<'a>,
     findings: &mut List<Finding>,
-    tasks: &mut Vec<Task>,
+    tasks: &mut Vec<Task<'a>>,
 ) -> Result<(), Memory>
     requires there { node < length tree.now }
     requires path { IsPath text.now tree.now (children_from tree.now node 0) }
@@ -187,23 +187,23 @@ pub fn begin_path<'a, S: Surround>(
 }
 
 /// Looks at a further segment of an identifier, behind what the path has come to.
-pub fn go_on<'a, S: Surround>(
+pub fn go_on<'a, S: Surround<'a>>(
     text: &ModuleText<'a>,
     around: &S,
     tree: &Tree,
     node: u32,
     from: usize,
     number: u32,
-    held: Held,
+    held: Held<'a>,
     findings: &mut List<Finding>,
-    tasks: &mut Vec<Task>,
+    tasks: &mut Vec<Task<'a>>,
 ) -> Result<(), Memory>
     requires there { node < length tree.now }
     requires path { IsPath text.now tree.now (children_from tree.now node from) }
     ensures { OnOk result
         ((context : contexts.Context) → AreFound text.now (S.around around.now) (S.held around.now)
         tree.now (children_from tree.now node from)
-        (in_trees.path text.now (S.around around.now) context number (S.held around.now held)
+        (in_trees.path text.now (S.around around.now) context number (S.held around.now held.entry)
         (trees_at tree.now (children_from tree.now node from))) context findings.old findings.new
         (stack tasks.old.items) (stack tasks.new.items)) }
 {

@@ -74,7 +74,7 @@ fn push_replacement<'a>(
     module: Lexeme,
     left: Option<Lexeme>,
     right: &[u32],
-    due: &mut Vec<Task>,
+    due: &mut Vec<Task<'_>>,
 ) -> Result<(), Memory>
     requires { IfSome left (LiesIn text.now.source) }
     ensures { OnOk result (due.new.items
@@ -100,7 +100,7 @@ fn replacements<'a>(
     tree: &Tree,
     module: Lexeme,
     nodes: &[u32],
-) -> Result<Vec<Task>, Memory>
+) -> Result<Vec<Task<'a>>, Memory>
     requires { walking.IsPath text.now tree.now nodes.now }
     ensures due { IfOk result (λ due. due.items
         ≡ walking.replacements text.now.source tree.now tables.empty «module» nodes.now) }
@@ -120,7 +120,7 @@ fn replacements<'a>(
 pub fn push_instance<'a>(
     alloc: Global,
     text: &ModuleText<'a>,
-    tasks: &mut Vec<Task>,
+    tasks: &mut Vec<Task<'a>>,
     tree: &Tree,
     node: u32,
     module: Lexeme,
@@ -165,7 +165,7 @@ fn push_left(
 }
 
 /// Looks at the left side of a replacement.
-pub fn replace<'a, S: Surround>(
+pub fn replace<'a, S: Surround<'a>>(
     text: &ModuleText<'a>,
     around: &S,
     left: Lexeme,
@@ -224,7 +224,7 @@ fn imply_one<'a>(
 }
 
 /// Looks at the parameters of the module of an INSTANCE that are not replaced at its node.
-pub fn imply<'a, S: Surround>(
+pub fn imply<'a, S: Surround<'a>>(
     alloc: Global,
     text: &ModuleText<'a>,
     around: &S,

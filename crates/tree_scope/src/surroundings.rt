@@ -7,7 +7,6 @@ ghost use Rattle.module_model.specs.TreeFindings.{Surroundings};
 ghost use Rattle.name_context.specs.AsTables.{meant_by};
 ghost use Rattle.tree_scope.specs.Parameters.{entries_in};
 ghost use Rattle.tree_scope.specs.declared.tasks.Held.{Held as Spot};
-ghost use Rattle.module_model.specs.TreeFindings.{alone, nowhere};
 
 use crate::parameter::Parameter;
 use crate::tasks::Held;
@@ -18,7 +17,7 @@ use tool_list::{List, Memory};
 
 /// What a walk asks of what is round it: of modules by their names, of what stands behind
 /// instances, and where paths begin. `Memory` comes where there is no room for an answer.
-pub trait Surround {
+pub trait Surround<'a> {
     /// What it answers by.
     ghost around: { Self → Surroundings };
 
@@ -38,54 +37,20 @@ pub trait Surround {
             ≡ ((around self.now).named module.now).parameters) };
 
     /// Where a path comes to whose first name means this.
-    fn behind(&self, meaning: &Meaning) -> Held
+    fn behind(&self, meaning: &Meaning) -> Held<'a>
         ensures { held self.now result
             ≡ exports.behind_meaning (around self.now).known (Some meaning.now) };
 
     /// What a name means at a place to which a path has come.
-    fn entry(&self, at: Held, name: Named<'_>) -> Result<Option<Meaning>, Memory>
+    fn entry(&self, at: Held<'a>, name: Named<'_>) -> Result<Option<Meaning>, Memory>
         ensures { IfOk result (λ meaning. meaning
-            ≡ exports.entry_of (held self.now at []) (meant_by name.entry)) };
+            ≡ exports.entry_of (held self.now at.entry []) (meant_by name.entry)) };
 
     /// Where a path comes to by one name more.
-    fn onward(&self, at: Held, name: Named<'_>) -> Held
-        ensures { held self.now result ≡ exports.onward (held self.now at) (meant_by name.entry) };
+    fn onward(&self, at: Held<'a>, name: Named<'_>) -> Held<'a>
+        ensures { held self.now result ≡ exports.onward (held self.now at.entry) (meant_by name.entry) };
 
     /// The number of the path that begins there, from 1.
     fn path_number(&self, start: u32) -> u32
         ensures { result ≡ suc (place_in (around self.now).paths start) };
-}
-
-/// What is round the trees of a module that names no instance and has no INSTANCE.
-#[derive(Clone, Copy)]
-pub struct NoInstances;
-
-impl Surround for NoInstances {
-    ghost around = { λ s. alone };
-
-    ghost held = { λ s at. nowhere };
-
-    fn parameter(&self, _module: &str, _name: Named<'_>) -> Result<Option<Meaning>, Memory> {
-        Ok(None)
-    }
-
-    fn parameters(&self, alloc: Global, _module: &str) -> Result<List<Parameter>, Memory> {
-        Ok(List::new(alloc))
-    }
-
-    fn behind(&self, _meaning: &Meaning) -> Held {
-        Held { table: 0, entry: 0 }
-    }
-
-    fn entry(&self, _at: Held, _name: Named<'_>) -> Result<Option<Meaning>, Memory> {
-        Ok(None)
-    }
-
-    fn onward(&self, at: Held, _name: Named<'_>) -> Held {
-        at
-    }
-
-    fn path_number(&self, _start: u32) -> u32 {
-        1
-    }
 }

@@ -4,22 +4,37 @@ ghost use Rattle.tla_tree.specs.Arena.{AreThere};
 ghost use Rattle.tla_model.specs.Scopes as scopes;
 ghost use Rattle.tree_scope.specs.WalkTasks as walking;
 
+use module_model::Face;
 use name_context::Mark;
 use std::alloc::Global;
+use tla_model::NameTable;
 use tla_symbols::Lexeme;
 use tla_tree::{Form, Tree};
 use tool_list::{List, Memory};
 
-/// Where a path has come to, in two numbers whose meaning is known to what is round the walk.
+/// Where a path through instances has come to.
 #[derive(Clone, Copy)]
-pub struct Held {
-    pub table: usize,
-    pub entry: usize,
+pub enum Held<'a> {
+    /// Nothing stands there.
+    Nowhere,
+    /// An instance of an imported module.
+    Imported {
+        face: &'a Face,
+    },
+    /// An instance that the exports of an imported module reach, by what its own module exports.
+    Reached {
+        face: &'a Face,
+        exports: &'a NameTable,
+    },
+    /// An instance of a nested module, by its number.
+    Nested {
+        number: usize,
+    },
 }
 
 /// What is to be done next.
 #[derive(Clone, Copy)]
-pub enum Task {
+pub enum Task<'a> {
     /// To find what is found below a node.
     Visit {
         node: u32,
@@ -34,7 +49,7 @@ pub enum Task {
         node: u32,
         from: usize,
         number: u32,
-        held: Held,
+        held: Held<'a>,
     },
     /// To look at the left side of a replacement, whose name is replaced before it or not, by the
     /// module of an INSTANCE.
@@ -117,7 +132,7 @@ pub fn naming_of(form: Form) -> Naming
 }
 
 // Appends visits, the last one first.
-fn append_visits(tasks: &mut Vec<Task>, nodes: &[u32]) -> Result<(), Memory>
+fn append_visits(tasks: &mut Vec<Task<'_>>, nodes: &[u32]) -> Result<(), Memory>
     ensures { OnOk result (tasks.new.items
         ≡ tasks.old.items ++ walking.visits (reverse nodes.now)) }
 {
@@ -128,15 +143,15 @@ fn append_visits(tasks: &mut Vec<Task>, nodes: &[u32]) -> Result<(), Memory>
 }
 
 /// Puts a task on top of what is due.
-pub fn push_task(tasks: &mut Vec<Task>, task: Task) -> Result<(), Memory>
-    ensures { OnOk result (walking.stack tasks.new.items ≡ task ∷ walking.stack tasks.old.items) }
+pub fn push_task<'a>(tasks: &mut Vec<Task<'a>>, task: Task<'a>) -> Result<(), Memory>
+    ensures { OnOk result (walking.stack tasks.new.items ≡ task.entry ∷ walking.stack tasks.old.items) }
 {
     tasks.push(task)?;
     Ok(())
 }
 
 /// Puts visits on top of what is due, the first one uppermost.
-pub fn push_each(tasks: &mut Vec<Task>, nodes: &[u32]) -> Result<(), Memory>
+pub fn push_each(tasks: &mut Vec<Task<'_>>, nodes: &[u32]) -> Result<(), Memory>
     ensures { OnOk result (walking.stack tasks.new.items
         ≡ walking.visits nodes.now ++ walking.stack tasks.old.items) }
 {
@@ -145,7 +160,7 @@ pub fn push_each(tasks: &mut Vec<Task>, nodes: &[u32]) -> Result<(), Memory>
 }
 
 /// Appends visits, the first one first.
-pub fn append_each(tasks: &mut Vec<Task>, nodes: &[u32]) -> Result<(), Memory>
+pub fn append_each(tasks: &mut Vec<Task<'_>>, nodes: &[u32]) -> Result<(), Memory>
     ensures { OnOk result (tasks.new.items ≡ tasks.old.items ++ walking.visits nodes.now) }
 {
     for node in nodes.iter().copied() {
@@ -155,7 +170,7 @@ pub fn append_each(tasks: &mut Vec<Task>, nodes: &[u32]) -> Result<(), Memory>
 }
 
 // Appends tasks, the last one first.
-fn append_tasks(tasks: &mut Vec<Task>, more: &[Task]) -> Result<(), Memory>
+fn append_tasks<'a>(tasks: &mut Vec<Task<'a>>, more: &[Task<'a>]) -> Result<(), Memory>
     ensures { OnOk result (tasks.new.items ≡ tasks.old.items ++ reverse more.now) }
 {
     for task in more.iter().rev().copied() {
@@ -165,7 +180,7 @@ fn append_tasks(tasks: &mut Vec<Task>, more: &[Task]) -> Result<(), Memory>
 }
 
 /// Puts tasks on top of what is due, the first one uppermost.
-pub fn push_tasks(tasks: &mut Vec<Task>, more: &[Task]) -> Result<(), Memory>
+pub fn push_tasks<'a>(tasks: &mut Vec<Task<'a>>, more: &[Task<'a>]) -> Result<(), Memory>
     ensures { OnOk result (walking.stack tasks.new.items
         ≡ more.now ++ walking.stack tasks.old.items) }
 {
@@ -197,7 +212,7 @@ fn is_same(one: bool, other: bool) -> bool
 /// uppermost.
 pub fn push_chosen(
     alloc: Global,
-    tasks: &mut Vec<Task>,
+    tasks: &mut Vec<Task<'_>>,
     tree: &Tree,
     nodes: &[u32],
     sets: bool,
@@ -211,7 +226,7 @@ pub fn push_chosen(
 }
 
 // Appends visits, each behind the definition of its name, the last one first.
-fn append_chain(tasks: &mut Vec<Task>, nodes: &[u32]) -> Result<(), Memory>
+fn append_chain(tasks: &mut Vec<Task<'_>>, nodes: &[u32]) -> Result<(), Memory>
     ensures { OnOk result (tasks.new.items
         ≡ tasks.old.items ++ walking.chain_back (reverse nodes.now)) }
 {
@@ -223,7 +238,7 @@ fn append_chain(tasks: &mut Vec<Task>, nodes: &[u32]) -> Result<(), Memory>
 }
 
 /// Puts visits on top, each with the definition of its name behind it, the first one uppermost.
-pub fn push_chain(tasks: &mut Vec<Task>, nodes: &[u32]) -> Result<(), Memory>
+pub fn push_chain(tasks: &mut Vec<Task<'_>>, nodes: &[u32]) -> Result<(), Memory>
     ensures { OnOk result (walking.stack tasks.new.items
         ≡ walking.chain nodes.now ++ walking.stack tasks.old.items) }
 {

@@ -1,15 +1,13 @@
 // A text whose names are resolved.
-ghost use Rattle.std.specs.Prelude.{◌≡◌, ◌<◌, ◌^◌, ◌+◌, ◌++◌, ◌∷◌, [], IfOk, OnOk, length, map};
+ghost use Rattle.std.specs.Prelude.{◌≡◌, IfOk, map};
 ghost use Rattle.tla_model.specs.Entities as entities;
 ghost use Rattle.tla_model.specs.Lexemes.{LiesIn, spelled as spelled_in};
 ghost use Rattle.name_context.specs.AsTables.{meant_by};
-ghost use Rattle.tree_scope.specs.Places.{AreNoted};
 
-use indexmap::IndexMap;
 use name_context::Named;
 use std::alloc::Global;
 use std::marker::Model;
-use tla_model::{Binder, Callee, DeclId, Meaning, spelled};
+use tla_model::{Binder, Callee, DeclId, Meaning, Starts, spelled};
 use tla_symbols::{LexKind, Lexeme};
 use tool_list::{Chars, Memory, SharedList};
 
@@ -19,37 +17,16 @@ use tool_list::{Chars, Memory, SharedList};
 pub struct ModuleText<'a> {
     file: &'a str,
     source: &'a str,
-    // Where the declaring names begin, in order.
-    starts: Vec<u32>,
-    // For each of these numbers, how many names stand before the first that begins there.
-    places: IndexMap<u32, u32>,
+    // Where the declaring names begin.
+    starts: Starts,
 }
 
 impl<'a> Model for ModuleText<'a> {
     ghost use Rattle.tla_model.specs.Entities.{Text};
-    ghost use Rattle.tree_scope.specs.Places.{AreNoted};
 
     ghost Value = { Text };
 
-    ghost view = { λ t. record { file = t.file.now; source = t.source.now; starts = t.starts.items } };
-
-    ghost invariant = { λ t. AreNoted t.places.entries t.starts.items };
-}
-
-// Appends where a declaring name begins, and notes its place unless another one begins there.
-fn note(places: &mut IndexMap<u32, u32>, starts: &mut Vec<u32>, start: u32) -> Result<(), Memory>
-    requires few { length starts.old.items + 1 < 2 ^ 32 }
-    requires noted { AreNoted places.old.entries starts.old.items }
-    ensures noted { OnOk result (AreNoted places.new.entries starts.new.items) }
-    ensures starts { OnOk result (starts.new.items ≡ starts.old.items ++ start ∷ []) }
-{
-    let place = starts.len() as u32;
-    starts.push(start)?;
-    if places.contains_key(&start) {
-        return Ok(());
-    }
-    places.insert(start, place)?;
-    Ok(())
+    ghost view = { λ t. record { file = t.file.now; source = t.source.now; starts = t.starts } };
 }
 
 impl<'a> ModuleText<'a> {
@@ -60,7 +37,6 @@ impl<'a> ModuleText<'a> {
         source: &'a str,
         names: &[Binder],
     ) -> Result<ModuleText<'a>, Memory>
-        requires few { length names.now < 2 ^ 32 }
         ensures { IfOk result (λ text. text
             ≡ record {
               file = file.now;
@@ -70,15 +46,13 @@ impl<'a> ModuleText<'a> {
             }) }
     {
         let mut starts = Vec::new(alloc);
-        let mut places = IndexMap::new(alloc);
         for binder in names {
-            note(&mut places, &mut starts, binder.name.span.start)?;
+            starts.push(binder.name.span.start)?;
         }
         Ok(ModuleText {
             file,
             source,
-            starts,
-            places,
+            starts: Starts::new(alloc, starts.as_slice())?,
         })
     }
 
@@ -98,16 +72,6 @@ impl<'a> ModuleText<'a> {
         match lexeme.kind {
             LexKind::Sym(op) => Named::Symbol(op),
             _ => Named::Word(self.spelled(lexeme)),
-        }
-    }
-
-    // How many declaring names stand before the first that begins there.
-    fn place_of(&self, start: u32) -> u32
-        ensures { result ≡ entities.place_in self.now.starts start }
-    {
-        match self.places.get(&start) {
-            Some(place) => *place,
-            None => self.starts.len() as u32,
         }
     }
 
@@ -136,7 +100,7 @@ impl<'a> ModuleText<'a> {
     {
         Ok(DeclId {
             module: Chars::from_str(alloc, self.file)?,
-            place: self.place_of(name.span.start),
+            place: self.starts.place_of(name.span.start),
         })
     }
 

@@ -51,7 +51,7 @@ fn begin<'a>(
 }
 
 /// Looks at a node: what is due of it is put on top.
-pub fn visit<'a, S: Surround>(
+pub fn visit<'a, S: Surround<'a>>(
     alloc: Global,
     text: &ModuleText<'a>,
     around: &S,
@@ -59,7 +59,7 @@ pub fn visit<'a, S: Surround>(
     node: u32,
     context: &mut Context<'a>,
     findings: &mut List<Finding>,
-    tasks: &mut Vec<Task>,
+    tasks: &mut Vec<Task<'a>>,
 ) -> Result<(), Memory>
     requires node { IsNode text.now tree.now node }
     requires tasks { AreReady text.now tree.now (stack tasks.old.items) }

@@ -1,4 +1,4 @@
-use Rattle.std.proofs.Common.{◌≡◌, ◌<◌, ◌∙◌, ◌++◌, ap, subst, sym}
+use Rattle.std.proofs.Common.{refl, ◌≡◌, ◌<◌, ◌∙◌, ◌++◌, ap, subst, sym}
 use Rattle.std.specs.Prelude.{Some, slice_get}
 use Rattle.std.specs.List.{AllByRecursion}
 use Rattle.tla_tree.specs.Arena.{node_at}
@@ -18,11 +18,11 @@ returns-in_default-segment_of g c =
     (sym (ap segment_of c.form.ensures) ∙ sym c.segment_of.ensures ∙ c.in_default-segment_of.is) (context_of c.args.context.now) c.args.findings.now (stack c.args.tasks.now.items)
 
 pub use_first-requires : goal.use_first-requires
-use_first-requires g c =
+use_first-requires g c = λ k.
     let nodes = c.args.tree.now in
     let segment = c.in-Some.field-0.now in
     let at : slice_get (node_at nodes c.args.node).children 0 ≡ Some segment = ap (λ z. slice_get z 0) (sym c.children-segments.ensures.children) ∙ sym c.in-Some.ensures.value in
-    here-lies c.args.text.now nodes c.args.node 0 segment at c.requires.path c.in-Some-segment_of.name (sym (ap segment_of c.form.ensures) ∙ sym c.segment_of.ensures ∙ c.in-Some-segment_of.is)
+    ((refl, tt), here-lies c.args.text.now nodes c.args.node 0 segment at c.requires.path c.in-Some-segment_of.name (sym (ap segment_of c.form.ensures) ∙ sym c.segment_of.ensures ∙ c.in-Some-segment_of.is))
 
 pub use_name-requires : goal.use_name-requires
 use_name-requires g c =

@@ -18,11 +18,11 @@ returns-in_default-segment_of g c =
     (sym (ap segment_of c.form.ensures) ∙ sym c.segment_of.ensures ∙ c.in_default-segment_of.is) c.args.number c.args.held context c.args.findings.now (stack c.args.tasks.now.items)
 
 pub use_further-requires : goal.use_further-requires
-use_further-requires g c =
+use_further-requires g c = λ k.
     let nodes = c.args.tree.now in
     let segment = c.in-Some.field-0.now in
     let at : slice_get (node_at nodes c.args.node).children c.args.from ≡ Some segment = ap (λ z. slice_get z c.args.from) (sym c.children-segments.ensures.children) ∙ slice_get_read c.children-segments.result.now (length c.children-segments.result.now) c.args.from segment refl c.in-Some.ensures.lookup.3.0 c.in-Some.ensures.lookup.1 in
-    here-lies c.args.text.now nodes c.args.node c.args.from segment at c.requires.path c.in-Some-segment_of.name (sym (ap segment_of c.form.ensures) ∙ sym c.segment_of.ensures ∙ c.in-Some-segment_of.is)
+    ((refl, tt), here-lies c.args.text.now nodes c.args.node c.args.from segment at c.requires.path c.in-Some-segment_of.name (sym (ap segment_of c.form.ensures) ∙ sym c.segment_of.ensures ∙ c.in-Some-segment_of.is))
 
 pub returns : goal.returns
 returns g c =

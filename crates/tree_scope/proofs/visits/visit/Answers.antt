@@ -20,11 +20,11 @@ push_function-requires g c = before-there c.args.tree.now c.args.node c.children
 pub push_scope-requires : goal.push_scope-requires
 push_scope-requires g c = before-there c.args.tree.now c.args.node c.children-children.result.now c.requires.node.there c.children-children.ensures.before
 
-pub begin_path-requires-clause-path : goal.begin_path-requires-clause-path
-begin_path-requires-clause-path g c =
+pub begin_path-requires : goal.begin_path-requires
+begin_path-requires g c = λ k.
     let nodes = c.args.tree.now in
     let node = c.args.node in
-    children-path c.args.text.now nodes node c.requires.node (node_at nodes node).children refl (subst (AllByRecursion (λ child. child < node)) c.children-children.ensures.children c.children-children.ensures.before)
+    ((refl, tt), (c.requires.node.there, children-path c.args.text.now nodes node c.requires.node (node_at nodes node).children refl (subst (AllByRecursion (λ child. child < node)) c.children-children.ensures.children c.children-children.ensures.before)))
 
 pub begin-requires-clause-there : goal.begin-requires-clause-there
 begin-requires-clause-there g c = before-there c.args.tree.now c.args.node c.children-children.result.now c.requires.node.there c.children-children.ensures.before
