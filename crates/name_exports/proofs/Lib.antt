@@ -2,6 +2,7 @@ mod Bringing
 mod Equal
 mod Exporting
 mod Firsts
+mod Keeping
 mod Over
 mod Owning
 mod There

@@ -69,7 +69,7 @@ all-over reading [] seen shown = record {
 all-over reading (word ∷ words) seen shown =
     let entry : Named × Meaning = (Word word.0, word.1) in
     let fits : clashes reading.context entry ≡ false = ap (λ found. differs found word.1) seen.0 in
-    let put : brought reading entry ≡ over reading (word ∷ []) =
+    let put : brought false reading entry ≡ over reading (word ∷ []) =
     ap (λ (b : Bool). cond b reading (with_entry false reading (Word word.0) word.1)) fits
     ∙ (λ i. record reading {
       context = record { words = cond (is_some (seen.0 i)) reading.context.words (reading.context.words ++ (word.0, Some word.1) ∷ []); symbols = reading.context.symbols };
@@ -83,7 +83,7 @@ all-over reading (word ∷ words) seen shown =
             context = record { words = append_assoc reading.context.words ((word.0, Some word.1) ∷ []) (usable_words words) i; symbols = reading.context.symbols };
             exports = record { words = append_assoc reading.exports.words ((word.0, word.1) ∷ []) words i; symbols = reading.exports.symbols };
           });
-      fits = ap (λ b. b || brings_clash (brought reading entry) (of_words words)) fits ∙ ap (λ r. brings_clash r (of_words words)) put ∙ rest.fits;
+      fits = ap (λ b. b || brings_clash (brought false reading entry) (of_words words)) fits ∙ ap (λ r. brings_clash r (of_words words)) put ∙ rest.fits;
     }
 
 pub taken-over : (old new : Names) (words : List (List ℕ × Meaning)) → CanTake old.context words → AreNew bytes_eq [] words → old.exports.words ≡ [] →

@@ -32,7 +32,7 @@ all-there reading [] there = record { reads = refl; fits = refl }
 all-there reading (word ∷ words) there =
     let entry : Named × Meaning = (Word word.0, word.1) in
     let fits : clashes reading.context entry ≡ false = ap (λ found. differs found word.1) there.0.seen ∙ ap not (meaning-itself word.1) in
-    let put : brought reading entry ≡ reading =
+    let put : brought false reading entry ≡ reading =
     ap (λ (b : Bool). cond b reading (with_entry false reading (Word word.0) word.1)) fits
     ∙ (λ i. record reading {
       context = record { words = cond (is_some (there.0.seen i)) reading.context.words (reading.context.words ++ (word.0, Some word.1) ∷ []); symbols = reading.context.symbols };
@@ -42,7 +42,7 @@ all-there reading (word ∷ words) there =
     let rest = all-there reading words there.1 in
     record {
       reads = ap (λ r. extended r (of_words words)) put ∙ rest.reads;
-      fits = ap (λ b. b || brings_clash (brought reading entry) (of_words words)) fits ∙ ap (λ r. brings_clash r (of_words words)) put ∙ rest.fits;
+      fits = ap (λ b. b || brings_clash (brought false reading entry) (of_words words)) fits ∙ ap (λ r. brings_clash r (of_words words)) put ∙ rest.fits;
     }
 
 -- ---- words that stand in a list are found there
@@ -114,7 +114,7 @@ module _ (old : Names) (words : List (List ℕ × Meaning)) (count : ℕ) (so : 
   pub others-brought : (new : Names) (clash : Bool) → IsBrought old new clash (of_words (drop count words)) → IsBrought old new clash (of_words words)
   others-brought new clash rest =
       subst (IsBrought old new clash) (sym (of_words-append (take count words) (drop count words)) ∙ ap of_words (take-append-drop count words))
-      (bring-both old old new false clash (of_words (take count words)) (of_words (drop count words)) first-brought rest)
+      (bring-both false old old new false clash (of_words (take count words)) (of_words (drop count words)) first-brought rest)
 
   -- where there are no words but the first ones, the table is taken over in their place
   pub longer-brought : (new : Names) → length old.exports.words ≤ count → length (behind old.context) ≤ count →

@@ -1,8 +1,10 @@
 // The names of a module that is read: those that stand in its context, and those that it exports.
-ghost use Rattle.std.specs.Prelude.{◌≡◌, ◌++◌, ◌∷◌, ◌≤◌, ℕ, List as ListOf, [], None, Some, false, IfOk, IfSome, IsTrue, OnOk, if◌then◌else◌, is_some, length, slice_get, take};
+ghost use Rattle.std.specs.Prelude.{◌≡◌, ◌++◌, ◌∷◌, ◌≤◌, ℕ, List as ListOf, [], None, Some, false, IfOk, IfSome, IsTrue, OnOk, if◌then◌else◌, is_some, length, map, slice_get, take};
+ghost use Rattle.std.specs.Option.{option_copied};
 ghost use Rattle.std.specs.Str.{bytes_eq};
 ghost use Rattle.module_model.specs.Exports.{of_words};
 ghost use Rattle.module_model.specs.Modules as in_modules;
+ghost use Rattle.tla_model.specs.EntityKinds.{is_instance as names_instance, stands_for_parameter, words_meant};
 ghost use Rattle.tla_model.specs.Stretches.{shown, words_of as stretch_words};
 ghost use Rattle.tla_model.specs.Tables as tables;
 ghost use Rattle.tla_model.specs.Tables.{AreNew};
@@ -52,6 +54,16 @@ fn is_taken(taken: Option<&NameTable>, word: &str) -> bool
     }
 }
 
+// What stands under a word among those that were taken over.
+fn taken_word<'b>(taken: Option<&'b NameTable>, word: &str) -> Option<&'b Meaning>
+    ensures { option_copied result ≡ tables.lookup bytes_eq (taken_words taken.entry) word.now }
+{
+    match taken {
+        Some(table) => table.word_among(table.len(), word),
+        None => None,
+    }
+}
+
 // How many words were taken over.
 fn taken_len(taken: Option<&NameTable>) -> usize
     ensures { result ≡ length (taken_words taken.entry) }
@@ -93,6 +105,85 @@ fn is_own_at(words: &IndexMap<&str, Meaning>, index: usize, given: (&str, &Meani
         Some((word, meaning)) => equal_entries((*word, meaning), given),
         None => false,
     }
+}
+
+// The parameters among the words that were taken over.
+fn taken_parameters<'b, 'a: 'b>(
+    alloc: Global,
+    taken: Option<&'a NameTable>,
+) -> Result<Vec<(&'a str, &'b Meaning)>, Memory>
+    ensures { IfOk result (λ found. map shown found.items
+        ≡ words_meant stands_for_parameter (taken_words taken.entry)) }
+{
+    match taken {
+        Some(table) => table.parameters(alloc),
+        None => Ok(Vec::new(alloc)),
+    }
+}
+
+// The instances among the words that were taken over.
+fn taken_instances<'b, 'a: 'b>(
+    alloc: Global,
+    taken: Option<&'a NameTable>,
+) -> Result<Vec<(&'a str, &'b Meaning)>, Memory>
+    ensures { IfOk result (λ found. map shown found.items
+        ≡ words_meant names_instance (taken_words taken.entry)) }
+{
+    match taken {
+        Some(table) => table.instances(alloc),
+        None => Ok(Vec::new(alloc)),
+    }
+}
+
+// Appends a word, if it is to be kept.
+fn push_kept<'b, 'a: 'b>(
+    found: &mut Vec<(&'a str, &'b Meaning)>,
+    kept: bool,
+    word: &'a str,
+    meaning: &'b Meaning,
+) -> Result<(), Memory>
+    ensures { OnOk result (map shown found.new.items ≡ map shown found.old.items
+        ++ (if kept then (word.now, meaning.now) ∷ [] else [])) }
+{
+    if !kept {
+        return Ok(());
+    }
+    found.push((word, meaning))?;
+    Ok(())
+}
+
+// Appends the parameters among these words.
+fn push_parameters<'b, 'a: 'b>(
+    found: &mut Vec<(&'a str, &'b Meaning)>,
+    words: &'b IndexMap<&'a str, Meaning>,
+) -> Result<(), Memory>
+    ensures { OnOk result (map shown found.new.items ≡ map shown found.old.items
+        ++ words_meant stands_for_parameter (words_of words.now.entries)) }
+{
+    for index in 0..words.len() {
+        let Some((word, meaning)) = words.get_index(index) else {
+            unreachable!();
+        };
+        push_kept(found, meaning.is_parameter(), *word, meaning)?;
+    }
+    Ok(())
+}
+
+// Appends the instances among these words.
+fn push_instances<'b, 'a: 'b>(
+    found: &mut Vec<(&'a str, &'b Meaning)>,
+    words: &'b IndexMap<&'a str, Meaning>,
+) -> Result<(), Memory>
+    ensures { OnOk result (map shown found.new.items ≡ map shown found.old.items
+        ++ words_meant names_instance (words_of words.now.entries)) }
+{
+    for index in 0..words.len() {
+        let Some((word, meaning)) = words.get_index(index) else {
+            unreachable!();
+        };
+        push_kept(found, meaning.is_instance(), *word, meaning)?;
+    }
+    Ok(())
 }
 
 // Puts a word that is not there behind the others, with a spelling of its own.
@@ -174,6 +265,48 @@ impl<'a> Exported<'a> {
         }
         self.symbols.push((op, meaning))?;
         Ok(())
+    }
+
+    // What stands under a word.
+    fn word(&self, word: &str) -> Option<&Meaning>
+        ensures { option_copied result ≡ tables.lookup bytes_eq self.now.words word.now }
+    {
+        if let Some(meaning) = taken_word(self.taken, word) {
+            return Some(meaning);
+        }
+        self.words.get(word)
+    }
+
+    /// What a name means, if it is there; no word is there twice.
+    pub fn get(&self, name: Named<'_>) -> Option<&Meaning>
+        ensures meaning { option_copied result ≡ tables.find self.now (meant_by name.entry) }
+        ensures once { AreNew bytes_eq [] self.now.words }
+    {
+        match name {
+            Named::Word(word) => self.word(word),
+            Named::Symbol(op) => symbol_in(self.symbols.as_slice(), op),
+        }
+    }
+
+    /// The words that stand for parameters: constants and variables, in order. `Memory` comes where
+    /// there was no room.
+    pub fn parameters(&self, alloc: Global) -> Result<Vec<(&'a str, &Meaning)>, Memory>
+        ensures { IfOk result (λ found. map shown found.items
+            ≡ words_meant stands_for_parameter self.now.words) }
+    {
+        let mut found = taken_parameters(alloc, self.taken)?;
+        push_parameters(&mut found, &self.words)?;
+        Ok(found)
+    }
+
+    /// The words that name instances, in order. `Memory` comes where there was no room.
+    pub fn instances(&self, alloc: Global) -> Result<Vec<(&'a str, &Meaning)>, Memory>
+        ensures { IfOk result (λ found. map shown found.items
+            ≡ words_meant names_instance self.now.words) }
+    {
+        let mut found = taken_instances(alloc, self.taken)?;
+        push_instances(&mut found, &self.words)?;
+        Ok(found)
     }
 
     /// Whether there is no word.

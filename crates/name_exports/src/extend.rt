@@ -1,5 +1,5 @@
 // The names that other modules bring.
-ghost use Rattle.std.specs.Prelude.{◌≡◌, ◌||◌, ℕ, List as ListOf, IfOk, OnOk, drop};
+ghost use Rattle.std.specs.Prelude.{◌≡◌, ◌||◌, ℕ, List as ListOf, false, IfOk, OnOk, drop};
 ghost use Rattle.std.specs.Option.{option_copied};
 ghost use Rattle.module_model.specs.Exports.{exports_of, of_symbols, of_words};
 ghost use Rattle.module_model.specs.Modules.{clashes};
@@ -17,8 +17,30 @@ use tla_model::{Meaning, NameTable};
 use tla_symbols::Op;
 use tool_list::Memory;
 
-// Puts a name that another module brings, unless it is there with another meaning, and answers
-// whether it is.
+/// Puts a name that another module brings, unless it is there with another meaning, and answers
+/// whether it is. It is exported unless it is LOCAL.
+pub fn join<'a>(
+    alloc: Global,
+    names: &mut Names<'a>,
+    local: bool,
+    name: Named<'a>,
+    meaning: Meaning,
+) -> Result<bool, Memory>
+    ensures clash { IfOk result (λ clash. clash
+        ≡ clashes (context_of names.old.context) (meant_by name.entry, meaning)) }
+    ensures names { OnOk result ((title : ListOf ℕ) → (taken : ModuleNames)
+        → as_read title taken names.new
+        ≡ brought local (as_read title taken names.old) (meant_by name.entry, meaning)) }
+{
+    if differs(names.context.get(name), &meaning) {
+        return Ok(true);
+    }
+    names.put(alloc, local, name, meaning)?;
+    Ok(false)
+}
+
+// Puts a name that a module which is extended brings, unless it is there with another meaning, and
+// answers whether it is.
 fn bring<'a>(
     alloc: Global,
     names: &mut Names<'a>,
@@ -29,17 +51,13 @@ fn bring<'a>(
         ≡ clashes (context_of names.old.context) (meant_by name.entry, meaning.now)) }
     ensures names { OnOk result ((title : ListOf ℕ) → (taken : ModuleNames)
         → as_read title taken names.new
-        ≡ brought (as_read title taken names.old) (meant_by name.entry, meaning.now)) }
+        ≡ brought false (as_read title taken names.old) (meant_by name.entry, meaning.now)) }
 {
-    if differs(names.context.get(name), meaning) {
-        return Ok(true);
-    }
-    let meaning = meaning.copied()?;
-    names.put(alloc, false, name, meaning)?;
-    Ok(false)
+    join(alloc, names, false, name, meaning.copied()?)
 }
 
-fn either(first: bool, second: bool) -> bool
+/// Whether one of them is so.
+pub fn either(first: bool, second: bool) -> bool
     ensures { result ≡ (first || second) }
 {
     first || second

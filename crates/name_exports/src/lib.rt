@@ -6,7 +6,9 @@
 
 mod exported;
 mod extend;
+mod instance;
 mod same;
 
 pub use exported::{Exported, Names};
 pub use extend::{bring_import, bring_nested};
+pub use instance::{bring_nested_through, bring_through};

@@ -1,4 +1,4 @@
-use Rattle.std.proofs.Common.{◌∙◌, ◌++◌, ◌||◌, ap, subst, sym}
+use Rattle.std.proofs.Common.{◌∙◌, ◌++◌, ◌||◌, ap, false, subst, sym}
 use Rattle.module_model.specs.Exports.{exports_of, of_symbols, of_words}
 use Rattle.name_context.specs.AsTables.{taken_words, words_of}
 use Rattle.name_exports.specs.Brought.{IsBrought}
@@ -18,5 +18,5 @@ returns c =
     in
     subst (λ clash. IsBrought old new clash (exports_of exports)) (sym (c.either-2.ensures ∙ ap (λ b. b || c.in_ok-symbols.symbols) c.either.ensures))
     (subst (IsBrought old new ((c.in_ok-first.first || c.in_ok-behind.behind) || c.in_ok-symbols.symbols)) all
-    (bring-both old c.bring_own_words.new.names new (c.in_ok-first.first || c.in_ok-behind.behind) c.in_ok-symbols.symbols (of_words first ++ of_words behind) symbols
-    (bring-both old c.bring_taken.new.names c.bring_own_words.new.names c.in_ok-first.first c.in_ok-behind.behind (of_words first) (of_words behind) c.in_ok-first.ensures c.in_ok-behind.ensures) c.in_ok-symbols.ensures))
+    (bring-both false old c.bring_own_words.new.names new (c.in_ok-first.first || c.in_ok-behind.behind) c.in_ok-symbols.symbols (of_words first ++ of_words behind) symbols
+    (bring-both false old c.bring_taken.new.names c.bring_own_words.new.names c.in_ok-first.first c.in_ok-behind.behind (of_words first) (of_words behind) c.in_ok-first.ensures c.in_ok-behind.ensures) c.in_ok-symbols.ensures))

@@ -1,4 +1,4 @@
-use Rattle.std.proofs.Common.{◌+◌, ap, drop, subst, sym}
+use Rattle.std.proofs.Common.{◌+◌, ap, drop, false, subst, sym}
 use Rattle.module_model.specs.Exports.{of_words}
 use Rattle.tla_model.specs.Tables.{Word}
 use Rattle.name_exports.specs.Brought.{IsBringing}
@@ -14,7 +14,7 @@ loop-index-preserved c =
     let meaning = c.in-Some.meaning.now in
     let rest = of_words (drop (i + 1) words) in
     let all = of_words (drop c.args.first words) in
-    subst (λ clash. IsBringing c.args.names.now c.bring.new.names clash rest all) (sym c.either-clash.ensures)
+    subst (λ clash. IsBringing false c.args.names.now c.bring.new.names clash rest all) (sym c.either-clash.ensures)
     (bring-at c.args.names.now c.loop-index.names c.bring.new.names c.loop-index.clash c.in_ok-clashes.clashes (Word word, meaning)
     (of_words (drop i words)) rest all
     (ap of_words (drop-at words i (word, meaning) (sym c.in-Some.ensures)))
