@@ -1,0 +1,3 @@
+mod Collecting
+mod Giving
+mod TreeWalk
