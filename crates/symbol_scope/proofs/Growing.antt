@@ -7,16 +7,16 @@ use Rattle.tla_symbols.specs.declared.lexeme.Lexeme.{Lexeme}
 use Rattle.tla_model.specs.declared.names.Binder.{Binder}
 use Rattle.tla_model.specs.Contexts.{Context}
 use Rattle.tla_model.specs.Entities.{Meaning, Text, meant, name_of}
-use Rattle.module_model.specs.Exports.{Exports, exports_of}
-use Rattle.module_model.specs.Modules.{Place, Reading, begun_in, behind_nested, brings, clashes, declare, declare_all, extended, extends_all, left, with_entry}
+use Rattle.module_model.specs.Exports.{Exports, Known, ModuleView, exports_of}
+use Rattle.module_model.specs.Instances.{nested_view}
+use Rattle.module_model.specs.Modules.{Reading, begun_in, behind_nested, brings, clashes, declare, declare_all, extended, extends_all, joined, left, with_entry}
 use Rattle.tla_model.specs.Tables.{Named, Word, Symbol, added, has, lookup, same_symbol}
 use Rattle.name_context.specs.declared.context.Mark.{Mark}
 use Rattle.symbol_scope.specs.declared.nesting.Outer.{Outer}
 use Rattle.name_context.specs.AsTables.{cut, mark_of}
 use Rattle.symbol_scope.specs.Readings.{Files}
-use Rattle.name_exports.specs.Brought.{ModuleNames, brought}
-use Rattle.symbol_scope.specs.EnclosingReadings.{AreRound, IsAt, IsOuter, outside_of}
-use Rattle.symbol_scope.specs.declared.nesting.Nesting.{Nesting}
+use Rattle.name_exports.specs.Brought.{ModuleNames}
+use Rattle.symbol_scope.specs.EnclosingReadings.{AreRound, IsOuter}
 
 pub record Grown {A : Type 0} (old new : List A) : Type 0 where
   pub more : List A
@@ -67,19 +67,20 @@ went-either : (b : Bool) (old one two : Reading) → Went old one → Went old t
 went-either true old one two first second = first
 went-either false old one two first second = second
 
-pub went-extended : (reading : Reading) (entries : Exports) → Went reading (extended reading entries)
-went-extended reading [] = waits reading
-went-extended reading (entry ∷ entries) =
-    went-on reading (brought reading entry) (extended (brought reading entry) entries)
-    (went-either (clashes reading.context entry) reading reading (with_entry false reading entry.0 entry.1) (waits reading) (went-entry false reading entry.0 entry.1))
-    (went-extended (brought reading entry) entries)
+pub went-joined : (local : Bool) (reading : Reading) (entries : Exports) → Went reading (joined local reading entries)
+went-joined local reading [] = waits reading
+went-joined local reading (entry ∷ entries) =
+    let next : Reading = cond (clashes reading.context entry) reading (with_entry local reading entry.0 entry.1) in
+    went-on reading next (joined local next entries)
+    (went-either (clashes reading.context entry) reading reading (with_entry local reading entry.0 entry.1) (waits reading) (went-entry local reading entry.0 entry.1))
+    (went-joined local next entries)
 
 module _ (text : Text) (files : Files) where
   pub went-extends : (reading : Reading) (names : List Lexeme) → Went reading (extends_all text files reading names)
   went-extends reading [] = waits reading
   went-extends reading (l ∷ names) =
       went-on reading (extended reading (brings text files reading l)) (extends_all text files (extended reading (brings text files reading l)) names)
-      (went-extended reading (brings text files reading l)) (went-extends (extended reading (brings text files reading l)) names)
+      (went-joined false reading (brings text files reading l)) (went-extends (extended reading (brings text files reading l)) names)
 
 module _ (text : Text) where
   went-declared : (local : Bool) (reading : Reading) (binder : Binder) → Went reading (declare text local reading binder)
@@ -131,21 +132,16 @@ outer-begun reading title outer named shown marked counted =
     })
 
 -- and where one ends
-pub round-behind : (inner reading : Reading) (outers : List Outer) (round : List Reading) → AreRound reading.context reading.modules outers round → AreRound (behind_nested inner reading).context (behind_nested inner reading).modules outers round
-round-behind inner reading outers round are =
-    round-grown reading.context reading.context reading.modules (behind_nested inner reading).modules outers round (stays reading.context.words) (stays reading.context.symbols) (grown-added bytes_eq reading.modules inner.name (Some (exports_of inner.exports))) are
+pub round-behind : (known : Known) (inner reading : Reading) (outers : List Outer) (round : List Reading) → AreRound reading.context reading.modules outers round →
+    AreRound (behind_nested known inner reading).context (behind_nested known inner reading).modules outers round
+round-behind known inner reading outers round are =
+    let view : ModuleView = nested_view known reading.context (exports_of inner.exports) in
+    round-grown reading.context reading.context reading.modules (behind_nested known inner reading).modules outers round (stays reading.context.words) (stays reading.context.symbols) (grown-added bytes_eq reading.modules inner.name (Some view)) are
 
 pub last-first : (outers rest : List Outer) (outer : Outer) → outers ≡ rest ++ outer ∷ [] → reverse outers ≡ outer ∷ reverse rest
 last-first outers rest outer is = ap (λ z. reverse z) is ∙ reverse-append rest (outer ∷ [])
 
-pub outside-some : (here : Reading) (round : List Reading) (outer : Outer) (rest : List Outer) (now : Reading) → AreRound here.context here.modules (outer ∷ rest) round →
-    ((reading : Reading) → IsOuter here.context here.modules outer reading → now ≡ behind_nested here reading) → (now ≡ (left here round).here) × AreRound (left here round).here.context (left here round).here.modules rest (left here round).round
-outside-some here [] outer rest now are leaves = absurd are
-outside-some here (reading ∷ round) outer rest now are leaves = (leaves reading are.0, round-behind here reading rest round are.1)
-
-outside-none : (here : Reading) (round : List Reading) → AreRound here.context here.modules [] round → record { here = here; round = round } ≡ left here round
-outside-none here [] are = refl
-outside-none here (reading ∷ round) are = absurd are
-
-pub stays-outside : (read : Nesting) (place : Place) → reverse read.round.items ≡ [] → IsAt read place → IsAt read (outside_of place)
-stays-outside read place none at = subst (IsAt read) (outside-none place.here place.round (subst (λ z. AreRound place.here.context place.here.modules z place.round) none at.outside)) at
+pub outside-some : (known : Known) (here : Reading) (round : List Reading) (outer : Outer) (rest : List Outer) (now : Reading) → AreRound here.context here.modules (outer ∷ rest) round →
+    ((reading : Reading) → IsOuter here.context here.modules outer reading → now ≡ behind_nested known here reading) → (now ≡ (left known here round).here) × AreRound (left known here round).here.context (left known here round).here.modules rest (left known here round).round
+outside-some known here [] outer rest now are leaves = absurd are
+outside-some known here (reading ∷ round) outer rest now are leaves = (leaves reading are.0, round-behind known here reading rest round are.1)

@@ -2,4 +2,6 @@ mod Growing
 mod Taking
 mod Lexemes
 mod Onward
-pub mod Plainness
+mod UnitParts
+mod Wholes
+mod Faces

@@ -1,6 +1,5 @@
-pub mod Readings
 pub mod Modules
+pub mod Readings
 pub mod EnclosingReadings
-pub mod Plain
-pub mod WithoutInstances
+pub mod Steps
 pub mod Exporting

@@ -1,9 +1,10 @@
-//! What the names of a module stand for, and what the module exports.
+//! What the names of a module stand for, and what the module is to those that name it.
 //!
 //! Answers both over the modules that it names. Knows nothing of where those come from, and of which of
 //! them are refused.
 #![tactic(auto)]
 
+mod declaring;
 mod nesting;
 mod reading;
 mod resolution;

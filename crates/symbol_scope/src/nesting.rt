@@ -1,97 +1,64 @@
 // Nested modules. The one that is read has all names of those round it, which stand before its own.
 ghost use Rattle.std.specs.Prelude.{◌≡◌, ◌∷◌, [], IfOk, OnOk};
-ghost use Rattle.module_model.specs.Modules.{Place, Reading as Read, begun_in, behind_nested};
-ghost use Rattle.symbol_scope.specs.Modules.{reading_of};
-ghost use Rattle.symbol_scope.specs.EnclosingReadings.{IsAt, IsOuter, IsUnread, outside_of};
+ghost use Rattle.instance_scope.specs.Scoped.{IsSound, known_of};
+ghost use Rattle.module_model.specs.Exports.{none_known};
+ghost use Rattle.module_model.specs.Modules as in_modules;
+ghost use Rattle.module_model.specs.Resolution.{ReadState};
+ghost use Rattle.symbol_scope.specs.EnclosingReadings.{IsAt, IsSomewhere};
+ghost use Rattle.symbol_scope.specs.Readings.{Over, over_of};
+ghost use Rattle.symbol_scope.specs.Steps.{Leads, ended, entered, unread_state};
+ghost use Rattle.tla_model.specs.Entities.{Text};
 
-use crate::reading::Reading;
+use crate::reading::{Inner, Reading};
+use instance_scope::Scope;
 use name_context::Mark;
 use name_exports::Exported;
 use std::alloc::Global;
-use std::mem;
 use tool_list::Memory;
 use tree_scope::ModuleText;
 
 /// A module round the one that is read.
 #[derive(Drop)]
 pub struct Outer<'a> {
-    name: &'a str,
-    exports: Exported<'a>,
-    // How many names and module names stand there.
-    mark: Mark,
-    modules: usize,
+    pub name: &'a str,
+    pub exports: Exported<'a>,
+    /// How many names and module names stand there.
+    pub mark: Mark,
+    pub modules: usize,
 }
 
-/// The module that is read, and those round it.
+/// The module that is read, those round it, and what is known of modules and instances.
 #[derive(Drop)]
 pub struct Nesting<'a> {
     pub here: Reading<'a>,
     // The innermost one is the last.
     pub round: Vec<Outer<'a>>,
-}
-
-impl<'a> Reading<'a> {
-    // Goes into a nested module.
-    fn enter(&mut self, alloc: Global, name: &'a str) -> Result<Outer<'a>, Memory>
-        ensures reading { OnOk result (reading_of self.new
-            ≡ begun_in (reading_of self.old) name.now) }
-        ensures outer { IfOk result
-            (λ outer. IsOuter (begun_in (reading_of self.old) name.now).context
-            (begun_in (reading_of self.old) name.now).modules outer (reading_of self.old)) }
-    {
-        let mark = self.names.context.mark()?;
-        let modules = self.modules.len();
-        self.modules.add(name, None)?;
-        let exports = mem::replace(&mut self.names.exports, Exported::new(alloc));
-        let outer = Outer {
-            name: self.name,
-            exports,
-            mark,
-            modules,
-        };
-        self.name = name;
-        Ok(outer)
-    }
-
-    // Goes out of a nested module.
-    fn leave(&mut self, outer: Outer<'a>) -> Result<(), Memory>
-        ensures { OnOk result ((reading : Read)
-            → IsOuter (reading_of self.old).context (reading_of self.old).modules outer.entry
-            reading → reading_of self.new ≡ behind_nested (reading_of self.old) reading) }
-    {
-        let Outer {
-            name,
-            exports,
-            mark,
-            modules,
-        } = outer;
-        let inner = mem::replace(&mut self.names.exports, exports);
-        let title = mem::replace(&mut self.name, name);
-        self.names.context.cut(mark);
-        self.modules.truncate(modules);
-        self.modules.add(title, Some(inner))?;
-        Ok(())
-    }
+    pub scope: Scope<'a>,
 }
 
 impl<'a> Nesting<'a> {
-    /// A module that is in no other one, before all names.
-    pub fn new(alloc: Global, text: &ModuleText<'a>) -> Nesting<'a>
-        ensures { IsUnread result text.now.file }
+    /// The module of a text, which is in no other one, before what it extends.
+    pub fn new(
+        alloc: Global,
+        text: &ModuleText<'a>,
+        scope: Scope<'a>,
+    ) -> Result<Nesting<'a>, Memory>
+        requires sound { IsSound scope }
+        requires title { scope.title.now ≡ text.now.file }
+        requires known { known_of scope ≡ none_known }
+        ensures { IfOk result
+            (λ nesting. IsAt text.now (over_of scope.entry) nesting (unread_state text.now)) }
     {
-        Nesting {
-            here: Reading::new(alloc, text),
+        Ok(Nesting {
+            here: Reading::new(alloc, text)?,
             round: Vec::new(alloc),
-        }
+            scope,
+        })
     }
 
     /// Goes into a nested module.
     pub fn begin(&mut self, alloc: Global, name: &'a str) -> Result<(), Memory>
-        ensures reading { OnOk result (reading_of self.new.here
-            ≡ begun_in (reading_of self.old.here) name.now) }
-        ensures place { OnOk result ((place : Place) → IsAt self.old place
-            → IsAt self.new
-            (record { here = begun_in place.here name.now; round = place.here ∷ place.round })) }
+        ensures { OnOk result ((text : Text) → Leads text (entered name.now) self.old self.new) }
     {
         let outer = self.here.enter(alloc, name)?;
         self.round.push(outer)?;
@@ -99,14 +66,16 @@ impl<'a> Nesting<'a> {
     }
 
     /// Goes out of a nested module, which can then be named unless its name is taken.
-    pub fn end(&mut self) -> Result<(), Memory>
-        ensures { OnOk result ((place : Place) → IsAt self.old place
-            → IsAt self.new (outside_of place)) }
+    pub fn end(&mut self, alloc: Global, text: &ModuleText<'a>) -> Result<(), Memory>
+        requires { IsSomewhere text.now self.old }
+        ensures { OnOk result (Leads text.now ended self.old self.new) }
     {
         let Some(outer) = self.round.pop() else {
             return Ok(());
         };
-        self.here.leave(outer)?;
+        let Inner { name, exports } = self.here.leave(outer);
+        let number = self.scope.end(alloc, exports, &self.here.names.context)?;
+        self.here.modules.add(name, Some(number))?;
         Ok(())
     }
 }

@@ -1,141 +1,96 @@
 // A module that is read.
-ghost use Rattle.std.specs.Prelude.{◌≡◌, ◌<◌, length, false, ◌++◌, IfOk, OnOk};
+ghost use Rattle.std.specs.Prelude.{◌≡◌, ◌<◌, ℕ, List as ListOf, [], ◌++◌, ◌∷◌, IfOk, OnOk, if◌then◌else◌, length};
 ghost use Rattle.std.specs.List.{AllByRecursion};
-ghost use Rattle.tla_tree.specs.Arena.{tree_at};
-ghost use Rattle.tla_model.specs.Contexts.{built_in};
-ghost use Rattle.tla_model.specs.Contexts as contexts;
-ghost use Rattle.symbol_scope.specs.WithoutInstances.{files_of};
-ghost use Rattle.tla_model.specs.Lexemes.{LiesIn, lexemes};
-ghost use Rattle.tla_model.specs.Scopes as scopes;
+ghost use Rattle.instance_scope.specs.Leading.{AreNumbered};
+ghost use Rattle.instance_scope.specs.Scoped.{IsSame, IsSound, around_in, known_of, module_in};
+ghost use Rattle.instance_scope.specs.declared.scope.Ended.{Ended};
+ghost use Rattle.module_model.specs.Exports.{and_known};
 ghost use Rattle.module_model.specs.Modules as in_modules;
-ghost use Rattle.tla_model.specs.Tables as tables;
-ghost use Rattle.name_context.specs.AsTables.{context_of};
-ghost use Rattle.declared_names.specs.Listed.{listed};
-ghost use Rattle.tree_scope.specs.Lying.{BindersLie};
+ghost use Rattle.module_model.specs.NamedModules.{known_from_all};
+ghost use Rattle.symbol_scope.specs.EnclosingReadings.{AreEnded, IsEntered, IsLeft};
+ghost use Rattle.symbol_scope.specs.Modules.{reading_in, reading_of};
 ghost use Rattle.symbol_scope.specs.Readings as readings;
-ghost use Rattle.name_exports.specs.Brought.{IsBrought};
-ghost use Rattle.module_scope.specs.Environments.{meaning};
-ghost use Rattle.symbol_scope.specs.Readings.{modules_of};
-ghost use Rattle.symbol_scope.specs.Modules.{reading_of};
+ghost use Rattle.symbol_scope.specs.Readings.{files_in};
+ghost use Rattle.module_model.specs.TreeFindings as in_trees;
+ghost use Rattle.name_context.specs.AsTables.{context_of};
+ghost use Rattle.tla_model.specs.Lexemes.{LiesIn, lexemes};
+ghost use Rattle.tla_model.specs.declared.names.Finding.TheVariants.{Taken};
+ghost use Rattle.tla_tree.specs.Arena.{tree_at};
 
-use declared_names::defined;
-use module_model::Imported;
+use crate::declaring::put_built_in;
+use crate::nesting::Outer;
+use instance_scope::{Numbers, Scope};
 use module_scope::Modules;
-use name_context::{Context, Named};
-use name_exports::{Exported, Names, bring_import, bring_nested};
+use name_context::Context;
+use name_exports::{Exported, Names};
 use std::alloc::Global;
-use tla_model::{Binder, Finding, Meaning, NameTable};
+use std::mem;
+use tla_model::Finding;
 use tla_symbols::Lexeme;
 use tla_tree::Tree;
 use tool_list::{List, Memory};
-use tree_scope::{ModuleText, refuse};
-
-/// Module names that are taken, and what those export that can be named.
-pub type Taken<'a> = Modules<'a, Exported<'a>>;
+use tree_scope::ModuleText;
 
 /// A module that is read.
 #[derive(Drop)]
 pub struct Reading<'a> {
     pub name: &'a str,
     pub names: Names<'a>,
-    pub modules: Taken<'a>,
+    pub modules: Numbers<'a>,
 }
 
-// Puts the built-in words.
-fn put_built_in(context: &mut Context<'_>) -> Result<(), Memory>
-    requires { context_of context.old ≡ tables.empty }
-    ensures { OnOk result (context_of context.new ≡ built_in) }
-{
-    context.put(Named::Word("TRUE"), Some(Meaning::BuiltIn))?;
-    context.put(Named::Word("FALSE"), Some(Meaning::BuiltIn))?;
-    context.put(Named::Word("BOOLEAN"), Some(Meaning::BuiltIn))?;
-    context.put(Named::Word("STRING"), Some(Meaning::BuiltIn))?;
-    Ok(())
-}
-
-// Puts the names that the module of a name brings, and answers whether one of them clashes.
-fn bring<'a>(
-    alloc: Global,
-    names: &mut Names<'a>,
-    modules: &Taken<'a>,
-    imported: &'a Imported,
-    name: &str,
-) -> Result<bool, Memory>
-    ensures { IfOk result
-        (λ clash. IsBrought names.old names.new clash
-        (in_modules.exports_under (files_of imported.now)
-        (meaning (modules_of modules.now) name.now) name.now)) }
-{
-    match modules.meaning(name) {
-        Some(Some(exports)) => {
-            let clash = bring_nested(alloc, names, exports)?;
-            Ok(clash)
-        }
-        Some(None) => Ok(false),
-        None => {
-            let clash = bring_import(alloc, names, imported.get(name))?;
-            Ok(clash)
-        }
-    }
-}
-
-// The name that the tree below a node defines.
-fn definition(alloc: Global, tree: &Tree, node: u32) -> Result<Option<Binder>, Memory>
-    requires { node < length tree.now }
-    ensures { IfOk result (λ found. listed found ≡ scopes.definition (tree_at tree.now node)) }
-{
-    let found = defined(alloc, tree, node, tree.children(node))?;
-    Ok(found)
+/// A nested module that was read: its name, and what it exports.
+#[derive(Drop)]
+pub struct Inner<'a> {
+    pub name: &'a str,
+    pub exports: Exported<'a>,
 }
 
 impl<'a> Reading<'a> {
-    /// A module before all names.
-    pub fn new(alloc: Global, text: &ModuleText<'a>) -> Reading<'a>
-        ensures { reading_of result ≡ readings.without_names text.now.file }
+    /// The module of a text before what it extends: the built-in words are there, and its own name
+    /// among those of modules.
+    pub fn new(alloc: Global, text: &ModuleText<'a>) -> Result<Reading<'a>, Memory>
+        ensures reading { IfOk result (λ reading. (nested : ListOf Ended)
+            → reading_in nested reading ≡ in_modules.unread text.now) }
+        ensures numbered { IfOk result
+            (λ reading. (count : ℕ) → AreEnded count reading.modules) }
     {
-        Reading {
+        let mut context = Context::new(alloc);
+        put_built_in(&mut context)?;
+        let mut modules = Modules::new(alloc);
+        modules.add(text.file(), None)?;
+        Ok(Reading {
             name: text.file(),
             names: Names {
-                context: Context::new(alloc),
+                context,
                 exports: Exported::new(alloc),
             },
-            modules: Modules::new(alloc),
-        }
-    }
-
-    /// Puts the names that are there before what the module extends: the built-in words, and its own
-    /// name among those of modules.
-    pub fn put_first(&mut self, text: &ModuleText<'a>) -> Result<(), Memory>
-        requires { reading_of self.old ≡ readings.without_names text.now.file }
-        ensures { OnOk result (reading_of self.new ≡ in_modules.unread text.now) }
-    {
-        put_built_in(&mut self.names.context)?;
-        self.modules.add(self.name, None)?;
-        Ok(())
+            modules,
+        })
     }
 
     // Extends a module, and finds fault with one that clashes.
     fn extend(
         &mut self,
         alloc: Global,
+        scope: &Scope<'a>,
         text: &ModuleText<'a>,
-        imported: &'a Imported,
         name: Lexeme,
         findings: &mut List<Finding>,
     ) -> Result<(), Memory>
         requires { LiesIn text.now.source name }
-        ensures reading { OnOk result (reading_of self.new
-            ≡ in_modules.extended (reading_of self.old)
-            (in_modules.brings text.now (files_of imported.now) (reading_of self.old) name)) }
+        ensures modules { OnOk result (self.new.modules ≡ self.old.modules) }
+        ensures reading { OnOk result (reading_of scope.now self.new
+            ≡ in_modules.extended (reading_of scope.now self.old)
+            (in_modules.brings text.now (files_in scope.now) (reading_of scope.now self.old) name)) }
         ensures findings { OnOk result (findings.new
-            ≡ findings.old ++ readings.clash_at text.now (files_of imported.now)
-            (reading_of self.old) name) }
+            ≡ findings.old ++ readings.clash_at text.now (files_in scope.now)
+            (reading_of scope.now self.old) name) }
     {
-        let clash = bring(
+        let clash = scope.bring_extended(
             alloc,
-            &mut self.names,
             &self.modules,
-            imported,
+            &mut self.names,
             text.spelled(name),
         )?;
         if clash {
@@ -148,104 +103,175 @@ impl<'a> Reading<'a> {
     pub fn extend_all(
         &mut self,
         alloc: Global,
+        scope: &Scope<'a>,
         text: &ModuleText<'a>,
-        imported: &'a Imported,
         names: &[Lexeme],
         findings: &mut List<Finding>,
     ) -> Result<(), Memory>
         requires { AllByRecursion (LiesIn text.now.source) names.now }
-        ensures reading { OnOk result (reading_of self.new
-            ≡ in_modules.extends_all text.now (files_of imported.now)
-            (reading_of self.old) names.now) }
+        ensures modules { OnOk result (self.new.modules ≡ self.old.modules) }
+        ensures reading { OnOk result (reading_of scope.now self.new
+            ≡ in_modules.extends_all text.now (files_in scope.now)
+            (reading_of scope.now self.old) names.now) }
         ensures findings { OnOk result (findings.new
-            ≡ findings.old ++ in_modules.all_clashing text.now (files_of imported.now)
-            (reading_of self.old) names.now) }
+            ≡ findings.old ++ in_modules.all_clashing text.now (files_in scope.now)
+            (reading_of scope.now self.old) names.now) }
     {
         for name in names {
-            self.extend(alloc, text, imported, *name, findings)?;
+            self.extend(alloc, scope, text, *name, findings)?;
         }
         Ok(())
     }
 
-    /// Declares a name, unless it is there.
-    pub fn declare(
+    /// Finds the names in the tree below a node.
+    pub fn walk(
         &mut self,
         alloc: Global,
+        scope: &Scope<'a>,
         text: &ModuleText<'a>,
-        local: bool,
-        binder: Binder,
-    ) -> Result<(), Memory>
-        requires { LiesIn text.now.source binder.name }
-        ensures reading { OnOk result (reading_of self.new
-            ≡ in_modules.declare text.now local (reading_of self.old) binder) }
-        ensures context { OnOk result (context_of self.new.names.context
-            ≡ contexts.bind text.now (context_of self.old.names.context) binder) }
-    {
-        let name = text.name_of(binder.name);
-        if self.names.context.get(name).is_some() {
-            return Ok(());
-        }
-        let meaning = text.meaning(alloc, binder)?;
-        self.names.put(alloc, local, name, meaning)?;
-        Ok(())
-    }
-
-    /// Declares names that may be exported, one after another, and finds fault with those that are
-    /// taken.
-    pub fn declare_all(
-        &mut self,
-        alloc: Global,
-        text: &ModuleText<'a>,
-        binders: List<Binder>,
-        findings: &mut List<Finding>,
-    ) -> Result<(), Memory>
-        requires { BindersLie text.now.source binders }
-        ensures reading { OnOk result (reading_of self.new
-            ≡ in_modules.declare_all text.now false (reading_of self.old) binders) }
-        ensures findings { OnOk result (findings.new
-            ≡ findings.old ++ scopes.all_refused text.now (context_of self.old.names.context)
-            binders) }
-    {
-        for binder in binders.into_vec() {
-            refuse(text, &self.names.context, binder.name, findings)?;
-            self.declare(alloc, text, false, binder)?;
-        }
-        Ok(())
-    }
-
-    /// Declares the name that a node defines.
-    pub fn define(
-        &mut self,
-        alloc: Global,
-        text: &ModuleText<'a>,
-        local: bool,
         tree: &Tree,
         node: u32,
+        findings: &mut List<Finding>,
     ) -> Result<(), Memory>
-        requires node { node < length tree.now }
+        requires there { node < length tree.now }
         requires lie { AllByRecursion (LiesIn text.now.source) (lexemes (tree_at tree.now node)) }
-        ensures { OnOk result (reading_of self.new
-            ≡ in_modules.declare_all text.now local (reading_of self.old)
-            (scopes.definition (tree_at tree.now node))) }
+        ensures modules { OnOk result (self.new.modules ≡ self.old.modules) }
+        ensures reading { OnOk result
+            (reading_of scope.now self.new ≡ reading_of scope.now self.old) }
+        ensures findings { OnOk result (findings.new ≡ findings.old
+            ++ in_trees.walk text.now (around_in scope.now self.old.modules)
+            (context_of self.old.names.context) (tree_at tree.now node)) }
     {
-        if let Some(binder) = definition(alloc, tree, node)? {
-            self.declare(alloc, text, local, binder)?;
+        scope.walk(
+            alloc,
+            text,
+            &self.modules,
+            tree,
+            node,
+            &mut self.names.context,
+            findings,
+        )?;
+        Ok(())
+    }
+
+    /// Puts the names that an INSTANCE without a name brings, whose module's name this is, and finds
+    /// fault where one of them clashes.
+    pub fn join(
+        &mut self,
+        alloc: Global,
+        scope: &Scope<'a>,
+        text: &ModuleText<'a>,
+        local: bool,
+        module: Lexeme,
+        findings: &mut List<Finding>,
+    ) -> Result<(), Memory>
+        requires { LiesIn text.now.source «module» }
+        ensures modules { OnOk result (self.new.modules ≡ self.old.modules) }
+        ensures reading { OnOk result (reading_of scope.now self.new
+            ≡ in_modules.joined local (reading_of scope.now self.old)
+            (readings.instance_at text.now scope.now self.old.modules «module»)) }
+        ensures findings { OnOk result (findings.new ≡ findings.old
+            ++ readings.instance_clash (reading_of scope.now self.old)
+            (readings.instance_at text.now scope.now self.old.modules «module») «module») }
+    {
+        let clash = scope.bring_instance(
+            alloc,
+            text,
+            &self.modules,
+            &mut self.names,
+            local,
+            module,
+        )?;
+        if clash {
+            findings.push(Finding::InstanceClashes { at: module })?;
         }
         Ok(())
     }
 
-    /// What the module exports so far.
-    pub fn exported(&self, alloc: Global) -> Result<NameTable, Memory>
-        ensures { IfOk result (λ table. table ≡ (reading_of self.now).exports) }
-    {
-        self.names.exports.listed(alloc)
-    }
-
-    /// Whether a module name is taken.
-    pub fn is_named(&self, text: &ModuleText<'a>, name: Lexeme) -> bool
+    // Whether a module name is taken.
+    fn is_named(&self, text: &ModuleText<'a>, name: Lexeme) -> bool
         requires { LiesIn text.now.source name }
-        ensures { result ≡ in_modules.is_named text.now (reading_of self.now) name }
+        ensures { (nested : ListOf Ended)
+            → result ≡ in_modules.is_named text.now (reading_in nested self.now) name }
     {
         self.modules.is_taken(text.spelled(name))
     }
+
+    /// Finds fault with the name of a nested module where it is taken.
+    pub fn refuse_module(
+        &self,
+        text: &ModuleText<'a>,
+        name: Lexeme,
+        findings: &mut List<Finding>,
+    ) -> Result<(), Memory>
+        requires { LiesIn text.now.source name }
+        ensures { OnOk result ((nested : ListOf Ended) → findings.new
+            ≡ findings.old ++ (if in_modules.is_named text.now (reading_in nested self.now) name
+            then Taken name ∷ [] else [])) }
+    {
+        if self.is_named(text, name) {
+            findings.push(Finding::Taken { at: name })?;
+        }
+        Ok(())
+    }
+
+    /// Goes into a nested module.
+    pub fn enter(&mut self, alloc: Global, name: &'a str) -> Result<Outer<'a>, Memory>
+        ensures { IfOk result (λ outer. IsEntered name.now self.old self.new outer) }
+    {
+        let mark = self.names.context.mark()?;
+        let modules = self.modules.len();
+        self.modules.add(name, None)?;
+        let exports = mem::replace(&mut self.names.exports, Exported::new(alloc));
+        let outer = Outer {
+            name: self.name,
+            exports,
+            mark,
+            modules,
+        };
+        self.name = name;
+        Ok(outer)
+    }
+
+    /// Goes out of a nested module, to the one round it, and answers the nested one.
+    pub fn leave(&mut self, outer: Outer<'a>) -> Inner<'a>
+        ensures left { IsLeft outer.entry self.old self.new }
+        ensures name { result.name.now ≡ self.old.name.now }
+        ensures exports { result.exports ≡ self.old.names.exports }
+    {
+        let Outer {
+            name,
+            exports,
+            mark,
+            modules,
+        } = outer;
+        let exports = mem::replace(&mut self.names.exports, exports);
+        let name = mem::replace(&mut self.name, name);
+        self.names.context.cut(mark);
+        self.modules.truncate(modules);
+        Inner { name, exports }
+    }
+}
+
+/// Notes where the instances lead that these modules export, which are extended.
+pub fn note_all<'a>(
+    alloc: Global,
+    scope: &mut Scope<'a>,
+    text: &ModuleText<'a>,
+    modules: &Numbers<'a>,
+    names: &[Lexeme],
+) -> Result<(), Memory>
+    requires lie { AllByRecursion (LiesIn text.now.source) names.now }
+    requires sound { IsSound scope.old }
+    requires numbered { AreNumbered (length scope.old.nested.items) modules.now }
+    ensures sound { OnOk result (IsSound scope.new) }
+    ensures same { OnOk result (IsSame scope.old scope.new) }
+    ensures known { OnOk result (known_of scope.new
+        ≡ and_known (known_of scope.old)
+        (known_from_all text.now (module_in scope.old modules.now) names.now)) }
+{
+    for name in names {
+        scope.note_exported(alloc, modules, text.spelled(*name))?;
+    }
+    Ok(())
 }

@@ -1,31 +1,33 @@
-// What the names of a module mean, and what it exports.
+// What the names of a module mean, and what it is to those that name it.
 ghost use Rattle.std.specs.Prelude.{◌≡◌, ◌++◌, ◌∷◌, [], IfOk, OnOk};
+ghost use Rattle.instance_scope.specs.Scoped.{IsSound, known_of};
 ghost use Rattle.module_model.specs.Bindings as bindings;
-ghost use Rattle.module_model.specs.Bindings.{IsBound, IsBoundBy};
-ghost use Rattle.tla_model.specs.Entities as entities;
-ghost use Rattle.module_model.specs.Exports.{exports_of};
-ghost use Rattle.symbol_scope.specs.WithoutInstances.{files_of};
-ghost use Rattle.tla_model.specs.Lexemes.{LexemesLie};
+ghost use Rattle.module_model.specs.Bindings.{IsBound};
+ghost use Rattle.module_model.specs.Exports.{files_of, none_known};
+ghost use Rattle.module_model.specs.Given.{AreFaces, IsReadable};
 ghost use Rattle.module_model.specs.Modules as in_modules;
-ghost use Rattle.symbol_scope.specs.WithoutInstances as plain;
-ghost use Rattle.module_model.specs.Resolution.{exports_in};
-ghost use Rattle.module_model.specs.Exports as imports;
-ghost use Rattle.unit_grammar.specs.UnitNodes.{HasNodes, module_of};
-ghost use Rattle.symbol_scope.specs.Exporting.{AreExported};
-ghost use Rattle.module_model.specs.Given.{IsReadable, IsWithoutInstances};
-ghost use Rattle.symbol_scope.specs.Modules.{reading_of};
-ghost use Rattle.symbol_scope.specs.EnclosingReadings.{IsUnread};
+ghost use Rattle.module_model.specs.Resolution as in_resolution;
+ghost use Rattle.module_model.specs.Resolution.{ReadState};
 ghost use Rattle.sorted_findings.specs.Sorting.{IsNothing, IsSorted};
+ghost use Rattle.symbol_scope.specs.EnclosingReadings.{IsAt, IsSomewhere};
+ghost use Rattle.symbol_scope.specs.Exporting.{IsFaceOf, IsFaceUnless, IsShown};
+ghost use Rattle.symbol_scope.specs.Readings.{Over, over_of};
+ghost use Rattle.symbol_scope.specs.Steps.{IsLast, IsUnread, outside_at, over_for};
+ghost use Rattle.tla_model.specs.Entities as entities;
+ghost use Rattle.tla_model.specs.Lexemes.{LexemesLie, spelled as spelled_in};
+ghost use Rattle.unit_grammar.specs.UnitNodes.{HasNodes, module_of};
 
 use crate::nesting::Nesting;
-use crate::reading::Reading;
 use declared_names::declaring;
-use module_model::{Bound, Imported};
+use instance_names::{instance_words, path_starts};
+use instance_scope::Scope;
+use module_model::{Bound, Face, Imported};
 use sorted_findings::{nothing, order, sort_out};
 use std::alloc::Global;
-use tla_model::{Binder, Decl, Diagnostic, Finding, NameTable, spelled};
+use std::sync::Arc;
+use tla_model::{Binder, Decl, Diagnostic, Finding, spelled};
 use tla_tree::ModuleTree;
-use tool_list::{List, Memory};
+use tool_list::{Chars, List, Memory};
 use tree_scope::ModuleText;
 
 // The text of a module, by the names that it declares.
@@ -43,115 +45,180 @@ fn text_of<'a>(
     ModuleText::new(alloc, file, source, names)
 }
 
-// Reads a module that has no names yet, and answers what is found in it.
+// What is known of modules and instances before a text is read.
+fn scope_of<'a>(
+    alloc: Global,
+    text: &ModuleText<'a>,
+    tree: &'a ModuleTree,
+    imported: &'a Imported,
+) -> Result<Scope<'a>, Memory>
+    requires nodes { HasNodes tree.now }
+    requires faces { AreFaces imported.now text.now.file }
+    ensures sound { IfOk result (λ scope. IsSound scope) }
+    ensures known { IfOk result (λ scope. known_of scope ≡ none_known) }
+    ensures title { IfOk result (λ scope. scope.title.now ≡ text.now.file) }
+    ensures over { IfOk result
+        (λ scope. over_of scope ≡ over_for imported.now (module_of tree.now)) }
+{
+    let words = instance_words(alloc, tree)?;
+    let paths = path_starts(alloc, tree)?;
+    Ok(Scope::new(alloc, text.file(), imported, words, paths))
+}
+
+// A module before what it extends.
+fn unread<'a>(
+    alloc: Global,
+    text: &ModuleText<'a>,
+    tree: &'a ModuleTree,
+    imported: &'a Imported,
+) -> Result<Nesting<'a>, Memory>
+    requires nodes { HasNodes tree.now }
+    requires faces { AreFaces imported.now text.now.file }
+    ensures { IfOk result
+        (λ nesting. IsUnread text.now imported.now (module_of tree.now) nesting) }
+{
+    let scope = scope_of(alloc, text, tree, imported)?;
+    Nesting::new(alloc, text, scope)
+}
+
+// Reads a module, and answers what is found in it.
 fn found_in<'a>(
     alloc: Global,
     text: &ModuleText<'a>,
     tree: &'a ModuleTree,
-    imported: &'a Imported,
     nesting: &mut Nesting<'a>,
 ) -> Result<List<Finding>, Memory>
     requires nodes { HasNodes tree.now }
     requires lie { LexemesLie text.now.source (module_of tree.now) }
-    requires unread { IsUnread nesting.old text.now.file }
-    ensures reading { OnOk result (reading_of nesting.new.here
-        ≡ plain.read_within text.now (files_of imported.now) (module_of tree.now)) }
+    requires text { text.now ≡ in_modules.text_of tree.now.source (module_of tree.now) }
+    requires unread { IsUnread text.now nesting.old.scope.imported.now (module_of tree.now)
+        nesting.old }
+    ensures state { OnOk result
+        (IsLast text.now nesting.old.scope.imported.now tree.now.source (module_of tree.now)
+        nesting.new) }
     ensures findings { IfOk result (λ findings. findings
-        ≡ plain.found_within text.now (files_of imported.now) (module_of tree.now)) }
+        ≡ in_resolution.findings (files_of nesting.old.scope.imported.now) tree.now.source
+        (module_of tree.now)) }
 {
     let mut findings = List::new(alloc);
-    nesting.read_module(alloc, text, imported, tree, &mut findings)?;
+    nesting.read_module(alloc, text, tree, &mut findings)?;
     Ok(findings)
 }
 
-// Reads a module that has no names yet, and puts what its names stand for and its faults into nothing.
+// Reads a module, and puts what its names stand for and its faults into nothing.
 fn bind_uses<'a>(
     alloc: Global,
     text: &ModuleText<'a>,
     tree: &'a ModuleTree,
-    imported: &'a Imported,
     nesting: &mut Nesting<'a>,
     bound: &mut Bound,
 ) -> Result<(), Memory>
     requires nodes { HasNodes tree.now }
     requires lie { LexemesLie text.now.source (module_of tree.now) }
-    requires unread { IsUnread nesting.old text.now.file }
+    requires text { text.now ≡ in_modules.text_of tree.now.source (module_of tree.now) }
+    requires unread { IsUnread text.now nesting.old.scope.imported.now (module_of tree.now)
+        nesting.old }
     requires nothing { IsNothing bound.old }
-    ensures reading { OnOk result (reading_of nesting.new.here
-        ≡ plain.read_within text.now (files_of imported.now) (module_of tree.now)) }
+    ensures state { OnOk result
+        (IsLast text.now nesting.old.scope.imported.now tree.now.source (module_of tree.now)
+        nesting.new) }
     ensures sorted { OnOk result
-        (IsSorted (plain.found_within text.now (files_of imported.now) (module_of tree.now))
-        bound.new) }
+        (IsSorted
+        (in_resolution.findings (files_of nesting.old.scope.imported.now) tree.now.source
+        (module_of tree.now)) bound.new) }
 {
-    let findings = found_in(alloc, text, tree, imported, nesting)?;
+    let findings = found_in(alloc, text, tree, nesting)?;
     sort_out(findings, bound)?;
     order(alloc, &mut bound.faults);
     Ok(())
 }
 
-// What a module that was read exports, unless it has faults.
-fn exported<'a>(
+// The face of a module that was read.
+fn face_of<'a>(alloc: Global, text: &ModuleText<'a>, nesting: &Nesting<'a>) -> Result<Face, Memory>
+    requires { IsSomewhere text.now nesting.now }
+    ensures { IfOk result (λ face. (over : Over) → (state : ReadState)
+        → IsAt text.now over nesting.now state
+        → IsFaceOf over.imports text.now.file (outside_at state) face) }
+{
+    let exports = nesting.here.names.exports.listed(alloc)?;
+    let parts = nesting.scope.reached(alloc, &exports)?;
+    Ok(Face {
+        module: Chars::from_str(alloc, text.file())?,
+        exports: Arc::new(alloc, exports)?,
+        parts,
+    })
+}
+
+// The face of a module that was read, unless it has faults.
+fn face_unless<'a>(
     alloc: Global,
-    reading: &Reading<'a>,
+    text: &ModuleText<'a>,
+    nesting: &Nesting<'a>,
     faults: &[Diagnostic],
-) -> Result<Option<NameTable>, Memory>
-    ensures { IfOk result (AreExported faults.now (exports_of (reading_of reading.now).exports)) }
+) -> Result<Option<Face>, Memory>
+    requires { IsSomewhere text.now nesting.now }
+    ensures { IfOk result (λ face. (over : Over) → (state : ReadState)
+        → IsAt text.now over nesting.now state
+        → IsFaceUnless faults.now over.imports text.now.file (outside_at state) face) }
 {
     if !faults.is_empty() {
         return Ok(None);
     }
-    let table = reading.exported(alloc)?;
-    Ok(Some(table))
+    let face = face_of(alloc, text, nesting)?;
+    Ok(Some(face))
 }
 
-// Reads a module that has no names yet, puts what its names stand for and its faults into nothing, and
-// answers what it exports, unless it has faults.
+// Reads a module, puts what its names stand for and its faults into nothing, and answers its face,
+// unless it has faults.
 fn bind_module<'a>(
     alloc: Global,
     text: &ModuleText<'a>,
     tree: &'a ModuleTree,
-    imported: &'a Imported,
     nesting: &mut Nesting<'a>,
     bound: &mut Bound,
-) -> Result<Option<NameTable>, Memory>
+) -> Result<Option<Face>, Memory>
     requires nodes { HasNodes tree.now }
     requires lie { LexemesLie text.now.source (module_of tree.now) }
-    requires unread { IsUnread nesting.old text.now.file }
+    requires text { text.now ≡ in_modules.text_of tree.now.source (module_of tree.now) }
+    requires unread { IsUnread text.now nesting.old.scope.imported.now (module_of tree.now)
+        nesting.old }
     requires nothing { IsNothing bound.old }
     ensures sorted { OnOk result
-        (IsSorted (plain.found_within text.now (files_of imported.now) (module_of tree.now))
-        bound.new) }
-    ensures exports { IfOk result
-        (AreExported bound.new.faults
-        (exports_of
-        (plain.read_within text.now (files_of imported.now) (module_of tree.now)).exports)) }
+        (IsSorted
+        (in_resolution.findings (files_of nesting.old.scope.imported.now) tree.now.source
+        (module_of tree.now)) bound.new) }
+    ensures face { IfOk result
+        (IsShown nesting.old.scope.imported.now tree.now.source (module_of tree.now)
+        bound.new.faults) }
 {
-    bind_uses(alloc, text, tree, imported, nesting, bound)?;
-    exported(alloc, &nesting.here, bound.faults.as_slice())
+    bind_uses(alloc, text, tree, nesting, bound)?;
+    let face = face_unless(alloc, text, nesting, bound.faults.as_slice())?;
+    Ok(face)
 }
 
-// Puts what the names of a text stand for and its faults into nothing, and answers what the module
-// exports, unless it has faults.
+// Puts what the names of a text stand for and its faults into nothing, and answers its face, unless it
+// has faults.
 fn bind_text<'a>(
     alloc: Global,
     text: &ModuleText<'a>,
     tree: &'a ModuleTree,
     imported: &'a Imported,
     bound: &mut Bound,
-) -> Result<Option<NameTable>, Memory>
+) -> Result<Option<Face>, Memory>
     requires nodes { HasNodes tree.now }
     requires lie { LexemesLie text.now.source (module_of tree.now) }
+    requires text { text.now ≡ in_modules.text_of tree.now.source (module_of tree.now) }
+    requires faces { AreFaces imported.now text.now.file }
     requires nothing { IsNothing bound.old }
     ensures sorted { OnOk result
-        (IsSorted (plain.found_within text.now (files_of imported.now) (module_of tree.now))
+        (IsSorted
+        (in_resolution.findings (files_of imported.now) tree.now.source (module_of tree.now))
         bound.new) }
-    ensures exports { IfOk result
-        (AreExported bound.new.faults
-        (exports_of
-        (plain.read_within text.now (files_of imported.now) (module_of tree.now)).exports)) }
+    ensures face { IfOk result
+        (IsShown imported.now tree.now.source (module_of tree.now) bound.new.faults) }
 {
-    let mut nesting = Nesting::new(alloc, text);
-    bind_module(alloc, text, tree, imported, &mut nesting, bound)
+    let mut nesting = unread(alloc, text, tree, imported)?;
+    bind_module(alloc, text, tree, &mut nesting, bound)
 }
 
 // Appends the declaration of a name.
@@ -187,52 +254,49 @@ fn push_declarations(
     Ok(())
 }
 
-// Puts what names stand for into nothing, and answers what the module exports, by what is said of
-// modules without INSTANCE.
+// Puts what names stand for into nothing, and answers the module's face, unless it has faults.
 fn bind(
     alloc: Global,
     tree: &ModuleTree,
     imported: &Imported,
     bound: &mut Bound,
-) -> Result<Option<NameTable>, Memory>
+) -> Result<Option<Face>, Memory>
     requires readable { IsReadable tree.now }
+    requires faces { AreFaces imported.now (spelled_in tree.now.source tree.now.name) }
     requires nothing { IsNothing bound.old }
     ensures bound { OnOk result
-        (IsBoundBy (plain.findings (files_of imported.now) tree.now.source (module_of tree.now))
-        tree.now.source (module_of tree.now) bound.new) }
-    ensures exports { IfOk result
-        (AreExported bound.new.faults (plain.exports_in (files_of imported.now) tree.now.source
-        (module_of tree.now))) }
+        (IsBound (files_of imported.now) tree.now.source (module_of tree.now) bound.new) }
+    ensures face { IfOk result
+        (IsShown imported.now tree.now.source (module_of tree.now) bound.new.faults) }
 {
     let names = declaring(alloc, tree)?;
     let text = text_of(alloc, tree, names.as_slice())?;
-    let exports = bind_text(alloc, &text, tree, imported, bound)?;
+    let face = bind_text(alloc, &text, tree, imported, bound)?;
     push_declarations(alloc, &text, names, &mut bound.decls)?;
-    Ok(exports)
+    Ok(face)
 }
 
-/// What the names of a module stand for, and what it exports.
+/// What the names of a module stand for, and what it is to those that name it.
 #[derive(Drop)]
 pub struct Resolved {
     pub bound: Bound,
-    /// What the module exports. It is there exactly where the module has no fault.
-    pub exports: Option<NameTable>,
+    /// What the module is to others. It is there exactly where the module has no fault.
+    pub face: Option<Face>,
 }
 
-/// What the names of a module without INSTANCE stand for, over the modules that it names, which bring
-/// no instances, and what it exports. A module that is not accepted exports nothing. The table shares
-/// what it can with those of the modules that are named. `Memory` comes where there was no room.
+/// What the names of a module stand for, over the modules that it names, and what it is to those that
+/// name it. A module that is not accepted is nothing to these. The face shares what it can with those
+/// of the modules that are named. `Memory` comes where there was no room.
 pub fn resolve(alloc: Global, tree: &ModuleTree, imported: &Imported) -> Result<Resolved, Memory>
     requires readable { IsReadable tree.now }
-    requires instances { IsWithoutInstances imported.now (module_of tree.now) }
-    ensures bound { IfOk result (λ resolved. IsBound (imports.files_of imported.now) tree.now.source
+    requires faces { AreFaces imported.now (spelled_in tree.now.source tree.now.name) }
+    ensures bound { IfOk result (λ resolved. IsBound (files_of imported.now) tree.now.source
         (module_of tree.now) resolved.bound) }
-    ensures exports { IfOk result
-        (λ resolved. AreExported resolved.bound.faults
-        (exports_in (imports.files_of imported.now) tree.now.source (module_of tree.now))
-        resolved.exports) }
+    ensures face { IfOk result
+        (λ resolved. IsShown imported.now tree.now.source (module_of tree.now)
+        resolved.bound.faults resolved.face) }
 {
     let mut bound = nothing(alloc);
-    let exports = bind(alloc, tree, imported, &mut bound)?;
-    Ok(Resolved { bound, exports })
+    let face = bind(alloc, tree, imported, &mut bound)?;
+    Ok(Resolved { bound, face })
 }

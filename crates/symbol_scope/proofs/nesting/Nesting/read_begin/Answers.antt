@@ -1,31 +1,36 @@
 use Rattle.std.proofs.Common.{◌∙◌, ◌++◌, ◌∷◌, [], append_assoc, ap, subst}
 use Rattle.std.specs.Prelude.{if◌then◌else◌}
 use Rattle.tla_model.specs.declared.names.Finding.TheVariants.{Taken}
-use Rattle.symbol_scope.specs.WithoutInstances.{files_of}
-use Rattle.module_model.specs.Modules.{all_clashing, begun_in, extends_all, is_named, nested}
-use Rattle.symbol_scope.specs.Modules.{reading_of}
+use Rattle.tla_model.specs.Lexemes.{spelled}
+use Rattle.module_model.specs.Modules.{is_named}
 use Rattle.symbol_scope.specs.EnclosingReadings.{IsAt}
-use Rattle.symbol_scope.proofs.Growing.{went-extends}
-use Rattle.symbol_scope.proofs.Onward.{goes-on}
+use Rattle.symbol_scope.specs.Modules.{reading_of}
+use Rattle.symbol_scope.specs.Steps.{clashing, entered}
+use Rattle.symbol_scope.proofs.Onward.{extended-known, placed-on}
 use Rattle.symbol_scope.proofs.nesting.Nesting.read_begin.Goals as goal
 
-pub returns-clause-place : goal.returns-clause-place
-returns-clause-place c = λ place at.
+pub extend-requires-clause-placed : goal.extend-requires-clause-placed
+extend-requires-clause-placed c = placed-on c.args.text.now c.args.self.now c.begin.new.self (entered c.spelled.result.now) c.requires.placed (c.in_ok-begin.ensures c.args.text.now)
+
+pub returns-clause-state : goal.returns-clause-state
+returns-clause-state c = λ over state at.
     let text = c.args.text.now in
-    let files = files_of c.args.imported.now in
-    let begun = nested text place.here c.args.name in
-    let began = subst (λ title. IsAt c.begin.new.self (record { here = begun_in place.here title; round = place.here ∷ place.round })) c.spelled.ensures (c.in_ok-begin.ensures.place place at) in
-    goes-on c.begin.new.self (record { here = c.extend_all.new.self; round = c.begin.new.self.round }) (record { here = begun; round = place.here ∷ place.round }) (extends_all text files begun c.args.extends.now) began (λ i. c.begin.new.self.round.items)
-    (c.in_ok-extend_all.ensures.reading ∙ ap (λ r. extends_all text files r c.args.extends.now) began.same) (went-extends text files begun c.args.extends.now)
+    let extends = c.args.extends.now in
+    let begun = entered (spelled text.source c.args.name) over state in
+    let began = subst (λ title. IsAt text over c.begin.new.self (entered title over state)) c.spelled.ensures (c.in_ok-begin.ensures text over state at) in
+    subst (IsAt text over c.extend.new.self) (extended-known text extends over begun) (c.in_ok-extend.ensures.state over begun began)
 
 pub returns-clause-findings : goal.returns-clause-findings
-returns-clause-findings c =
+returns-clause-findings c = λ over state at.
     let text = c.args.text.now in
-    let files = files_of c.args.imported.now in
+    let name = c.args.name in
     let old = c.args.findings.now in
-    let read = reading_of c.args.self.now.here in
-    let taken = if is_named text read c.args.name then Taken c.args.name ∷ [] else [] in
-    c.in_ok-extend_all.ensures.findings
-    ∙ ap (λ z. z ++ all_clashing text files (reading_of c.begin.new.self.here) c.args.extends.now) c.in_ok-refuse_module.ensures
-    ∙ append_assoc old taken (all_clashing text files (reading_of c.begin.new.self.here) c.args.extends.now)
-    ∙ ap (λ r. old ++ (taken ++ all_clashing text files r c.args.extends.now)) (c.in_ok-begin.ensures.reading ∙ ap (λ title. begun_in read title) c.spelled.ensures)
+    let read = c.args.self.now in
+    let begun = entered (spelled text.source name) over state in
+    let began = subst (λ title. IsAt text over c.begin.new.self (entered title over state)) c.spelled.ensures (c.in_ok-begin.ensures text over state at) in
+    let clashes = clashing text c.args.extends.now over begun in
+    let before = reading_of read.scope read.here in
+    c.in_ok-extend.ensures.findings over begun began
+    ∙ ap (λ z. z ++ clashes) (c.in_ok-refuse_module.ensures read.scope.nested.items)
+    ∙ append_assoc old (if is_named text before name then Taken name ∷ [] else []) clashes
+    ∙ ap (λ r. old ++ ((if is_named text r name then Taken name ∷ [] else []) ++ clashes)) at.here

@@ -2,7 +2,7 @@ use Rattle.std.proofs.Common.{◌∙◌, ap, sym, subst}
 use Rattle.std.specs.List.{AllByRecursion}
 use Rattle.tla_model.specs.Scopes.{definition}
 use Rattle.declared_names.proofs.Nodewise.{tree-at}
-use Rattle.symbol_scope.proofs.reading.definition.Goals as goal
+use Rattle.symbol_scope.proofs.declaring.definition.Goals as goal
 
 pub returns : goal.returns
 returns c =
