@@ -18,7 +18,7 @@ use Rattle.tla_model.specs.declared.entity.Entity.TheVariants as entity
 use Rattle.tla_model.specs.Entities.{Meaning}
 use Rattle.tla_model.specs.Tables.{Word}
 use Rattle.module_model.specs.Bindings.{faults}
-use Rattle.module_model.specs.Exports.{Exports, ModuleView, entries_from, nothing, parameters_in}
+use Rattle.module_model.specs.Exports.{Exports, ModuleView, entries_from, none_known, nothing, parameters_in}
 use Rattle.module_model.specs.Resolution.{findings}
 use Rattle.arity_rules.specs.Arities.{arity_faults}
 
@@ -107,7 +107,7 @@ abbrev declared : List ℕ → ℕ → entity.the_data → Meaning
 declared file place what = Declared what (record { instance = 0; decl = record { «module» = file; place = place }; via = [] })
 
 abbrev module_of : Exports → ModuleView
-module_of exports = record { entries = entries_from [] exports; parameters = parameters_in exports }
+module_of exports = record { entries = entries_from none_known exports; parameters = parameters_in exports }
 
 abbrev files : List ℕ → ModuleView
 files file =

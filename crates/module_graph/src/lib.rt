@@ -4,13 +4,11 @@
 //! a tree, and each takes time in proportion to the tree.
 #![tactic(auto)]
 
-mod holding;
 mod laws;
 mod named;
 mod trees;
 mod unit_names;
 
-pub use holding::holds_instance;
 pub use laws::{
     enclosing_are_lexemes, imports_are_lexemes, lexemes_lie_names, names_lie, needs_in_order,
     passes_nested,
