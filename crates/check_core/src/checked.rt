@@ -1,14 +1,13 @@
 // A module that was checked.
-ghost use Rattle.std.specs.Prelude.{◌≡◌, [], ◌++◌, ◌+◌, ◌-◌, ◌^◌, min, IfOk};
+ghost use Rattle.std.specs.Prelude.{◌≡◌, ◌++◌, ◌+◌, ◌-◌, ◌^◌, min, IfOk};
 ghost use Rattle.unit_grammar.specs.UnitNodes.{module_of};
 ghost use Rattle.tla_model.specs.Lexemes.{spelled};
-ghost use Rattle.module_model.specs.Given.{IsReadable, IsWithoutInstances};
+ghost use Rattle.module_model.specs.Given.{AreFaces, IsFaceOver, IsReadable};
 ghost use Rattle.module_facts.specs.Checks.{IsChecked, given_in};
-ghost use Rattle.module_faces.specs.Faces.{IsFace};
+ghost use Rattle.module_faces.specs.Faces.{IsRefusedFace};
 ghost use Rattle.module_model.specs.Bindings.{AreInOrder};
-ghost use Rattle.module_model.specs.Exports.{exported_by};
-ghost use Rattle.module_facts.specs.Checks as checks;
-ghost use Rattle.check_core.specs.Outcomes.{IsJudged, IsRefused, IsResolved, IsWithArities, shown};
+ghost use Rattle.check_core.specs.Outcomes as outcomes;
+ghost use Rattle.check_core.specs.Outcomes.{IsFaceWith, IsJudged, IsRefused, IsResolved, IsWithArities};
 ghost use Rattle.std.specs.Arc.{arc_value};
 
 use arity_rules::check_arity;
@@ -20,7 +19,7 @@ use std::marker::Model;
 use std::sync::Arc;
 use step_count::Steps;
 use symbol_scope::{Resolved, resolve};
-use tla_model::{Decl, Diagnostic, NameTable, Use};
+use tla_model::{Decl, Diagnostic, Use};
 use tla_tree::ModuleTree;
 use tool_list::{List, Memory};
 
@@ -67,7 +66,7 @@ impl Checked {
         &self.decls
     }
 
-    /// What the module exports, where it is accepted.
+    /// What the module is to those that name it: it exports nothing where it is not accepted.
     pub fn face(&self) -> &Arc<Face>
         ensures { arc_value result.now ≡ self.now.face }
     {
@@ -91,7 +90,7 @@ fn without_names(alloc: Global, faults: List<Diagnostic>, face: Arc<Face>) -> Ch
 // A module with faults of imports, which exports nothing.
 fn refused(alloc: Global, name: &str, faults: List<Diagnostic>) -> Result<Checked, Memory>
     ensures found { IfOk result (λ checked. IsRefused faults checked) }
-    ensures face { IfOk result (λ checked. IsFace name.now [] checked.face) }
+    ensures face { IfOk result (λ checked. IsRefusedFace name.now checked.face) }
 {
     let face = shared_face(alloc, name, None)?;
     Ok(without_names(alloc, faults, face))
@@ -123,20 +122,20 @@ fn joined(faults: List<Diagnostic>, more: List<Diagnostic>) -> Result<List<Diagn
     Ok(in_order(all))
 }
 
-// The table, unless there is a fault.
-fn unless_any(faults: &List<Diagnostic>, exports: Option<NameTable>) -> Option<NameTable>
-    ensures { exported_by result ≡ checks.unless_any faults.now (exported_by exports) }
+// The face, unless there is a fault.
+fn face_unless(faults: &List<Diagnostic>, face: Option<Face>) -> Option<Face>
+    ensures { result ≡ outcomes.face_unless faults.now face }
 {
-    if faults.is_empty() { exports } else { None }
+    if faults.is_empty() { face } else { None }
 }
 
 // What names stand for, with faults of arities among those of names.
 fn with_arities(found: Resolved, arities: List<Diagnostic>) -> Result<Resolved, Memory>
-    ensures { IfOk result (λ judged. IsWithArities arities found.bound found.exports judged.bound
-        judged.exports) }
+    ensures { IfOk result
+        (λ judged. IsWithArities arities found.bound found.face judged.bound judged.face) }
 {
-    let Resolved { bound, exports } = found;
-    let exports = unless_any(&arities, exports);
+    let Resolved { bound, face } = found;
+    let face = face_unless(&arities, face);
     let Bound {
         uses,
         entities,
@@ -154,16 +153,16 @@ fn with_arities(found: Resolved, arities: List<Diagnostic>) -> Result<Resolved, 
         decls,
         faults,
     };
-    Ok(Resolved { bound, exports })
+    Ok(Resolved { bound, face })
 }
 
 // What the names of a module stand for whose imports are accepted, and what is at fault with names and
 // arities.
 fn judged(alloc: Global, tree: &ModuleTree, imported: &Imported) -> Result<Resolved, Memory>
     requires readable { IsReadable tree.now }
-    requires instances { IsWithoutInstances imported.now (module_of tree.now) }
+    requires faces { AreFaces imported.now (spelled tree.now.source tree.now.name) }
     ensures { IfOk result (λ judged. IsJudged imported.now tree.now.source (module_of tree.now)
-        judged.bound judged.exports) }
+        judged.bound judged.face) }
 {
     let found = resolve(alloc, tree, imported)?;
     let arities = check_arity(alloc, tree, &found.bound)?;
@@ -178,21 +177,21 @@ fn resolved(
     imported: &Imported,
 ) -> Result<Checked, Memory>
     requires readable { IsReadable tree.now }
-    requires instances { IsWithoutInstances imported.now (module_of tree.now) }
+    requires faces { AreFaces imported.now name.now }
+    requires name { spelled tree.now.source tree.now.name ≡ name.now }
     ensures found { IfOk result
         (λ checked. IsResolved imported.now tree.now.source (module_of tree.now) checked) }
-    ensures face { IfOk result (λ checked. IsFace name.now
-        (shown imported.now tree.now.source (module_of tree.now) checked.faults) checked.face) }
+    ensures face { IfOk result (λ checked. IsFaceWith imported.now tree.now.source
+        (module_of tree.now) checked.faults checked.face) }
 {
     let found = judged(alloc, tree, imported)?;
-    let Resolved { bound, exports } = found;
-    let face = shared_face(alloc, name, exports)?;
+    let Resolved { bound, face } = found;
+    let face = shared_face(alloc, name, face)?;
     Ok(with_names(bound, face))
 }
 
-/// Checks a module without INSTANCE over the modules that it names, which is one step. The face of an
-/// accepted module has what it exports, and that of another one nothing; it reaches no instance. `Memory`
-/// comes where there was no room.
+/// Checks a module over the modules that it names, which is one step. Its face holds what its exports
+/// reach; one that is not accepted exports nothing. `Memory` comes where there was no room.
 pub fn check_module<L>(
     alloc: Global,
     name: &str,
@@ -201,12 +200,11 @@ pub fn check_module<L>(
     steps: &mut Steps<L>,
 ) -> Result<Checked, Memory>
     requires readable { IsReadable tree.now }
-    requires instances { IsWithoutInstances imported.now (module_of tree.now) }
+    requires faces { AreFaces imported.now name.now }
     requires name { spelled tree.now.source tree.now.name ≡ name.now }
     ensures checked { IfOk result (λ checked. IsChecked (given_in imported.now) tree.now.source
         (module_of tree.now) checked) }
-    ensures face { IfOk result (λ checked. IsFace name.now
-        (shown imported.now tree.now.source (module_of tree.now) checked.faults) checked.face) }
+    ensures face { IfOk result (λ checked. IsFaceOver imported.now name.now checked.face) }
     ensures tick { steps.new ≡ min (steps.old + 1) (2 ^ 64 - 1) }
 {
     steps.tick();

@@ -1,1 +1,2 @@
 mod Lying
+pub mod Refused

@@ -1,8 +1,9 @@
 use Rattle.std.proofs.Common.{◌∙◌, refl, subst}
 use Rattle.std.proofs.lemmas.Result.{IfOk-weaker}
-use Rattle.module_faces.specs.Faces.{IsFace}
+use Rattle.module_faces.proofs.Refused.{refused-over}
+use Rattle.module_model.specs.Given.{IsFaceOver}
 use Rattle.unit_grammar.specs.UnitNodes.{module_of}
-use Rattle.check_core.proofs.Checking.{both, none-long, refused-checked, refused-shown, resolved-checked, some-long}
+use Rattle.check_core.proofs.Checking.{both, none-long, refused-checked, resolved-checked, some-long}
 use Rattle.check_core.proofs.checked.check_module.Goals as goal
 
 pub named_modules-requires-clause-placed : goal.named_modules-requires-clause-placed
@@ -16,13 +17,14 @@ returns-then-not-is_empty-clause-checked g c =
 
 pub returns-then-not-is_empty-clause-face : goal.returns-then-not-is_empty-clause-face
 returns-then-not-is_empty-clause-face g c =
-    both c.refused.result _ _ _
-    (λ checked refused face. subst (λ z. IsFace c.args.name.now z checked.face)
-    (refused-shown c.args.imported.now c.args.tree.now.source (module_of c.args.tree.now) c.in_ok-faults.faults checked (some-long c.in_ok-faults.faults c.if-not-is_empty.ensures.1) refused) face)
-    c.refused.ensures.found c.refused.ensures.face
+    IfOk-weaker c.refused.result _ _ (λ checked is. refused-over c.args.name.now checked.face is c.args.imported.now) c.refused.ensures.face
 
 pub returns-clause-checked : goal.returns-clause-checked
 returns-clause-checked g c =
     both c.resolved.result _ _ _
-    (λ checked names face. resolved-checked c.args.imported.now c.args.tree.now.source (module_of c.args.tree.now) c.args.name.now checked c.requires.instances (none-long c.in_ok-faults.faults (c.if-not-is_empty.ensures.0 refl) ∙ c.in_ok-faults.ensures) names face)
+    (λ checked names face. resolved-checked c.args.imported.now c.args.tree.now.source (module_of c.args.tree.now) checked (none-long c.in_ok-faults.faults (c.if-not-is_empty.ensures.0 refl) ∙ c.in_ok-faults.ensures) names face)
     c.resolved.ensures.found c.resolved.ensures.face
+
+pub returns-clause-face : goal.returns-clause-face
+returns-clause-face g c =
+    IfOk-weaker c.resolved.result _ _ (λ checked face. subst (λ z. IsFaceOver c.args.imported.now z checked.face) c.requires.name face.over) c.resolved.ensures.face

@@ -7,6 +7,6 @@ pub returns : goal.returns
 returns c =
     let found = c.in_ok-found.found in
     IfOk-weaker c.with_arities.result _ _
-    (λ judged. judged-with c.args.imported.now c.args.tree.now.source (module_of c.args.tree.now) found.bound judged.bound found.exports judged.exports c.in_ok-arities.arities
-    c.in_ok-found.ensures.bound c.in_ok-found.ensures.exports (c.in_ok-arities.ensures _ c.args.tree.now.source c.in_ok-found.ensures.bound))
+    (λ judged. judged-with c.args.imported.now c.args.tree.now.source (module_of c.args.tree.now) found.bound judged.bound found.face judged.face c.in_ok-arities.arities
+    c.in_ok-found.ensures.bound c.in_ok-found.ensures.face (c.in_ok-arities.ensures _ c.args.tree.now.source c.in_ok-found.ensures.bound))
     c.with_arities.ensures
