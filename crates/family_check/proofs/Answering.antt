@@ -1,9 +1,9 @@
 -- What is answered on the files of a family.
-use Rattle.std.proofs.Common.{◌≡◌, ◌<◌, ◌≤◌, ◌^◌, ◌-◌, min, ℕ, zero, suc, ◌+◌, List, [], ◌∷◌, Some, Result, Ok, Err, IfOk, refl, sym, ap, ◌∙◌, take, arith, true, false, Bool, ◌||◌, subst}
+use Rattle.std.proofs.Common.{◌≡◌, ◌<◌, ◌≤◌, ◌^◌, ◌-◌, min, ℕ, zero, suc, ◌+◌, List, [], ◌∷◌, Some, Result, Ok, Err, IfOk, refl, sym, ap, ◌∙◌, take, get_or, arith, subst}
 use Rattle.std.specs.Prelude.{Contains, sum_by}
-use Rattle.std.specs.List.{All, AllZip, list_any}
+use Rattle.std.specs.List.{All, AllZip}
 use Rattle.std.proofs.Math.Seq.{take-length}
-use Rattle.std.proofs.lemmas.Bool.{both_ways}
+use Rattle.std.proofs.lemmas.Option.{slice_get-get_or}
 use Rattle.std.proofs.lemmas.List.Sums.{sum_by-cons}
 use Rattle.tool_list.specs.declared.Memory.{Memory}
 use Rattle.tla_lexeme.specs.Spans.{IsPlaced}
@@ -15,9 +15,8 @@ use Rattle.unit_grammar.specs.Units.{ModuleUnits}
 use Rattle.unit_grammar.specs.UnitNodes.{module_of}
 use Rattle.module_facts.specs.Checks.{ImportStatus, all_faults}
 use Rattle.family_facts.specs.Family.{Member, Diagnosed}
-use Rattle.family_tables.specs.Modules.{Entry, IsEntry, IsReading, AreModules, tree_count, reading_holds_instance}
-use Rattle.family_tables.specs.Outcomes.{AreOutcomes, AreWithoutInstances, IsSaid, IsSomeModule, Says, after_ticks, faults_of, trees_in}
-use Rattle.family_facts.specs.Facts.{front_holds, some_instance}
+use Rattle.family_tables.specs.Modules.{Entry, IsEntry, IsReading, AreModules, tree_count}
+use Rattle.family_tables.specs.Outcomes.{AreOutcomes, IsSaid, IsSomeModule, Says, after_ticks, faults_of, trees_in}
 use Rattle.family_facts.specs.Fronts.{front_of}
 use Rattle.family_facts.specs.Verdicts.{AreVerdicts, IsVerdict, IsVerdictPlaced, after_checks, check_count, checks_of, family_of, member_of, text_of, verdicts_on}
 use Rattle.family_tables.specs.declared.outcome.Outcome.{Outcome}
@@ -25,14 +24,16 @@ use Rattle.family_tables.specs.declared.outcome.Outcome.TheVariants as outcome
 use Rattle.family_tables.specs.declared.reading.Reading.TheVariants as reading
 use Rattle.family_facts.specs.declared.verdict.File.{File}
 use Rattle.family_facts.specs.declared.verdict.Verdict.{Verdict}
-use Rattle.family_facts.proofs.Lists.{behind, contains-at, here, zip-left, zip-right}
+use Rattle.family_facts.proofs.Lists.{at-contains, behind, here, zip-left, zip-right}
 use Rattle.family_facts.proofs.FrontLaws.{front-is}
 use Rattle.family_facts.proofs.Members.{AreOneEach, member-there}
 use Rattle.family_facts.proofs.Saying.{file-there}
 use Rattle.family_facts.proofs.OneVerdict.{HasNoOther, IsCheckedOf, Found, of_fault, of_tree, found-of, fault-same, tree-same, tree-no-fault}
 use Rattle.family_check.proofs.Checking.{ticks-within}
 use Rattle.span_laws.specs.NodeSpans.{NodeSpans, SpansText}
-use Rattle.family_tables.proofs.Holding.{all-by, any-here}
+
+all-by : {A : Type 0} (P : A → Type 0) (xs : List A) → ((x : A) → Contains xs x → P x) → All P xs
+all-by P xs f = λ k d l. f (get_or xs k d) (at-contains xs k (get_or xs k d) (slice_get-get_or xs k d l))
 
 pub modules-some : (family : List Member) (entries : List Entry) → AreModules family entries → All (λ (entry : Entry). IsSomeModule entry.0 entry.1) entries
 modules-some family entries are = all-by (λ (entry : Entry). IsSomeModule entry.0 entry.1) entries (λ e h. let m = zip-right IsEntry family entries e are h in (m.0.bytes, (m.2).is))
@@ -154,30 +155,6 @@ pub steps-are : HasNoOther → (files : List File) (entries : List Entry) (old n
 steps-are one files entries old new are few ticks =
     let l : old ≤ 2 ^ 64 - 1 = omega (arith, few) in
     ticks ∙ (ticks-within (trees_in entries) old l ∙ ap (λ n. min (old + n) (2 ^ 64 - 1)) (trees-same one (family_of files) entries are))
-
--- ---- INSTANCE
-
-holds-in : (r : reading.the_data) → reading_holds_instance r ≡ front_holds (front_in r)
-unfolding front_in
-holds-in (reading.Tree tree) = refl
-holds-in (reading.Fault fault) = refl
-
--- the word INSTANCE is held by what was read exactly where it is by the family
-pub instance-same : HasNoOther → (family : List Member) (entries : List Entry) → AreModules family entries → list_any (λ (x : Entry). reading_holds_instance x.1.reading) entries ≡ some_instance family
-instance-same one [] [] h = refl
-instance-same one [] (e ∷ entries) h = absurd h
-instance-same one (m ∷ family) [] h = absurd h
-instance-same one (m ∷ family) (e ∷ entries) h =
-    let first : reading_holds_instance e.1.reading ≡ front_holds (front_of m.name m.bytes) = holds-in e.1.reading ∙ ap front_holds (front-same one m e h.0) in
-    let rest = instance-same one family entries h.1 in
-    λ i. first i || rest i
-
-pub none-without : (entries : List Entry) → list_any (λ (x : Entry). reading_holds_instance x.1.reading) entries ≡ false → AreWithoutInstances entries
-none-without entries f = all-by (λ (e : Entry). reading_holds_instance e.1.reading ≡ false) entries (λ e h. by e h (reading_holds_instance e.1.reading) refl)
-  where
-    by : (e : Entry) → Contains entries e → (b : Bool) → reading_holds_instance e.1.reading ≡ b → reading_holds_instance e.1.reading ≡ false
-    by e h true t = let k = contains-at entries e h in absurd (both_ways (list_any (λ (x : Entry). reading_holds_instance x.1.reading) entries) f (any-here entries k.0 e k.1 t))
-    by e h false t = t
 
 -- ---- answers
 

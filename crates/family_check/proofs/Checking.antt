@@ -1,5 +1,5 @@
 -- What is found of modules, one after another.
-use Rattle.std.proofs.Common.{◌≡◌, ◌<◌, ◌≤◌, ℕ, zero, suc, ◌+◌, ◌-◌, ◌^◌, min, List, [], ◌∷◌, ◌++◌, Option, Some, None, Result, Ok, Err, IfOk, refl, sym, ap, ◌∙◌, cond, take, length, get_or, arith, true, false, Bool, ⊎_elim, subst}
+use Rattle.std.proofs.Common.{◌≡◌, ◌<◌, ◌≤◌, ℕ, zero, suc, ◌+◌, ◌-◌, ◌^◌, min, List, [], ◌∷◌, ◌++◌, Option, Some, None, Result, Ok, Err, IfOk, refl, sym, ap, ◌∙◌, cond, take, length, get_or, arith, true, false, ⊎_elim, subst}
 use Rattle.std.specs.Prelude.{Contains, IsSome, is_some, slice_get, sum_by}
 use Rattle.std.specs.List.{All}
 use Rattle.std.specs.Str.{bytes_eq}
@@ -21,13 +21,13 @@ use Rattle.module_facts.proofs.Inserting.{in-order}
 use Rattle.module_facts.specs.Ordered.{in_order}
 use Rattle.module_facts.specs.Checks.{ImportStatus, CheckedModule, IsChecked, all_faults, files_given, given_in}
 use Rattle.list_laws.proofs.Lists.{contains-map}
-use Rattle.list_laws.proofs.Texts.{same-text, text-itself}
+use Rattle.list_laws.proofs.Texts.{same-text}
 use Rattle.family_facts.specs.Family as families
 use Rattle.family_facts.specs.Family.{Member, Diagnosed, IsDiagnosed, IsGiven, front_fault, checked, is_there}
-use Rattle.family_tables.specs.Modules.{Entry, IsEntry, AreModules, reading_holds_instance, tree_count}
+use Rattle.family_tables.specs.Modules.{Entry, IsEntry, AreModules, tree_count}
 use Rattle.family_tables.specs.Plans as plans
 use Rattle.family_tables.specs.Plans.{AreOnce, IsPlan}
-use Rattle.family_tables.specs.Outcomes.{AreBare, AreImports, AreOutcomes, AreWithoutInstances, IsBare, IsMember, IsOutcome, IsReady, IsSomeModule, Says, after_ticks, trees_in, trees_of}
+use Rattle.family_tables.specs.Outcomes.{AreImports, AreOutcomes, IsMember, IsOutcome, IsReady, IsSomeModule, Says, after_ticks, trees_in, trees_of}
 use Rattle.family_tables.specs.Tables.{entry_of, names_in}
 use Rattle.family_tables.specs.declared.order.Plan.{Plan}
 use Rattle.family_tables.specs.declared.outcome.Outcome.{Outcome}
@@ -37,7 +37,7 @@ use Rattle.family_tables.specs.declared.reading.Reading.TheVariants as reading
 use Rattle.family_facts.proofs.Lists.{at-contains, contains-at, zip-right}
 use Rattle.family_facts.proofs.Members.{there-member}
 use Rattle.family_facts.proofs.OneVerdict.{HasNoOther}
-use Rattle.family_tables.proofs.Tabling.{entry-found, entry-none, entry-some}
+use Rattle.family_tables.proofs.Tabling.{entry-append, entry-found, entry-none, entry-some}
 use Rattle.family_tables.proofs.Places.{at-taken, at-take, named-member}
 use Rattle.family_tables.proofs.Bridging.{own-needs, all-needs, cyclic-map}
 use Rattle.family_tables.proofs.Graphs.{same-entry}
@@ -75,21 +75,6 @@ fault-outcome family name fault needs faults h e =
     record { found = found; diagnosed = subst (λ x. IsDiagnosed family x found) h.named diagnosed; says = (e, λ k. cc) }
 
 -- ---- the modules so far
-
-entry-append : (outcomes : List (List ℕ × Outcome)) (name item : List ℕ) (o : Outcome) → entry_of outcomes item ≡ None → entry_of (outcomes ++ (item, o) ∷ []) name ≡ cond (bytes_eq name item) (Some o) (entry_of outcomes name)
-entry-append [] name item o none = refl
-entry-append (entry ∷ outcomes) name item o none = ⊎_elim
-    (λ (t : bytes_eq item entry.0 ≡ true). let k : Some entry.1 ≡ None = sym (ap (λ b. cond b (Some entry.1) (entry_of outcomes item)) t) ∙ none in cc)
-    (λ (f : bytes_eq item entry.0 ≡ false).
-    let rest : entry_of outcomes item ≡ None = sym (ap (λ b. cond b (Some entry.1) (entry_of outcomes item)) f) ∙ none in
-    ap (λ x. cond (bytes_eq name entry.0) (Some entry.1) x) (entry-append outcomes name item o rest)
-    ∙ apart (bytes_eq name entry.0) (bytes_eq name item) (λ a b. let k : true ≡ false = sym (text-itself item entry.0 (sym (same-text name item b) ∙ same-text name entry.0 a)) ∙ f in cc) (Some entry.1) (Some o) (entry_of outcomes name))
-    (cases_Bool (bytes_eq item entry.0))
-  where
-    apart : (a b : Bool) → (a ≡ true → b ≡ true → ⊥) → (x y z : Option Outcome) → cond a x (cond b y z) ≡ cond b y (cond a x z)
-    apart true true n x y z = absurd (n refl refl)
-    apart true false n x y z = refl
-    apart false b n x y z = refl
 
 -- a module that a plan orders
 module _ (modules : List Entry) (plan : Plan) (planned : IsPlan modules plan) (i : ℕ) (d name : List ℕ) (l : i < length plan.order) (is : name ≡ get_or plan.order i d) where
@@ -141,31 +126,6 @@ found-more family outcomes outcomes' name o none e new found other p h =
   where
     some-same : (x y : Outcome) → ◌≡◌ {A = Option Outcome} (Some x) (Some y) → x ≡ y
     some-same x y s = cc
-
--- no outcome brings an instance
-pub bare-more : (outcomes outcomes' : List (List ℕ × Outcome)) (name : List ℕ) (o : Outcome) → entry_of outcomes name ≡ None → outcomes' ≡ outcomes ++ (name, o) ∷ [] → IsBare o → AreBare outcomes → AreBare outcomes'
-bare-more outcomes outcomes' name o none e new bare other p h =
-    let value : entry_of outcomes' other ≡ cond (bytes_eq other name) (Some o) (entry_of outcomes other) = ap (λ z. entry_of z other) e ∙ entry-append outcomes other name o none in
-    by (bytes_eq other name) (sym value ∙ h)
-  where
-    by : (b : Bool) → cond b (Some o) (entry_of outcomes other) ≡ Some p → IsBare p
-    by true s = subst IsBare (same s) new
-      where
-        same : ◌≡◌ {A = Option Outcome} (Some o) (Some p) → o ≡ p
-        same s = cc
-    by false s = bare other p s
-
-pub none-bare : AreBare []
-none-bare name o h = absurd (none-some h)
-  where
-    none-some : ◌≡◌ {A = Option Outcome} None (Some o) → ⊥
-    none-some h = cc
-
--- the module under a name holds no INSTANCE
-pub without-here : (modules : List Entry) (name : List ℕ) (m : Module) → AreWithoutInstances modules → entry_of modules name ≡ Some m → reading_holds_instance m.reading ≡ false
-without-here modules name m all e =
-    let h = entry-found modules name m e in
-    subst (λ (x : Entry). reading_holds_instance x.1.reading ≡ false) h.2 (all h.0 (name, m) h.1)
 
 -- the module under a name is the member of that name
 pub member-here : (one : HasNoOther) (family : List Member) (modules : List Entry) (name : List ℕ) (m : Module) → AreOnce (names_in modules) → AreModules family modules → entry_of modules name ≡ Some m → IsMember family name m.reading m.needs

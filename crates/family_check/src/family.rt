@@ -1,22 +1,21 @@
 // A family of modules, each checked behind what it needs.
-ghost use Rattle.std.specs.Prelude.{◌≡◌, ◌<◌, ◌^◌, IfOk, IfSome, sum_by, length};
+ghost use Rattle.std.specs.Prelude.{◌≡◌, ◌<◌, ◌^◌, IfOk, sum_by, length};
 ghost use Rattle.std.specs.List.{All};
 ghost use Rattle.family_tables.specs.Modules.{AreModules};
-ghost use Rattle.family_tables.specs.Outcomes.{AreWithoutInstances};
 ghost use Rattle.family_facts.specs.Verdicts as facts;
-ghost use Rattle.family_facts.specs.Verdicts.{AreDistinct, IsVerdictPlaced, after_checks, checks_of, family_of, verdicts_if_built};
+ghost use Rattle.family_facts.specs.Verdicts.{AreDistinct, IsVerdictPlaced, after_checks, checks_of, family_of};
 
 use crate::outcomes::check_all;
 use family_facts::{File, Verdict, verdicts_are};
 use family_read::read_family;
-use family_tables::{Module, Table, plan_of, some_instance, verdicts_of};
+use family_tables::{Module, Table, plan_of, verdicts_of};
 use module_facts::faults_stand_in_text;
 use span_laws::front_nodes_placed;
 use std::alloc::Global;
 use step_count::Steps;
 use tool_list::{List, Memory};
 
-// The verdicts on files whose family has these modules, all without INSTANCE.
+// The verdicts on files whose family has these modules.
 fn verdicts_on<L>(
     alloc: Global,
     files: &[File],
@@ -26,7 +25,6 @@ fn verdicts_on<L>(
     requires distinct { AreDistinct files.now }
     requires small { sum_by (λ file. length file.bytes) files.now < 2 ^ 31 }
     requires modules { AreModules (family_of files.now) modules.now }
-    requires without { AreWithoutInstances modules.now }
     ensures verdicts { IfOk result (λ verdicts. verdicts ≡ facts.verdicts_on files.now) }
     ensures placed { IfOk result (All IsVerdictPlaced) }
     ensures steps { IfOk result (λ _. steps.new ≡ after_checks (checks_of files.now) steps.old) }
@@ -43,25 +41,19 @@ fn verdicts_on<L>(
 }
 
 /// The verdicts on files, in their order, over the built-in modules: a file hides the built-in module
-/// of its name. None exactly where some module without front fault holds the word INSTANCE. Each module
-/// without front fault is checked once, which is one step. `Memory` comes where there was no room.
+/// of its name. Each module without front fault is checked once, which is one step. `Memory` comes
+/// where there was no room.
 pub fn check_family<L>(
     alloc: Global,
     files: &[File],
     steps: &mut Steps<L>,
-) -> Result<Option<List<Verdict>>, Memory>
+) -> Result<List<Verdict>, Memory>
     requires distinct { AreDistinct files.now }
     requires small { sum_by (λ file. length file.bytes) files.now < 2 ^ 31 }
-    ensures verdicts { IfOk result (λ found. found ≡ verdicts_if_built files.now) }
-    ensures placed { IfOk result (λ found. IfSome found (All IsVerdictPlaced)) }
-    ensures steps { IfOk result
-        (λ found. IfSome found (λ _. steps.new ≡ after_checks (checks_of files.now) steps.old)) }
+    ensures verdicts { IfOk result (λ verdicts. verdicts ≡ facts.verdicts_on files.now) }
+    ensures placed { IfOk result (All IsVerdictPlaced) }
+    ensures steps { IfOk result (λ _. steps.new ≡ after_checks (checks_of files.now) steps.old) }
 {
-    front_laws::one_front();
     let modules = read_family(alloc, files)?;
-    if some_instance(alloc, &modules)? {
-        return Ok(None);
-    }
-    let verdicts = verdicts_on(alloc, files, &modules, steps)?;
-    Ok(Some(verdicts))
+    verdicts_on(alloc, files, &modules, steps)
 }

@@ -1,15 +1,16 @@
 // What is found of the modules of a family, one after another.
-ghost use Rattle.std.specs.Prelude.{◌≡◌, ◌∷◌, [], false, ℕ, List as ListOf, IfOk};
-ghost use Rattle.module_model.specs.Exports.{ModuleView, face_instances, face_outside};
-ghost use Rattle.tla_model.specs.ModuleNames.{holds_instance};
-ghost use Rattle.unit_grammar.specs.UnitNodes.{module_of};
+ghost use Rattle.std.specs.Prelude.{◌≡◌, ◌∷◌, [], ℕ, List as ListOf, None, IfOk};
+ghost use Rattle.module_model.specs.Exports.{ModuleView, face_outside};
+ghost use Rattle.module_model.specs.Given.{IsFaceOver};
+ghost use Rattle.module_model.specs.Imports.{Imports};
 ghost use Rattle.std.specs.List.{All};
 ghost use Rattle.family_facts.specs.Family.{Member};
+ghost use Rattle.family_tables.specs.Agreement.{AreAgreed, AreFrom, IsAgreed};
 ghost use Rattle.family_tables.specs.Modules as modules_of;
 ghost use Rattle.family_tables.specs.Outcomes as outcomes_of;
 ghost use Rattle.family_tables.specs.Outcomes.{IsReady};
 ghost use Rattle.family_tables.specs.Plans.{AreOnce, IsPlan};
-ghost use Rattle.family_tables.specs.Tables.{names_in};
+ghost use Rattle.family_tables.specs.Tables.{entry_of, names_in};
 ghost use Rattle.family_tables.specs.declared.reading.Reading.TheVariants as reading;
 
 use check_core::{Checked, check_module};
@@ -30,11 +31,12 @@ fn lone_fault(alloc: Global, fault: Diagnostic) -> Result<List<Diagnostic>, Memo
 
 // What was found of a module that was checked.
 fn outcome_of(alloc: Global, checked: &Checked) -> Result<Outcome, Memory>
-    requires { face_instances checked.now.face ≡ [] }
     ensures says { (outside : ModuleView)
         → (checked.now.faults ≡ [] → face_outside checked.now.face ≡ outside)
         → IfOk result (outcomes_of.Says checked.now.faults outside) }
-    ensures bare { IfOk result outcomes_of.IsBare }
+    ensures agreed { (outcomes : ListOf (ListOf ℕ × Outcome)) → (imports : Imports)
+        → (name : ListOf ℕ) → AreFrom outcomes imports → IsFaceOver imports name checked.now.face
+        → IfOk result (IsAgreed outcomes name) }
 {
     let faults = checked.faults();
     if faults.is_empty() {
@@ -54,12 +56,12 @@ fn check_tree<L>(
     steps: &mut Steps<L>,
 ) -> Result<Outcome, Memory>
     requires tree { (bytes : ListOf ℕ) × modules_of.IsTreeOf name.now bytes tree.now }
-    requires without { holds_instance (module_of tree.now) ≡ false }
-    requires bare { outcomes_of.AreBare outcomes.now }
+    requires agreed { AreAgreed outcomes.now }
+    requires unfound { entry_of outcomes.now name.now ≡ None }
     ensures outcome { (family : ListOf Member) → IsReady family plan.now outcomes.now name.now
         → outcomes_of.IsMember family name.now (reading.Tree tree.now) needs.now
         → IfOk result (outcomes_of.IsOutcome family name.now) }
-    ensures bare { IfOk result outcomes_of.IsBare }
+    ensures agreed { IfOk result (IsAgreed outcomes.now name.now) }
     ensures steps { IfOk result (λ _. steps.new ≡ outcomes_of.after_ticks 1 steps.old) }
 {
     let imported = imports_of(alloc, plan, outcomes, name, needs)?;
@@ -77,12 +79,12 @@ fn check_one<L>(
     steps: &mut Steps<L>,
 ) -> Result<Outcome, Memory>
     requires some { outcomes_of.IsSomeModule name.now module.now }
-    requires without { modules_of.reading_holds_instance module.now.reading ≡ false }
-    requires bare { outcomes_of.AreBare outcomes.now }
+    requires agreed { AreAgreed outcomes.now }
+    requires unfound { entry_of outcomes.now name.now ≡ None }
     ensures outcome { (family : ListOf Member) → IsReady family plan.now outcomes.now name.now
         → outcomes_of.IsMember family name.now module.now.reading module.now.needs
         → IfOk result (outcomes_of.IsOutcome family name.now) }
-    ensures bare { IfOk result outcomes_of.IsBare }
+    ensures agreed { IfOk result (IsAgreed outcomes.now name.now) }
     ensures steps { IfOk result (λ _. steps.new
         ≡ outcomes_of.after_ticks (modules_of.tree_count module.now.reading) steps.old) }
 {
@@ -96,7 +98,7 @@ fn check_one<L>(
     }
 }
 
-/// What is found of modules without INSTANCE, in the order of a plan. Each module without front fault
+/// What is found of modules, in the order of a plan. Each module without front fault
 /// is checked once, which is one step.
 pub fn check_all<L>(
     alloc: Global,
@@ -107,7 +109,6 @@ pub fn check_all<L>(
     requires once { AreOnce (names_in modules.now) }
     requires read { All (λ entry. outcomes_of.IsSomeModule entry.0 entry.1) modules.now }
     requires plan { IsPlan modules.now plan.now }
-    requires without { outcomes_of.AreWithoutInstances modules.now }
     ensures outcomes { (family : ListOf Member) → modules_of.AreModules family modules.now
         → IfOk result (outcomes_of.AreOutcomes family) }
     ensures steps { IfOk result (λ _. steps.new

@@ -1,12 +1,10 @@
 -- What is found of each module of some texts, as a function.
-use Rattle.std.specs.Prelude.{ℕ, List, [], ◌∷◌, Option, Some, None, Bool, false, if◌then◌else◌, map}
+use Rattle.std.specs.Prelude.{ℕ, List, [], ◌∷◌, Option, Some, None, if◌then◌else◌, map}
 use Rattle.std.specs.FinMap.{from_entries, get}
-use Rattle.std.specs.List.{list_any}
 use Rattle.std.specs.Str.{bytes_eq}
 use Rattle.tla_model.specs.declared.Diagnostic.{Diagnostic}
 use Rattle.module_model.specs.Exports.{ModuleView, nothing}
 use Rattle.tla_model.specs.Lexemes.{spelled}
-use Rattle.tla_model.specs.ModuleNames.{holds_instance}
 use Rattle.module_model.specs.Resolution.{outside_in}
 use Rattle.module_graph.specs.Imports.{imports_of}
 use Rattle.front_laws.specs.Fronts.{Front, Tree, Fault}
@@ -80,12 +78,3 @@ diagnosed texts name = diagnosed_text texts name (get texts name)
 -- the texts of a family, by their names
 abbrev pub texts_of : List Member → Texts
 texts_of family = from_entries (map (λ (m : Member). (m.name, m.bytes)) family)
-
--- the word INSTANCE stands in a module without front fault
-abbrev pub front_holds : Front → Bool
-front_holds (Tree found) = holds_instance found
-front_holds (Fault fault) = false
-
--- the word INSTANCE stands in some member of a family, where that has no front fault
-abbrev pub some_instance : List Member → Bool
-some_instance family = list_any (λ (m : Member). front_holds (front_of m.name m.bytes)) family

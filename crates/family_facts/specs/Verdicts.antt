@@ -1,11 +1,11 @@
 -- The verdicts on the files of a family, and what they take.
-use Rattle.std.specs.Prelude.{◌≡◌, ◌+◌, ◌-◌, ◌^◌, min, ℕ, List, [], ◌∷◌, Option, Some, None, if◌then◌else◌, map, slice_get, take, sum_by, codes}
+use Rattle.std.specs.Prelude.{◌≡◌, ◌+◌, ◌-◌, ◌^◌, min, ℕ, List, [], ◌∷◌, Option, Some, None, map, slice_get, take, sum_by, codes}
 use Rattle.std.specs.List.{All, AllZip}
 use Rattle.tla_lexeme.specs.Spans.{IsPlaced}
 use Rattle.front_laws.specs.Fronts.{Front, Tree, Fault, readable_len}
 use Rattle.fact_values.specs.Names.{Texts}
 use Rattle.std_modules.specs.StdTexts.{std_text}
-use Rattle.family_facts.specs.Facts.{diagnosed, some_instance, texts_of}
+use Rattle.family_facts.specs.Facts.{diagnosed, texts_of}
 use Rattle.family_facts.specs.Family.{Member, Diagnosed, IsDiagnosed, over}
 use Rattle.family_facts.specs.Fronts.{front_of}
 use Rattle.family_facts.specs.declared.verdict.File.{File}
@@ -71,10 +71,6 @@ verdict_on texts file = record { name = file.name; text = text_of file.bytes; fa
 -- the verdicts on files, over the built-in modules
 abbrev pub verdicts_on : List File → List Verdict
 verdicts_on files = map (verdict_on (texts_of (family_of files))) files
-
--- none where some module without front fault holds the word INSTANCE
-abbrev pub verdicts_if_built : List File → Option (List Verdict)
-verdicts_if_built files = if some_instance (family_of files) then None else Some (verdicts_on files)
 
 -- ---- checks
 

@@ -8,7 +8,8 @@ use Rattle.std.proofs.lemmas.List.{take_more}
 use Rattle.std.proofs.lemmas.Option.{slice_get-get_or}
 use Rattle.std.proofs.lemmas.List.Elements.{Contains-append_left, Contains-append_right}
 use Rattle.module_model.specs.declared.imported.Import.{Import}
-use Rattle.module_model.specs.Exports.{face_outside, import_instances}
+use Rattle.module_model.specs.Exports.{face_outside}
+use Rattle.module_model.specs.Given.{face_of}
 use Rattle.module_model.specs.Imports.{Imports, import_of}
 use Rattle.module_facts.specs.Checks.{ImportStatus, Unknown, Cyclic, Refused, Accepted, given_by, given_in}
 use Rattle.list_laws.proofs.Texts.{same-text, text-itself}
@@ -18,7 +19,8 @@ use Rattle.family_tables.specs.Modules.{Entry}
 use Rattle.family_tables.specs.Plans as plans
 use Rattle.family_tables.specs.Plans.{IsPlan}
 use Rattle.family_tables.specs.Tables.{entry_of}
-use Rattle.family_tables.specs.Outcomes.{AreBareImports, IsBareImport, IsImport, IsOutcome, IsReady}
+use Rattle.family_tables.specs.Agreement.{AreFrom, IsFrom, found_face}
+use Rattle.family_tables.specs.Outcomes.{IsImport, IsOutcome, IsReady}
 use Rattle.family_tables.specs.declared.order.Plan.{Plan}
 use Rattle.family_tables.specs.declared.outcome.Outcome.{Outcome}
 use Rattle.family_tables.specs.declared.outcome.Outcome.TheVariants as outcome
@@ -77,15 +79,15 @@ import-append (entry ∷ imports) name item import none = ⊎_elim
     apart true false n x y z = refl
     apart false b n x y z = refl
 
--- no import brings an instance
-pub bare-more : (imports : Imports) (item : List ℕ) (import : Import) (imports' : Imports) → import_of imports item ≡ None → imports' ≡ imports ++ (item, import) ∷ [] → IsBareImport import → AreBareImports imports → AreBareImports imports'
-bare-more imports item import imports' none e new bare name =
+-- the faces of imports are those that were found
+pub from-more : (outcomes : List (List ℕ × Outcome)) (imports : Imports) (item : List ℕ) (import : Import) (imports' : Imports) → import_of imports item ≡ None → imports' ≡ imports ++ (item, import) ∷ [] → IsFrom outcomes item import → AreFrom outcomes imports → AreFrom outcomes imports'
+from-more outcomes imports item import imports' none e new from name face found =
     let value : import_of imports' name ≡ cond (bytes_eq name item) (Some import) (import_of imports name) = ap (λ z. import_of z name) e ∙ import-append imports name item import none in
-    ap import_instances value ∙ by (bytes_eq name item)
+    by (bytes_eq name item) refl (sym (ap face_of value) ∙ found)
   where
-    by : (b : Bool) → import_instances (cond b (Some import) (import_of imports name)) ≡ []
-    by true = new
-    by false = bare name
+    by : (b : Bool) → bytes_eq name item ≡ b → face_of (cond b (Some import) (import_of imports name)) ≡ Some face → found_face outcomes name ≡ Some face
+    by true same some = subst (λ z. found_face outcomes z ≡ Some face) (sym (same-text name item same)) (new face some)
+    by false apart some = from name face some
 
 -- whether there is an import
 pub none-from : {T : Type 0} (o : Option (Bor T)) (b : Bool) (x : Option T) → is_some o ≡ not b → b ≡ true → option_copied o ≡ x → x ≡ None

@@ -2,7 +2,7 @@ pub mod Graphs
 pub mod Tabling
 pub mod LexemesInText
 pub mod Places
-pub mod Holding
 pub mod Texts
 pub mod Bridging
 pub mod Importing
+pub mod Agreeing

@@ -63,3 +63,19 @@ entry-some {T} (entry ∷ rest) name h = ⊎_elim
     beyond : Contains (names_in (entry ∷ rest)) name → bytes_eq name entry.0 ≡ false → Contains (names_in rest) name
     beyond (zero, l, e) f = let k : true ≡ false = sym (text-itself name entry.0 (sym e)) ∙ f in cc
     beyond (suc i, l, e) f = (i, (omega (arith, l)), e)
+
+-- an item under a name that has none
+pub entry-append : {T : Type 0} (entries : List (List ℕ × T)) (name item : List ℕ) (o : T) → entry_of entries item ≡ None → entry_of (entries ++ (item, o) ∷ []) name ≡ cond (bytes_eq name item) (Some o) (entry_of entries name)
+entry-append [] name item o none = refl
+entry-append {T} (entry ∷ entries) name item o none = ⊎_elim
+    (λ (t : bytes_eq item entry.0 ≡ true). let k : Some entry.1 ≡ None = sym (ap (λ b. cond b (Some entry.1) (entry_of entries item)) t) ∙ none in cc)
+    (λ (f : bytes_eq item entry.0 ≡ false).
+    let rest : entry_of entries item ≡ None = sym (ap (λ b. cond b (Some entry.1) (entry_of entries item)) f) ∙ none in
+    ap (λ x. cond (bytes_eq name entry.0) (Some entry.1) x) (entry-append entries name item o rest)
+    ∙ apart (bytes_eq name entry.0) (bytes_eq name item) (λ a b. let k : true ≡ false = sym (text-itself item entry.0 (sym (same-text name item b) ∙ same-text name entry.0 a)) ∙ f in cc) (Some entry.1) (Some o) (entry_of entries name))
+    (cases_Bool (bytes_eq item entry.0))
+  where
+    apart : (a b : Bool) → (a ≡ true → b ≡ true → ⊥) → (x y z : Option T) → cond a x (cond b y z) ≡ cond b y (cond a x z)
+    apart true true n x y z = absurd (n refl refl)
+    apart true false n x y z = refl
+    apart false b n x y z = refl

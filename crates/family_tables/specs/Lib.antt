@@ -2,3 +2,4 @@ pub mod Tables
 pub mod Modules
 pub mod Plans
 pub mod Outcomes
+pub mod Agreement

@@ -1,5 +1,5 @@
 -- What was read of modules, and which modules are those of a family.
-use Rattle.std.specs.Prelude.{◌≡◌, ℕ, List, [], ◌∷◌, ◌++◌, Bool, false, if◌then◌else◌, map}
+use Rattle.std.specs.Prelude.{◌≡◌, ℕ, List, [], ◌∷◌, ◌++◌, if◌then◌else◌, map}
 use Rattle.std.specs.List.{AllZip}
 use Rattle.tla_lexeme.specs.Spans.{IsPlaced}
 use Rattle.tla_tree.specs.declared.unit.ModuleTree.{ModuleTree}
@@ -7,7 +7,6 @@ use Rattle.tla_model.specs.Lexemes.{spelled}
 use Rattle.front_laws.specs.Fronts.{IsFront, Tree, Fault}
 use Rattle.unit_grammar.specs.UnitNodes.{module_of}
 use Rattle.module_model.specs.Given.{IsReadable}
-use Rattle.tla_model.specs.ModuleNames.{holds_instance}
 use Rattle.module_graph.specs.Imports.{imports_of}
 use Rattle.family_facts.specs.Family.{Member, is_there}
 use Rattle.family_facts.specs.Verdicts.{text_of}
@@ -58,13 +57,6 @@ AreModules family entries = AllZip IsEntry family entries
 -- members and one more; one whose name is there is hidden
 abbrev pub added : List Member → Member → List Member
 added members member = if is_there members member.name then members else members ++ member ∷ []
-
--- ---- INSTANCE
-
--- the word INSTANCE stands in a module without front fault
-abbrev pub reading_holds_instance : Reading → Bool
-reading_holds_instance (Reading.Tree tree) = holds_instance (module_of tree)
-reading_holds_instance (Reading.Fault fault) = false
 
 -- ---- checks
 

@@ -1,15 +1,14 @@
 -- What is found of the modules of a family, one after another.
-use Rattle.std.specs.Prelude.{◌≡◌, ◌≢◌, ⊤, false, ◌+◌, ◌-◌, ◌^◌, min, ℕ, zero, suc, List, [], Option, Some, None, Contains, IsSome, true, sum_by}
-use Rattle.std.specs.List.{All}
+use Rattle.std.specs.Prelude.{◌≡◌, ◌≢◌, ◌+◌, ◌-◌, ◌^◌, min, ℕ, zero, suc, List, [], Option, Some, None, Contains, IsSome, true, sum_by}
 use Rattle.std.specs.Arc.{arc_value}
 use Rattle.tla_model.specs.declared.Diagnostic.{Diagnostic}
 use Rattle.module_model.specs.declared.imported.Import.{Import}
-use Rattle.module_model.specs.Exports.{ModuleView, face_instances, face_outside, import_instances}
-use Rattle.module_model.specs.Imports.{Imports, import_of}
+use Rattle.module_model.specs.Exports.{ModuleView, face_outside}
+use Rattle.module_model.specs.Imports.{Imports}
 use Rattle.module_facts.specs.Checks.{Unknown, given_by, given_in}
 use Rattle.family_facts.specs.Family as families
 use Rattle.family_facts.specs.Family.{Member, Diagnosed, IsDiagnosed, IsGiven, is_there}
-use Rattle.family_tables.specs.Modules.{Entry, IsModule, IsReading, reading_holds_instance, tree_count}
+use Rattle.family_tables.specs.Modules.{Entry, IsModule, IsReading, tree_count}
 use Rattle.family_tables.specs.Plans as plans
 use Rattle.family_tables.specs.Plans.{IsPlan}
 use Rattle.family_facts.specs.Verdicts.{text_of}
@@ -31,29 +30,6 @@ pub record IsOutcome (family : List Member) (name : List ℕ) (outcome : Outcome
   pub found : Diagnosed
   pub diagnosed : IsDiagnosed family name found
   pub says : Says found.faults found.outside outcome
-
--- ---- modules without INSTANCE
-
--- an outcome brings no instance
-abbrev pub IsBare : Outcome → Type 0
-IsBare (Outcome.Refused found) = ⊤
-IsBare (Outcome.Accepted face) = face_instances (arc_value face) ≡ []
-
--- no outcome of these brings an instance
-abbrev pub AreBare : List (List ℕ × Outcome) → Type 0
-AreBare outcomes = (name : List ℕ) (outcome : Outcome) → entry_of outcomes name ≡ Some outcome → IsBare outcome
-
--- nor does an import
-abbrev pub IsBareImport : Import → Type 0
-IsBareImport import = import_instances (Some import) ≡ []
-
--- no import of these brings an instance
-abbrev pub AreBareImports : Imports → Type 0
-AreBareImports imports = (name : List ℕ) → import_instances (import_of imports name) ≡ []
-
--- the word INSTANCE stands in none of these modules
-abbrev pub AreWithoutInstances : List Entry → Type 0
-AreWithoutInstances entries = All (λ entry. reading_holds_instance entry.1.reading ≡ false) entries
 
 -- ---- imports
 

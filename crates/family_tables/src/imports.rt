@@ -1,8 +1,11 @@
 // What the modules are that a module needs.
-ghost use Rattle.std.specs.Prelude.{◌≡◌, ℕ, List as ListOf, IfOk, Contains};
+ghost use Rattle.std.specs.Prelude.{◌≡◌, ℕ, List as ListOf, None, IfOk, Contains};
 ghost use Rattle.family_facts.specs.Family as families;
 ghost use Rattle.family_facts.specs.Family.{Member};
-ghost use Rattle.family_tables.specs.Outcomes.{IsReady, IsImport, IsBareImport, AreBare, AreBareImports, AreImports};
+ghost use Rattle.family_tables.specs.Agreement.{AreAgreed, AreFrom, IsFrom};
+ghost use Rattle.family_tables.specs.Outcomes.{IsReady, IsImport, AreImports};
+ghost use Rattle.family_tables.specs.Tables.{entry_of};
+ghost use Rattle.module_model.specs.Given.{AreFaces};
 
 use crate::order::Plan;
 use crate::outcome::Outcome;
@@ -19,11 +22,10 @@ fn import_of(
     name: &str,
     need: &str,
 ) -> Result<Import, Memory>
-    requires { AreBare outcomes.now }
     ensures given { (family : ListOf Member) → IsReady family plan.now outcomes.now name.now
         → families.Needs family name.now need.now
         → IfOk result (IsImport family name.now need.now) }
-    ensures bare { IfOk result IsBareImport }
+    ensures from { IfOk result (IsFrom outcomes.now need.now) }
 {
     if plan.is_cyclic(alloc, name, need)? {
         return Ok(Import::Cyclic);
@@ -35,7 +37,8 @@ fn import_of(
     }
 }
 
-/// The imports of a module that needs these modules: each of them once.
+/// The imports of a module that needs these modules, and of which nothing was found so far: each of them
+/// once. The faces are those that were found, and go together. `Memory` comes where there was no room.
 pub fn imports_of(
     alloc: Global,
     plan: &Plan,
@@ -43,11 +46,13 @@ pub fn imports_of(
     name: &str,
     needs: &[Chars],
 ) -> Result<Imported, Memory>
-    requires { AreBare outcomes.now }
+    requires agreed { AreAgreed outcomes.now }
+    requires unfound { entry_of outcomes.now name.now ≡ None }
     ensures given { (family : ListOf Member) → IsReady family plan.now outcomes.now name.now
         → ((need : ListOf ℕ) → Contains needs.now need → families.Needs family name.now need)
         → IfOk result (AreImports family name.now needs.now) }
-    ensures bare { IfOk result AreBareImports }
+    ensures from { IfOk result (AreFrom outcomes.now) }
+    ensures faces { IfOk result (λ imported. AreFaces imported name.now) }
 {
     let mut imported = Imported::new(alloc);
     for need in needs {

@@ -1,8 +1,9 @@
 use Rattle.std.proofs.Common.{◌<◌, ◌≤◌, ◌∙◌, ap, subst, sym, length, get_or}
 use Rattle.std.proofs.lemmas.List.{take_all}
 use Rattle.family_tables.specs.Outcomes.{after_ticks, trees_of}
-use Rattle.family_check.proofs.Checking.{bare-more, found-more, member-here, module-here, ordered-fresh, ordered-names, ordered-there, outcomes-all, ready-here, steps-more, trees-all, without-here}
+use Rattle.family_check.proofs.Checking.{found-more, member-here, module-here, ordered-fresh, ordered-names, ordered-there, outcomes-all, ready-here, steps-more, trees-all}
 use Rattle.family_tables.specs.Tables.{entry_of}
+use Rattle.family_tables.proofs.Agreeing.{agreed-more}
 use Rattle.std.specs.Prelude.{sum_by}
 use Rattle.family_check.proofs.outcomes.check_all.Goals as goal
 
@@ -17,8 +18,13 @@ unreachable-requires g c =
 pub check_one-requires-clause-some : goal.check_one-requires-clause-some
 check_one-requires-clause-some g c = module-here c.args.modules.now c.as_str-name.result.now c.in-Some.«module».now c.requires.read (sym c.in-Some.ensures)
 
-pub check_one-requires-clause-without : goal.check_one-requires-clause-without
-check_one-requires-clause-without g c = without-here c.args.modules.now c.as_str-name.result.now c.in-Some.«module».now c.requires.without (sym c.in-Some.ensures)
+pub check_one-requires-clause-unfound : goal.check_one-requires-clause-unfound
+check_one-requires-clause-unfound g c =
+    let i = c.loop-name.name-index in
+    let order = c.args.plan.now.order in
+    let within : i < length order = subst (λ ns. i < length ns) c.as_slice-name-items.ensures c.loop-name-test.true in
+    let is = c.as_str-name.ensures ∙ (c.name-item.is ∙ ap (λ ns. get_or ns i c.name-item.result) c.as_slice-name-items.ensures) in
+    ordered-fresh c.args.modules.now c.args.plan.now c.requires.plan i c.name-item.result c.as_str-name.result.now within is c.loop-name.outcomes c.loop-name.invariant.names
 
 pub add-requires : goal.add-requires
 add-requires g c =
@@ -49,7 +55,7 @@ loop-name-preserved g c =
           (ready-here modules plan c.requires.plan i d name within is c.one_front.ensures.same family are c.loop-name.outcomes inv.names (inv.found family are))
           (member-here c.one_front.ensures.same family modules name found c.requires.once are there))
           (inv.found family are);
-      bare = bare-more c.loop-name.outcomes c.add.new.self name c.in_ok-outcome.outcome (ordered-fresh modules plan c.requires.plan i d name within is c.loop-name.outcomes inv.names) c.in_ok-add.ensures c.in_ok-outcome.ensures.bare inv.bare;
+      agreed = agreed-more c.loop-name.outcomes name inv.agreed (ordered-fresh modules plan c.requires.plan i d name within is c.loop-name.outcomes inv.names) c.add.new.self c.in_ok-outcome.outcome c.in_ok-add.ensures c.in_ok-outcome.ensures.agreed;
       steps = steps-more modules plan.order i d name found c.args.steps.now c.loop-name.steps c.check_one.new.steps within is there inv.steps c.in_ok-outcome.ensures.steps;
     }
 

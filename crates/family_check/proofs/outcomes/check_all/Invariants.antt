@@ -3,7 +3,8 @@ use Rattle.std.specs.Prelude.{sum_by}
 use Rattle.family_facts.specs.Family.{Member}
 use Rattle.family_tables.specs.Modules.{AreModules}
 use Rattle.family_tables.specs.declared.outcome.Outcome.{Outcome}
-use Rattle.family_tables.specs.Outcomes.{AreBare, IsOutcome, after_ticks, trees_of}
+use Rattle.family_tables.specs.Agreement.{AreAgreed}
+use Rattle.family_tables.specs.Outcomes.{IsOutcome, after_ticks, trees_of}
 use Rattle.family_tables.specs.Tables.{entry_of, names_in}
 use Rattle.family_check.proofs.outcomes.check_all.Given as goal
 
@@ -11,6 +12,6 @@ abbrev pub invariant-loop-name : goal.invariant-loop-name
 invariant-loop-name g l = record {
   names : names_in l.outcomes ≡ take l.name-index l.plan.order;
   found : (family : List Member) → AreModules family l.modules → (other : List ℕ) (outcome : Outcome) → entry_of l.outcomes other ≡ Some outcome → IsOutcome family other outcome;
-  bare : AreBare l.outcomes;
+  agreed : AreAgreed l.outcomes;
   steps : l.steps ≡ after_ticks (sum_by (λ name. trees_of (entry_of l.modules name)) (take l.name-index l.plan.order)) l.fn.steps;
 }

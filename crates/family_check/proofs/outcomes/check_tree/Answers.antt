@@ -6,5 +6,5 @@ returns-clause-outcome g c family ready member =
     tree-outcome family c.args.name.now c.args.tree.now c.args.needs.now c.in_ok-imported.imported c.in_ok-checked.checked c.outcome_of.result member
     (c.in_ok-imported.ensures.given family ready member.own) c.in_ok-checked.ensures.checked c.outcome_of.ensures.says
 
-pub check_module-requires-clause-instances : goal.check_module-requires-clause-instances
-check_module-requires-clause-instances g c = record { none = c.requires.without; behind = c.in_ok-imported.ensures.bare }
+pub returns-clause-agreed : goal.returns-clause-agreed
+returns-clause-agreed g c = c.outcome_of.ensures.agreed c.args.outcomes.now c.in_ok-imported.imported c.args.name.now c.in_ok-imported.ensures.from c.in_ok-checked.ensures.face

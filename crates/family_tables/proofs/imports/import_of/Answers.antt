@@ -1,6 +1,7 @@
 use Rattle.std.proofs.Common.{◌∙◌, ap, refl, sym, Some}
 use Rattle.module_facts.specs.Checks.{Accepted, Refused}
-use Rattle.module_model.specs.Exports.{face_instances, face_outside}
+use Rattle.module_model.specs.Exports.{face_outside}
+use Rattle.family_tables.specs.Agreement.{accepted_face}
 use Rattle.std.specs.Arc.{arc_value}
 use Rattle.module_model.specs.declared.face.Face.{Face}
 use Rattle.family_tables.proofs.Importing.{import-cyclic, import-found, import-unknown}
@@ -26,7 +27,7 @@ returns-in_ok-clone-in-Some-Accepted-clause-given c family ready n =
     (outcome.Accepted c.in-Some-Accepted.face) (Accepted (face_outside (arc_value c.in_ok-clone-in-Some-Accepted.field-0))) (sym c.in-Some-Accepted.ensures ∙ ap (λ o. Some o) c.in-Some-Accepted.field-0-is)
     (ap (λ (f : Face). Accepted (face_outside f)) c.in_ok-clone-in-Some-Accepted.ensures.cases)
 
-pub returns-in_ok-clone-in-Some-Accepted-clause-bare : goal.returns-in_ok-clone-in-Some-Accepted-clause-bare
-returns-in_ok-clone-in-Some-Accepted-clause-bare c =
-    ap (λ (f : Face). face_instances f) c.in_ok-clone-in-Some-Accepted.ensures.cases
-    ∙ c.requires c.args.need.now (outcome.Accepted c.in-Some-Accepted.face) (sym c.in-Some-Accepted.ensures ∙ ap (λ o. Some o) c.in-Some-Accepted.field-0-is)
+pub returns-in_ok-clone-in-Some-Accepted-clause-from : goal.returns-in_ok-clone-in-Some-Accepted-clause-from
+returns-in_ok-clone-in-Some-Accepted-clause-from c face some =
+    ap accepted_face (sym c.in-Some-Accepted.ensures ∙ ap (λ o. Some o) c.in-Some-Accepted.field-0-is)
+    ∙ (sym (ap (λ (f : Face). Some f) c.in_ok-clone-in-Some-Accepted.ensures.cases) ∙ some)

@@ -1,9 +1,10 @@
 use Rattle.std.proofs.Common.{◌+◌, ◌∙◌, ap, subst, sym, take}
 use Rattle.std.proofs.lemmas.List.{take_all}
 use Rattle.module_facts.specs.Checks.{given_by}
-use Rattle.family_tables.specs.Outcomes.{AreBareImports}
+use Rattle.family_tables.specs.Agreement.{AreFrom}
 use Rattle.module_model.specs.Imports.{import_of}
-use Rattle.family_tables.proofs.Importing.{AreGiven, AreOthers, bare-more, given-again, given-more, item-needed, none-from, others-again, others-more, some-from}
+use Rattle.family_tables.proofs.Agreeing.{faces-from}
+use Rattle.family_tables.proofs.Importing.{AreGiven, AreOthers, from-more, given-again, given-more, item-needed, none-from, others-again, others-more, some-from}
 use Rattle.family_tables.proofs.imports.imports_of.Goals.{then-is_none+in_ok-import_of+in_ok-add, else-is_none}
 use Rattle.family_tables.proofs.imports.imports_of.Goals as goal
 
@@ -22,7 +23,7 @@ loop-need-preserved c =
             given = λ family ready all.
                 given-more needs i c.need-item.result item c.loop-need-test.true is imports family c.args.name.now w.in_ok-import_of.field-0 c.if-is_none.imported none e
                 (w.in_ok-import_of.ensures.given family ready (all item (item-needed needs i c.need-item.result item c.loop-need-test.true is imports))) (c.loop-need.invariant.given family ready all);
-            bare = bare-more imports item w.in_ok-import_of.field-0 c.if-is_none.imported none e w.in_ok-import_of.ensures.bare c.loop-need.invariant.bare;
+            from = from-more c.args.outcomes.now imports item w.in_ok-import_of.field-0 c.if-is_none.imported none e w.in_ok-import_of.ensures.from c.loop-need.invariant.from;
             others = others-more needs i c.need-item.result item c.loop-need-test.true is imports w.in_ok-import_of.field-0 c.if-is_none.imported none e c.loop-need.invariant.others;
           }
       | else-is_none w ↦
@@ -31,7 +32,7 @@ loop-need-preserved c =
             given = λ family ready all.
                 subst (λ z. AreGiven family c.args.name.now (take (i + 1) needs) z) (sym w.imported-is)
                 (given-again needs i c.need-item.result item c.loop-need-test.true is imports family c.args.name.now some c.loop-need.invariant.others (c.loop-need.invariant.given family ready all));
-            bare = subst (λ z. AreBareImports z) (sym w.imported-is) c.loop-need.invariant.bare;
+            from = subst (AreFrom c.args.outcomes.now) (sym w.imported-is) c.loop-need.invariant.from;
             others = subst (λ z. AreOthers (take (i + 1) needs) z) (sym w.imported-is) (others-again needs i c.need-item.result item c.loop-need-test.true is imports c.loop-need.invariant.others);
           }
     ]
@@ -44,3 +45,6 @@ returns-clause-given c family ready all =
       given = subst (λ ns. AreGiven family c.args.name.now ns c.loop-need.imported) whole (c.loop-need.invariant.given family ready all);
       others = λ need n. ap given_by (subst (λ ns. AreOthers ns c.loop-need.imported) whole c.loop-need.invariant.others need n);
     }
+
+pub returns-clause-faces : goal.returns-clause-faces
+returns-clause-faces c = faces-from c.args.outcomes.now c.loop-need.imported c.args.name.now c.requires.agreed c.requires.unfound c.loop-need.invariant.from
