@@ -1,13 +1,14 @@
 -- How a run answers.
 use Rattle.std.proofs.Common.{◌≡◌, ◌≢◌, ℕ, List, [], ◌∷◌, ◌++◌, Option, Some, None, Bool, true, false, IfSome, ap, refl, sym, ◌∙◌, subst, if◌then◌else◌}
-use Rattle.std.specs.Bool.{OnFalse}
+use Rattle.std.specs.Bool.{OnFalse, OnTrue}
 use Rattle.std.specs.Io.KnownBytes.{Appends}
 use Rattle.tool_io.specs.Folder.{Told}
 use Rattle.sany_run.specs.declared.check.Outcome.{Outcome}
 use Rattle.sany_run.specs.Answers.{Answers, AppendsFront, is_fault}
 use Rattle.sany_run.specs.Program.{LIMIT, outcome_of_files, outcome_of_request, program}
 use Rattle.sany_files.specs.Words.{folder_of}
-use Rattle.sany_files.specs.Files.{files_of, is_over_folder}
+use Rattle.family_facts.specs.declared.verdict.File.{File}
+use Rattle.sany_files.specs.Files.{files_in, files_of, files_of_request, is_over_folder}
 
 on_false : (b : Bool) (P : Type 0) → P → OnFalse b P
 on_false true P p = tt
@@ -16,6 +17,10 @@ on_false false P p = p
 after_fault : (b : Bool) (P : Type 0) → b ≡ true → OnFalse b P
 after_fault true P e = tt
 after_fault false P e = absurd (cc)
+
+on_true : (b : Bool) (P : Type 0) → P → OnTrue b P
+on_true true P p = p
+on_true false P p = tt
 
 no_more : (bytes : List ℕ) → bytes ≡ bytes ++ []
 no_more [] = refl
@@ -71,6 +76,11 @@ module _ (words : List (List ℕ)) (path : List ℕ) (named : Some path ≡ fold
   pub answers-limit : (holds : Option Told) (old : Option (List ℕ)) → IfSome holds (λ t. is_over_folder t path ≡ true) → IfSome holds (λ t. Answers (program words t) 7 old old)
   answers-limit None old over = tt
   answers-limit (Some t) old over = over-answers old t over
+
+  -- what holds of the files of the folder holds of those that the words ask for, on a test
+  pub files-asked : (holds : Option Told) (b : Bool) (P : List File → Type 0) → IfSome holds (λ t. P (files_of t path)) → IfSome holds (λ t. OnTrue b (P (files_in words t)))
+  files-asked None b P is = tt
+  files-asked (Some t) b P is = on_true b (P (files_in words t)) (subst (λ request. P (files_of_request t request)) named is)
 
 -- none of them were, after a fault
 pub answers-nothing : (holds : Option Told) (words : List (List ℕ)) (status : ℕ) (old : Option (List ℕ)) → is_fault status ≡ true → IfSome holds (λ t. Answers (program words t) status old old)

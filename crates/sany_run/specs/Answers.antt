@@ -13,9 +13,9 @@ is_fault status = status == 3 || status == 5 || status == 6
 abbrev pub is_stopped : ℕ → Bool
 is_stopped status = status == 3 || status == 6
 
--- a report was written, or some module holds the word INSTANCE
+-- a report was written
 abbrev pub is_done : ℕ → Bool
-is_done status = status == 0 || status == 1 || status == 9
+is_done status = status == 0 || status == 1
 
 -- a status that a run may end with
 abbrev pub is_status : ℕ → Bool

@@ -1,7 +1,7 @@
 -- What the program writes and answers: for the folder that the words ask to check, the report on its module files, unless a limit is passed.
 use Rattle.std.specs.Prelude.{ℕ, List, [], Option, Some, None, if◌then◌else◌}
 use Rattle.tool_io.specs.Folder.{Told}
-use Rattle.family_facts.specs.Verdicts.{verdicts_if_built}
+use Rattle.family_facts.specs.Verdicts.{verdicts_on}
 use Rattle.family_facts.specs.declared.verdict.File.{File}
 use Rattle.family_facts.specs.declared.verdict.Verdict.{Verdict}
 use Rattle.sany_run.specs.declared.check.Outcome.{Outcome}
@@ -21,22 +21,13 @@ USAGE = silent 2
 abbrev pub LIMIT : Outcome
 LIMIT = silent 7
 
--- The program does not handle the word INSTANCE as yet.
-abbrev pub NOT_BUILT : Outcome
-NOT_BUILT = silent 9
-
 -- the report is written, and the status is 1 where some module is refused
 abbrev pub reported : List Verdict → Outcome
 reported verdicts = record { status = report_status verdicts; bytes = report verdicts }
 
--- the report, if the files can be judged as yet
-abbrev pub outcome_of_verdicts : Option (List Verdict) → Outcome
-outcome_of_verdicts None = NOT_BUILT
-outcome_of_verdicts (Some verdicts) = reported verdicts
-
 -- the outcome for these files, over the built-in modules
 abbrev pub outcome_of_files : List File → Outcome
-outcome_of_files files = outcome_of_verdicts (verdicts_if_built files)
+outcome_of_files files = reported (verdicts_on files)
 
 -- a folder that passes a limit is not judged
 abbrev pub outcome_of_folder : Told → List ℕ → Outcome

@@ -1,6 +1,5 @@
 // The outcome for the modules of a folder.
 ghost use Rattle.std.specs.Prelude.{◌≡◌, ◌≤◌, IfOk, IfSome, OnErr, true, is_none, nat_le};
-ghost use Rattle.std.specs.Bool.{OnTrue};
 ghost use Rattle.std.specs.List.{All};
 ghost use Rattle.std.specs.Option.{option_map};
 ghost use Rattle.tool_io.specs.Causes.{HasCause};
@@ -28,15 +27,7 @@ pub struct Outcome {
     pub bytes: List<u8>,
 }
 
-fn not_built(alloc: Global) -> Outcome
-    ensures { result ≡ program.NOT_BUILT }
-{
-    Outcome {
-        status: 9,
-        bytes: List::new(alloc),
-    }
-}
-
+// The report on verdicts.
 fn reported(alloc: Global, verdicts: &[Verdict]) -> Result<Outcome, Memory>
     requires { All IsVerdictPlaced verdicts.now }
     ensures outcome { IfOk result (λ outcome. outcome ≡ program.reported verdicts.now) }
@@ -59,13 +50,11 @@ fn outcome_of_files<L>(
     requires small { files_in.byte_count files.now ≤ files_in.MOST_BYTES }
     ensures outcome { IfOk result (λ outcome. outcome ≡ program.outcome_of_files files.now) }
     ensures done { IfOk result (λ outcome. is_done outcome.status ≡ true) }
-    ensures ticks { IfOk result (λ outcome. OnTrue (nat_le outcome.status 1) (steps.new
-        ≡ after_checks (checks_of files.now) steps.old)) }
+    ensures ticks { IfOk result (λ _. steps.new
+        ≡ after_checks (checks_of files.now) steps.old) }
 {
-    match check_family(alloc, files, steps)? {
-        Some(verdicts) => reported(alloc, verdicts.as_slice()),
-        None => Ok(not_built(alloc)),
-    }
+    let verdicts = check_family(alloc, files, steps)?;
+    reported(alloc, verdicts.as_slice())
 }
 
 /// The outcome for a folder. None where a limit is passed.
@@ -87,8 +76,8 @@ pub fn outcome_of_folder<F: Folder, L>(
     ensures ticks { IfOk result
         (λ outcome.
         IfSome outcome
-        (λ o. IfSome (F.told folder.old) (λ t. OnTrue (nat_le o.status 1) (steps.new
-        ≡ after_checks (checks_of (files_in.files_of t path.now)) steps.old)))) }
+        (λ _. IfSome (F.told folder.old) (λ t. steps.new
+        ≡ after_checks (checks_of (files_in.files_of t path.now)) steps.old))) }
     ensures told { IfOk result (λ outcome. F.told folder.new
         ≡ option_map (reading.after_folder path.now) (F.told folder.old)) }
     ensures part { OnErr result

@@ -84,8 +84,7 @@ fn status_of_run<F: Folder, K: Sink, L>(
 /// Does all that the program does, and hands the folder back. Its first answer is the status: 0
 /// where each module is accepted, 1 where some module is refused, 2 where the words ask for
 /// nothing, 3 and 5 where the folder and the output failed, 6 where there was no room, 7 where a
-/// limit is passed, 9 where a module without front fault, a built-in one among them, holds the word
-/// INSTANCE. The input is not read.
+/// limit is passed. The input is not read.
 pub fn run<F: Folder, S: Source, K: Sink, L>(
     alloc: Global,
     words: &[String],

@@ -13,7 +13,6 @@ line_of status =
     if status == 6 then Some (codes "sany: no memory") else
     if status == 7 then Some (codes "sany: limit") else
     if status == 8 then Some (codes "sany: bad header") else
-    if status == 9 then Some (codes "sany: form not built") else
     None
 
 -- the status where the words can't be read: want of memory, or else no request

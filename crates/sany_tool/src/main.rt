@@ -49,7 +49,6 @@ fn line_of(status: u8) -> Option<&'static str>
         6 => Some("sany: no memory"),
         7 => Some("sany: limit"),
         8 => Some("sany: bad header"),
-        9 => Some("sany: form not built"),
         _ => None,
     }
 }

@@ -1,7 +1,8 @@
-use Rattle.std.proofs.Common.{refl}
+use Rattle.std.proofs.Common.{◌≡◌, nat_le, refl}
+use Rattle.family_facts.specs.Verdicts.{after_checks, checks_of}
 use Rattle.sany_files.specs.Texts.{texts}
 use Rattle.sany_files.proofs.CallLemmas.{part-whole, part-words}
-use Rattle.sany_run.proofs.RunLemmas.{answers-front, answers-limit, answers-nothing, answers-usage, answers-whole, some-written}
+use Rattle.sany_run.proofs.RunLemmas.{answers-front, answers-limit, answers-nothing, answers-usage, answers-whole, files-asked, some-written}
 use Rattle.sany_run.proofs.program.status_of_run.Goals as goal
 
 pub returns-in_default-clause-answers : goal.returns-in_default-clause-answers
@@ -40,3 +41,8 @@ pub returns-clause-part : goal.returns-clause-part
 returns-clause-part g c =
     part-words (g.F.Folder.told c.args.folder.now) (g.F.Folder.told c.outcome_of_folder.new.folder) (texts c.args.words.now) c.in-Some.path.now c.in-Some.ensures
     (part-whole (g.F.Folder.told c.args.folder.now) (g.F.Folder.told c.outcome_of_folder.new.folder) c.in-Some.path.now c.in-Ok-Some.ensures.told)
+
+pub returns-in-Ok-clause-ticks : goal.returns-in-Ok-clause-ticks
+returns-in-Ok-clause-ticks g c =
+    files-asked (texts c.args.words.now) c.in-Some.path.now c.in-Some.ensures (g.F.Folder.told c.args.folder.now) (nat_le c.in-Ok-Some.outcome.status 1) (λ files. c.outcome_of_folder.new.steps ≡ after_checks (checks_of files) c.args.steps.now)
+    (rw c.in-Ok-Some.field-0-is at c.in-Ok-Some.ensures.ticks)
