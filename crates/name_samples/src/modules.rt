@@ -1,6 +1,6 @@
 // Imports by name, tables and lists in stretches, faults in order.
 use indexmap::IndexMap;
-use module_model::{Bound, Face, Import, Imported, in_order};
+use module_model::{Bound, Face, Import, Imported, Parts, in_order};
 use std::alloc::Global;
 use std::process::Abort;
 use std::sync::Arc;
@@ -22,10 +22,11 @@ fn crosses() {
 
 // A module that exports nothing.
 fn bare(rt: &impl Abort, alloc: Global, name: &str) -> Import {
+    let exports = Arc::new(alloc, NameTable::new(alloc)).expect(rt, name);
     let face = Face {
         module: Chars::from_str(alloc, name).expect(rt, name),
-        exports: NameTable::new(alloc),
-        instances: List::new(alloc),
+        exports,
+        parts: Parts::new(alloc),
     };
     Import::Module(Arc::new(alloc, face).expect(rt, name))
 }

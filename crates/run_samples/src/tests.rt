@@ -3,6 +3,7 @@ mod arities;
 mod devices;
 mod families;
 mod files;
+mod instances;
 mod modules;
 mod nested;
 mod scopes;
@@ -169,6 +170,47 @@ fn reports_on_families(rt: HostRuntime) -> Result<(), Fail> {
         reports(&rt, rt.alloc(), table)?;
     }
     Ok(())
+}
+
+fn reports_on_tables(
+    rt: &impl Abort,
+    alloc: Global,
+    tables: [&'static [Case]; 3],
+) -> Result<(), Fail> {
+    for table in tables {
+        reports(rt, alloc, table)?;
+    }
+    Ok(())
+}
+
+#[test]
+fn reports_on_instances(rt: HostRuntime) -> Result<(), Fail> {
+    let tables: [&'static [Case]; 3] = [
+        &instances::paths::PATHS,
+        &instances::segments::SEGMENTS,
+        &instances::uses::USES,
+    ];
+    reports_on_tables(&rt, rt.alloc(), tables)
+}
+
+#[test]
+fn reports_on_what_instances_replace(rt: HostRuntime) -> Result<(), Fail> {
+    let tables: [&'static [Case]; 3] = [
+        &instances::replaced::REPLACED,
+        &instances::inner::INNER,
+        &instances::needed::NEEDED,
+    ];
+    reports_on_tables(&rt, rt.alloc(), tables)
+}
+
+#[test]
+fn reports_on_what_instances_bring(rt: HostRuntime) -> Result<(), Fail> {
+    let tables: [&'static [Case]; 3] = [
+        &instances::unnamed::UNNAMED,
+        &instances::brought::BROUGHT,
+        &instances::shared::SHARED,
+    ];
+    reports_on_tables(&rt, rt.alloc(), tables)
 }
 
 #[test]

@@ -297,15 +297,31 @@ pub static IMPORTS: [Case; 13] = [
 ];
 
 /// Modules that hold the word INSTANCE.
-pub static INSTANCES: [Case; 7] = [
-    (&[("A", "INSTANCE C"), ("B", ";")], 9, ""),
-    (&[("A", "I == INSTANCE C"), ("B", ";")], 9, ""),
-    (&[("A", "LOCAL INSTANCE C"), ("B", ";")], 9, ""),
-    (&[("A", "U == LET I == INSTANCE C IN 1"), ("B", ";")], 9, ""),
+pub static INSTANCES: [Case; 13] = [
+    (
+        &[("A", "INSTANCE C"), ("B", ";")],
+        1,
+        "A refused\n  2:10-2:11 E301\nB refused\n  2:1-2:2 E201\nmodules=2 refused=2\n",
+    ),
+    (
+        &[("A", "I == INSTANCE C"), ("B", ";")],
+        1,
+        "A refused\n  2:15-2:16 E301\nB refused\n  2:1-2:2 E201\nmodules=2 refused=2\n",
+    ),
+    (
+        &[("A", "LOCAL INSTANCE C"), ("B", ";")],
+        1,
+        "A refused\n  2:16-2:17 E301\nB refused\n  2:1-2:2 E201\nmodules=2 refused=2\n",
+    ),
+    (
+        &[("A", "U == LET I == INSTANCE C IN 1"), ("B", ";")],
+        1,
+        "A refused\n  2:24-2:25 E301\nB refused\n  2:1-2:2 E201\nmodules=2 refused=2\n",
+    ),
     (
         &[("A", "---- MODULE C ----\nINSTANCE D\n===="), ("B", ";")],
-        9,
-        "",
+        1,
+        "A refused\n  3:10-3:11 E301\nB refused\n  2:1-2:2 E201\nmodules=2 refused=2\n",
     ),
     // A module with a front fault is not looked into, nor is a comment.
     (
@@ -317,5 +333,37 @@ pub static INSTANCES: [Case; 7] = [
         &[("A", "\\* INSTANCE C"), ("B", ";")],
         1,
         "A accepted\nB refused\n  2:1-2:2 E201\nmodules=2 refused=1\n",
+    ),
+    // What an instance brings, and what can be named through it.
+    (
+        &[("A", "INSTANCE B\nU == F"), ("B", "F == 1")],
+        0,
+        "A accepted\nB accepted\nmodules=2 refused=0\n",
+    ),
+    (
+        &[("A", "I == INSTANCE B\nU == I!F"), ("B", "F == 1")],
+        0,
+        "A accepted\nB accepted\nmodules=2 refused=0\n",
+    ),
+    (
+        &[("A", "I == INSTANCE B\nU == I!G"), ("B", "F == 1")],
+        1,
+        "A refused\n  3:8-3:9 E401\nB accepted\nmodules=2 refused=1\n",
+    ),
+    // A clash, a left side that is no parameter, and a parameter that is not replaced.
+    (
+        &[("A", "F == 2\nINSTANCE B"), ("B", "F == 1")],
+        1,
+        "A refused\n  3:10-3:11 E404\nB accepted\nmodules=2 refused=1\n",
+    ),
+    (
+        &[("A", "INSTANCE B WITH d <- 1"), ("B", "F == 1")],
+        1,
+        "A refused\n  2:17-2:18 E405\nB accepted\nmodules=2 refused=1\n",
+    ),
+    (
+        &[("A", "INSTANCE B"), ("B", "CONSTANT c")],
+        1,
+        "A refused\n  2:10-2:11 E407\nB accepted\nmodules=2 refused=1\n",
     ),
 ];
