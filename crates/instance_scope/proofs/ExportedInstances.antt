@@ -13,14 +13,14 @@ use Rattle.module_model.specs.Given.{imported}
 use Rattle.module_model.specs.Imports.{Imports}
 use Rattle.module_model.specs.NamedModules.{exported_known}
 use Rattle.module_model.specs.Parts.{first_of}
-use Rattle.tree_scope.specs.declared.tasks.Held.{Held}
-use Rattle.tree_scope.specs.declared.tasks.Held.TheVariants.{Nowhere, Imported, Reached, Nested}
-use Rattle.instance_scope.specs.declared.scope.Ended.{Ended}
+use Rattle.tree_tasks.specs.declared.held.Held.{Held}
+use Rattle.tree_tasks.specs.declared.held.Held.TheVariants.{Nowhere, Imported, Reached, Nested}
+use Rattle.instance_leads.specs.declared.ended.Ended.{Ended}
 use Rattle.instance_scope.specs.declared.scope.Scope.{Scope}
-use Rattle.instance_scope.specs.Found.{AreOfFace, AreTold, IsLedBy, IsOfFace, IsTold}
-use Rattle.instance_scope.specs.Leading.{IsNoted, IsThere, Leads, behind_found, exports_shown, known_in, view_at}
+use Rattle.instance_leads.specs.Found.{AreOfFace, AreTold, IsLedBy, IsOfFace, IsTold}
+use Rattle.instance_leads.specs.Leading.{IsNoted, IsThere, Leads, behind_found, exports_shown, known_in, view_at}
 use Rattle.instance_scope.specs.Scoped.{AreGiven, IsBroughtBy, IsSound, known_of}
-use Rattle.instance_scope.proofs.Knowing.{decl-equal, first-none}
+use Rattle.instance_leads.proofs.Knowing.{decl-equal, first-none}
 
 -- ---- imported modules
 

@@ -11,7 +11,7 @@ use Rattle.module_model.specs.NamedModules.{behind_named, known_named}
 use Rattle.instance_names.specs.declared.named.NamedInstance.{NamedInstance}
 use Rattle.instance_names.specs.Named.{named_as}
 use Rattle.tla_model.specs.Entities.{declaration}
-use Rattle.instance_scope.proofs.Knowing.{and-assoc}
+use Rattle.instance_leads.proofs.Knowing.{and-assoc}
 
 named-append : (text : Text) (named : List ℕ → ModuleView) (a b : List (Lexeme × Option Lexeme)) → known_named text named (a ++ b) ≡ and_known (known_named text named a) (known_named text named b)
 named-append text named [] b = refl

@@ -18,14 +18,14 @@ use Rattle.tla_model.specs.Tables.{Named, Word, Symbol, Table, has, lookup, same
 use Rattle.module_model.specs.Exports.{Exports, Path, at_path, behind_meaning, entries_from, entry_of, exports_of, of_symbols, of_words, parameters_in}
 use Rattle.module_model.specs.Given.{AreFaces}
 use Rattle.module_model.specs.Instances.{nested_view, own_parameters}
-use Rattle.tree_scope.specs.declared.tasks.Held.{Held}
-use Rattle.tree_scope.specs.declared.tasks.Held.TheVariants.{Nowhere}
-use Rattle.instance_scope.specs.declared.scope.Ended.{Ended}
+use Rattle.tree_tasks.specs.declared.held.Held.{Held}
+use Rattle.tree_tasks.specs.declared.held.Held.TheVariants.{Nowhere}
+use Rattle.instance_leads.specs.declared.ended.Ended.{Ended}
 use Rattle.instance_scope.specs.declared.scope.Scope.{Scope}
-use Rattle.instance_scope.specs.Found.{AreIn, AreTold, IsTold, is_new_symbol, is_new_word}
-use Rattle.instance_scope.specs.Leading.{AreThere, IsNoted, IsThere, Leads, behind_at, behind_found, entries_of, known_in, leads_on, or_nowhere, parameters_shown, view_at}
+use Rattle.instance_leads.specs.Found.{AreIn, AreTold, IsTold, is_new_symbol, is_new_word}
+use Rattle.instance_leads.specs.Leading.{AreThere, IsNoted, IsThere, Leads, behind_at, behind_found, entries_of, known_in, leads_on, or_nowhere, parameters_shown, view_at}
 use Rattle.instance_scope.specs.Scoped.{IsBroughtBy, IsEnded, IsSound, known_of}
-use Rattle.instance_scope.proofs.Naming.{filter-append, kept-table, symbols_meant}
+use Rattle.instance_leads.proofs.Naming.{filter-append, kept-table, symbols_meant}
 use Rattle.instance_scope.proofs.Staying.{behind-stays, known-stays, there-more, view-stays}
 
 -- ---- what is said of instances, as more is kept

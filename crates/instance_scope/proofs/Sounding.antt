@@ -4,12 +4,12 @@ use Rattle.std.specs.Str.{bytes_eq}
 use Rattle.tla_model.specs.declared.ids.DeclId.{DeclId}
 use Rattle.tla_model.specs.Entities.{same_decl}
 use Rattle.tla_model.specs.Tables.{added, lookup}
-use Rattle.tree_scope.specs.declared.tasks.Held.{Held}
+use Rattle.tree_tasks.specs.declared.held.Held.{Held}
 use Rattle.instance_scope.specs.declared.scope.Scope.{Scope}
-use Rattle.instance_scope.specs.Keys.{joined_leads}
-use Rattle.instance_scope.specs.Leading.{IsThere, Leads}
+use Rattle.instance_leads.specs.Keys.{joined_leads}
+use Rattle.instance_leads.specs.Leading.{IsThere, Leads}
 use Rattle.instance_scope.specs.Scoped.{AreGiven, IsBroughtBy, IsSound}
-use Rattle.instance_scope.proofs.Knowing.{added-cases, joined-cases, joined-first}
+use Rattle.instance_leads.proofs.Knowing.{added-cases, joined-cases, joined-first}
 
 pub none-given : (scope : Scope) → AreGiven scope []
 none-given scope = record { there = λ decl held is. cc; foreign = λ decl held is other. cc }

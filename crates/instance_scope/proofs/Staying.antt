@@ -11,10 +11,10 @@ use Rattle.tla_model.specs.Tables.{lookup}
 use Rattle.tla_model.proofs.Stretching.{at-first}
 use Rattle.module_model.specs.Exports.{Behind, Path, at_path, behind_meaning, entry_of, instantiable}
 use Rattle.module_model.specs.Imports.{Imports}
-use Rattle.tree_scope.specs.declared.tasks.Held.{Held}
-use Rattle.tree_scope.specs.declared.tasks.Held.TheVariants.{Nowhere, Imported, Reached, Nested}
-use Rattle.instance_scope.specs.declared.scope.Ended.{Ended}
-use Rattle.instance_scope.specs.Leading.{AreThere, IsThere, Leads, behind_at, behind_found, entries_of, exports_shown, known_in, leads_on, leads_shown, or_nowhere, parameters_shown, view_at}
+use Rattle.tree_tasks.specs.declared.held.Held.{Held}
+use Rattle.tree_tasks.specs.declared.held.Held.TheVariants.{Nowhere, Imported, Reached, Nested}
+use Rattle.instance_leads.specs.declared.ended.Ended.{Ended}
+use Rattle.instance_leads.specs.Leading.{AreThere, IsThere, Leads, behind_at, behind_found, entries_of, exports_shown, known_in, leads_on, leads_shown, or_nowhere, parameters_shown, view_at}
 
 module _ (imports : Imports) where
   -- ---- places that are there

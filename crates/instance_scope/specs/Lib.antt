@@ -1,6 +1,1 @@
-pub mod Keys
-pub mod Leading
-pub mod Found
 pub mod Scoped
-pub mod Gathering
-pub mod Gathered

@@ -9,16 +9,16 @@ use Rattle.module_model.specs.declared.face.Face.{Face}
 use Rattle.module_model.specs.Given.{AreFaces, AreReached, ComesFrom, imported}
 use Rattle.module_model.specs.Imports.{Imports}
 use Rattle.module_model.specs.Parts.{ByText}
-use Rattle.tree_scope.specs.declared.tasks.Held.{Held}
-use Rattle.tree_scope.specs.declared.tasks.Held.TheVariants.{Reached}
+use Rattle.tree_tasks.specs.declared.held.Held.{Held}
+use Rattle.tree_tasks.specs.declared.held.Held.TheVariants.{Reached}
 use Rattle.module_scope.specs.Environments.{Environment}
 use Rattle.module_model.specs.Exports.{Exports, Known, ModuleView, Path, entries_along, entries_from, exports_of, face_instances, files_of, instances_in}
 use Rattle.module_model.specs.NamedModules.{module_at}
 use Rattle.module_model.specs.TreeFindings.{Surroundings}
-use Rattle.instance_scope.specs.declared.scope.Ended.{Ended}
+use Rattle.instance_leads.specs.declared.ended.Ended.{Ended}
 use Rattle.instance_scope.specs.declared.scope.Scope.{Scope}
-use Rattle.instance_scope.specs.Found.{AreTold}
-use Rattle.instance_scope.specs.Leading.{AreThere, IsNoted, Leads, known_in, view_at, views}
+use Rattle.instance_leads.specs.Found.{AreTold}
+use Rattle.instance_leads.specs.Leading.{AreThere, IsNoted, Leads, known_in, view_at, views}
 
 -- what stands behind the instances that are known
 abbrev pub known_of : Scope → Known
@@ -72,10 +72,3 @@ pub record IsEnded (old new : Scope) : Type 0 where
   pub imported : new.imported.now ≡ old.imported.now
   pub words : new.words ≡ old.words
   pub paths : new.paths ≡ old.paths
-
--- parts that hold what these exports reach, and nothing from elsewhere: paths through them lead where they do here
-pub record AreParts (scope : Scope) (shown : Exports) (parts : ByText) : Type 0 where
-  pub along : (path : Path) → entries_along (instances_in parts) shown path ≡ entries_from (known_of scope) shown path
-  pub first : AreReached (instances_in parts) shown
-  pub behind : (decl : DeclId) (entries : Exports) → instances_in parts decl ≡ Some entries → AreReached (instances_in parts) entries
-  pub from : (decl : DeclId) (entries : Exports) → instances_in parts decl ≡ Some entries → ComesFrom scope.imported.now scope.title.now decl entries

@@ -8,10 +8,9 @@ ghost use Rattle.tla_model.specs.Tables.{lookup};
 ghost use Rattle.module_model.specs.Exports.{exports_of, parameters_in};
 ghost use Rattle.module_model.specs.Instances as instances;
 ghost use Rattle.name_context.specs.AsTables.{context_of, meant_by};
-ghost use Rattle.instance_scope.specs.Found.{AreIn, AreTold, IsTold, is_new_symbol, is_new_word, with_last};
+ghost use Rattle.instance_leads.specs.Found.{AreIn, AreTold, IsTold, is_new_symbol, is_new_word, with_last};
 
-use crate::kinds::is_parameter;
-use crate::leads::Leads;
+use instance_leads::{Leads, is_parameter};
 use name_context::{Context, Named};
 use name_exports::Exported;
 use std::alloc::Global;

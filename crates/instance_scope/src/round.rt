@@ -3,20 +3,22 @@ ghost use Rattle.std.specs.Prelude.{◌≡◌, IfOk};
 ghost use Rattle.std.specs.Option.{option_copied};
 ghost use Rattle.module_model.specs.Exports.{entry_of, exports_of, instantiable};
 ghost use Rattle.name_context.specs.AsTables.{meant_by};
-ghost use Rattle.tree_scope.specs.Parameters.{entries_in};
-ghost use Rattle.instance_scope.specs.Leading.{behind_at, exports_shown, leads_on, leads_shown, parameters_shown};
+ghost use Rattle.tree_names.specs.Parameters.{entries_in};
+ghost use Rattle.instance_leads.specs.Leading.{behind_at, exports_shown, leads_on, leads_shown, parameters_shown};
 ghost use Rattle.instance_scope.specs.Scoped.{around_in};
 
-use crate::entries::{copied, kept_among, kept_in, meant_among, meant_in};
-use crate::kinds::Kind;
-use crate::named::{NamedModule, exports_in, led_on};
-use crate::parameters::{face_parameters, nested_parameters};
-use crate::scope::{Ended, Numbers, Scope};
+use crate::scope::Scope;
+use instance_leads::{
+    Ended, Kind, NamedModule, Numbers, copied, exports_in, face_parameters, kept_among, kept_in,
+    led_on, meant_among, meant_in, nested_parameters,
+};
 use name_context::Named;
 use std::alloc::Global;
 use tla_model::Meaning;
 use tool_list::{List, Memory};
-use tree_scope::{Held, Parameter, Surround};
+use tree_names::Parameter;
+use tree_scope::Surround;
+use tree_tasks::Held;
 
 /// What is round the trees of a place: what is known there, and the modules that can be named.
 #[derive(Clone, Copy)]

@@ -13,45 +13,30 @@ ghost use Rattle.module_model.specs.NamedModules.{exported_known, unit_of};
 ghost use Rattle.module_model.specs.TreeFindings as in_trees;
 ghost use Rattle.name_context.specs.AsTables.{context_of};
 ghost use Rattle.name_exports.specs.Brought.{IsBrought, IsJoined};
-ghost use Rattle.instance_scope.specs.Leading.{AreNumbered, IsThere, behind_at, known_in, leads_on, view_at};
-ghost use Rattle.instance_scope.specs.Found.{IsMeant, module_shown};
+ghost use Rattle.instance_leads.specs.Leading.{AreNumbered, IsThere, behind_at, known_in, leads_on, view_at};
+ghost use Rattle.instance_leads.specs.Found.{IsMeant, module_shown};
 ghost use Rattle.tla_model.specs.Entities.{place_in};
 ghost use Rattle.instance_names.specs.Named.{named_as};
-ghost use Rattle.instance_scope.specs.Scoped.{AreGiven, AreParts, IsEnded, IsSame, IsSound, around_in, known_of, module_in};
+ghost use Rattle.instance_scope.specs.Scoped.{AreGiven, IsEnded, IsSame, IsSound, around_in, known_of, module_in};
 
-use crate::bring::{bring_ended, bring_ended_through, bring_face};
 use crate::ending::{kept_leads, own_parameters};
-use crate::face_leads::face_leads;
-use crate::leads::Leads;
-use crate::named::{NamedModule, named_module};
-use crate::reached::reached_from;
 use crate::round::Round;
+use instance_leads::{
+    Ended, Leads, NamedModule, Numbers, bring_ended, bring_ended_through, bring_face, face_leads,
+    named_module,
+};
 use instance_names::NamedInstance;
-use module_model::{Imported, Parts};
-use module_scope::Modules;
+use module_model::Imported;
 use name_context::Context;
 use name_exports::{Exported, Names, bring_import};
 use std::alloc::Global;
-use tla_model::{Finding, Meaning, NameTable, Starts, UnitId};
+use tla_model::{Finding, Meaning, Starts, UnitId};
 use tla_symbols::Lexeme;
 use tla_tree::Tree;
 use tool_list::{Chars, List, Memory};
-use tree_scope::{Held, ModuleText, walk};
-
-/// A nested module that has ended.
-#[derive(Drop)]
-pub struct Ended<'a> {
-    /// What it exports.
-    pub exports: Exported<'a>,
-    /// The constants and variables that it declares or extends, and that the context round it does not
-    /// hold.
-    pub parameters: Exported<'a>,
-    /// Where the instances lead that it exports.
-    pub instances: Leads<'a>,
-}
-
-/// The modules that can be named at a place: those nested ones by their numbers.
-pub type Numbers<'a> = Modules<'a, usize>;
+use tree_names::ModuleText;
+use tree_scope::walk;
+use tree_tasks::Held;
 
 /// The modules and the instances that are known while a text is read.
 #[derive(Drop)]
@@ -375,15 +360,6 @@ impl<'a> Scope<'a> {
             instances,
         })?;
         Ok(number)
-    }
-
-    /// The instances that these exports reach, each with what its module exports.
-    pub fn reached(&self, alloc: Global, exports: &NameTable) -> Result<Parts, Memory>
-        requires sound { IsSound self.now }
-        requires reached { AreReached (known_of self.now) (exports_of exports.now) }
-        ensures { IfOk result (λ parts. AreParts self.now (exports_of exports.now) parts) }
-    {
-        reached_from(alloc, self, exports)
     }
 
     /// Appends what is found in the tree below a node, in the order of the text. The context is behind it

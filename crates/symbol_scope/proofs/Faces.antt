@@ -9,12 +9,12 @@ use Rattle.module_model.specs.Exports.{entries_along, entries_from, exports_of, 
 use Rattle.module_model.specs.Given.{AreReached, ComesFrom}
 use Rattle.module_model.specs.Modules.{Reading}
 use Rattle.module_model.specs.Resolution.{ReadState}
-use Rattle.instance_scope.specs.Scoped.{AreParts}
-use Rattle.symbol_scope.specs.EnclosingReadings.{IsAt}
+use Rattle.instance_parts.specs.Parts.{AreParts}
+use Rattle.unit_scope.specs.EnclosingReadings.{IsAt}
 use Rattle.symbol_scope.specs.Exporting.{IsFaceOf}
-use Rattle.symbol_scope.specs.Readings.{Over}
-use Rattle.symbol_scope.specs.Steps.{outside_at}
-use Rattle.symbol_scope.specs.declared.nesting.Nesting.{Nesting}
+use Rattle.unit_scope.specs.Readings.{Over}
+use Rattle.unit_scope.specs.Steps.{outside_at}
+use Rattle.unit_scope.specs.declared.nesting.Nesting.{Nesting}
 
 pub is-face : (text : Text) (over : Over) (read : Nesting) (state : ReadState) → IsAt text over read state → (face : Face) → face.«module» ≡ text.file → (table : Table Meaning) → arc_value face.exports ≡ table → table ≡ read.here.names.exports
     → AreParts read.scope (exports_of table) face.parts → IsFaceOf over.imports text.file (outside_at state) face

@@ -1,7 +1,1 @@
-mod Growing
-mod Taking
-mod Lexemes
-mod Onward
-mod UnitParts
-mod Wholes
-mod Faces
+pub mod Faces

@@ -1,5 +1,1 @@
-pub mod Modules
-pub mod Readings
-pub mod EnclosingReadings
-pub mod Steps
 pub mod Exporting

@@ -4,10 +4,6 @@
 //! them are refused.
 #![tactic(auto)]
 
-mod declaring;
-mod nesting;
-mod reading;
 mod resolution;
-mod units;
 
 pub use resolution::{Resolved, resolve};

@@ -9,17 +9,17 @@ ghost use Rattle.module_model.specs.Modules as in_modules;
 ghost use Rattle.module_model.specs.Resolution as in_resolution;
 ghost use Rattle.module_model.specs.Resolution.{ReadState};
 ghost use Rattle.sorted_findings.specs.Sorting.{IsNothing, IsSorted};
-ghost use Rattle.symbol_scope.specs.EnclosingReadings.{IsAt, IsSomewhere};
+ghost use Rattle.unit_scope.specs.EnclosingReadings.{IsAt, IsSomewhere};
 ghost use Rattle.symbol_scope.specs.Exporting.{IsFaceOf, IsFaceUnless, IsShown};
-ghost use Rattle.symbol_scope.specs.Readings.{Over, over_of};
-ghost use Rattle.symbol_scope.specs.Steps.{IsLast, IsUnread, outside_at, over_for};
+ghost use Rattle.unit_scope.specs.Readings.{Over, over_of};
+ghost use Rattle.unit_scope.specs.Steps.{IsLast, IsUnread, outside_at, over_for};
 ghost use Rattle.tla_model.specs.Entities as entities;
 ghost use Rattle.tla_model.specs.Lexemes.{LexemesLie, spelled as spelled_in};
 ghost use Rattle.unit_grammar.specs.UnitNodes.{HasNodes, module_of};
 
-use crate::nesting::Nesting;
 use declared_names::declaring;
 use instance_names::{instance_words, path_starts};
+use instance_parts::reached_from;
 use instance_scope::Scope;
 use module_model::{Bound, Face, Imported};
 use sorted_findings::{nothing, order, sort_out};
@@ -28,7 +28,8 @@ use std::sync::Arc;
 use tla_model::{Binder, Decl, Diagnostic, Finding, spelled};
 use tla_tree::ModuleTree;
 use tool_list::{Chars, List, Memory};
-use tree_scope::ModuleText;
+use tree_names::ModuleText;
+use unit_scope::Nesting;
 
 // The text of a module, by the names that it declares.
 fn text_of<'a>(
@@ -141,7 +142,7 @@ fn face_of<'a>(alloc: Global, text: &ModuleText<'a>, nesting: &Nesting<'a>) -> R
         → IsFaceOf over.imports text.now.file (outside_at state) face) }
 {
     let exports = nesting.here.names.exports.listed(alloc)?;
-    let parts = nesting.scope.reached(alloc, &exports)?;
+    let parts = reached_from(alloc, &nesting.scope, &exports)?;
     Ok(Face {
         module: Chars::from_str(alloc, text.file())?,
         exports: Arc::new(alloc, exports)?,

@@ -1,9 +1,8 @@
-mod Running
-mod Scoping
-mod Shapes
-mod TaskFindings
-mod NodeTasks
-mod NamesInText
-mod Segments
-mod Noting
-mod Replacing
+pub mod NamesInText
+pub mod NodeTasks
+pub mod Noting
+pub mod Replacing
+pub mod Scoping
+pub mod Segments
+pub mod Shapes
+pub mod TaskFindings

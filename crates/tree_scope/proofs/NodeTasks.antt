@@ -14,13 +14,14 @@ use Rattle.tla_model.specs.Scopes.{Finding, all_refused, has_set, itself, prefix
 use Rattle.list_laws.proofs.Lists.{all-both, all-left, all-right}
 use Rattle.module_model.specs.Exports.{Behind}
 use Rattle.module_model.specs.TreeFindings.{Surroundings, segments, walk, walk_each, walk_rest, walk_round, walk_sets}
-use Rattle.tree_scope.specs.declared.tasks.Held.{Held}
-use Rattle.tree_scope.specs.declared.tasks.Task.TheVariants as task
-use Rattle.tree_scope.specs.declared.tasks.Naming.TheVariants as how
+use Rattle.tree_tasks.specs.declared.held.Held.{Held}
+use Rattle.tree_tasks.specs.declared.tasks.Task.TheVariants as task
+use Rattle.tree_tasks.specs.declared.tasks.Naming.TheVariants as how
 use Rattle.name_context.specs.declared.context.Mark.{Mark}
 use Rattle.name_context.specs.AsTables.{mark_of}
 use Rattle.declared_names.specs.Nodes.{IsWhole, binders_at, defined_at, form_at, parts_at}
-use Rattle.tree_scope.specs.WalkTasks.{Task, AreFound, AreReady, IsDone, IsNode, IsReady, all_size, between_tasks, chain, emit, function_tasks, image_tasks, in_scope, is_chosen, naming, run, scope_tasks, size, size_of, sizes, trees_at, visits, with_sets}
+use Rattle.tree_scope.specs.TasksDone.{AreFound, AreReady, IsDone, IsNode, IsReady, all_size, emit, run, size, size_of, sizes, trees_at}
+use Rattle.tree_tasks.specs.WalkTasks.{Task, between_tasks, chain, function_tasks, image_tasks, in_scope, is_chosen, naming, scope_tasks, visits, with_sets}
 use Rattle.tree_scope.proofs.TaskFindings.{each-run, emit-append, first-run, function-run, order-run, scope-run, sets-run}
 use Rattle.tree_scope.proofs.Scoping.{grows-refl, grows-reserve_all}
 use Rattle.tree_scope.proofs.NamesInText.{parts-lie}

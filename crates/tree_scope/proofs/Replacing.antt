@@ -22,10 +22,11 @@ use Rattle.list_laws.proofs.Lists.{all-both, all-left, all-right}
 use Rattle.tla_model.proofs.Stretching.{take-at}
 use Rattle.declared_names.proofs.Nodewise.{there-at, tree-at}
 use Rattle.declared_names.specs.Nodes.{IsWhole, form_at, parts_at}
-use Rattle.tree_scope.specs.declared.tasks.Held.{Held}
-use Rattle.tree_scope.specs.declared.tasks.Naming.TheVariants as how
-use Rattle.tree_scope.specs.declared.tasks.Task.TheVariants as task
-use Rattle.tree_scope.specs.WalkTasks.{Task, AreReady, AreWhole, IsDone, IsNode, IsPath, all_size, emit, implied_of, instance_tasks, left_of, naming, noted, noted_all, replacements, replacing, run, size, sizes, trees_at, visits}
+use Rattle.tree_tasks.specs.declared.held.Held.{Held}
+use Rattle.tree_tasks.specs.declared.tasks.Naming.TheVariants as how
+use Rattle.tree_tasks.specs.declared.tasks.Task.TheVariants as task
+use Rattle.tree_scope.specs.TasksDone.{AreReady, IsDone, IsNode, IsPath, all_size, emit, run, size, sizes, trees_at}
+use Rattle.tree_tasks.specs.WalkTasks.{Task, AreWhole, implied_of, instance_tasks, left_of, naming, noted, noted_all, replacements, replacing, visits}
 use Rattle.tree_scope.proofs.NamesInText.{held-lies, parts-lie}
 use Rattle.tree_scope.proofs.NodeTasks.{done, ready-append, size-append, size-is, visits-ready, visits-size, walk-is}
 use Rattle.tree_scope.proofs.Noting.{HasThese, or-assoc, or-past, put-found, these-more}

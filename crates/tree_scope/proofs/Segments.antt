@@ -18,9 +18,10 @@ use Rattle.module_model.specs.Instances.{called_by}
 use Rattle.module_model.specs.TreeFindings.{Surroundings, path, path_number, segments, walk_each}
 use Rattle.list_laws.proofs.Lists.{all-left, all-right, drop-at}
 use Rattle.declared_names.specs.Nodes.{IsWhole, form_at, parts_at}
-use Rattle.tree_scope.specs.declared.tasks.Held.{Held}
-use Rattle.tree_scope.specs.declared.tasks.Task.TheVariants as task
-use Rattle.tree_scope.specs.WalkTasks.{Task, AreFound, AreReady, IsDone, IsPath, all_size, called, children_from, emit, leads, path_tasks, run, segment_of, size, sizes, trees_at, visits}
+use Rattle.tree_tasks.specs.declared.held.Held.{Held}
+use Rattle.tree_tasks.specs.declared.tasks.Task.TheVariants as task
+use Rattle.tree_scope.specs.TasksDone.{AreFound, AreReady, IsDone, IsPath, all_size, children_from, emit, run, size, sizes, trees_at}
+use Rattle.tree_tasks.specs.WalkTasks.{Task, called, leads, path_tasks, segment_of, visits}
 use Rattle.tree_scope.proofs.TaskFindings.{each-run, emit-append}
 use Rattle.tree_scope.proofs.NodeTasks.{ready-append, size-append, visits-ready, visits-size}
 use Rattle.tree_scope.proofs.NamesInText.{held-lies, parts-lie}

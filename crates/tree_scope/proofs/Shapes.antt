@@ -11,8 +11,8 @@ use Rattle.tla_model.specs.Lexemes.{form_lexemes}
 use Rattle.tla_model.specs.Scopes.{all_refused, binders, itself, prefixed, reserved, symbol_findings}
 use Rattle.module_model.specs.Instances.{implied, left_sides}
 use Rattle.module_model.specs.TreeFindings.{Surroundings, replaceable, replaced, segments, walk, walk_chain, walk_each, walk_rest, walk_round, walk_sets}
-use Rattle.tree_scope.specs.declared.tasks.Naming.TheVariants as how
-use Rattle.tree_scope.specs.WalkTasks.{naming}
+use Rattle.tree_tasks.specs.declared.tasks.Naming.TheVariants as how
+use Rattle.tree_tasks.specs.WalkTasks.{naming}
 
 abbrev is_Path : how.the_data → Bool
 is_Path how.Path = true

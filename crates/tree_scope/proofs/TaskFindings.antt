@@ -13,11 +13,12 @@ use Rattle.tla_model.specs.Scopes.{Finding, all_refused, behind, has_set}
 use Rattle.tla_model.specs.Scopes.{definition}
 use Rattle.module_model.specs.Exports.{Behind}
 use Rattle.module_model.specs.TreeFindings.{Surroundings, walk, walk_chain, walk_each, walk_rest, walk_sets}
-use Rattle.tree_scope.specs.declared.tasks.Held.{Held}
-use Rattle.tree_scope.specs.declared.tasks.Task.TheVariants as task
+use Rattle.tree_tasks.specs.declared.held.Held.{Held}
+use Rattle.tree_tasks.specs.declared.tasks.Task.TheVariants as task
 use Rattle.name_context.specs.AsTables.{mark_of}
 use Rattle.declared_names.specs.Nodes.{binders_at, form_at}
-use Rattle.tree_scope.specs.WalkTasks.{Task, Outcome, chain, emit, is_chosen, run, visits}
+use Rattle.tree_scope.specs.TasksDone.{Outcome, emit, run}
+use Rattle.tree_tasks.specs.WalkTasks.{Task, chain, is_chosen, visits}
 use Rattle.tree_scope.proofs.Scoping.{Grows, cut-grown, grows-bind, grows-bind_all, grows-refl, grows-trans}
 
 pub emit-append : (a b : List Finding) (o : Outcome) → emit (a ++ b) o ≡ emit a (emit b o)

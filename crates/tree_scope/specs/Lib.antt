@@ -1,3 +1,1 @@
-pub mod Lying
-pub mod Parameters
-pub mod WalkTasks
+pub mod TasksDone

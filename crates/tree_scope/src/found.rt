@@ -8,16 +8,12 @@ ghost use Rattle.tla_model.specs.Scopes as scopes;
 ghost use Rattle.module_model.specs.TreeFindings as in_trees;
 ghost use Rattle.name_context.specs.AsTables.{context_of};
 ghost use Rattle.declared_names.specs.Nodes.{binders_at};
-ghost use Rattle.tree_scope.specs.WalkTasks as walking;
-ghost use Rattle.tree_scope.specs.WalkTasks.{AreReady, IsDone, IsNode, IsReady, stack};
+ghost use Rattle.tree_scope.specs.TasksDone.{AreReady, IsDone, IsNode, IsReady};
+ghost use Rattle.tree_tasks.specs.WalkTasks.{stack};
 
 use crate::paths::go_on;
 use crate::replacements::{imply, replace};
-use crate::scopes::{bind, bind_all};
 use crate::surroundings::Surround;
-use crate::tasks::Task;
-use crate::text::ModuleText;
-use crate::uses::{bind_function, use_symbol};
 use crate::visits::visit;
 use declared_names::{binders, defined};
 use name_context::Context;
@@ -25,6 +21,8 @@ use std::alloc::Global;
 use tla_model::Finding;
 use tla_tree::Tree;
 use tool_list::{List, Memory};
+use tree_names::{ModuleText, bind, bind_all, bind_function, use_symbol};
+use tree_tasks::Task;
 
 // Puts the names into the context that a node binds for its parts.
 fn bind_names<'a>(

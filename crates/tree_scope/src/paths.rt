@@ -8,19 +8,18 @@ ghost use Rattle.tla_model.specs.Scopes as scopes;
 ghost use Rattle.module_model.specs.Exports as exports;
 ghost use Rattle.module_model.specs.TreeFindings as in_trees;
 ghost use Rattle.name_context.specs.AsTables.{context_of};
-ghost use Rattle.tree_scope.specs.WalkTasks as walking;
-ghost use Rattle.tree_scope.specs.WalkTasks.{AreFound, IsPath, children_from, stack, trees_at};
+ghost use Rattle.tree_tasks.specs.WalkTasks as walking;
+ghost use Rattle.tree_scope.specs.TasksDone.{AreFound, IsPath, children_from, trees_at};
+ghost use Rattle.tree_tasks.specs.WalkTasks.{stack};
 
-use crate::due::push_path;
 use crate::surroundings::Surround;
-use crate::tasks::{Held, Task, push_each};
-use crate::text::ModuleText;
-use crate::uses::{meaning_of, push_use, use_name};
 use name_context::Context;
 use tla_model::{Callee, Finding, Meaning};
 use tla_symbols::Lexeme;
 use tla_tree::{Form, Tree};
 use tool_list::{List, Memory};
+use tree_names::{ModuleText, meaning_of, push_use, use_name};
+use tree_tasks::{Held, Task, push_each, push_path};
 
 // The name of a segment.
 fn segment_of(form: Form) -> Option<Lexeme>

@@ -7,21 +7,21 @@ ghost use Rattle.module_model.specs.Instances as instances;
 ghost use Rattle.module_model.specs.TreeFindings.{replaceable};
 ghost use Rattle.name_context.specs.AsTables.{context_of};
 ghost use Rattle.declared_names.specs.Nodes.{parts_at};
-ghost use Rattle.tree_scope.specs.Parameters.{entry_in};
-ghost use Rattle.tree_scope.specs.WalkTasks as walking;
-ghost use Rattle.tree_scope.specs.WalkTasks.{AreWhole, IsNode, stack};
+ghost use Rattle.tree_names.specs.Parameters.{entry_in};
+ghost use Rattle.tree_scope.specs.TasksDone as done;
+ghost use Rattle.tree_tasks.specs.WalkTasks as walking;
+ghost use Rattle.tree_scope.specs.TasksDone.{IsNode};
+ghost use Rattle.tree_tasks.specs.WalkTasks.{AreWhole, stack};
 
-use crate::parameter::Parameter;
 use crate::surroundings::Surround;
-use crate::tasks::{Task, append_each, push_task, push_tasks};
-use crate::text::ModuleText;
-use crate::uses::meaning_of;
 use name_context::Context;
 use std::alloc::Global;
 use tla_model::{Finding, Meaning};
 use tla_symbols::Lexeme;
 use tla_tree::{Form, Tree};
 use tool_list::{List, Memory};
+use tree_names::{ModuleText, Parameter, meaning_of};
+use tree_tasks::{Task, append_each, push_task, push_tasks};
 
 // The left side of a replacement.
 fn left_of(form: Form) -> Option<Lexeme>
@@ -56,7 +56,7 @@ fn left_sides<'a>(
     tree: &Tree,
     nodes: &[u32],
 ) -> Result<Context<'a>, Memory>
-    requires { walking.IsPath text.now tree.now nodes.now }
+    requires { done.IsPath text.now tree.now nodes.now }
     ensures { IfOk result (λ names. context_of names
         ≡ walking.noted_all text.now.source tree.now tables.empty nodes.now) }
 {
@@ -101,7 +101,7 @@ fn replacements<'a>(
     module: Lexeme,
     nodes: &[u32],
 ) -> Result<Vec<Task<'a>>, Memory>
-    requires { walking.IsPath text.now tree.now nodes.now }
+    requires { done.IsPath text.now tree.now nodes.now }
     ensures due { IfOk result (λ due. due.items
         ≡ walking.replacements text.now.source tree.now tables.empty «module» nodes.now) }
     ensures whole { IfOk result (λ due. AreWhole tree.now nodes.now) }
@@ -177,7 +177,7 @@ pub fn replace<'a, S: Surround<'a>>(
     requires name { LiesIn text.now.source «module» }
     ensures { OnOk result (findings.new
         ≡ findings.old ++ instances.replaced_as left again
-        (walking.parameter_of text.now (S.around around.now) left «module»)) }
+        (done.parameter_of text.now (S.around around.now) left «module»)) }
 {
     let parameter = around.parameter(text.spelled(module), text.name_of(left))?;
     push_left(left, again, parameter, findings)

@@ -5,15 +5,15 @@ ghost use Rattle.module_model.specs.Exports as exports;
 ghost use Rattle.module_model.specs.Exports.{Behind};
 ghost use Rattle.module_model.specs.TreeFindings.{Surroundings};
 ghost use Rattle.name_context.specs.AsTables.{meant_by};
-ghost use Rattle.tree_scope.specs.Parameters.{entries_in};
-ghost use Rattle.tree_scope.specs.declared.tasks.Held.{Held as Spot};
+ghost use Rattle.tree_names.specs.Parameters.{entries_in};
+ghost use Rattle.tree_tasks.specs.declared.held.Held.{Held as Spot};
 
-use crate::parameter::Parameter;
-use crate::tasks::Held;
 use name_context::Named;
 use std::alloc::Global;
 use tla_model::Meaning;
 use tool_list::{List, Memory};
+use tree_names::Parameter;
+use tree_tasks::Held;
 
 /// What a walk asks of what is round it: of modules by their names, of what stands behind
 /// instances, and where paths begin. `Memory` comes where there is no room for an answer.

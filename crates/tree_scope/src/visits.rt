@@ -4,24 +4,23 @@ ghost use Rattle.tla_tree.specs.Arena.{AreThere, node_at};
 ghost use Rattle.tla_model.specs.Scopes as scopes;
 ghost use Rattle.name_context.specs.AsTables.{context_of};
 ghost use Rattle.declared_names.specs.Nodes.{defined_at, form_at, parts_at};
-ghost use Rattle.tree_scope.specs.WalkTasks.{AreReady, IsDone, IsNode, stack, visited};
+ghost use Rattle.tree_scope.specs.TasksDone.{AreReady, IsDone, IsNode};
+ghost use Rattle.tree_tasks.specs.WalkTasks.{stack, visited};
 
-use crate::due::{
-    push_behind, push_between, push_definitions, push_function, push_image, push_scope,
-};
 use crate::paths::begin_path;
 use crate::replacements::push_instance;
-use crate::scopes::{refuse, reserve};
 use crate::surroundings::Surround;
-use crate::tasks::{Naming, Task, naming_of, push_each};
-use crate::text::ModuleText;
-use crate::uses::{use_prefix, use_symbol};
 use declared_names::defined;
 use name_context::Context;
 use std::alloc::Global;
 use tla_model::Finding;
 use tla_tree::Tree;
 use tool_list::{List, Memory};
+use tree_names::{ModuleText, refuse, reserve, use_prefix, use_symbol};
+use tree_tasks::{
+    Naming, Task, naming_of, push_behind, push_between, push_definitions, push_each, push_function,
+    push_image, push_scope,
+};
 
 // Finds fault with the name that a node defines, where it is taken, and takes it.
 fn begin<'a>(

@@ -1,10 +1,10 @@
 use Rattle.std.proofs.Common.{◌≡◌, is_some, true}
 use Rattle.tla_model.specs.Entities.{same_decl}
 use Rattle.tla_model.specs.Tables.{added, lookup}
-use Rattle.instance_scope.specs.Found.{AreIn}
-use Rattle.instance_scope.specs.Keys.{decl_of}
-use Rattle.instance_scope.proofs.Knowing.{keep-kept, keep-known, keep-there}
-use Rattle.instance_scope.proofs.Naming.{on-so}
+use Rattle.instance_leads.specs.Found.{AreIn}
+use Rattle.instance_leads.specs.Keys.{decl_of}
+use Rattle.instance_leads.proofs.Knowing.{keep-kept, keep-known, keep-there}
+use Rattle.instance_leads.proofs.Naming.{on-so}
 use Rattle.instance_scope.proofs.ending.keep.Goals as goal
 
 pub returns-in-Some-clause-known : goal.returns-in-Some-clause-known

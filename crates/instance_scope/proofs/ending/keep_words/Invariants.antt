@@ -2,7 +2,7 @@ use Rattle.std.proofs.Common.{take}
 use Rattle.std.specs.List.{AllByRecursion}
 use Rattle.tla_model.specs.Entities.{same_decl}
 use Rattle.tla_model.specs.Tables.{lookup}
-use Rattle.instance_scope.specs.Found.{AreIn, IsTold}
+use Rattle.instance_leads.specs.Found.{AreIn, IsTold}
 use Rattle.instance_scope.proofs.ending.keep_words.Given as goal
 
 abbrev pub invariant-loop-meaning : goal.invariant-loop-meaning

@@ -2,8 +2,8 @@ use Rattle.std.proofs.Common.{◌∙◌, ◌++◌, ap, filter, map}
 use Rattle.tla_model.specs.EntityKinds.{stands_for_parameter}
 use Rattle.tla_model.specs.Stretches.{shown}
 use Rattle.name_context.specs.AsTables.{context_of}
-use Rattle.instance_scope.specs.Found.{is_new_symbol, is_new_word}
-use Rattle.instance_scope.proofs.Naming.{symbols_meant}
+use Rattle.instance_leads.specs.Found.{is_new_symbol, is_new_word}
+use Rattle.instance_leads.proofs.Naming.{symbols_meant}
 use Rattle.instance_scope.proofs.NestedEnds.{own-all}
 use Rattle.instance_scope.proofs.ending.own_parameters.Goals as goal
 

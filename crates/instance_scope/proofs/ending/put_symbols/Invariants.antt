@@ -1,7 +1,7 @@
 use Rattle.std.proofs.Common.{◌≡◌, ◌++◌, filter, take}
 use Rattle.tla_model.specs.EntityKinds.{is_meant, stands_for_parameter}
 use Rattle.name_context.specs.AsTables.{context_of}
-use Rattle.instance_scope.specs.Found.{is_new_symbol}
+use Rattle.instance_leads.specs.Found.{is_new_symbol}
 use Rattle.instance_scope.proofs.ending.put_symbols.Given as goal
 
 abbrev pub invariant-loop-op : goal.invariant-loop-op

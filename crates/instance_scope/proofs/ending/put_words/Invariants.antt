@@ -1,7 +1,7 @@
 use Rattle.std.proofs.Common.{◌≡◌, ◌++◌, filter, map, take}
 use Rattle.tla_model.specs.Stretches.{shown}
 use Rattle.name_context.specs.AsTables.{context_of}
-use Rattle.instance_scope.specs.Found.{is_new_word}
+use Rattle.instance_leads.specs.Found.{is_new_word}
 use Rattle.instance_scope.proofs.ending.put_words.Given as goal
 
 abbrev pub invariant-loop-word : goal.invariant-loop-word

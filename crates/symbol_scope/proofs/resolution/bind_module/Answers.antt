@@ -5,7 +5,7 @@ use Rattle.model_laws.proofs.Settling.{settled-last}
 use Rattle.module_model.specs.Exports.{files_of}
 use Rattle.module_model.specs.Resolution.{last}
 use Rattle.symbol_scope.specs.Exporting.{IsFaceUnless}
-use Rattle.symbol_scope.specs.Steps.{outside_at, over_for}
+use Rattle.unit_scope.specs.Steps.{outside_at, over_for}
 use Rattle.symbol_scope.proofs.resolution.bind_module.Goals as goal
 
 pub face_unless-requires : goal.face_unless-requires

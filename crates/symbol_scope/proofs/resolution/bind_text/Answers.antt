@@ -5,8 +5,8 @@ use Rattle.unit_grammar.specs.UnitNodes.{module_of}
 use Rattle.module_model.specs.Exports.{files_of}
 use Rattle.module_model.specs.Resolution.{findings}
 use Rattle.symbol_scope.specs.Exporting.{IsShown}
-use Rattle.symbol_scope.specs.Readings.{Over}
-use Rattle.symbol_scope.specs.Steps.{IsUnread}
+use Rattle.unit_scope.specs.Readings.{Over}
+use Rattle.unit_scope.specs.Steps.{IsUnread}
 use Rattle.symbol_scope.proofs.resolution.bind_text.Goals as goal
 
 pub bind_module-requires-clause-unread : goal.bind_module-requires-clause-unread

@@ -5,8 +5,8 @@ use Rattle.module_model.specs.Modules.{Reading}
 use Rattle.symbol_scope.proofs.Faces.{is-face}
 use Rattle.symbol_scope.proofs.resolution.face_of.Goals as goal
 
-pub reached-requires-clause-reached : goal.reached-requires-clause-reached
-reached-requires-clause-reached c =
+pub reached_from-requires-clause-reached : goal.reached_from-requires-clause-reached
+reached_from-requires-clause-reached c =
     let at = c.requires.at in
     let state = c.requires.state in
     subst (λ known. AreReached known (exports_of c.in_ok-exports.exports)) (sym at.known)

@@ -1,8 +1,9 @@
 use Rattle.std.proofs.Common.{refl, subst, sym}
 use Rattle.tla_model.specs.Scopes.{itself, symbol_findings}
 use Rattle.name_context.specs.AsTables.{context_of}
-use Rattle.tree_scope.specs.WalkTasks.{IsDone, stack}
-use Rattle.tree_scope.specs.declared.tasks.Task.TheVariants as task
+use Rattle.tree_scope.specs.TasksDone.{IsDone}
+use Rattle.tree_tasks.specs.WalkTasks.{stack}
+use Rattle.tree_tasks.specs.declared.tasks.Task.TheVariants as task
 use Rattle.tree_scope.proofs.NodeTasks.{found-done}
 use Rattle.tree_scope.proofs.Segments.{path-done}
 use Rattle.tree_scope.proofs.found.perform.Goals as goal

@@ -1,6 +1,7 @@
 use Rattle.std.proofs.Common.{◌≡◌, ◌∷◌, []}
 use Rattle.name_context.specs.AsTables.{context_of}
-use Rattle.tree_scope.specs.WalkTasks.{AreReady, all_size, emit, run, stack, visited}
+use Rattle.tree_scope.specs.TasksDone.{AreReady, all_size, emit, run}
+use Rattle.tree_tasks.specs.WalkTasks.{stack, visited}
 use Rattle.tree_scope.proofs.found.walk.Given as goal
 
 abbrev pub invariant-loop-next : goal.invariant-loop-next

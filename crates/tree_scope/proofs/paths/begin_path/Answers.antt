@@ -4,7 +4,7 @@ use Rattle.std.specs.List.{AllByRecursion}
 use Rattle.tla_tree.specs.Arena.{node_at}
 use Rattle.tla_tree.proofs.Nodes.{before-there}
 use Rattle.name_context.specs.AsTables.{context_of}
-use Rattle.tree_scope.specs.WalkTasks.{path_tasks, segment_of, stack, visits}
+use Rattle.tree_tasks.specs.WalkTasks.{path_tasks, segment_of, stack, visits}
 use Rattle.declared_names.proofs.Nodewise.{tree-at}
 use Rattle.tree_scope.proofs.Segments.{alone, alone-found, first-found, first-other, here-lies, segment-there}
 use Rattle.tree_scope.proofs.paths.begin_path.Goals as goal

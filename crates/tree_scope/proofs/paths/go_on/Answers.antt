@@ -4,7 +4,7 @@ use Rattle.std.specs.List.{AllByRecursion}
 use Rattle.std.proofs.lemmas.Option.{slice_get_read}
 use Rattle.tla_tree.specs.Arena.{node_at}
 use Rattle.tla_tree.proofs.Nodes.{before-there}
-use Rattle.tree_scope.specs.WalkTasks.{segment_of, stack, visits}
+use Rattle.tree_tasks.specs.WalkTasks.{segment_of, stack, visits}
 use Rattle.declared_names.proofs.Nodewise.{tree-at}
 use Rattle.tree_scope.proofs.Segments.{further-found, further-other, here-lies, segment-there}
 use Rattle.tree_scope.proofs.paths.go_on.Goals as goal

@@ -2,7 +2,7 @@ use Rattle.std.proofs.Common.{◌≡◌, ◌∙◌, ◌∷◌, ◌++◌, ap, rul
 use Rattle.module_model.specs.Instances.{implied, left_sides}
 use Rattle.name_context.specs.AsTables.{context_of}
 use Rattle.declared_names.specs.Nodes.{parts_at}
-use Rattle.tree_scope.specs.Parameters.{entries_in, entry_in}
+use Rattle.tree_names.specs.Parameters.{entries_in, entry_in}
 use Rattle.tree_scope.proofs.Replacing.{children-path, implied-next, written-are}
 use Rattle.tree_scope.proofs.replacements.imply.Goals as goal
 

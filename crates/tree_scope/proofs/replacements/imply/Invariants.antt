@@ -3,7 +3,7 @@ use Rattle.module_model.specs.Instances.{implied, left_sides}
 use Rattle.module_model.specs.TreeFindings.{replaceable}
 use Rattle.name_context.specs.AsTables.{context_of}
 use Rattle.declared_names.specs.Nodes.{parts_at}
-use Rattle.tree_scope.specs.Parameters.{entries_in}
+use Rattle.tree_names.specs.Parameters.{entries_in}
 use Rattle.tree_scope.proofs.replacements.imply.Given as goal
 
 abbrev pub invariant-loop-parameter : goal.invariant-loop-parameter

@@ -1,6 +1,6 @@
 use Rattle.std.proofs.Common.{◌∙◌, ap}
 use Rattle.name_context.specs.AsTables.{context_of}
-use Rattle.tree_scope.specs.WalkTasks.{left_of}
+use Rattle.tree_tasks.specs.WalkTasks.{left_of}
 use Rattle.tree_scope.proofs.Replacing.{due-next, left-at, noted-next, whole-next}
 use Rattle.tree_scope.proofs.replacements.replacements.Goals as goal
 

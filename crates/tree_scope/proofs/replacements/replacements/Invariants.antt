@@ -1,7 +1,7 @@
 use Rattle.std.proofs.Common.{◌≡◌, take}
 use Rattle.tla_model.specs.Tables.{empty}
 use Rattle.name_context.specs.AsTables.{context_of}
-use Rattle.tree_scope.specs.WalkTasks.{AreWhole, noted_all, replacements}
+use Rattle.tree_tasks.specs.WalkTasks.{AreWhole, noted_all, replacements}
 use Rattle.tree_scope.proofs.replacements.replacements.Given as goal
 
 abbrev pub invariant-loop-node : goal.invariant-loop-node

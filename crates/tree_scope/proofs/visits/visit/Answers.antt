@@ -4,7 +4,7 @@ use Rattle.tla_tree.specs.Arena.{node_at}
 use Rattle.tla_tree.proofs.Nodes.{before-there}
 use Rattle.name_context.specs.AsTables.{context_of, mark_of}
 use Rattle.declared_names.specs.Nodes.{form_at}
-use Rattle.tree_scope.specs.WalkTasks.{between_tasks, chain, function_tasks, image_tasks, leave, naming, scope_tasks, stack, used, visits}
+use Rattle.tree_tasks.specs.WalkTasks.{between_tasks, chain, function_tasks, image_tasks, leave, naming, scope_tasks, stack, used, visits}
 use Rattle.declared_names.proofs.Nodewise.{tree-at}
 use Rattle.tree_scope.proofs.NamesInText.{held-lies}
 use Rattle.tree_scope.proofs.Replacing.{children-path, instance-done}

@@ -2,7 +2,7 @@ use Rattle.std.proofs.Common.{◌∙◌, ap}
 use Rattle.std.specs.Option.{option_copied}
 use Rattle.module_model.specs.Exports.{entry_of, exports_of}
 use Rattle.name_context.specs.AsTables.{meant_by}
-use Rattle.instance_scope.proofs.Faces.{onward-face, onward-reached}
+use Rattle.instance_leads.proofs.Faces.{onward-face, onward-reached}
 use Rattle.instance_scope.proofs.round.RoundSurround.onward.Goals as goal
 
 pub returns-in-Imported : goal.returns-in-Imported

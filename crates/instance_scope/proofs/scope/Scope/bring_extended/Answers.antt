@@ -2,8 +2,8 @@ use Rattle.std.proofs.Common.{◌≡◌, IfOk, Some, None, ◌∙◌, ap, refl, 
 use Rattle.module_scope.specs.Environments.{meaning}
 use Rattle.module_model.specs.Exports.{exported, files_of}
 use Rattle.name_exports.specs.Brought.{IsBrought, import_exports}
-use Rattle.instance_scope.specs.Leading.{exports_shown}
-use Rattle.instance_scope.proofs.Finding.{named-shown}
+use Rattle.instance_leads.specs.Leading.{exports_shown}
+use Rattle.instance_leads.proofs.Finding.{named-shown}
 use Rattle.instance_scope.proofs.scope.Scope.bring_extended.Goals as goal
 
 pub returns-in-Some-Some : goal.returns-in-Some-Some

@@ -1,6 +1,6 @@
 use Rattle.std.proofs.Common.{refl}
 use Rattle.name_context.specs.AsTables.{context_of}
-use Rattle.instance_scope.specs.declared.scope.Ended.{Ended}
+use Rattle.instance_leads.specs.declared.ended.Ended.{Ended}
 use Rattle.instance_scope.proofs.NestedEnds.{kept-end, same-known, sound-end, view-after}
 use Rattle.instance_scope.proofs.scope.Scope.end.Goals as goal
 

@@ -4,11 +4,11 @@ use Rattle.tla_model.specs.Tables.{added}
 use Rattle.module_model.specs.Exports.{and_known, known_as}
 use Rattle.module_model.specs.NamedModules.{behind_named, known_named}
 use Rattle.instance_names.specs.Named.{named_as}
-use Rattle.instance_scope.specs.Keys.{decl_of}
-use Rattle.instance_scope.specs.Leading.{known_in}
+use Rattle.instance_leads.specs.Keys.{decl_of}
+use Rattle.instance_leads.specs.Leading.{known_in}
 use Rattle.instance_scope.specs.Scoped.{AreGiven, module_in}
-use Rattle.instance_scope.proofs.Knowing.{and-none, known-added}
-use Rattle.instance_scope.proofs.Naming.{on-so}
+use Rattle.instance_leads.proofs.Knowing.{and-none, known-added}
+use Rattle.instance_leads.proofs.Naming.{on-so}
 use Rattle.instance_scope.proofs.NamedInstances.{own-text}
 use Rattle.instance_scope.proofs.Sounding.{given-added}
 use Rattle.instance_scope.proofs.scope.Scope.lead_named.Goals as goal

@@ -1,13 +1,13 @@
 use Rattle.std.proofs.Common.{◌≡◌, ◌∙◌, List, ap, subst, sym}
 use Rattle.module_model.specs.Exports.{and_known}
 use Rattle.module_model.specs.NamedModules.{exported_known}
-use Rattle.instance_scope.specs.declared.scope.Ended.{Ended}
-use Rattle.instance_scope.specs.Found.{AreOfFace}
-use Rattle.instance_scope.specs.Leading.{Leads, known_in}
+use Rattle.instance_leads.specs.declared.ended.Ended.{Ended}
+use Rattle.instance_leads.specs.Found.{AreOfFace}
+use Rattle.instance_leads.specs.Leading.{Leads, known_in}
 use Rattle.instance_scope.specs.Scoped.{AreGiven, known_of, module_in}
 use Rattle.module_model.specs.Exports.{face_outside}
 use Rattle.instance_scope.proofs.ExportedInstances.{face-given, nested-known}
-use Rattle.instance_scope.proofs.Naming.{ok-so}
+use Rattle.instance_leads.proofs.Naming.{ok-so}
 use Rattle.instance_scope.proofs.Sounding.{none-given}
 use Rattle.instance_scope.proofs.scope.Scope.leads_exported.Goals as goal
 

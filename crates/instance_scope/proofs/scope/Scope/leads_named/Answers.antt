@@ -1,5 +1,5 @@
 use Rattle.std.proofs.Common.{arith}
-use Rattle.instance_scope.specs.Leading.{known_in}
+use Rattle.instance_leads.specs.Leading.{known_in}
 use Rattle.instance_scope.specs.Scoped.{module_in}
 use Rattle.instance_scope.proofs.NamedInstances.{named-next}
 use Rattle.instance_scope.proofs.scope.Scope.leads_named.Goals as goal

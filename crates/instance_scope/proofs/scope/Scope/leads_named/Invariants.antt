@@ -1,7 +1,7 @@
 use Rattle.std.proofs.Common.{◌≡◌, take, map}
 use Rattle.module_model.specs.NamedModules.{known_named}
 use Rattle.instance_names.specs.Named.{named_as}
-use Rattle.instance_scope.specs.Leading.{known_in}
+use Rattle.instance_leads.specs.Leading.{known_in}
 use Rattle.instance_scope.specs.Scoped.{AreGiven, module_in}
 use Rattle.instance_scope.proofs.scope.Scope.leads_named.Given as goal
 

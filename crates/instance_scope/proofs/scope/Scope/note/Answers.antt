@@ -1,10 +1,10 @@
 use Rattle.std.proofs.Common.{◌≡◌, ap, ◌∙◌}
 use Rattle.module_model.specs.Exports.{and_known}
-use Rattle.instance_scope.specs.Keys.{joined_leads}
-use Rattle.instance_scope.specs.Leading.{known_in}
+use Rattle.instance_leads.specs.Keys.{joined_leads}
+use Rattle.instance_leads.specs.Leading.{known_in}
 use Rattle.instance_scope.specs.Scoped.{IsSound, known_of}
-use Rattle.instance_scope.proofs.Knowing.{known-joined}
-use Rattle.instance_scope.proofs.Naming.{on-so}
+use Rattle.instance_leads.proofs.Knowing.{known-joined}
+use Rattle.instance_leads.proofs.Naming.{on-so}
 use Rattle.instance_scope.proofs.Sounding.{sound-joined}
 use Rattle.instance_scope.proofs.scope.Scope.note.Goals as goal
 

@@ -1,0 +1,4 @@
+pub mod Gathereds
+pub mod Gathers
+pub mod Parting
+pub mod Reaching

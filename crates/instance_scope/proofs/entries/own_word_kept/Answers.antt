@@ -1,7 +1,0 @@
-use Rattle.std.proofs.Common.{◌∙◌, sym, ap}
-use Rattle.instance_scope.specs.Found.{if_kept, of_kind}
-use Rattle.instance_scope.proofs.Naming.{word-kept}
-use Rattle.instance_scope.proofs.entries.own_word_kept.Goals as goal
-
-pub returns : goal.returns
-returns c = c.keep.ensures ∙ ap (if_kept (of_kind c.args.kind)) c.get.ensures.meaning ∙ sym (word-kept (of_kind c.args.kind) c.args.exports.now.words c.args.word.now c.get.ensures.once)

@@ -1,0 +1,3 @@
+pub mod FunctionNames
+pub mod Lying
+pub mod Parameters

@@ -1,6 +1,0 @@
-use Rattle.std.proofs.Common.{◌≡◌, ◌++◌}
-use Rattle.tree_scope.specs.WalkTasks.{chain_back}
-use Rattle.tree_scope.proofs.tasks.append_chain.Given as goal
-
-abbrev pub invariant-loop-node : goal.invariant-loop-node
-invariant-loop-node l = l.tasks.items ≡ l.initial.tasks.items ++ chain_back l.yielded

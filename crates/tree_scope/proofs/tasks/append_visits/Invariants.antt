@@ -1,6 +1,0 @@
-use Rattle.std.proofs.Common.{◌≡◌, ◌++◌}
-use Rattle.tree_scope.specs.WalkTasks.{visits}
-use Rattle.tree_scope.proofs.tasks.append_visits.Given as goal
-
-abbrev pub invariant-loop-node : goal.invariant-loop-node
-invariant-loop-node l = l.tasks.items ≡ l.initial.tasks.items ++ visits l.yielded

@@ -1,5 +1,0 @@
-use Rattle.tree_scope.proofs.Running.{one-pushed}
-use Rattle.tree_scope.proofs.tasks.push_task.Goals as goal
-
-pub returns : goal.returns
-returns c = one-pushed c.args.task c.args.tasks.now.items c.push.new.self.items c.in_ok-push.ensures.items

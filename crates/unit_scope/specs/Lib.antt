@@ -1,0 +1,4 @@
+pub mod EnclosingReadings
+pub mod Modules
+pub mod Readings
+pub mod Steps

@@ -1,0 +1,81 @@
+// Nested modules. The one that is read has all names of those round it, which stand before its own.
+ghost use Rattle.std.specs.Prelude.{◌≡◌, ◌∷◌, [], IfOk, OnOk};
+ghost use Rattle.instance_scope.specs.Scoped.{IsSound, known_of};
+ghost use Rattle.module_model.specs.Exports.{none_known};
+ghost use Rattle.module_model.specs.Modules as in_modules;
+ghost use Rattle.module_model.specs.Resolution.{ReadState};
+ghost use Rattle.unit_scope.specs.EnclosingReadings.{IsAt, IsSomewhere};
+ghost use Rattle.unit_scope.specs.Readings.{Over, over_of};
+ghost use Rattle.unit_scope.specs.Steps.{Leads, ended, entered, unread_state};
+ghost use Rattle.tla_model.specs.Entities.{Text};
+
+use crate::reading::{Inner, Reading};
+use instance_scope::Scope;
+use name_context::Mark;
+use name_exports::Exported;
+use std::alloc::Global;
+use tool_list::Memory;
+use tree_names::ModuleText;
+
+/// A module round the one that is read.
+#[derive(Drop)]
+pub struct Outer<'a> {
+    pub name: &'a str,
+    pub exports: Exported<'a>,
+    /// How many names and module names stand there.
+    pub mark: Mark,
+    pub modules: usize,
+}
+
+/// The module that is read, those round it, and what is known of modules and instances.
+#[derive(Drop)]
+pub struct Nesting<'a> {
+    pub here: Reading<'a>,
+    // The innermost one is the last.
+    pub round: Vec<Outer<'a>>,
+    pub scope: Scope<'a>,
+}
+
+impl<'a> Nesting<'a> {
+    /// The module of a text, which is in no other one, before what it extends.
+    pub fn new(
+        alloc: Global,
+        text: &ModuleText<'a>,
+        scope: Scope<'a>,
+    ) -> Result<Nesting<'a>, Memory>
+        requires sound { IsSound scope }
+        requires title { scope.title.now ≡ text.now.file }
+        requires known { known_of scope ≡ none_known }
+        ensures { IfOk result
+            (λ nesting. IsAt text.now (over_of scope.entry) nesting (unread_state text.now)) }
+    {
+        Ok(Nesting {
+            here: Reading::new(alloc, text)?,
+            round: Vec::new(alloc),
+            scope,
+        })
+    }
+
+    /// Goes into a nested module.
+    pub fn begin(&mut self, alloc: Global, name: &'a str) -> Result<(), Memory>
+        ensures { OnOk result ((text : Text) → Leads text (entered name.now) self.old self.new) }
+    {
+        let outer = self.here.enter(alloc, name)?;
+        self.round.push(outer)?;
+        Ok(())
+    }
+
+    /// Goes out of a nested module, which can then be named unless its name is taken.
+    pub fn end(&mut self, alloc: Global, text: &ModuleText<'a>) -> Result<(), Memory>
+        requires { IsSomewhere text.now self.old }
+        ensures { OnOk result (Leads text.now ended self.old self.new) }
+    {
+        let Some(outer) = self.round.pop() else {
+            return Ok(());
+        };
+        let Inner { name, exports } = self.here.leave(outer);
+        let number = self.scope.end(alloc, exports, &self.here.names.context)?;
+        self.here.modules.add(name, Some(number))?;
+        Ok(())
+    }
+}
