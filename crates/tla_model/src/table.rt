@@ -2,7 +2,7 @@
 ghost use Rattle.std.specs.Prelude.{◌≡◌, ◌++◌, ◌∷◌, [], length, option_copied, option_map, map, slice_get, take, IfOk, IfNone, IfSome, OnOk};
 ghost use Rattle.std.specs.Str.{bytes_eq};
 ghost use Rattle.tla_model.specs.Tables as tables;
-ghost use Rattle.tla_model.specs.Tables.{AreNew};
+ghost use Rattle.tla_model.specs.Tables.{AreNew, same_symbol};
 ghost use Rattle.tla_model.specs.Stretches.{all_words, shown, words_of};
 ghost use Rattle.tla_model.specs.EntityKinds.{is_instance, stands_for_parameter, words_meant};
 
@@ -15,7 +15,7 @@ use std::sync::Arc;
 use tla_symbols::Op;
 use tool_list::{List, Memory};
 
-/// Names with what they mean, each word once. Contracts see the table, by the order in which the
+/// Names with what they mean, each once. Contracts see the table, by the order in which the
 /// names were put.
 ///
 /// The words stand in stretches that tables share, each of them at least twice as long as the next.
@@ -35,13 +35,13 @@ impl Model for NameTable {
     ghost use Rattle.std.specs.Str.{bytes_eq};
     ghost use Rattle.tla_model.specs.Entities.{Meaning};
     ghost use Rattle.tla_model.specs.Stretches.{all_words};
-    ghost use Rattle.tla_model.specs.Tables.{AreNew, Table};
+    ghost use Rattle.tla_model.specs.Tables.{AreNew, Table, same_symbol};
 
     ghost Value = { Table Meaning };
 
     ghost view = { λ t. record { words = all_words t.stretches; symbols = t.symbols } };
 
-    ghost invariant = { λ t. AreNew bytes_eq [] (all_words t.stretches) × (t.len ≡ length (all_words t.stretches)) };
+    ghost invariant = { λ t. AreNew bytes_eq [] (all_words t.stretches) × (t.len ≡ length (all_words t.stretches)) × AreNew same_symbol [] t.symbols };
 }
 
 // The same stretches.
@@ -146,10 +146,11 @@ impl NameTable {
         }
     }
 
-    /// How many words there are; none of them is there twice.
+    /// How many words there are; no word and no symbol is there twice.
     pub fn len(&self) -> usize
         ensures len { result ≡ length self.now.words }
         ensures once { AreNew bytes_eq [] self.now.words }
+        ensures symbols_once { AreNew same_symbol [] self.now.symbols }
     {
         self.len
     }
@@ -223,15 +224,16 @@ impl NameTable {
         self.symbols.as_slice()
     }
 
-    /// The table with words behind its own, none of which is there, and with these symbols in place of
-    /// its own. It shares what it can with the table. `Memory` comes where there was no room.
+    /// The table with words behind its own, none of which is there, and with these symbols, none of which
+    /// is there twice, in place of its own. It shares what it can with the table. `Memory` comes where there was no room.
     pub fn extended(
         &self,
         alloc: Global,
         words: Words,
         symbols: List<(Op, Meaning)>,
     ) -> Result<NameTable, Memory>
-        requires { AreNew bytes_eq [] (self.now.words ++ words_of words.entries) }
+        requires words { AreNew bytes_eq [] (self.now.words ++ words_of words.entries) }
+        requires symbols { AreNew same_symbol [] symbols }
         ensures { IfOk result (λ table. table
             ≡ record { words = self.now.words ++ words_of words.entries; symbols = symbols }) }
     {

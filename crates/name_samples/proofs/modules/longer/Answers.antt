@@ -13,8 +13,8 @@ none-of : {T : Type 0} (o : Option (Bor T)) → false ≡ is_some o → option_c
 none-of None e = cc
 none-of (Some x) e = cc
 
-pub extended-requires : goal.extended-requires
-extended-requires c =
+pub extended-requires-clause-words : goal.extended-requires-clause-words
+extended-requires-clause-words c =
     let words = c.args.table.now.words in
     let word = c.args.word.now in
     let name = c.in_ok-from_str.field-0 in
