@@ -3,7 +3,6 @@ use Rattle.std.proofs.Common.{◌≡◌, ⊎_elim, ◌<◌, ◌≤◌, ℕ, Bool
 use Rattle.std.specs.Prelude.{◌+◌}
 use Rattle.std.specs.Borrow.{Bor}
 use Rattle.std.specs.List.{AllByRecursion}
-use Rattle.std.specs.Option.{option_copied}
 use Rattle.std.specs.Str.{bytes_eq}
 use mathlib.Core.Path.{fun_ext}
 use denote.Enum.Bare.{same_true, true_same}
@@ -19,10 +18,8 @@ use Rattle.tla_model.specs.Entities.{Entity, Meaning, same_decl}
 use Rattle.tla_model.specs.EntityKinds.{is_instance, is_meant, words_meant}
 use Rattle.tla_model.specs.Stretches.{shown}
 use Rattle.tla_model.specs.Tables.{AreNew, Named, Word, Symbol, Table, added, lookup, same_symbol}
-use Rattle.tla_model.proofs.Stretching.{new-more}
-use Rattle.name_context.proofs.Looking.{none-copied}
 use Rattle.module_model.specs.declared.face.Face.{Face}
-use Rattle.module_model.specs.Exports.{Behind, Exports, Instances, Known, and_known, behind_along, entry_of, exports_of, face_exports, face_instances, face_outside, found_behind, known_among, known_as, known_by, none_known, of_symbols, of_words, or_none, standing}
+use Rattle.module_model.specs.Exports.{Behind, Exports, Known, and_known, behind_along, entry_of, exports_of, face_exports, face_instances, face_outside, found_behind, known_among, known_as, known_by, none_known, of_symbols, of_words, or_none, standing}
 use Rattle.module_model.specs.Given.{AreReached, IsWhole}
 use Rattle.module_model.specs.NamedModules.{exported_known}
 use Rattle.module_model.specs.Parts.{reached}
@@ -130,7 +127,7 @@ known-all face table is found =
 
 -- ---- what is said of all that is exported
 
-told-found : (instances : Instances) (all entries : Exports) → AreReached instances all → AreFound all entries → AreTold instances entries
+told-found : {A : Type 0} (instances : DeclId → Option A) (all entries : Exports) → AreReached instances all → AreFound all entries → AreTold instances entries
 told-found instances all [] reaches found = tt
 told-found instances all (entry ∷ rest) reaches found = (at entry.1 found.0, told-found instances all rest reaches found.1)
   where
@@ -138,11 +135,11 @@ told-found instances all (entry ∷ rest) reaches found = (at entry.1 found.0, t
     at BuiltIn is = tt
     at (Declared entity callee) is = reaches entry.0 entity callee is
 
-told-words : (instances : Instances) (words : List (List ℕ × Meaning)) → AreTold instances (of_words words) → AllByRecursion (λ (word : List ℕ × Meaning). IsTold instances word.1) words
+told-words : {A : Type 0} (instances : DeclId → Option A) (words : List (List ℕ × Meaning)) → AreTold instances (of_words words) → AllByRecursion (λ (word : List ℕ × Meaning). IsTold instances word.1) words
 told-words instances [] told = tt
 told-words instances (word ∷ words) told = (told.0, told-words instances words told.1)
 
-told-some : (instances : Instances) (words : List (List ℕ × Meaning)) → AllByRecursion (λ (word : List ℕ × Meaning). IsTold instances word.1) words → AllByRecursion (λ (word : List ℕ × Meaning). IsTold instances word.1) (words_meant is_instance words)
+told-some : {A : Type 0} (instances : DeclId → Option A) (words : List (List ℕ × Meaning)) → AllByRecursion (λ (word : List ℕ × Meaning). IsTold instances word.1) words → AllByRecursion (λ (word : List ℕ × Meaning). IsTold instances word.1) (words_meant is_instance words)
 told-some instances [] told = tt
 told-some instances (word ∷ words) told = by (is_meant is_instance word.1) (told-some instances words told.1)
   where
@@ -150,41 +147,42 @@ told-some instances (word ∷ words) told = by (is_meant is_instance word.1) (to
     by true rest = (told.0, rest)
     by false rest = rest
 
-told-shown : (instances : Instances) (entries : List (Bor (List ℕ) × Bor Meaning)) → AllByRecursion (λ (word : List ℕ × Meaning). IsTold instances word.1) (map shown entries) → AllByRecursion (λ (entry : Bor (List ℕ) × Bor Meaning). IsTold instances entry.1.now) entries
+told-shown : {A : Type 0} (instances : DeclId → Option A) (entries : List (Bor (List ℕ) × Bor Meaning)) → AllByRecursion (λ (word : List ℕ × Meaning). IsTold instances word.1) (map shown entries) → AllByRecursion (λ (entry : Bor (List ℕ) × Bor Meaning). IsTold instances entry.1.now) entries
 told-shown instances [] told = tt
 told-shown instances (entry ∷ rest) told = (told.0, told-shown instances rest told.1)
 
-told-values : (instances : Instances) (symbols : List (Op × Meaning)) → AreTold instances (of_symbols symbols) → AllByRecursion (λ (symbol : Op × Meaning). IsTold instances symbol.1) symbols
+told-values : {A : Type 0} (instances : DeclId → Option A) (symbols : List (Op × Meaning)) → AreTold instances (of_symbols symbols) → AllByRecursion (λ (symbol : Op × Meaning). IsTold instances symbol.1) symbols
 told-values instances [] told = tt
 told-values instances (symbol ∷ symbols) told = (told.0, told-values instances symbols told.1)
 
-module _ (face : Face) (table : Table Meaning) (is : exports_of table ≡ face_exports face) (whole : IsWhole face) (words : AreNew bytes_eq [] table.words) (symbols : AreNew same_symbol [] table.symbols) where
-  told-all : AreTold (face_instances face) (exports_of table)
-  told-all = told-found (face_instances face) (exports_of table) (exports_of table) (subst (AreReached (face_instances face)) (sym is) whole.exports) (table-found table words symbols)
+module _ {A : Type 0} (instances : DeclId → Option A) (table : Table Meaning) (reaches : AreReached instances (exports_of table)) (words : AreNew bytes_eq [] table.words) (symbols : AreNew same_symbol [] table.symbols) where
+  told-all : AreTold instances (exports_of table)
+  told-all = told-found instances (exports_of table) (exports_of table) reaches (table-found table words symbols)
 
   -- of the instances among its words
-  pub told-instances : (entries : List (Bor (List ℕ) × Bor Meaning)) → map shown entries ≡ words_meant is_instance table.words → AllByRecursion (λ (entry : Bor (List ℕ) × Bor Meaning). IsTold (face_instances face) entry.1.now) entries
-  told-instances entries all =
-      told-shown (face_instances face) entries (subst (AllByRecursion (λ (word : List ℕ × Meaning). IsTold (face_instances face) word.1)) (sym all)
-      (told-some (face_instances face) table.words (told-words (face_instances face) table.words (all-left (λ (entry : Named × Meaning). IsTold (face_instances face) entry.1) (of_words table.words) (of_symbols table.symbols) told-all))))
+  pub reached-words : (entries : List (Bor (List ℕ) × Bor Meaning)) → map shown entries ≡ words_meant is_instance table.words → AllByRecursion (λ (entry : Bor (List ℕ) × Bor Meaning). IsTold instances entry.1.now) entries
+  reached-words entries all =
+      told-shown instances entries (subst (AllByRecursion (λ (word : List ℕ × Meaning). IsTold instances word.1)) (sym all)
+      (told-some instances table.words (told-words instances table.words (all-left (λ (entry : Named × Meaning). IsTold instances entry.1) (of_words table.words) (of_symbols table.symbols) told-all))))
 
   -- and of its symbols
+  pub reached-symbols : (others : List (Op × Meaning)) → others ≡ table.symbols → AllByRecursion (λ (symbol : Op × Meaning). IsTold instances symbol.1) others
+  reached-symbols others same =
+      subst (AllByRecursion (λ (symbol : Op × Meaning). IsTold instances symbol.1)) (sym same)
+      (told-values instances table.symbols (all-right (λ (entry : Named × Meaning). IsTold instances entry.1) (of_words table.words) (of_symbols table.symbols) told-all))
+
+module _ (face : Face) (table : Table Meaning) (is : exports_of table ≡ face_exports face) (whole : IsWhole face) (words : AreNew bytes_eq [] table.words) (symbols : AreNew same_symbol [] table.symbols) where
+  -- of the instances of a face
+  pub told-instances : (entries : List (Bor (List ℕ) × Bor Meaning)) → map shown entries ≡ words_meant is_instance table.words → AllByRecursion (λ (entry : Bor (List ℕ) × Bor Meaning). IsTold (face_instances face) entry.1.now) entries
+  told-instances = reached-words (face_instances face) table (subst (AreReached (face_instances face)) (sym is) whole.exports) words symbols
+
   pub told-symbols : (others : List (Op × Meaning)) → others ≡ table.symbols → AllByRecursion (λ (symbol : Op × Meaning). IsTold (face_instances face) symbol.1) others
-  told-symbols others same =
-      subst (AllByRecursion (λ (symbol : Op × Meaning). IsTold (face_instances face) symbol.1)) (sym same)
-      (told-values (face_instances face) table.symbols (all-right (λ (entry : Named × Meaning). IsTold (face_instances face) entry.1) (of_words table.words) (of_symbols table.symbols) told-all))
+  told-symbols = reached-symbols (face_instances face) table (subst (AreReached (face_instances face)) (sym is) whole.exports) words symbols
 
 -- the values of words as they are shown
 pub values-shown : (entries : List (Bor (List ℕ) × Bor Meaning)) → map (λ (entry : Bor (List ℕ) × Bor Meaning). entry.1.now) entries ≡ map (λ (word : List ℕ × Meaning). word.1) (map shown entries)
 values-shown [] = refl
 values-shown (entry ∷ rest) = ap (λ z. entry.1.now ∷ z) (values-shown rest)
-
--- ---- each symbol once
-
-pub once-next : (symbols : List (Op × Meaning)) (i : ℕ) (d : Op × Meaning) (before : List (Op × Meaning)) (found : Option (Bor Meaning)) → i < length symbols → AreNew same_symbol [] (take i symbols) → option_copied found ≡ lookup same_symbol before (get_or symbols i d).0 → before ≡ take i symbols → is_some found ≡ false → AreNew same_symbol [] (take (i + 1) symbols)
-once-next symbols i d before found lt new at is none =
-    subst (AreNew same_symbol []) (sym (take_more symbols i d lt))
-    (new-more same_symbol [] (take i symbols) (get_or symbols i d).0 (get_or symbols i d).1 new (ap (λ z. lookup same_symbol z (get_or symbols i d).0) (sym is) ∙ sym at ∙ none-copied found none))
 
 -- ---- as code has them
 

@@ -2,7 +2,6 @@
 ghost use Rattle.std.specs.Prelude.{◌≡◌, ◌∷◌, [], IfOk, List as ListOf, OnOk, is_some, map, true};
 ghost use Rattle.std.specs.List.{AllByRecursion};
 ghost use Rattle.tla_model.specs.declared.names.Meaning.TheVariants.{Declared};
-ghost use Rattle.tla_model.specs.Tables.{AreNew, same_symbol};
 ghost use Rattle.module_model.specs.Exports.{and_known, behind_along, face_instances, face_outside, known_as, or_none};
 ghost use Rattle.module_model.specs.Given.{IsWhole};
 ghost use Rattle.module_model.specs.NamedModules.{exported_known};
@@ -13,7 +12,6 @@ ghost use Rattle.instance_leads.specs.declared.ended.Ended.{Ended as EndedModule
 use crate::leads::Leads;
 use crate::named::{exports_in, led_on_face};
 use module_model::Face;
-use name_context::symbol_in;
 use std::alloc::Global;
 use tla_model::{Callee, DeclId, Entity, Meaning};
 use tla_symbols::Op;
@@ -106,18 +104,6 @@ fn put_symbols<'a>(
     Ok(())
 }
 
-/// Sees that no symbol stands there twice, as none does in a table.
-pub fn see_once(symbols: &[(Op, Meaning)]) -> Result<(), Memory>
-    ensures { OnOk result (AreNew same_symbol [] symbols.now) }
-{
-    for index in 0..symbols.len() {
-        if symbol_in(&symbols[..index], symbols[index].0).is_some() {
-            return Err(Memory);
-        }
-    }
-    Ok(())
-}
-
 /// Where the instances lead that a module with this face exports.
 pub fn face_leads<'a>(alloc: Global, face: &'a Face) -> Result<Leads<'a>, Memory>
     requires { IsWhole face.now }
@@ -126,9 +112,8 @@ pub fn face_leads<'a>(alloc: Global, face: &'a Face) -> Result<Leads<'a>, Memory
         ≡ exported_known (face_outside face.now)) }
 {
     let table = exports_in(face);
-    // No word of a table stands there twice.
+    // The proof needs that no name of the table is there twice.
     let _len = table.len();
-    see_once(table.symbols())?;
     let words = table.instances(alloc)?;
     let mut more = Leads::new(alloc);
     put_words(&mut more, face, words.as_slice())?;

@@ -1,5 +1,5 @@
 // Where instances lead, by their declarations.
-ghost use Rattle.std.specs.Prelude.{◌≡◌, [], IfSome, OnOk, Some, length, option_map, slice_get};
+ghost use Rattle.std.specs.Prelude.{◌≡◌, [], IfSome, OnOk, Some, is_some, length, option_map, slice_get};
 ghost use Rattle.tla_model.specs.Entities.{same_decl};
 ghost use Rattle.tla_model.specs.Tables as tables;
 ghost use Rattle.instance_leads.specs.Keys.{decl_of, joined_leads, lead, leads_of};
@@ -60,15 +60,17 @@ fn join_entries<'a>(
 
 // The key of a declaration, as it is kept.
 fn key_of<'a>(entries: &IndexMap<(&'a str, u32), Held<'a>>, decl: &DeclId) -> Option<(&'a str, u32)>
-    ensures { IfSome result (λ key. decl_of key.0.now key.1 ≡ decl.now) }
+    ensures key { IfSome result (λ key. decl_of key.0.now key.1 ≡ decl.now) }
+    ensures there { is_some result
+        ≡ is_some (tables.lookup same_decl (leads_of entries.now.entries) decl.now) }
 {
     let Some(index) = (&*entries).get_index_of(&(decl.module.as_str(), decl.place)) else {
         return None;
     };
-    match entries.get_index(index) {
-        Some((key, _)) => Some((key.0, key.1)),
-        None => None,
-    }
+    let Some((key, _)) = entries.get_index(index) else {
+        unreachable!();
+    };
+    Some((key.0, key.1))
 }
 
 impl<'a> Leads<'a> {
@@ -126,6 +128,7 @@ impl<'a> Leads<'a> {
         ensures key { IfSome result (λ found. (lead found).0 ≡ decl.now) }
         ensures held { IfSome result (λ found. tables.lookup same_decl self.now decl.now
             ≡ Some (lead found).1) }
+        ensures there { is_some result ≡ is_some (tables.lookup same_decl self.now decl.now) }
     {
         let Some(held) = self.get(decl) else {
             return None;

@@ -1,3 +1,4 @@
+pub mod EachOnce
 pub mod ExportedInstances
 pub mod NamedInstances
 pub mod NestedEnds

@@ -16,7 +16,7 @@ use Rattle.tla_model.specs.EntityKinds.{is_instance, is_meant, stands_for_parame
 use Rattle.tla_model.specs.Stretches.{shown}
 use Rattle.tla_model.specs.Tables.{Named, Word, Symbol, Table, has, lookup, same_named}
 use Rattle.module_model.specs.Exports.{Exports, Path, at_path, behind_meaning, entries_from, entry_of, exports_of, of_symbols, of_words, parameters_in}
-use Rattle.module_model.specs.Given.{AreFaces}
+use Rattle.module_model.specs.Given.{AreFaces, AreReached}
 use Rattle.module_model.specs.Instances.{nested_view, own_parameters}
 use Rattle.tree_tasks.specs.declared.held.Held.{Held}
 use Rattle.tree_tasks.specs.declared.held.Held.TheVariants.{Nowhere}
@@ -83,6 +83,14 @@ told-all words-kept kept table entries symbols all same grown words others =
     all-both (λ (entry : Named × Meaning). IsTold (lookup same_decl kept) entry.1) (of_words table.words) (of_symbols table.symbols)
     (told-words kept table.words (all-grow (λ (word : List ℕ × Meaning). word.1) words-kept kept (words_meant is_instance table.words) grown (subst (AllByRecursion (λ (word : List ℕ × Meaning). IsTold (lookup same_decl words-kept) word.1)) all (told-shown words-kept entries words))))
     (told-symbols kept table.symbols (subst (AllByRecursion (λ (symbol : Op × Meaning). IsTold (lookup same_decl kept) symbol.1)) same others))
+
+-- an instance behind which something is known leads somewhere
+pub known-found : (nested : List Ended) (known : Leads) (entries : Exports) → AreReached (known_in nested known) entries → AreReached (lookup same_decl known) entries
+known-found nested known entries reaches = λ name entity callee at is. by (lookup same_decl known callee.decl) (reaches name entity callee at is)
+  where
+    by : (found : Option Held) → is_some (behind_found nested found) ≡ true → is_some found ≡ true
+    by None there = absurd (true≢false (sym there))
+    by (Some held) there = refl
 
 -- ---- parameters
 

@@ -7,7 +7,7 @@ ghost use Rattle.module_model.specs.Modules as in_modules;
 ghost use Rattle.tla_model.specs.EntityKinds.{is_instance as names_instance, stands_for_parameter, words_meant};
 ghost use Rattle.tla_model.specs.Stretches.{shown, words_of as stretch_words};
 ghost use Rattle.tla_model.specs.Tables as tables;
-ghost use Rattle.tla_model.specs.Tables.{AreNew};
+ghost use Rattle.tla_model.specs.Tables.{AreNew, same_symbol};
 ghost use Rattle.name_context.specs.AsTables.{behind, meant_by, taken_words, usable, usable_words, words_of};
 ghost use Rattle.name_exports.specs.Brought.{AreFirst, IsBrought, ModuleNames, as_read};
 
@@ -34,14 +34,14 @@ impl<'a> Model for Exported<'a> {
     ghost use Rattle.std.specs.Prelude.{◌++◌, []};
     ghost use Rattle.std.specs.Str.{bytes_eq};
     ghost use Rattle.tla_model.specs.Entities.{Meaning};
-    ghost use Rattle.tla_model.specs.Tables.{AreNew, Table};
+    ghost use Rattle.tla_model.specs.Tables.{AreNew, Table, same_symbol};
     ghost use Rattle.name_context.specs.AsTables.{taken_words, words_of};
 
     ghost Value = { Table Meaning };
 
     ghost view = { λ t. record { words = taken_words t.taken ++ words_of t.words.entries; symbols = t.symbols.items } };
 
-    ghost invariant = { λ t. AreNew bytes_eq [] (taken_words t.taken ++ words_of t.words.entries) };
+    ghost invariant = { λ t. AreNew bytes_eq [] (taken_words t.taken ++ words_of t.words.entries) × AreNew same_symbol [] t.symbols.items };
 }
 
 // Whether a word was taken over.
@@ -353,9 +353,11 @@ impl<'a> Exported<'a> {
         (self.taken, &self.words)
     }
 
-    /// The symbols.
+    /// The symbols; no word and no symbol is there twice.
     pub fn symbols(&self) -> &[(Op, Meaning)]
-        ensures { result.now ≡ self.now.symbols }
+        ensures symbols { result.now ≡ self.now.symbols }
+        ensures once { AreNew same_symbol [] self.now.symbols }
+        ensures words_once { AreNew bytes_eq [] self.now.words }
     {
         self.symbols.as_slice()
     }

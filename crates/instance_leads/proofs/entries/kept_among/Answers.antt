@@ -13,6 +13,6 @@ returns-in-Word c =
 
 pub returns-in-Symbol : goal.returns-in-Symbol
 returns-in-Symbol c =
-    c.symbol_kept.ensures ∙ ap (λ z. lookup same_symbol (symbols_meant (of_kind c.args.kind) z) c.in-Symbol.op) c.symbols.ensures
+    c.symbol_kept.ensures ∙ ap (λ z. lookup same_symbol (symbols_meant (of_kind c.args.kind) z) c.in-Symbol.op) c.symbols.ensures.symbols
     ∙ sym (entry-kept (of_kind c.args.kind) c.args.exports.now (Symbol c.in-Symbol.op))
     ∙ ap (λ name. entry_of (kept c.args.kind (exports_of c.args.exports.now)) (meant_by name)) (sym c.in-Symbol.is)

@@ -11,5 +11,5 @@ pub returns : goal.returns
 returns c =
     ok-so (λ (found : List Parameter). entries_in found ≡ of_words (map shown c.as_slice.result.now) ++ of_symbols (symbols_meant stands_for_parameter c.symbols.result.now)) (λ (found : List Parameter). entries_in found ≡ parameters_in (exports_of c.args.exports.now)) c.listed.result
     (λ found is.
-    is ∙ listed-kept stands_for_parameter c.args.exports.now (map shown c.as_slice.result.now) c.symbols.result.now (ap (map shown) c.as_slice.ensures.value ∙ c.in_ok-words.ensures) c.symbols.ensures)
+    is ∙ listed-kept stands_for_parameter c.args.exports.now (map shown c.as_slice.result.now) c.symbols.result.now (ap (map shown) c.as_slice.ensures.value ∙ c.in_ok-words.ensures) c.symbols.ensures.symbols)
     c.listed.ensures

@@ -17,7 +17,7 @@ returns c =
     let behind = words_of c.words.result.1.now.entries in
     let symbols = of_symbols c.symbols.result.now in
     let all =
-    ap (λ z. z ++ symbols) (sym (of_words-append first behind) ∙ ap of_words c.words.ensures) ∙ ap (λ z. of_words exports.words ++ of_symbols z) c.symbols.ensures
+    ap (λ z. z ++ symbols) (sym (of_words-append first behind) ∙ ap of_words c.words.ensures) ∙ ap (λ z. of_words exports.words ++ of_symbols z) c.symbols.ensures.symbols
     in
     subst (λ clash. IsJoined local old new clash (behind_through unit (exports_of exports))) (sym (c.either-2.ensures ∙ ap (λ b. b || c.in_ok-symbols.symbols) c.either.ensures))
     (subst (λ z. IsJoined local old new ((c.in_ok-first.first || c.in_ok-behind.behind) || c.in_ok-symbols.symbols) (behind_through unit z)) all

@@ -1,8 +1,12 @@
 use Rattle.std.proofs.Common.{refl}
+use Rattle.module_model.specs.Exports.{exports_of}
 use Rattle.name_context.specs.AsTables.{context_of}
 use Rattle.instance_leads.specs.declared.ended.Ended.{Ended}
-use Rattle.instance_scope.proofs.NestedEnds.{kept-end, same-known, sound-end, view-after}
+use Rattle.instance_scope.proofs.NestedEnds.{kept-end, known-found, same-known, sound-end, view-after}
 use Rattle.instance_scope.proofs.scope.Scope.end.Goals as goal
+
+pub kept_leads-requires : goal.kept_leads-requires
+kept_leads-requires c = known-found c.args.self.now.nested.items c.args.self.now.known (exports_of c.args.exports) c.requires.reached
 
 pub returns-clause-sound : goal.returns-clause-sound
 returns-clause-sound c =

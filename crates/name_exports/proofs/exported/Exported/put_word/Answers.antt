@@ -18,7 +18,7 @@ invariant_of-self-2 c =
     let more = (word, c.args.meaning) ∷ [] in
     let absent : lookup bytes_eq (taken ++ words_of own.entries) word ≡ None = none-there _ (sym c.has_word.ensures ∙ c.if-has_word.false) in
     let words = ap words_of (c.in_ok-insert.ensures.entries ∙ insert_entry-new _ own c.args.word c.args.meaning (lookup-words own.entries word ∙ none-next bytes_eq taken (words_of own.entries) word absent)) ∙ words-append own.entries (c.args.word, c.args.meaning) in
-    subst (AreNew bytes_eq []) (append_assoc taken (words_of own.entries) more ∙ sym (ap (λ z. taken ++ z) words)) (new-more bytes_eq [] (taken ++ words_of own.entries) word c.args.meaning c.self.invariant absent)
+    (subst (AreNew bytes_eq []) (append_assoc taken (words_of own.entries) more ∙ sym (ap (λ z. taken ++ z) words)) (new-more bytes_eq [] (taken ++ words_of own.entries) word c.args.meaning c.self.invariant.0 absent), c.self.invariant.1)
 
 pub returns : goal.returns
 returns c =

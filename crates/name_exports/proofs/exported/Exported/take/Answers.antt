@@ -9,7 +9,7 @@ use Rattle.name_exports.proofs.exported.Exported.take.Goals as goal
 pub invariant_of-self : goal.invariant_of-self
 invariant_of-self c =
     let words = c.args.table.now.words in
-    subst (AreNew bytes_eq []) (sym (ap (λ z. words ++ words_of z) c.truncate.ensures.entries ∙ append-nil words)) c.len-len.ensures.once
+    (subst (AreNew bytes_eq []) (sym (ap (λ z. words ++ words_of z) c.truncate.ensures.entries ∙ append-nil words)) c.len-len.ensures.once, c.self.invariant.1)
 
 pub returns : goal.returns
 returns c =
