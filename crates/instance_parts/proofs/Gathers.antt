@@ -1,6 +1,6 @@
 -- Steps by which instances are gathered.
 use Rattle.std.proofs.Common.{◌≡◌, ◌<◌, ℕ, zero, suc, arith, length, Bool, true, false, cond, List, [], ◌∷◌, ◌++◌, Option, Some, None, is_some, nat_eq, slice_set, refl, ap, sym, subst, ◌∙◌, true≢false}
-use Rattle.std.specs.Prelude.{slice_get}
+use Rattle.std.specs.Prelude.{⊤, slice_get}
 use Rattle.std.specs.Str.{bytes_eq}
 use Rattle.std.proofs.lemmas.Bool.Decides.{nat_tests}
 use Rattle.std.proofs.lemmas.Slice.Eq.{bytes_eq-Decides}
@@ -9,13 +9,14 @@ use Rattle.tla_model.specs.Entities.{Meaning, same_decl}
 use Rattle.tla_model.specs.Tables.{Table, added, lookup}
 use Rattle.module_model.specs.declared.face.Face.{Face}
 use Rattle.module_model.specs.Exports.{Exports, Instances, exports_of, standing}
+use Rattle.module_model.specs.Given.{AreFaces, imported}
 use Rattle.module_model.specs.Imports.{Imports}
 use Rattle.module_model.specs.Parts.{AreJoined, ByText, InText, first_of, in_part, reached}
 use Rattle.tree_tasks.specs.declared.held.Held.{Held}
 use Rattle.tree_tasks.specs.declared.held.Held.TheVariants.{Nowhere, Imported, Reached, Nested}
 use Rattle.instance_leads.specs.declared.ended.Ended.{Ended}
 use Rattle.instance_scope.specs.declared.scope.Scope.{Scope}
-use Rattle.instance_parts.specs.Gathering.{AreGathered, HaveGrown, IsClosed, IsForeign, IsOwn, IsTold, exported_at, told_by}
+use Rattle.instance_parts.specs.Gathering.{AreGathered, AreTaken, HaveGrown, IsClosed, IsForeign, IsOwn, IsTold, exported_at, told_by}
 use Rattle.instance_leads.specs.Keys.{decl_of}
 use Rattle.instance_leads.specs.Leading.{IsOfImport}
 use Rattle.instance_scope.specs.Scoped.{IsBroughtBy, IsSound}
@@ -323,3 +324,36 @@ module _ (scope : Scope) (mine : InText) (parts : ByText) (seen : List Bool) (nu
 pub brought-told : (imports : Imports) (nested : List Ended) (told : Instances) (seen : List Bool) (decl : DeclId) (held : Held) → IsBroughtBy imports decl held → IsClosed told seen held → told decl ≡ Some (exported_at nested held)
 brought-told imports nested told seen decl held brought closed =
     subst (λ h. IsClosed told seen h → told decl ≡ Some (exported_at nested h)) (sym brought.is) (λ all. all decl (exports_of brought.table.now) brought.stands) closed
+
+-- ---- imports all whose instances are told
+
+noted-cases : {V : Type 0} (noted : List (List ℕ × V)) (key name : List ℕ) (value : V) (P : Type 0) → is_some (lookup bytes_eq (noted ++ (key, value) ∷ []) name) ≡ true → (is_some (lookup bytes_eq noted name) ≡ true → P) → (name ≡ key → P) → P
+noted-cases [] key name value P there before now = by (bytes_eq name key) refl there
+  where
+    by : (b : Bool) → bytes_eq name key ≡ b → is_some (cond b (Some value) None) ≡ true → P
+    by true same there = now (bytes-equal name key same)
+    by false same there = absurd (true≢false (sym there))
+noted-cases (one ∷ noted) key name value P there before now = by (bytes_eq name one.0) there before (noted-cases noted key name value P)
+  where
+    by : (b : Bool) → is_some (cond b (Some one.1) (lookup bytes_eq (noted ++ (key, value) ∷ []) name)) ≡ true → (is_some (cond b (Some one.1) (lookup bytes_eq noted name)) ≡ true → P) →
+        (is_some (lookup bytes_eq (noted ++ (key, value) ∷ []) name) ≡ true → (is_some (lookup bytes_eq noted name) ≡ true → P) → (name ≡ key → P) → P) → P
+    by true there before rest = before refl
+    by false there before rest = rest there before now
+
+face-equal : (a b : Face) → Some a ≡ Some b → a ≡ b
+face-equal a b e = cc
+
+pub taken-on : (imports : Imports) (noted : List (List ℕ × ⊤)) (before after : Instances) (first later : List Bool) → HaveGrown before after first later → AreTaken imports noted before → AreTaken imports noted after
+taken-on imports noted before after first later grown taken = λ name face there is. told-on before after grown.told face (taken name face there is)
+
+-- what is told of an import whose module is noted
+pub taken-is : (imports : Imports) (name : List ℕ) (noted : List (List ℕ × ⊤)) (said : Instances) (face : Face) → AreFaces imports name → IsOfImport imports face → AreTaken imports noted said → is_some (lookup bytes_eq noted face.«module») ≡ true → IsTold said face
+taken-is imports name noted said face faces of taken there = taken of.name face (ap (λ key. is_some (lookup bytes_eq noted key)) (sym (faces.named of.name face of.is)) ∙ there) of.is
+
+-- one import more is noted
+pub taken-more : (imports : Imports) (name : List ℕ) (noted new : List (List ℕ × ⊤)) (before after : Instances) (first later : List Bool) (face : Face) → AreFaces imports name → IsOfImport imports face → HaveGrown before after first later → IsTold after face → AreTaken imports noted before →
+    new ≡ noted ++ (face.«module», tt) ∷ [] → AreTaken imports new after
+taken-more imports name noted new before after first later face faces of grown all taken is = λ key other there at.
+    noted-cases noted face.«module» key tt (IsTold after other) (ap (λ z. is_some (lookup bytes_eq z key)) (sym is) ∙ there)
+    (λ old. told-on before after grown.told other (taken key other old at))
+    (λ same. subst (IsTold after) (face-equal face other (sym of.is ∙ ap (imported imports) (sym (same ∙ faces.named of.name face of.is)) ∙ at)) all)

@@ -6,20 +6,22 @@ use Rattle.tla_model.specs.declared.names.Meaning.TheVariants.{Declared}
 use Rattle.tla_model.specs.Entities.{Entity, Meaning, same_decl}
 use Rattle.tla_model.specs.Tables.{lookup}
 use Rattle.module_model.specs.Exports.{Exports, Instances}
+use Rattle.name_context.specs.AsTables.{words_of}
 use Rattle.tree_tasks.specs.declared.held.Held.{Held}
 use Rattle.instance_leads.specs.declared.ended.Ended.{Ended}
 use Rattle.instance_parts.specs.declared.reached.Gathering.{Gathering}
-use Rattle.instance_parts.specs.Gathering.{AreGathered, AreRoots, HaveGrown, IsGained, IsRoot, told_by}
+use Rattle.instance_parts.specs.Gathering.{AreGathered, AreRoots, AreTaken, HaveGrown, IsGained, IsRoot, told_by}
 use Rattle.instance_scope.specs.Scoped.{IsSound, known_of}
 
 -- what is told of instances
 abbrev pub told_in : Gathering → Instances
 told_in gathering = told_by gathering.scope.now.title.now gathering.own gathering.parts
 
--- what is gathered goes together, and each nested module is seen or not
+-- what is gathered goes together, all is told of the imports that are noted, and each nested module is seen or not
 pub record IsGathering (gathering : Gathering) : Type 0 where
   pub sound : IsSound gathering.scope.now
   pub gathered : AreGathered gathering.scope.now gathering.own gathering.parts gathering.seen.items
+  pub joined : AreTaken gathering.scope.now.imported.now (words_of gathering.joined.entries) (told_in gathering)
   pub count : length gathering.seen.items ≡ length gathering.scope.now.nested.items
 
 -- more is gathered

@@ -1,5 +1,5 @@
 -- The instances that exports reach, while they are gathered.
-use Rattle.std.specs.Prelude.{◌≡◌, ⊤, ℕ, Bool, List, [], ◌∷◌, Some, false, true, slice_get}
+use Rattle.std.specs.Prelude.{◌≡◌, ⊤, ℕ, Bool, List, [], ◌∷◌, Some, false, is_some, true, slice_get}
 use Rattle.std.specs.Str.{bytes_eq}
 use Rattle.tla_model.specs.declared.ids.Callee.{Callee}
 use Rattle.tla_model.specs.declared.ids.DeclId.{DeclId}
@@ -10,6 +10,7 @@ use Rattle.tla_model.specs.Tables.{Named, lookup}
 use Rattle.module_model.specs.declared.face.Face.{Face}
 use Rattle.module_model.specs.Exports.{Exports, Instances, entry_of, exports_of, face_exports, face_instances, standing}
 use Rattle.module_model.specs.Given.{imported}
+use Rattle.module_model.specs.Imports.{Imports}
 use Rattle.module_model.specs.Parts.{ByText, InText, first_of, reached}
 use Rattle.tree_tasks.specs.declared.held.Held.{Held}
 use Rattle.tree_tasks.specs.declared.held.Held.TheVariants.{Nowhere, Imported, Reached, Nested}
@@ -31,6 +32,10 @@ told_by title own parts decl = standing (first_of (reached parts decl) (reached 
 -- all that a face says of instances is told
 abbrev pub IsTold : Instances → Face → Type 0
 IsTold told face = (decl : DeclId) (entries : Exports) → face_instances face decl ≡ Some entries → told decl ≡ Some entries
+
+-- of each import whose module is noted, all is told
+abbrev pub AreTaken : Imports → List (List ℕ × ⊤) → Instances → Type 0
+AreTaken imports noted told = (name : List ℕ) (face : Face) → is_some (lookup bytes_eq noted name) ≡ true → imported imports name ≡ Some face → IsTold told face
 
 -- of what stands behind a place it is told, or its nested module is seen
 abbrev pub IsClosed : Instances → List Bool → Held → Type 0

@@ -1,6 +1,7 @@
 // The instances that what a module exports reaches.
-ghost use Rattle.std.specs.Prelude.{◌≡◌, ◌↔◌, ◌<◌, ◌+◌, ◌∷◌, [], ℕ, IfOk, IsTrue, OnOk, Some, is_some, length, map, slice_get, true};
+ghost use Rattle.std.specs.Prelude.{◌≡◌, ◌↔◌, ◌<◌, ◌+◌, ◌∷◌, [], ℕ, IfOk, IsTrue, None, OnOk, Some, is_some, length, map, slice_get, true};
 ghost use Rattle.std.specs.Arc.{arc_value};
+ghost use Rattle.std.specs.Str.{bytes_eq};
 ghost use Rattle.tla_model.specs.Entities as entities;
 ghost use Rattle.tla_model.specs.Entities.{same_decl};
 ghost use Rattle.tla_model.specs.declared.ids.Callee.{Callee as Called};
@@ -10,6 +11,7 @@ ghost use Rattle.tla_model.specs.Tables as tables;
 ghost use Rattle.module_model.specs.Parts.{AreJoined};
 ghost use Rattle.module_model.specs.Exports.{exports_of};
 ghost use Rattle.module_model.specs.Given.{AreReached};
+ghost use Rattle.name_context.specs.AsTables.{words_of};
 ghost use Rattle.instance_leads.specs.declared.ended.Ended.{Ended as AnEnded};
 ghost use Rattle.instance_parts.specs.Gathering as gathering;
 ghost use Rattle.instance_parts.specs.Gathering.{exported_at};
@@ -35,6 +37,8 @@ pub struct Gathering<'s, 'a> {
     scope: &'s Scope<'a>,
     own: Part,
     parts: Parts,
+    // The modules of the imports all whose instances are gathered, so that each is looked at once.
+    joined: IndexMap<&'a str, ()>,
     seen: Vec<bool>,
 }
 
@@ -42,7 +46,7 @@ pub struct Gathering<'s, 'a> {
 fn copied(alloc: Global, table: &NameTable) -> Result<NameTable, Memory>
     ensures { IfOk result (λ copy. copy ≡ table.now) }
 {
-    // The proof needs that no word of the table is there twice.
+    // The proof needs that no name of the table is there twice.
     let _len = table.len();
     let mut symbols = List::new(alloc);
     for (op, meaning) in table.symbols() {
@@ -52,6 +56,33 @@ fn copied(alloc: Global, table: &NameTable) -> Result<NameTable, Memory>
 }
 
 impl<'s, 'a> Gathering<'s, 'a> {
+    // Whether all instances of an import are gathered.
+    fn is_joined(&self, face: &Face) -> bool
+        requires gathering { IsGathering self.now }
+        requires import { IsOfImport self.now.scope.now.imported.now face.now }
+        ensures noted { result ≡ is_some (tables.lookup bytes_eq
+            (words_of self.now.joined.entries) face.now.«module») }
+        ensures told { IsTrue result → gathering.IsTold (told_in self.now) face.now }
+    {
+        self.joined.contains_key(face.module.as_str())
+    }
+
+    // Gathers all instances of an import that are not gathered.
+    fn join_new(&mut self, alloc: Global, face: &'a Face) -> Result<(), Memory>
+        requires gathering { IsGathering self.old }
+        requires import { IsOfImport self.old.scope.now.imported.now face.now }
+        requires new { tables.lookup bytes_eq (words_of self.old.joined.entries)
+            face.now.«module» ≡ None }
+        ensures gathering { OnOk result (IsGathering self.new) }
+        ensures grown { OnOk result (IsGrown self.old self.new) }
+        ensures seen { OnOk result (self.new.seen.items ≡ self.old.seen.items) }
+        ensures told { OnOk result (gathering.IsTold (told_in self.new) face.entry.now) }
+    {
+        self.parts.join(alloc, &face.parts)?;
+        self.joined.insert(face.module.as_str(), ())?;
+        Ok(())
+    }
+
     // Gathers all instances of an import.
     fn join(&mut self, alloc: Global, face: &'a Face) -> Result<(), Memory>
         requires gathering { IsGathering self.old }
@@ -61,7 +92,10 @@ impl<'s, 'a> Gathering<'s, 'a> {
         ensures seen { OnOk result (self.new.seen.items ≡ self.old.seen.items) }
         ensures told { OnOk result (gathering.IsTold (told_in self.new) face.entry.now) }
     {
-        self.parts.join(alloc, &face.parts)?;
+        if self.is_joined(face) {
+            return Ok(());
+        }
+        self.join_new(alloc, face)?;
         Ok(())
     }
 
@@ -321,6 +355,7 @@ fn begun<'s, 'a>(alloc: Global, scope: &'s Scope<'a>) -> Result<Gathering<'s, 'a
         scope,
         own: Part::new(alloc),
         parts: Parts::new(alloc),
+        joined: IndexMap::new(alloc),
         seen,
     })
 }

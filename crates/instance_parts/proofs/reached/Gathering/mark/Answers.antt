@@ -7,6 +7,7 @@ returns-then-number-len-clause-gathering c =
     record {
       sound = c.requires.gathering.sound;
       gathered = mark-gathered c.args.self.now.scope.now c.args.self.now.own c.args.self.now.parts c.args.self.now.seen.items c.args.number (subst (λ n. c.args.number < n) (sym c.requires.gathering.count) c.requires.there) c.requires.gathering.gathered;
+      joined = c.requires.gathering.joined;
       count = set-length c.args.self.now.seen.items c.args.number ∙ c.requires.gathering.count;
     }
 

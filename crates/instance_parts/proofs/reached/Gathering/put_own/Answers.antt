@@ -1,10 +1,11 @@
 use Rattle.std.proofs.Common.{refl, subst, sym}
 use Rattle.std.specs.Arc.{arc_value}
 use Rattle.module_model.specs.Parts.{InText}
-use Rattle.instance_parts.specs.Gathering.{AreGathered, HaveGrown, exported_at, told_by}
+use Rattle.name_context.specs.AsTables.{words_of}
+use Rattle.instance_parts.specs.Gathering.{AreGathered, AreTaken, HaveGrown, exported_at, told_by}
 use Rattle.instance_leads.specs.Keys.{decl_of}
 use Rattle.std.specs.Prelude.{Some, ◌≡◌}
-use Rattle.instance_parts.proofs.Gathers.{put-gathered, put-grown, put-is}
+use Rattle.instance_parts.proofs.Gathers.{put-gathered, put-grown, put-is, taken-on}
 use Rattle.instance_parts.proofs.reached.Gathering.put_own.Goals as goal
 
 pub returns-clause-gathering : goal.returns-clause-gathering
@@ -14,6 +15,9 @@ returns-clause-gathering c =
       sound = c.requires.gathering.sound;
       gathered = subst (λ (own : InText). AreGathered g.scope.now own g.parts g.seen.items) (sym c.in_ok-put.ensures)
           (put-gathered g.scope.now c.requires.gathering.sound g.own g.parts g.seen.items c.requires.gathering.gathered c.args.place (arc_value c.in_ok-table.table) c.args.held c.requires.known c.requires.closed c.in_ok-table.ensures);
+      joined = subst (λ (own : InText). AreTaken g.scope.now.imported.now (words_of g.joined.entries) (told_by g.scope.now.title.now own g.parts)) (sym c.in_ok-put.ensures)
+          (taken-on g.scope.now.imported.now (words_of g.joined.entries) (told_by g.scope.now.title.now g.own g.parts) _ g.seen.items g.seen.items
+          (put-grown g.scope.now c.requires.gathering.sound g.own g.parts g.seen.items c.requires.gathering.gathered c.args.place (arc_value c.in_ok-table.table) c.args.held c.requires.known c.requires.closed c.in_ok-table.ensures) c.requires.gathering.joined);
       count = c.requires.gathering.count;
     }
 
