@@ -30,11 +30,11 @@ pub struct SampleFact {
 #[derive(Drop)]
 pub struct Sample;
 
-// The byte at a place, or 0 past the end.
-fn byte_at(bytes: &[u8], place: usize) -> u8
-    ensures { result ≡ slice_index bytes.now place }
+// The byte at an index, or 0 past the end.
+fn byte_at(bytes: &[u8], index: usize) -> u8
+    ensures { result ≡ slice_index bytes.now index }
 {
-    match bytes.get(place) {
+    match bytes.get(index) {
         Some(byte) => *byte,
         None => 0,
     }

@@ -152,9 +152,9 @@ impl Trial {
     }
 
     fn follows(&mut self, rt: &impl Abort, alloc: Global, script: Script) -> Result<(), Fail> {
-        for (place, (step, want)) in script.iter().enumerate() {
+        for (index, (step, want)) in script.iter().enumerate() {
             let said = self.takes(alloc, *step)?;
-            assert_eq!(rt; said, *want, "step {place}");
+            assert_eq!(rt; said, *want, "step {index}");
         }
         Ok(())
     }

@@ -11,7 +11,7 @@ use Rattle.fact_store.specs.declared.plan.Plan.{Plan}
 use Rattle.fact_values.specs.Names.{has}
 use Rattle.fact_values.specs.States.{State, cyclic, broken, fact, same_given}
 use Rattle.fact_values.specs.Values.{needs_or_none, reaches, gives, value}
-use Rattle.fact_store.specs.Slots.{texts_of, IsPlaceOf, is_settled}
+use Rattle.fact_store.specs.Slots.{texts_of, IsIndexOf, is_settled}
 use Rattle.fact_store.specs.Right.{IsPlan, IsDone, IsReady, IsRight}
 use Rattle.fact_values.proofs.NameLemmas.{true_or_false}
 use Rattle.fact_store.proofs.Ranks.{rank_tells}
@@ -22,7 +22,7 @@ pub rank_read : (ranks : List ℕ) (k a : ℕ) → k < length ranks → a ≡ ge
 rank_read ranks k a l e = e ∙ get_or_default_zero ranks k a l
 
 module _ {Own F : Type 0} (own_of : List ℕ → List ℕ → Own) (needs_of : Own → Option (List (List ℕ))) (fact_of : List ℕ → Own → List (List ℕ × State F) → F) (same : F → F → Bool) (slots : List (Slot Own F)) (current : List Bool) (plan : Plan) (right : IsRight own_of needs_of fact_of same slots current) (planned : IsPlan slots plan) where
-  module _ (i j : ℕ) (x : Slot Own F) (n : List ℕ) (at : slice_get slots i ≡ Some x) (there : IsPlaceOf slots n j) (need : has (needs_or_none x.needs) n ≡ true) (a b : ℕ) (ra : a ≡ get_or plan.ranks.items j a) (rb : b ≡ get_or plan.ranks.items i b) where
+  module _ (i j : ℕ) (x : Slot Own F) (n : List ℕ) (at : slice_get slots i ≡ Some x) (there : IsIndexOf slots n j) (need : has (needs_or_none x.needs) n ≡ true) (a b : ℕ) (ra : a ≡ get_or plan.ranks.items j a) (rb : b ≡ get_or plan.ranks.items i b) where
     within : (k : ℕ) (z : Slot Own F) → slice_get slots k ≡ Some z → k < length plan.ranks.items
     within k z e = omega (arith, slice_get_within slots k z e, planned.edges.long, planned.ranks.long)
 
@@ -68,7 +68,7 @@ read_slot [] k x y e r = cc
 read_slot (z ∷ xs) zero x y e r = cc
 read_slot (z ∷ xs) (suc k) x y e r = read_slot xs k x y e r
 
--- one item stands at a place
+-- one item stands at an index
 pub one_at : {A : Type 0} (xs : List A) (k : ℕ) (x y : A) → slice_get xs k ≡ Some x → slice_get xs k ≡ Some y → x ≡ y
 one_at xs k x y e f = let h : ◌≡◌ {A = Option _} (Some x) (Some y) = sym e ∙ f in cc
 

@@ -41,7 +41,7 @@ module _ {Own F : Type 0} where
   pub texts_of-same : (a b : List (Slot Own F)) → outlines a ≡ outlines b → texts_of a ≡ texts_of b
   texts_of-same a b e = ap from_entries (named_texts-outlines a ∙ ap (map (λ (o : List ℕ × List ℕ × Own × Option (List (List ℕ))). (o.0, o.1))) e ∙ sym (named_texts-outlines b))
 
-  -- what stands at a place has an outline that stood there
+  -- what stands at an index has an outline that stood there
   pub outline_at : (a b : List (Slot Own F)) (j : ℕ) (z : Slot Own F) → outlines a ≡ outlines b → slice_get a j ≡ Some z → (w : Slot Own F) × (slice_get b j ≡ Some w) × (outline w ≡ outline z)
   outline_at [] b j z e g = cc
   outline_at (x ∷ a) [] j z e g = cc

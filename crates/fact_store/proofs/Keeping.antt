@@ -14,9 +14,9 @@ use Rattle.fact_store.specs.Right.{is_fresh, with_given, Keeps}
 use Rattle.fact_values.proofs.NameLemmas.{and_both}
 use Rattle.fact_store.proofs.Pairs.{same_given-refl, is_fresh-with_given}
 
-module _ {Own F : Type 0} (own_of : List ℕ → List ℕ → Own) (needs_of : Own → Option (List (List ℕ))) (fact_of : List ℕ → Own → List (List ℕ × State F) → F) (same : F → F → Bool) (same_refl : (a : F) → same a a ≡ true) (old new : List (Slot Own F)) (place : ℕ) (slot : Slot Own F) (given : List (List ℕ × Input F)) (sound : IsSound own_of needs_of fact_of slot) where
+module _ {Own F : Type 0} (own_of : List ℕ → List ℕ → Own) (needs_of : Own → Option (List (List ℕ))) (fact_of : List ℕ → Own → List (List ℕ × State F) → F) (same : F → F → Bool) (same_refl : (a : F) → same a a ≡ true) (old new : List (Slot Own F)) (index : ℕ) (slot : Slot Own F) (given : List (List ℕ × Input F)) (sound : IsSound own_of needs_of fact_of slot) where
   -- its fact stands, and what is given now is like what was given then
-  module _ (respects : (name : List ℕ) (own : Own) (xs ys : List (List ℕ × State F)) → same_given same xs ys ≡ true → fact_of name own xs ≡ fact_of name own ys) (fresh : is_fresh same slot.kept (states given) ≡ true) (written : new ≡ slice_set old place (record slot { kept = with_given slot.kept given })) where
+  module _ (respects : (name : List ℕ) (own : Own) (xs ys : List (List ℕ × State F)) → same_given same xs ys ≡ true → fact_of name own xs ≡ fact_of name own ys) (fresh : is_fresh same slot.kept (states given) ≡ true) (written : new ≡ slice_set old index (record slot { kept = with_given slot.kept given })) where
     made : (o : Option (Kept F)) → slot.kept ≡ o → is_fresh same o (states given) ≡ true → (k : Kept F) → with_given o given ≡ Some k → arc_value k.fact ≡ fact_of slot.name (own_of slot.name (source k slot.bytes)) (states k.given)
     made None e h k w = cc
     made (Some kept) e h k w =
@@ -28,7 +28,7 @@ module _ {Own F : Type 0} (own_of : List ℕ → List ℕ → Own) (needs_of : O
     elsewhere None e k b w f = cc
     elsewhere (Some kept) e k b w f = let s : record kept { given = given } ≡ k = cc in sound.elsewhere kept b e (ap (λ (z : Kept F). z.from) s ∙ f)
 
-    pub keeps-again : Keeps own_of needs_of fact_of same old new place slot (states given)
+    pub keeps-again : Keeps own_of needs_of fact_of same old new index slot (states given)
     keeps-again = record {
       after = record slot { kept = with_given slot.kept given };
       written = written;
@@ -43,8 +43,8 @@ module _ {Own F : Type 0} (own_of : List ℕ → List ℕ → Own) (needs_of : O
     }
 
   -- its fact was derived
-  module _ (kept : Kept F) (from : kept.from ≡ None) (with_these : kept.given ≡ given) (fact : arc_value kept.fact ≡ fact_of slot.name slot.own (states given)) (written : new ≡ slice_set old place (record slot { kept = Some kept })) where
-    pub keeps-derived : Keeps own_of needs_of fact_of same old new place slot (states given)
+  module _ (kept : Kept F) (from : kept.from ≡ None) (with_these : kept.given ≡ given) (fact : arc_value kept.fact ≡ fact_of slot.name slot.own (states given)) (written : new ≡ slice_set old index (record slot { kept = Some kept })) where
+    pub keeps-derived : Keeps own_of needs_of fact_of same old new index slot (states given)
     keeps-derived = record {
       after = record slot { kept = Some kept };
       written = written;

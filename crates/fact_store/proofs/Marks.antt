@@ -1,4 +1,4 @@
--- Marks on places, and queues of places that were marked.
+-- Marks on indices, and queues of indices that were marked.
 use Rattle.std.proofs.Common.{◌≡◌, ◌≢◌, ℕ, zero, suc, ◌+◌, ◌≤◌, ◌<◌, Bool, true, false, List, [], ◌∷◌, ◌++◌, refl, sym, ap, ◌∙◌, subst, cond, inl, inr, take, length, get_or, arith, nat_eq}
 use Rattle.std.specs.Prelude.{◌⊎◌, ◌||◌, not, count_by, slice_set}
 use Rattle.std.proofs.lemmas.Bool.{eqb-true, eq-eqb}
@@ -12,8 +12,8 @@ use Rattle.list_laws.proofs.Tests.{or-right}
 use Rattle.fact_store.specs.Plans.{among, is_marked, MarksRow}
 use Rattle.fact_values.proofs.NameLemmas.{true_or_false, or_left, or_cases}
 
-pub same_place : (a b : ℕ) → nat_eq a b ≡ true → a ≡ b
-same_place a b e = eqb-true a b e
+pub same_index : (a b : ℕ) → nat_eq a b ≡ true → a ≡ b
+same_index a b e = eqb-true a b e
 
 pub or_false : (a : Bool) → (a || false) ≡ a
 or_false true = refl
@@ -54,13 +54,13 @@ is_marked-get_or (m ∷ marks) (suc p) d l = is_marked-get_or marks p d (omega a
 -- what is marked after a mark was marked before, or is that one
 marked_cases : (marks : List Bool) (p i : ℕ) → p < length marks → is_marked (slice_set marks p true) i ≡ true → (is_marked marks i ≡ true) ⊎ (i ≡ p)
 marked_cases marks p i l m = elim (true_or_false (nat_eq i p)) as (λ _. (is_marked marks i ≡ true) ⊎ (i ≡ p)) [
-  | inl same ↦ inr (same_place i p same)
+  | inl same ↦ inr (same_index i p same)
   | inr other ↦ inl (sym (is_marked-set_other marks p i true (λ e. let h : true ≡ false = sym (eq-eqb i p e) ∙ other in cc h)) ∙ m)
 ]
 
 pub marked_kept : (marks : List Bool) (p i : ℕ) → p < length marks → is_marked marks i ≡ true → is_marked (slice_set marks p true) i ≡ true
 marked_kept marks p i l m = elim (true_or_false (nat_eq i p)) as (λ _. is_marked (slice_set marks p true) i ≡ true) [
-  | inl same ↦ ap (is_marked (slice_set marks p true)) (same_place i p same) ∙ is_marked-set_same marks p true l
+  | inl same ↦ ap (is_marked (slice_set marks p true)) (same_index i p same) ∙ is_marked-set_same marks p true l
   | inr other ↦ is_marked-set_other marks p i true (λ e. let h : true ≡ false = sym (eq-eqb i p e) ∙ other in cc h) ∙ m
 ]
 
@@ -84,12 +84,12 @@ MarksRow-start marks queue = record {
   within = λ h. h;
 }
 
--- the next place is marked already
+-- the next index is marked already
 pub MarksRow-skip : (row : List ℕ) (p : ℕ) (old new : List Bool) (queue longer : List ℕ) → MarksRow row old new queue longer → is_marked new p ≡ true → MarksRow (row ++ p ∷ []) old new queue longer
 MarksRow-skip row p old new queue longer r on = record {
   long = r.long;
   kept = r.kept;
-  all = λ i m. elim (or_cases (among row i) (nat_eq i p) (sym (among-push row p i) ∙ m)) as (λ _. is_marked new i ≡ true) [ inl before ↦ r.all i before | inr last ↦ ap (is_marked new) (same_place i p last) ∙ on ];
+  all = λ i m. elim (or_cases (among row i) (nat_eq i p) (sym (among-push row p i) ∙ m)) as (λ _. is_marked new i ≡ true) [ inl before ↦ r.all i before | inr last ↦ ap (is_marked new) (same_index i p last) ∙ on ];
   only = λ i m. elim (or_cases (is_marked old i) (among row i) (r.only i m)) as (λ _. (is_marked old i || among (row ++ p ∷ []) i) ≡ true) [ inl first ↦ or_left (is_marked old i) _ first | inr later ↦ or-right (is_marked old i) _ (among-before row p i later) ];
   queued = r.queued;
   marked = r.marked;
@@ -98,14 +98,14 @@ MarksRow-skip row p old new queue longer r on = record {
   within = r.within;
 }
 
--- the next place is marked and queued
+-- the next index is marked and queued
 pub MarksRow-mark : (row : List ℕ) (p : ℕ) (old new : List Bool) (queue longer : List ℕ) → MarksRow row old new queue longer → p < length new → is_marked new p ≡ false → MarksRow (row ++ p ∷ []) old (slice_set new p true) queue (longer ++ p ∷ [])
 MarksRow-mark row p old new queue longer r l off = record {
   long = length-set new p true ∙ r.long;
   kept = λ i m. marked_kept new p i l (r.kept i m);
   all = λ i m. elim (or_cases (among row i) (nat_eq i p) (sym (among-push row p i) ∙ m)) as (λ _. is_marked (slice_set new p true) i ≡ true) [
     | inl before ↦ marked_kept new p i l (r.all i before)
-    | inr last ↦ ap (is_marked (slice_set new p true)) (same_place i p last) ∙ is_marked-set_same new p true l
+    | inr last ↦ ap (is_marked (slice_set new p true)) (same_index i p last) ∙ is_marked-set_same new p true l
   ];
   only = λ i m. elim (marked_cases new p i l m) as (λ _. (is_marked old i || among (row ++ p ∷ []) i) ≡ true) [
     | inl was ↦ elim (or_cases (is_marked old i) (among row i) (r.only i was)) as (λ _. (is_marked old i || among (row ++ p ∷ []) i) ≡ true) [ inl first ↦ or_left (is_marked old i) _ first | inr later ↦ or-right (is_marked old i) _ (among-before row p i later) ]
@@ -117,11 +117,11 @@ MarksRow-mark row p old new queue longer r l off = record {
   ];
   marked = λ h i m. elim (or_cases (among longer i) (nat_eq i p) (sym (among-push longer p i) ∙ m)) as (λ _. is_marked (slice_set new p true) i ≡ true) [
     | inl before ↦ marked_kept new p i l (r.marked h i before)
-    | inr last ↦ ap (is_marked (slice_set new p true)) (same_place i p last) ∙ is_marked-set_same new p true l
+    | inr last ↦ ap (is_marked (slice_set new p true)) (same_index i p last) ∙ is_marked-set_same new p true l
   ];
   front = take-append-le (length queue) longer (p ∷ []) (le_of_front queue longer r.front) ∙ r.front;
   counted = omega (arith, length-append longer (p ∷ []), open_count new p l off, r.counted);
-  within = λ h. All-push (λ place. place < length (slice_set new p true)) longer p (λ k d i. omega (arith, r.within h k d i, length-set new p true)) (omega (arith, length-set new p true));
+  within = λ h. All-push (λ index. index < length (slice_set new p true)) longer p (λ k d i. omega (arith, r.within h k d i, length-set new p true)) (omega (arith, length-set new p true));
 }
   where
     le_of_front : (queue longer : List ℕ) → take (length queue) longer ≡ queue → length queue ≤ length longer

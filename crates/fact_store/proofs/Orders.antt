@@ -17,29 +17,29 @@ use Rattle.fact_store.specs.Slots.{AreSound}
 use Rattle.fact_store.specs.Plans.{among, is_marked, AreReached, IsRow, IsOrder}
 use Rattle.fact_store.specs.Right.{outlines, IsPlan, IsDone, IsReady}
 use Rattle.fact_values.proofs.NameLemmas.{or_left, or_cases, and_both}
-use Rattle.fact_store.proofs.Marks.{same_place}
+use Rattle.fact_store.proofs.Marks.{same_index}
 use Rattle.fact_store.proofs.Search.{among-within}
 use Rattle.fact_store.proofs.Ranks.{rank_falls}
 use Rattle.fact_store.proofs.KeepLemmas.{outline_at}
 
--- each of the places is behind its rank
-pub each-ranked : (ranks places : List ℕ) (all : List ℕ) → ((p : ℕ) → among places p ≡ true → among all p ≡ true) → All (λ (entry : ℕ × ℕ). (entry.0 ≡ slice_index ranks entry.1) × (among all entry.1 ≡ true)) (map (λ place. (slice_index ranks place, place)) places)
+-- each of the indices is behind its rank
+pub each-ranked : (ranks indices : List ℕ) (all : List ℕ) → ((p : ℕ) → among indices p ≡ true → among all p ≡ true) → All (λ (entry : ℕ × ℕ). (entry.0 ≡ slice_index ranks entry.1) × (among all entry.1 ≡ true)) (map (λ index. (slice_index ranks index, index)) indices)
 each-ranked ranks [] all h = All-nil (λ (entry : ℕ × ℕ). (entry.0 ≡ slice_index ranks entry.1) × (among all entry.1 ≡ true))
-each-ranked ranks (p ∷ places) all h =
-    All-cons (λ (entry : ℕ × ℕ). (entry.0 ≡ slice_index ranks entry.1) × (among all entry.1 ≡ true)) (slice_index ranks p, p) (map (λ place. (slice_index ranks place, place)) places)
-    (refl, h p (or_left (nat_eq p p) (among places p) (eq-eqb p p refl))) (each-ranked ranks places all (λ q m. h q (or-right (nat_eq q p) (among places q) m)))
+each-ranked ranks (p ∷ indices) all h =
+    All-cons (λ (entry : ℕ × ℕ). (entry.0 ≡ slice_index ranks entry.1) × (among all entry.1 ≡ true)) (slice_index ranks p, p) (map (λ index. (slice_index ranks index, index)) indices)
+    (refl, h p (or_left (nat_eq p p) (among indices p) (eq-eqb p p refl))) (each-ranked ranks indices all (λ q m. h q (or-right (nat_eq q p) (among indices q) m)))
 
-pub all-ranked : (ranks places : List ℕ) (p : ℕ) → among places p ≡ true → Contains {X = ℕ × ℕ} (map (λ place. (slice_index ranks place, place)) places) (slice_index ranks p, p)
+pub all-ranked : (ranks indices : List ℕ) (p : ℕ) → among indices p ≡ true → Contains {X = ℕ × ℕ} (map (λ index. (slice_index ranks index, index)) indices) (slice_index ranks p, p)
 all-ranked ranks [] p m = cc
-all-ranked ranks (q ∷ places) p m = elim (or_cases (nat_eq p q) (among places p) m) as (λ _. Contains {X = ℕ × ℕ} (map (λ place. (slice_index ranks place, place)) (q ∷ places)) (slice_index ranks p, p)) [
-  | inl same ↦ (0, omega arith, ap (λ (x : ℕ). (slice_index ranks x, x)) (sym (same_place p q same)))
-  | inr later ↦ let r = all-ranked ranks places p later in (suc r.0, omega (arith, r.1), r.2)
+all-ranked ranks (q ∷ indices) p m = elim (or_cases (nat_eq p q) (among indices p) m) as (λ _. Contains {X = ℕ × ℕ} (map (λ index. (slice_index ranks index, index)) (q ∷ indices)) (slice_index ranks p, p)) [
+  | inl same ↦ (0, omega arith, ap (λ (x : ℕ). (slice_index ranks x, x)) (sym (same_index p q same)))
+  | inr later ↦ let r = all-ranked ranks indices p later in (suc r.0, omega (arith, r.1), r.2)
 ]
 
-pub IsOrder-sorted : (ranks places : List ℕ) (order : List (ℕ × ℕ)) → IsPermutation (map (λ place. (slice_index ranks place, place)) places) order → IsNonDecreasingBy (λ entry. entry.0) order → IsOrder ranks places order
-IsOrder-sorted ranks places order p s = record {
-  each = All-permutation (λ (entry : ℕ × ℕ). (entry.0 ≡ slice_index ranks entry.1) × (among places entry.1 ≡ true)) (map (λ place. (slice_index ranks place, place)) places) order p (each-ranked ranks places places (λ q m. m));
-  all = λ place m. Contains-permutation (map (λ place. (slice_index ranks place, place)) places) order (slice_index ranks place, place) p (all-ranked ranks places place m);
+pub IsOrder-sorted : (ranks indices : List ℕ) (order : List (ℕ × ℕ)) → IsPermutation (map (λ index. (slice_index ranks index, index)) indices) order → IsNonDecreasingBy (λ entry. entry.0) order → IsOrder ranks indices order
+IsOrder-sorted ranks indices order p s = record {
+  each = All-permutation (λ (entry : ℕ × ℕ). (entry.0 ≡ slice_index ranks entry.1) × (among indices entry.1 ≡ true)) (map (λ index. (slice_index ranks index, index)) indices) order p (each-ranked ranks indices indices (λ q m. m));
+  all = λ index m. Contains-permutation (map (λ index. (slice_index ranks index, index)) indices) order (slice_index ranks index, index) p (all-ranked ranks indices index m);
   sorted = s;
 }
 
@@ -71,26 +71,26 @@ module _ {Own F : Type 0} where
   }
 
   -- what is done stays done where marks stay
-  pub IsDone-kept : (a b : List (Slot Own F)) (old new : List Bool) (place : ℕ) (slot : Slot Own F) → outlines a ≡ outlines b → ((i : ℕ) → is_marked old i ≡ true → is_marked new i ≡ true) → ((x : Slot Own F) → slice_get b place ≡ Some x → IsDone old place x) → slice_get a place ≡ Some slot → IsDone new place slot
-  IsDone-kept a b old new place slot e kept done g =
-      let w = outline_at a b place slot e g in
-      elim (done w.0 w.1) as (λ _. IsDone new place slot) [
+  pub IsDone-kept : (a b : List (Slot Own F)) (old new : List Bool) (index : ℕ) (slot : Slot Own F) → outlines a ≡ outlines b → ((i : ℕ) → is_marked old i ≡ true → is_marked new i ≡ true) → ((x : Slot Own F) → slice_get b index ≡ Some x → IsDone old index x) → slice_get a index ≡ Some slot → IsDone new index slot
+  IsDone-kept a b old new index slot e kept done g =
+      let w = outline_at a b index slot e g in
+      elim (done w.0 w.1) as (λ _. IsDone new index slot) [
         | inl none ↦ inl (sym (ap (λ (o : List ℕ × List ℕ × Own × Option (List (List ℕ))). o.3) w.2) ∙ none)
-        | inr mark ↦ inr (kept place mark)
+        | inr mark ↦ inr (kept index mark)
       ]
 
   -- each entry before n is done
   abbrev pub DoneBefore : List (Slot Own F) → List Bool → List (ℕ × ℕ) → ℕ → Type 0
   DoneBefore slots current order n = (k : ℕ) (e : ℕ × ℕ) → k < n → slice_get order k ≡ Some e → (slot : Slot Own F) → slice_get slots e.1 ≡ Some slot → IsDone current e.1 slot
 
-  module _ (own_of : List ℕ → List ℕ → Own) (needs_of : Own → Option (List (List ℕ))) (fact_of : List ℕ → Own → List (List ℕ × State F) → F) (slots : List (Slot Own F)) (sound : AreSound own_of needs_of fact_of slots) (current : List Bool) (plan : Plan) (is : IsPlan slots plan) (start : ℕ) (places : List ℕ) (reach : AreReached plan.grounds.items start places) (order : List (ℕ × ℕ)) (sorted : IsOrder plan.ranks.items places order) where
+  module _ (own_of : List ℕ → List ℕ → Own) (needs_of : Own → Option (List (List ℕ))) (fact_of : List ℕ → Own → List (List ℕ × State F) → F) (slots : List (Slot Own F)) (sound : AreSound own_of needs_of fact_of slots) (current : List Bool) (plan : Plan) (is : IsPlan slots plan) (start : ℕ) (indices : List ℕ) (reach : AreReached plan.grounds.items start indices) (order : List (ℕ × ℕ)) (sorted : IsOrder plan.ranks.items indices order) where
     -- the next entry is ready
     pub IsReady-next : (n : ℕ) (entry : ℕ × ℕ) → n < length order → entry ≡ get_or order n entry → DoneBefore slots current order n → IsReady slots plan.ranks.items current entry.1
     IsReady-next n entry l read done slot at j other there need apart =
         choice (cases_lt at_j.0 n)
       where
-        here : (entry.0 ≡ slice_index plan.ranks.items entry.1) × (among places entry.1 ≡ true)
-        here = subst (λ (x : ℕ × ℕ). (x.0 ≡ slice_index plan.ranks.items x.1) × (among places x.1 ≡ true)) (sym read) (sorted.each n entry l)
+        here : (entry.0 ≡ slice_index plan.ranks.items entry.1) × (among indices entry.1 ≡ true)
+        here = subst (λ (x : ℕ × ℕ). (x.0 ≡ slice_index plan.ranks.items x.1) × (among indices x.1 ≡ true)) (sym read) (sorted.each n entry l)
 
         marked : is_marked reach.marks j ≡ true
         marked =
@@ -123,14 +123,14 @@ module _ {Own F : Type 0} where
         let c = sorted.all start (reach.all start reach.reach.first) in
         done c.0 (slice_index plan.ranks.items start, start) (omega (arith, c.1)) (slice_get_read order (length order) c.0 (slice_index plan.ranks.items start, start) refl c.1 (sym c.2)) slot at
 
-    -- places that are reached have ranks, and slots
-    pub ranked-places : All (λ place. place < length plan.ranks.items) places
-    ranked-places = λ k d l. omega (arith, reach.within k d l, is.ranks.long, is.grounds.long)
+    -- indices that are reached have ranks, and slots
+    pub ranked-indices : All (λ index. index < length plan.ranks.items) indices
+    ranked-indices = λ k d l. omega (arith, reach.within k d l, is.ranks.long, is.grounds.long)
 
     pub entry-within : (n : ℕ) (entry : ℕ × ℕ) → n < length order → entry ≡ get_or order n entry → entry.1 < length slots
     entry-within n entry l read =
-        let h : (entry.0 ≡ slice_index plan.ranks.items entry.1) × (among places entry.1 ≡ true) = subst (λ (x : ℕ × ℕ). (x.0 ≡ slice_index plan.ranks.items x.1) × (among places x.1 ≡ true)) (sym read) (sorted.each n entry l) in
-        omega (arith, among-within places (length plan.grounds.items) entry.1 reach.within h.1, is.edges.long, is.grounds.long)
+        let h : (entry.0 ≡ slice_index plan.ranks.items entry.1) × (among indices entry.1 ≡ true) = subst (λ (x : ℕ × ℕ). (x.0 ≡ slice_index plan.ranks.items x.1) × (among indices x.1 ≡ true)) (sym read) (sorted.each n entry l) in
+        omega (arith, among-within indices (length plan.grounds.items) entry.1 reach.within h.1, is.edges.long, is.grounds.long)
 
   -- one entry more is done
   pub DoneBefore-more : (a b : List (Slot Own F)) (old new : List Bool) (order : List (ℕ × ℕ)) (n : ℕ) (entry : ℕ × ℕ) → outlines a ≡ outlines b → ((i : ℕ) → is_marked old i ≡ true → is_marked new i ≡ true) → DoneBefore b old order n → n < length order → entry ≡ get_or order n entry → ((slot : Slot Own F) → slice_get a entry.1 ≡ Some slot → IsDone new entry.1 slot) → DoneBefore a new order (n + 1)

@@ -6,7 +6,7 @@ use Rattle.std.specs.FinMap as map
 use Rattle.fact_store.specs.declared.slot.Slot.{Slot}
 use Rattle.fact_values.specs.States.{State}
 use Rattle.fact_values.specs.Values.{dirty}
-use Rattle.fact_store.specs.Slots.{texts_of, HasNoSlot, IsPlaceOf, AreSound, owed, new_slot}
+use Rattle.fact_store.specs.Slots.{texts_of, HasNoSlot, IsIndexOf, AreSound, owed, new_slot}
 use Rattle.fact_store.proofs.TextLemmas.{texts_of-set, texts_of-push, texts_of-remove}
 use Rattle.fact_store.proofs.PutLemmas.{with_text, with_text-kept, IsSound-with_text, AreSound-set_text, AreSound-push, AreSound-remove, IsSound-new}
 use Rattle.fact_store.proofs.Dirt.{owed-set_text, owed-push, owed-remove}
@@ -17,13 +17,13 @@ module _ {Own F : Type 0} (own_of : List ℕ → List ℕ → Own) (needs_of : O
     pub texts : texts_of new ≡ insert (texts_of old) name bytes
     pub owes : owed own_of needs_of fact_of same new ≤ owed own_of needs_of fact_of same old + dirty own_of needs_of fact_of same (texts_of old) (texts_of new)
 
-  pub put_over : (slots new : List (Slot Own F)) (place : ℕ) (name bytes text : List ℕ) (own : Own) (needs : Option (List (List ℕ))) → AreSound own_of needs_of fact_of slots → (p : IsPlaceOf slots name place) → text ≡ bytes → own ≡ own_of name bytes → needs ≡ needs_of own → new ≡ slice_set slots place (with_text p.0 text own needs) → IsPut slots new name bytes
-  put_over slots new place name bytes text own needs s p et eo en e =
+  pub put_over : (slots new : List (Slot Own F)) (index : ℕ) (name bytes text : List ℕ) (own : Own) (needs : Option (List (List ℕ))) → AreSound own_of needs_of fact_of slots → (p : IsIndexOf slots name index) → text ≡ bytes → own ≡ own_of name bytes → needs ≡ needs_of own → new ≡ slice_set slots index (with_text p.0 text own needs) → IsPut slots new name bytes
+  put_over slots new index name bytes text own needs s p et eo en e =
       subst (λ (ss : List (Slot Own F)). IsPut slots ss name bytes) (sym e) (record {
-        sound = AreSound-set_text own_of needs_of fact_of slots place p.0 y s p.1 refl
-            (IsSound-with_text own_of needs_of fact_of p.0 text own needs (s.each place p.0 p.1) (eo ∙ ap (λ (n : List ℕ). own_of n bytes) (sym p.2) ∙ ap (own_of (p.0).name) (sym et)) en);
-        texts = texts_of-set slots place p.0 y s.distinct p.1 refl ∙ ap (λ (n : List ℕ). insert (texts_of slots) n text) p.2 ∙ ap (insert (texts_of slots) name) et;
-        owes = owed-set_text own_of needs_of fact_of same same_trans slots place p.0 y s.distinct p.1 refl (λ kept k. with_text-kept p.0 text own needs kept k);
+        sound = AreSound-set_text own_of needs_of fact_of slots index p.0 y s p.1 refl
+            (IsSound-with_text own_of needs_of fact_of p.0 text own needs (s.each index p.0 p.1) (eo ∙ ap (λ (n : List ℕ). own_of n bytes) (sym p.2) ∙ ap (own_of (p.0).name) (sym et)) en);
+        texts = texts_of-set slots index p.0 y s.distinct p.1 refl ∙ ap (λ (n : List ℕ). insert (texts_of slots) n text) p.2 ∙ ap (insert (texts_of slots) name) et;
+        owes = owed-set_text own_of needs_of fact_of same same_trans slots index p.0 y s.distinct p.1 refl (λ kept k. with_text-kept p.0 text own needs kept k);
       })
     where
       y : Slot Own F
@@ -43,9 +43,9 @@ module _ {Own F : Type 0} (own_of : List ℕ → List ℕ → Own) (needs_of : O
       gone : HasNoSlot slots called
       gone = subst (HasNoSlot slots) (sym ec) h
 
-  pub slot_over : (slots new : List (Slot Own F)) (place : ℕ) (name bytes : List ℕ) (slot : Slot Own F) → AreSound own_of needs_of fact_of slots → (p : IsPlaceOf slots name place) → slot ≡ new_slot own_of needs_of name bytes → new ≡ slice_set slots place (with_text p.0 slot.bytes slot.own slot.needs) → IsPut slots new name bytes
-  slot_over slots new place name bytes slot s p q e =
-      put_over slots new place name bytes bytes (own_of name bytes) (needs_of (own_of name bytes)) s p refl refl refl (e ∙ ap (λ (z : Slot Own F). slice_set slots place (with_text p.0 z.bytes z.own z.needs)) q)
+  pub slot_over : (slots new : List (Slot Own F)) (index : ℕ) (name bytes : List ℕ) (slot : Slot Own F) → AreSound own_of needs_of fact_of slots → (p : IsIndexOf slots name index) → slot ≡ new_slot own_of needs_of name bytes → new ≡ slice_set slots index (with_text p.0 slot.bytes slot.own slot.needs) → IsPut slots new name bytes
+  slot_over slots new index name bytes slot s p q e =
+      put_over slots new index name bytes bytes (own_of name bytes) (needs_of (own_of name bytes)) s p refl refl refl (e ∙ ap (λ (z : Slot Own F). slice_set slots index (with_text p.0 z.bytes z.own z.needs)) q)
 
   pub slot_new : (slots new : List (Slot Own F)) (name bytes : List ℕ) (slot : Slot Own F) → AreSound own_of needs_of fact_of slots → HasNoSlot slots name → slot ≡ new_slot own_of needs_of name bytes → new ≡ slots ++ slot ∷ [] → IsPut slots new name bytes
   slot_new slots new name bytes slot s h q e =
@@ -56,10 +56,10 @@ module _ {Own F : Type 0} (own_of : List ℕ → List ℕ → Own) (needs_of : O
     pub texts : texts_of new ≡ map.remove (texts_of old) name
     pub owes : owed own_of needs_of fact_of same new ≤ owed own_of needs_of fact_of same old + dirty own_of needs_of fact_of same (texts_of old) (texts_of new)
 
-  pub taken_out : (slots new : List (Slot Own F)) (place : ℕ) (name : List ℕ) → AreSound own_of needs_of fact_of slots → IsPlaceOf slots name place → new ≡ remove slots place → IsTakenOut slots new name
-  taken_out slots new place name s p e =
+  pub taken_out : (slots new : List (Slot Own F)) (index : ℕ) (name : List ℕ) → AreSound own_of needs_of fact_of slots → IsIndexOf slots name index → new ≡ remove slots index → IsTakenOut slots new name
+  taken_out slots new index name s p e =
       subst (λ (ss : List (Slot Own F)). IsTakenOut slots ss name) (sym e) (record {
-        sound = AreSound-remove own_of needs_of fact_of slots place s;
-        texts = texts_of-remove slots place p.0 s.distinct p.1 ∙ ap (map.remove (texts_of slots)) p.2;
-        owes = owed-remove own_of needs_of fact_of same same_trans slots place s.distinct;
+        sound = AreSound-remove own_of needs_of fact_of slots index s;
+        texts = texts_of-remove slots index p.0 s.distinct p.1 ∙ ap (map.remove (texts_of slots)) p.2;
+        owes = owed-remove own_of needs_of fact_of same same_trans slots index s.distinct;
       })

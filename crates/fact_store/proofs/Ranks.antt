@@ -59,7 +59,7 @@ module _ {Own F : Type 0} (own_of : List ℕ → List ℕ → Own) (needs_of : O
     row_with i slot e =
         let r = item-at edges i (omega (arith, slice_get_within slots i slot e, is.long)) in (r.0, r.1, is.rows i r.0 slot r.1 e)
 
-    -- the marks of a place are the slots whose names it reaches
+    -- the marks of an index are the slots whose names it reaches
     module _ (i : ℕ) (x : Slot Own F) (at : slice_get slots i ≡ Some x) (marks : List Bool) (r : IsReach edges i marks) where
       reached_by : Option (Slot Own F) → Bool
       reached_by None = true
@@ -92,10 +92,10 @@ module _ {Own F : Type 0} (own_of : List ℕ → List ℕ → Own) (needs_of : O
           text None et = let f : false ≡ true = ap (λ (ns : List (List ℕ)). has ns b) (sym (ap (needs_of_text own_of needs_of fact_of a) et)) ∙ h in cc f
           text (Some bytes) et =
               let w = slot_with slots a bytes et in
-              let row = row_with w.place w.slot w.at in
-              let m = pa w.place w.slot w.at w.named in
-              let need : has (needs_or_none w.slot.needs) z.name ≡ true = ap (λ (ns : List (List ℕ)). has ns z.name) (sym (needs_in-slot w.place w.slot w.at)) ∙ ap (λ (q : List ℕ). has (needs_in own_of needs_of fact_of (texts_of slots) q) z.name) w.named ∙ ap (has (needs_in own_of needs_of fact_of (texts_of slots) a)) n ∙ h in
-              r.closed w.place k row.0 m row.1 (row.2.each k z e ∙ need)
+              let row = row_with w.index w.slot w.at in
+              let m = pa w.index w.slot w.at w.named in
+              let need : has (needs_or_none w.slot.needs) z.name ≡ true = ap (λ (ns : List (List ℕ)). has ns z.name) (sym (needs_in-slot w.index w.slot w.at)) ∙ ap (λ (q : List ℕ). has (needs_in own_of needs_of fact_of (texts_of slots) q) z.name) w.named ∙ ap (has (needs_in own_of needs_of fact_of (texts_of slots) a)) n ∙ h in
+              r.closed w.index k row.0 m row.1 (row.2.each k z e ∙ need)
 
       pub mark-reaches : (j : ℕ) (y : Slot Own F) → slice_get slots j ≡ Some y → is_marked marks j ≡ reaches own_of needs_of fact_of (texts_of slots) x.name y.name
       unfolding AllMarked
@@ -109,7 +109,7 @@ module _ {Own F : Type 0} (own_of : List ℕ → List ℕ → Own) (needs_of : O
               let p = reaches_from-leads (needs_in own_of needs_of fact_of (texts_of slots)) (keys (texts_of slots)) x.name y.name l in
               closed_under-reach (needs_in own_of needs_of fact_of (texts_of slots)) AllMarked step p.0 x.name y.name p.1 start j y e refl
 
-    -- a need reaches no more places, and as many exactly where it leads back
+    -- a need reaches no more indices, and as many exactly where it leads back
     module _ (ranks : List ℕ) (rs : AreRanks edges ranks) (i j : ℕ) (x y : Slot Own F) (at : slice_get slots i ≡ Some x) (there : slice_get slots j ≡ Some y) (need : has (needs_or_none x.needs) y.name ≡ true) where
       rank_at : (k : ℕ) (z : Slot Own F) → slice_get slots k ≡ Some z → IsRank edges k (slice_index ranks k)
       rank_at k z e = rs.each k (omega (arith, slice_get_within slots k z e, is.long, rs.long))

@@ -1,4 +1,4 @@
--- Rows of places, from names that are needed.
+-- Rows of indices, from names that are needed.
 use Rattle.std.proofs.Common.{◌≡◌, ◌≢◌, ℕ, zero, suc, ◌+◌, ◌<◌, Bool, true, false, List, [], ◌∷◌, ◌++◌, Option, Some, refl, sym, ap, ◌∙◌, subst, inl, inr, take, length, get_or, arith, nat_eq, Vec, Global}
 use Rattle.std.specs.Prelude.{not, ◌⊎◌, ◌||◌, ◌&&◌, slice_get, slice_index}
 use Rattle.std.proofs.lemmas.Bool.{eqb-true, eq-eqb, cases_lt}
@@ -12,10 +12,10 @@ use Rattle.list_laws.proofs.Lists.{item-at}
 use Rattle.fact_store.specs.declared.slot.Slot.{Slot}
 use Rattle.fact_values.specs.Names.{name_eq, has}
 use Rattle.fact_values.specs.Values.{needs_or_none}
-use Rattle.fact_store.specs.Slots.{AreDistinct, HasNoSlot, IsPlaceOf}
-use Rattle.fact_store.specs.Plans.{among, Edges, HasPlaces, IsRow, AreEdges, AreReached, IsRank, IsGround, AreGrounds}
+use Rattle.fact_store.specs.Slots.{AreDistinct, HasNoSlot, IsIndexOf}
+use Rattle.fact_store.specs.Plans.{among, Edges, HasIndices, IsRow, AreEdges, AreReached, IsRank, IsGround, AreGrounds}
 use Rattle.fact_values.proofs.NameLemmas.{true_or_false, same_name, name_eq-same, or_left, or_cases, and_both}
-use Rattle.fact_store.proofs.Marks.{among-push, or_false, same_place}
+use Rattle.fact_store.proofs.Marks.{among-push, or_false, same_index}
 
 -- tests that hold alike are equal
 pub same_test : (a b : Bool) → (a ≡ true → b ≡ true) → (b ≡ true → a ≡ true) → a ≡ b
@@ -42,16 +42,16 @@ module _ {Own F : Type 0} where
         | inr fails ↦ fails
       ]
 
-  pub IsRow-more : (slots : List (Slot Own F)) (names : List (List ℕ)) (row : List ℕ) (n : List ℕ) (place : ℕ) → AreDistinct slots → IsRow slots names row → IsPlaceOf slots n place → IsRow slots (names ++ n ∷ []) (row ++ place ∷ [])
-  IsRow-more slots names row n place d r p = record {
-    each = λ j slot e. among-push row place j ∙ ap (λ b. b || nat_eq j place) (r.each j slot e) ∙ ap (λ b. has names slot.name || b) (here j slot e) ∙ sym (has-push names n slot.name);
-    within = All-push (λ x. x < length slots) row place r.within (slice_get_within slots place p.0 p.1);
+  pub IsRow-more : (slots : List (Slot Own F)) (names : List (List ℕ)) (row : List ℕ) (n : List ℕ) (index : ℕ) → AreDistinct slots → IsRow slots names row → IsIndexOf slots n index → IsRow slots (names ++ n ∷ []) (row ++ index ∷ [])
+  IsRow-more slots names row n index d r p = record {
+    each = λ j slot e. among-push row index j ∙ ap (λ b. b || nat_eq j index) (r.each j slot e) ∙ ap (λ b. has names slot.name || b) (here j slot e) ∙ sym (has-push names n slot.name);
+    within = All-push (λ x. x < length slots) row index r.within (slice_get_within slots index p.0 p.1);
   }
     where
-      here : (j : ℕ) (slot : Slot Own F) → slice_get slots j ≡ Some slot → nat_eq j place ≡ name_eq slot.name n
-      here j slot e = same_test (nat_eq j place) (name_eq slot.name n)
-          (λ m. let k : ◌≡◌ {A = Option (Slot Own F)} (Some slot) (Some p.0) = sym e ∙ ap (slice_get slots) (same_place j place m) ∙ p.1 in let s : slot ≡ p.0 = cc in name_eq-same slot.name n (ap (λ (x : Slot Own F). x.name) s ∙ p.2))
-          (λ m. eq-eqb j place (d j place slot p.0 e p.1 (same_name slot.name n m ∙ sym p.2)))
+      here : (j : ℕ) (slot : Slot Own F) → slice_get slots j ≡ Some slot → nat_eq j index ≡ name_eq slot.name n
+      here j slot e = same_test (nat_eq j index) (name_eq slot.name n)
+          (λ m. let k : ◌≡◌ {A = Option (Slot Own F)} (Some slot) (Some p.0) = sym e ∙ ap (slice_get slots) (same_index j index m) ∙ p.1 in let s : slot ≡ p.0 = cc in name_eq-same slot.name n (ap (λ (x : Slot Own F). x.name) s ∙ p.2))
+          (λ m. eq-eqb j index (d j index slot p.0 e p.1 (same_name slot.name n m ∙ sym p.2)))
 
   -- the next name of a list
   pub IsRow-skip_at : (slots : List (Slot Own F)) (names : List (List ℕ)) (k : ℕ) (row row' : List ℕ) (n : List ℕ) → k < length names → n ≡ get_or names k n → IsRow slots (take k names) row → HasNoSlot slots n → row' ≡ row → IsRow slots (take (k + 1) names) row'
@@ -59,10 +59,10 @@ module _ {Own F : Type 0} where
       subst (λ (xs : List (List ℕ)). IsRow slots xs row') (ap (λ x. take k names ++ x ∷ []) e ∙ sym (take_more names k n l))
       (subst (λ (xs : List ℕ). IsRow slots (take k names ++ n ∷ []) xs) (sym er) (IsRow-skip slots (take k names) row n r h))
 
-  pub IsRow-more_at : (slots : List (Slot Own F)) (names : List (List ℕ)) (k : ℕ) (row row' : List ℕ) (n : List ℕ) (place : ℕ) → AreDistinct slots → k < length names → n ≡ get_or names k n → IsRow slots (take k names) row → IsPlaceOf slots n place → row' ≡ row ++ place ∷ [] → IsRow slots (take (k + 1) names) row'
-  IsRow-more_at slots names k row row' n place d l e r h er =
+  pub IsRow-more_at : (slots : List (Slot Own F)) (names : List (List ℕ)) (k : ℕ) (row row' : List ℕ) (n : List ℕ) (index : ℕ) → AreDistinct slots → k < length names → n ≡ get_or names k n → IsRow slots (take k names) row → IsIndexOf slots n index → row' ≡ row ++ index ∷ [] → IsRow slots (take (k + 1) names) row'
+  IsRow-more_at slots names k row row' n index d l e r h er =
       subst (λ (xs : List (List ℕ)). IsRow slots xs row') (ap (λ x. take k names ++ x ∷ []) e ∙ sym (take_more names k n l))
-      (subst (λ (xs : List ℕ). IsRow slots (take k names ++ n ∷ []) xs) (sym er) (IsRow-more slots (take k names) row n place d r h))
+      (subst (λ (xs : List ℕ). IsRow slots (take k names ++ n ∷ []) xs) (sym er) (IsRow-more slots (take k names) row n index d r h))
 
   -- the rows of the slots before n
   pub record AreEdgesUpto (slots : List (Slot Own F)) (edges : Edges) (n : ℕ) : Type 0 where
@@ -85,9 +85,9 @@ module _ {Own F : Type 0} where
   slot_at (x ∷ slots) zero l = (x, refl)
   slot_at (x ∷ slots) (suc i) l = slot_at slots i (omega arith)
 
-  -- edges lead to places
-  pub HasPlaces-edges : (slots : List (Slot Own F)) (edges : Edges) → AreEdges slots edges → HasPlaces edges
-  HasPlaces-edges slots edges a i row e =
+  -- edges lead to indices
+  pub HasIndices-edges : (slots : List (Slot Own F)) (edges : Edges) → AreEdges slots edges → HasIndices edges
+  HasIndices-edges slots edges a i row e =
       let s = slot_at slots i (omega (arith, slice_get_within edges i row e, a.long)) in
       λ k d l. omega (arith, (a.rows i row s.0 e s.1).within k d l, a.long)
 
@@ -101,17 +101,17 @@ slice_index-push_last [] x = refl
 slice_index-push_last (y ∷ xs) x = slice_index-push_last xs x
 
 -- one rank more
-pub ranks-more : (edges : Edges) (ranks new : List ℕ) (place rank : ℕ) (places : List ℕ) → length ranks ≡ place → ((i : ℕ) → i < length ranks → IsRank edges i (slice_index ranks i)) → AreReached edges place places → rank ≡ length places → new ≡ ranks ++ rank ∷ [] → (length new ≡ place + 1) × ((i : ℕ) → i < length new → IsRank edges i (slice_index new i))
-ranks-more edges ranks new place rank places long each r e en = (
+pub ranks-more : (edges : Edges) (ranks new : List ℕ) (index rank : ℕ) (indices : List ℕ) → length ranks ≡ index → ((i : ℕ) → i < length ranks → IsRank edges i (slice_index ranks i)) → AreReached edges index indices → rank ≡ length indices → new ≡ ranks ++ rank ∷ [] → (length new ≡ index + 1) × ((i : ℕ) → i < length new → IsRank edges i (slice_index new i))
+ranks-more edges ranks new index rank indices long each r e en = (
   omega (arith, ap length en, length-append ranks (rank ∷ []), long),
   λ i l. subst (λ (xs : List ℕ). IsRank edges i (slice_index xs i)) (sym en) (choice i (omega (arith, ap length en, length-append ranks (rank ∷ []))) (true_or_false (nat_eq i (length ranks)))),
 )
   where
     choice : (i : ℕ) → i < length ranks + 1 → (nat_eq i (length ranks) ≡ true) ⊎ (nat_eq i (length ranks) ≡ false) → IsRank edges i (slice_index (ranks ++ rank ∷ []) i)
     choice i l (inl last) =
-        let k = same_place i (length ranks) last in
+        let k = same_index i (length ranks) last in
         subst (λ (j : ℕ). IsRank edges j (slice_index (ranks ++ rank ∷ []) j)) (sym k)
-        (places, subst (λ (j : ℕ). AreReached edges j places) (sym long) r, slice_index-push_last ranks rank ∙ e)
+        (indices, subst (λ (j : ℕ). AreReached edges j indices) (sym long) r, slice_index-push_last ranks rank ∙ e)
     choice i l (inr other) =
         let k : i < length ranks = lt_of_ne i (length ranks) l other in
         let h = each i k in (h.0, h.1, slice_index-push_before ranks rank i k ∙ h.2)
@@ -122,7 +122,7 @@ ranks-more edges ranks new place rank places long each r e en = (
           | inr more ↦ let e : a ≡ b = omega arith in let k : true ≡ false = sym (eq-eqb a b e) ∙ n in cc k
         ]
 
--- the next place of a row is of the rank
+-- the next index of a row is of the rank
 IsGround-skip : (ranks : List ℕ) (rank : ℕ) (row ground : List ℕ) (p : ℕ) → IsGround ranks rank row ground → slice_index ranks p ≡ rank → IsGround ranks rank (row ++ p ∷ []) ground
 IsGround-skip ranks rank row ground p g e = record {
   each = λ j. g.each j ∙ same_test _ _
@@ -130,18 +130,18 @@ IsGround-skip ranks rank row ground p g e = record {
       (λ m. let n = and-right (among (row ++ p ∷ []) j) _ m in
       elim (or_cases (among row j) (nat_eq j p) (sym (among-push row p j) ∙ and-left (among (row ++ p ∷ []) j) _ m)) as (λ _. (among row j && not (nat_eq (slice_index ranks j) rank)) ≡ true) [
         | inl before ↦ and_both _ _ before n
-        | inr this ↦ let h : not true ≡ true = sym (ap not (eq-eqb (slice_index ranks j) rank (ap (slice_index ranks) (same_place j p this) ∙ e))) ∙ n in cc h
+        | inr this ↦ let h : not true ≡ true = sym (ap not (eq-eqb (slice_index ranks j) rank (ap (slice_index ranks) (same_index j p this) ∙ e))) ∙ n in cc h
       ]);
   within = g.within;
 }
 
--- the next place of a row is of another rank
+-- the next index of a row is of another rank
 IsGround-more : (ranks : List ℕ) (rank : ℕ) (row ground : List ℕ) (p : ℕ) → IsGround ranks rank row ground → nat_eq (slice_index ranks p) rank ≡ false → p < length ranks → IsGround ranks rank (row ++ p ∷ []) (ground ++ p ∷ [])
 IsGround-more ranks rank row ground p g ne l = record {
   each = λ j. same_test _ _
       (λ m. elim (or_cases (among ground j) (nat_eq j p) (sym (among-push ground p j) ∙ m)) as (λ _. (among (row ++ p ∷ []) j && not (nat_eq (slice_index ranks j) rank)) ≡ true) [
         | inl before ↦ let k = sym (g.each j) ∙ before in and_both _ _ (among-push row p j ∙ or_left (among row j) (nat_eq j p) (and-left (among row j) _ k)) (and-right (among row j) _ k)
-        | inr this ↦ and_both _ _ (among-push row p j ∙ or-right (among row j) (nat_eq j p) this) (ap (λ (q : ℕ). not (nat_eq (slice_index ranks q) rank)) (same_place j p this) ∙ ap not ne)
+        | inr this ↦ and_both _ _ (among-push row p j ∙ or-right (among row j) (nat_eq j p) this) (ap (λ (q : ℕ). not (nat_eq (slice_index ranks q) rank)) (same_index j p this) ∙ ap not ne)
       ])
       (λ m. let n = and-right (among (row ++ p ∷ []) j) _ m in
       elim (or_cases (among row j) (nat_eq j p) (sym (among-push row p j) ∙ and-left (among (row ++ p ∷ []) j) _ m)) as (λ _. among (ground ++ p ∷ []) j ≡ true) [
@@ -154,7 +154,7 @@ IsGround-more ranks rank row ground p g ne l = record {
 pub IsGround-start : (ranks : List ℕ) (rank : ℕ) → IsGround ranks rank [] []
 IsGround-start ranks rank = record { each = λ j. refl; within = λ k d l. absurd (omega arith) }
 
--- the place at k of a row, with its rank that was read
+-- the index at k of a row, with its rank that was read
 pub IsGround-skip_at : (ranks : List ℕ) (rank : ℕ) (row ground ground' : List ℕ) (k : ℕ) → k < length row → IsGround ranks rank (take k row) ground → slice_index ranks (get_or row k 0) ≡ rank → ground' ≡ ground → IsGround ranks rank (take (k + 1) row) ground'
 IsGround-skip_at ranks rank row ground ground' k l g e eg =
     subst (λ (xs : List ℕ). IsGround ranks rank xs ground') (sym (take_more row k 0 l))
@@ -173,7 +173,7 @@ IsGround-more_at ranks rank row ground ground' k l g lp ne eg =
       | inr other ↦ other
     ]
 
--- the grounds of the places before n
+-- the grounds of the indices before n
 pub record AreGroundsUpto (edges : Edges) (ranks : List ℕ) (grounds : Edges) (n : ℕ) : Type 0 where
   pub long : length grounds ≡ n
   pub rows : (i : ℕ) (row ground : Vec ℕ Global) → slice_get edges i ≡ Some row → slice_get grounds i ≡ Some ground → IsGround ranks (slice_index ranks i) row.items ground.items
@@ -191,7 +191,7 @@ AreGroundsUpto-more edges ranks grounds new n row ground u er g en = record {
   ];
 }
 
-pub HasPlaces-grounds : (edges : Edges) (ranks : List ℕ) (grounds : Edges) → length ranks ≡ length edges → AreGrounds edges ranks grounds → HasPlaces grounds
-HasPlaces-grounds edges ranks grounds long g i ground e =
+pub HasIndices-grounds : (edges : Edges) (ranks : List ℕ) (grounds : Edges) → length ranks ≡ length edges → AreGrounds edges ranks grounds → HasIndices grounds
+HasIndices-grounds edges ranks grounds long g i ground e =
     let row = item-at edges i (omega (arith, slice_get_within grounds i ground e, g.long)) in
     λ k d l. omega (arith, (g.rows i row.0 ground row.1 e).within k d l, long, g.long)

@@ -21,7 +21,7 @@ use Rattle.list_laws.proofs.Tests.{same-or-other}
 use Rattle.fact_store.specs.declared.slot.Slot.{Slot}
 use Rattle.fact_values.specs.Names.{name_eq}
 use Rattle.fact_store.specs.Shelf.{Names, shelved, IsShelf}
-use Rattle.fact_store.specs.Slots.{HasNoSlot, IsPlaceOf}
+use Rattle.fact_store.specs.Slots.{HasNoSlot, IsIndexOf}
 use Rattle.fact_values.proofs.NameLemmas.{name_eq-same, same_name}
 use Rattle.fact_store.proofs.Lookups.{AllFound, found_at, length-found, found-same, found-set, found-remove, item_at, passes_at, passes_not, write_same, write_other, write_count}
 use Rattle.fact_store.proofs.TextLemmas.{skip, skip-injective, skip-other, slice_get-remove}
@@ -36,7 +36,7 @@ module _ {Own F : Type 0} (slab : Slab (Slot Own F)) (names : Names) (shelf : Is
   pub length-shelved : length (shelved slab names) ≡ length names
   length-shelved = length-found (λ (e : Entry). get slab e.1) names all
 
-  -- the name that has this place
+  -- the name that has this index
   entry_at : (i : ℕ) → i < length (shelved slab names) → (e : Entry) × (slice_get names i ≡ Some e)
   entry_at i l = item_at names i (omega (arith, l, length-shelved))
 
@@ -45,7 +45,7 @@ module _ {Own F : Type 0} (slab : Slab (Slot Own F)) (names : Names) (shelf : Is
   key_of i key e at k =
       let h : ◌≡◌ {A = Option ℕ} (Some e.1) (Some key) = sym (slice_get-map (λ (z : Entry). z.1) names i ∙ ap (option_map (λ (z : Entry). z.1)) at) ∙ k in cc
 
-  -- what stands under the key stands at the place
+  -- what stands under the key stands at the index
   pub stands_at : (i key : ℕ) (x : Slot Own F) → i < length (shelved slab names) → slice_get (values_of names) i ≡ Some key → get slab key ≡ Some x → slice_get (shelved slab names) i ≡ Some x
   stands_at i key x l k g =
       let e = entry_at i l in
@@ -63,7 +63,7 @@ module _ {Own F : Type 0} (slab : Slab (Slot Own F)) (names : Names) (shelf : Is
   entry_contained i e at = ap is_some (shelf.found i e at).1
 
   -- a name is looked up by its bytes
-  pub looked_up : (name : List ℕ) (r : Option ℕ) → r ≡ position (λ (k : String Global). bytes_eq name (string_bytes k)) (keys_of names) → MatchOption r (HasNoSlot (shelved slab names) name) (IsPlaceOf (shelved slab names) name)
+  pub looked_up : (name : List ℕ) (r : Option ℕ) → r ≡ position (λ (k : String Global). bytes_eq name (string_bytes k)) (keys_of names) → MatchOption r (HasNoSlot (shelved slab names) name) (IsIndexOf (shelved slab names) name)
   looked_up name None q = λ i slot at.
       let e = entry_at i (slice_get_within (shelved slab names) i slot at) in
       let s = shelf.found i e.0 e.1 in

@@ -1,4 +1,4 @@
--- Slots by their names and places.
+-- Slots by their names and indices.
 use Rattle.std.proofs.Common.{◌≡◌, ℕ, zero, suc, List, [], ◌∷◌, Option, Some, None, refl, sym, ap, ◌∙◌, cond, inl, inr}
 use Rattle.std.specs.Prelude.{slice_get}
 use Rattle.std.specs.FinMap.{get, get-from_entries, find}
@@ -29,17 +29,17 @@ module _ {Own F : Type 0} where
 
   -- where a name has a text, there is a slot
   pub record SlotWith (slots : List (Slot Own F)) (name bytes : List ℕ) : Type 0 where
-    pub place : ℕ
+    pub index : ℕ
     pub slot : Slot Own F
-    pub at : slice_get slots place ≡ Some slot
+    pub at : slice_get slots index ≡ Some slot
     pub named : slot.name ≡ name
     pub holds : slot.bytes ≡ bytes
 
   lookup : (slots : List (Slot Own F)) (name bytes : List ℕ) → find name_cmp name (named_texts slots) ≡ Some bytes → SlotWith slots name bytes
   lookup [] name bytes e = cc
   lookup (x ∷ slots) name bytes e = elim (true_or_false (name_eq name x.name)) as (λ _. SlotWith (x ∷ slots) name bytes) [
-    | inl same ↦ let h : ◌≡◌ {A = Option (List ℕ)} (Some x.bytes) (Some bytes) = sym (ap (λ b. cond b (Some x.bytes) (find name_cmp name (named_texts slots))) same) ∙ e in record { place = zero; slot = x; at = refl; named = sym (same_name name x.name same); holds = cc }
-    | inr other ↦ let r = lookup slots name bytes (sym (ap (λ b. cond b (Some x.bytes) (find name_cmp name (named_texts slots))) other) ∙ e) in record { place = suc r.place; slot = r.slot; at = r.at; named = r.named; holds = r.holds }
+    | inl same ↦ let h : ◌≡◌ {A = Option (List ℕ)} (Some x.bytes) (Some bytes) = sym (ap (λ b. cond b (Some x.bytes) (find name_cmp name (named_texts slots))) same) ∙ e in record { index = zero; slot = x; at = refl; named = sym (same_name name x.name same); holds = cc }
+    | inr other ↦ let r = lookup slots name bytes (sym (ap (λ b. cond b (Some x.bytes) (find name_cmp name (named_texts slots))) other) ∙ e) in record { index = suc r.index; slot = r.slot; at = r.at; named = r.named; holds = r.holds }
   ]
 
   pub slot_with : (slots : List (Slot Own F)) (name bytes : List ℕ) → get (texts_of slots) name ≡ Some bytes → SlotWith slots name bytes

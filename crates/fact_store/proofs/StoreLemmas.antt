@@ -6,7 +6,7 @@ use Rattle.fact_store.specs.declared.plan.Plan.{Plan}
 use Rattle.fact_values.specs.States.{State, no_text}
 use Rattle.fact_values.specs.Names.{Texts}
 use Rattle.fact_values.specs.Values.{value, dirty}
-use Rattle.fact_store.specs.Slots.{texts_of, HasNoSlot, IsPlaceOf, AreSound, owed}
+use Rattle.fact_store.specs.Slots.{texts_of, HasNoSlot, IsIndexOf, AreSound, owed}
 use Rattle.fact_store.specs.Plans.{is_marked}
 use Rattle.fact_store.specs.Right.{outlines, HoldsPlan, IsStore}
 use Rattle.fact_store.proofs.Gifts.{value-none}
@@ -15,12 +15,12 @@ use Rattle.fact_store.proofs.Orders.{IsPlan-same, length-outlines}
 use Rattle.fact_store.proofs.Rows.{slot_at}
 
 module _ {Own F : Type 0} where
-  -- the slot of a name keeps its place
-  pub place_kept : (new old : List (Slot Own F)) (name : List ℕ) (place : ℕ) → outlines new ≡ outlines old → IsPlaceOf old name place → IsPlaceOf new name place
-  place_kept new old name place e p =
-      let l : place < length new = omega (arith, slice_get_within old place p.0 p.1, length-outlines new, length-outlines old, ap length e) in
-      let z = slot_at new place l in
-      let w = outline_at new old place z.0 e z.1 in
+  -- the slot of a name keeps its index
+  pub index_kept : (new old : List (Slot Own F)) (name : List ℕ) (index : ℕ) → outlines new ≡ outlines old → IsIndexOf old name index → IsIndexOf new name index
+  index_kept new old name index e p =
+      let l : index < length new = omega (arith, slice_get_within old index p.0 p.1, length-outlines new, length-outlines old, ap length e) in
+      let z = slot_at new index l in
+      let w = outline_at new old index z.0 e z.1 in
       let k : ◌≡◌ {A = Option (Slot Own F)} (Some w.0) (Some p.0) = sym w.1 ∙ p.1 in let s : w.0 ≡ p.0 = cc in
       (z.0, z.1, sym (ap (λ (o : List ℕ × List ℕ × Own × Option (List (List ℕ))). o.0) w.2) ∙ ap (λ (x : Slot Own F). x.name) s ∙ p.2)
 

@@ -20,7 +20,7 @@ swapped true true u v w h = absurd (h refl refl)
 swapped true false u v w h = refl
 swapped false b u v w h = refl
 
--- the place that a place has after the one at i was removed
+-- the index that an index has after the one at i was removed
 pub skip : ℕ → ℕ → ℕ
 skip zero j = suc j
 skip (suc i) zero = zero
@@ -129,11 +129,11 @@ module _ {Own F : Type 0} where
   pub AreDistinct-remove : (slots : List (Slot Own F)) (i : ℕ) → AreDistinct slots → AreDistinct (remove slots i)
   AreDistinct-remove slots i d a b x y p q n = skip-injective i a b (d (skip i a) (skip i b) x y (sym (slice_get-remove slots i a) ∙ p) (sym (slice_get-remove slots i b) ∙ q) n)
 
-  -- what is left stood at a place
+  -- what is left stood at an index
   pub left_at : (slots : List (Slot Own F)) (i j : ℕ) (z : Slot Own F) → slice_get (remove slots i) j ≡ Some z → (k : ℕ) × (slice_get slots k ≡ Some z)
   left_at slots i j z e = (skip i j, sym (slice_get-remove slots i j) ∙ e)
 
-  -- names alone tell places apart
+  -- names alone tell indices apart
   named_at : (a b : List (Slot Own F)) (j : ℕ) (z : Slot Own F) → map (λ (s : Slot Own F). s.name) a ≡ map (λ (s : Slot Own F). s.name) b → slice_get a j ≡ Some z → (w : Slot Own F) × (slice_get b j ≡ Some w) × (w.name ≡ z.name)
   named_at [] b j z e g = cc
   named_at (x ∷ a) [] j z e g = cc

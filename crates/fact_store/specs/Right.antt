@@ -43,14 +43,14 @@ module _ {Own F : Type 0} where
 
   -- nothing is to be made of this slot: it is broken, or its fact stands
   abbrev pub IsDone : List Bool → ℕ → Slot Own F → Type 0
-  IsDone current place slot = (slot.needs ≡ None) ⊎ (is_marked current place ≡ true)
+  IsDone current index slot = (slot.needs ≡ None) ⊎ (is_marked current index ≡ true)
 
-  -- each need of this place that does not lead back is done
+  -- each need of this index that does not lead back is done
   abbrev pub IsReady : List (Slot Own F) → List ℕ → List Bool → ℕ → Type 0
-  IsReady slots ranks current place =
-      (slot : Slot Own F) → slice_get slots place ≡ Some slot →
+  IsReady slots ranks current index =
+      (slot : Slot Own F) → slice_get slots index ≡ Some slot →
       (j : ℕ) (other : Slot Own F) → slice_get slots j ≡ Some other → has (needs_or_none slot.needs) other.name ≡ true →
-      nat_eq (slice_index ranks j) (slice_index ranks place) ≡ false → IsDone current j other
+      nat_eq (slice_index ranks j) (slice_index ranks index) ≡ false → IsDone current j other
 
   module _ (own_of : List ℕ → List ℕ → Own) (needs_of : Own → Option (List (List ℕ))) (fact_of : List ℕ → Own → List (List ℕ × State F) → F) (same : F → F → Bool) where
     -- the slots are sound, and the facts that stand are those of the present texts
@@ -73,9 +73,9 @@ module _ {Own F : Type 0} where
       pub rises : first ≤ last
 
     -- of the slots one was brought up to what its needs give: its fact is fresh then, and all else stays
-    pub record Keeps (old new : List (Slot Own F)) (place : ℕ) (slot : Slot Own F) (given : List (List ℕ × State F)) : Type 0 where
+    pub record Keeps (old new : List (Slot Own F)) (index : ℕ) (slot : Slot Own F) (given : List (List ℕ × State F)) : Type 0 where
       pub after : Slot Own F
-      pub written : new ≡ slice_set old place after
+      pub written : new ≡ slice_set old index after
       pub outline_kept : outline after ≡ outline slot
       pub sound : IsSound own_of needs_of fact_of after
       pub fresh : is_fresh same after.kept given ≡ true

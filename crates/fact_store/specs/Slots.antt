@@ -30,9 +30,9 @@ module _ {Own F : Type 0} where
   abbrev pub HasNoSlot : List (Slot Own F) → List ℕ → Type 0
   HasNoSlot slots name = (i : ℕ) (slot : Slot Own F) → slice_get slots i ≡ Some slot → name_eq name slot.name ≡ false
 
-  -- the slot at this place has this name
-  abbrev pub IsPlaceOf : List (Slot Own F) → List ℕ → ℕ → Type 0
-  IsPlaceOf slots name place = (slot : Slot Own F) × (slice_get slots place ≡ Some slot) × (slot.name ≡ name)
+  -- the slot at this index has this name
+  abbrev pub IsIndexOf : List (Slot Own F) → List ℕ → ℕ → Type 0
+  IsIndexOf slots name index = (slot : Slot Own F) × (slice_get slots index ≡ Some slot) × (slot.name ≡ name)
 
   module _ (own_of : List ℕ → List ℕ → Own) (needs_of : Own → Option (List (List ℕ))) (fact_of : List ℕ → Own → List (List ℕ × State F) → F) where
     -- the parts of a slot are those of its text, and the fact is that of what it was made from

@@ -21,30 +21,30 @@ use std::sync::Arc;
 use step_count::Steps;
 use tool_list::{Chars, List, Memory};
 
-// What a needed name gives to the text at a place.
+// What a needed name gives to the text at an index.
 fn input_of<D: Derive>(
     slots: &Shelf<D::Own, D::Fact>,
     plan: &Plan,
     current: &[bool],
-    place: usize,
+    index: usize,
     need: &str,
 ) -> Result<Input<D::Fact>, Memory>
     requires right { IsRight D.own_of D.needs_of D.fact_of D.same slots.now current.now }
     requires plan { IsPlan slots.now plan.now }
-    requires ready { IsReady slots.now plan.now.ranks.items current.now place }
-    requires place { place < length slots.now }
-    requires need { (slot : SlotOf D.Own D.Fact) → slice_get slots.now place ≡ Some slot
+    requires ready { IsReady slots.now plan.now.ranks.items current.now index }
+    requires index { index < length slots.now }
+    requires need { (slot : SlotOf D.Own D.Fact) → slice_get slots.now index ≡ Some slot
         → has (needs_or_none slot.needs) need.now ≡ true }
     ensures { IfOk result (λ input. (slot : SlotOf D.Own D.Fact)
-        → slice_get slots.now place ≡ Some slot
+        → slice_get slots.now index ≡ Some slot
         → input_state input
         ≡ gives D.own_of D.needs_of D.fact_of (texts_of slots.now)
         (value D.own_of D.needs_of D.fact_of (texts_of slots.now)) slot.name need.now) }
 {
-    let Some(other) = slots.place_of(need) else {
+    let Some(other) = slots.index_of(need) else {
         return Ok(Input::NoText);
     };
-    if plan.ranks[other] == plan.ranks[place] {
+    if plan.ranks[other] == plan.ranks[index] {
         return Ok(Input::Cyclic);
     }
     let slot = slots.at(other);
@@ -81,9 +81,9 @@ fn same_pairs<D: Derive>(
     if a.len() != b.len() {
         return false;
     }
-    for place in 0..a.len() {
-        let (name, input) = &a[place];
-        let (other_name, other) = &b[place];
+    for index in 0..a.len() {
+        let (name, input) = &a[index];
+        let (other_name, other) = &b[index];
         if !same_bytes(name.as_str().as_bytes(), other_name.as_str().as_bytes())
             || !same_input(d, input, other)
         {
@@ -106,25 +106,25 @@ fn is_fresh<D: Derive>(d: &D, kept: &Option<Kept<D::Fact>>, given: &Given<D::Fac
     }
 }
 
-// What the needs of the text at a place give to it, in order.
+// What the needs of the text at an index give to it, in order.
 fn given_of<D: Derive>(
     alloc: Global,
     slots: &Shelf<D::Own, D::Fact>,
     plan: &Plan,
     current: &[bool],
-    place: usize,
+    index: usize,
 ) -> Result<Given<D::Fact>, Memory>
     requires right { IsRight D.own_of D.needs_of D.fact_of D.same slots.now current.now }
     requires plan { IsPlan slots.now plan.now }
-    requires ready { IsReady slots.now plan.now.ranks.items current.now place }
-    requires place { place < length slots.now }
+    requires ready { IsReady slots.now plan.now.ranks.items current.now index }
+    requires index { index < length slots.now }
     ensures { IfOk result (λ given. (slot : SlotOf D.Own D.Fact)
-        → slice_get slots.now place ≡ Some slot
+        → slice_get slots.now index ≡ Some slot
         → states given ≡ given_in D.own_of D.needs_of D.fact_of (texts_of slots.now) slot.name) }
 {
     let mut given = List::new(alloc);
-    for name in needed(slots.at(place)) {
-        let input = input_of::<D>(slots, plan, current, place, name.as_str())?;
+    for name in needed(slots.at(index)) {
+        let input = input_of::<D>(slots, plan, current, index, name.as_str())?;
         let name = Chars::from_str(alloc, name.as_str())?;
         given.push((name, input))?;
     }
@@ -156,66 +156,66 @@ fn derive<D: Derive, L>(
     })
 }
 
-// Keeps the fact of the slot at a place where it is fresh, and else derives it.
+// Keeps the fact of the slot at an index where it is fresh, and else derives it.
 fn keep<D: Derive, L>(
     alloc: Global,
     d: &mut D,
     slots: &mut Shelf<D::Own, D::Fact>,
-    place: usize,
+    index: usize,
     given: Given<D::Fact>,
     steps: &mut Steps<L>,
 ) -> Result<(), Memory>
-    requires place { place < length slots.old }
-    requires sound { (slot : SlotOf D.Own D.Fact) → slice_get slots.old place ≡ Some slot
+    requires index { index < length slots.old }
+    requires sound { (slot : SlotOf D.Own D.Fact) → slice_get slots.old index ≡ Some slot
         → IsSound D.own_of D.needs_of D.fact_of slot }
-    requires comes { (slot : SlotOf D.Own D.Fact) → slice_get slots.old place ≡ Some slot
+    requires comes { (slot : SlotOf D.Own D.Fact) → slice_get slots.old index ≡ Some slot
         → ComesFromTexts D.own_of D.needs_of D.fact_of D.same slot.name slot.own (states given) }
-    ensures kept { OnOk result ((slot : SlotOf D.Own D.Fact) → slice_get slots.old place ≡ Some slot
-        → Keeps D.own_of D.needs_of D.fact_of D.same slots.old slots.new place slot
+    ensures kept { OnOk result ((slot : SlotOf D.Own D.Fact) → slice_get slots.old index ≡ Some slot
+        → Keeps D.own_of D.needs_of D.fact_of D.same slots.old slots.new index slot
         (states given)) }
     ensures err { OnErr result (slots.new ≡ slots.old) }
     ensures rises { steps.old ≤ steps.new }
     ensures counted { OnOk result ((slot : SlotOf D.Own D.Fact)
-        → slice_get slots.old place ≡ Some slot
+        → slice_get slots.old index ≡ Some slot
         → steps.new ≤ steps.old + (if rules.is_fresh D.same slot.kept (states given) then 0
         else 1)) }
 {
-    if is_fresh(d, &slots.at(place).kept, &given) {
-        slots.set_inputs(place, given);
+    if is_fresh(d, &slots.at(index).kept, &given) {
+        slots.set_inputs(index, given);
         return Ok(());
     }
-    let kept = derive(alloc, d, slots.at(place), given, steps)?;
-    slots.keep(place, kept);
+    let kept = derive(alloc, d, slots.at(index), given, steps)?;
+    slots.keep(index, kept);
     Ok(())
 }
 
-/// Brings the fact at a place up to the present texts, where those of its needs are.
+/// Brings the fact at an index up to the present texts, where those of its needs are.
 pub fn bring<D: Derive, L>(
     alloc: Global,
     slots: &mut Shelf<D::Own, D::Fact>,
     plan: &Plan,
     current: &mut Vec<bool>,
-    place: usize,
+    index: usize,
     d: &mut D,
     steps: &mut Steps<L>,
 ) -> Result<(), Memory>
     requires right { IsRight D.own_of D.needs_of D.fact_of D.same slots.old current.old.items }
     requires plan { IsPlan slots.old plan.now }
-    requires ready { IsReady slots.old plan.now.ranks.items current.old.items place }
-    requires place { place < length slots.old }
+    requires ready { IsReady slots.old plan.now.ranks.items current.old.items index }
+    requires index { index < length slots.old }
     requires marks { vec_len current.old ≡ length slots.old }
     ensures brings { Brings D.own_of D.needs_of D.fact_of D.same slots.old slots.new
         current.old.items current.new.items steps.old steps.new }
-    ensures done { OnOk result ((slot : SlotOf D.Own D.Fact) → slice_get slots.new place ≡ Some slot
-        → IsDone current.new.items place slot) }
+    ensures done { OnOk result ((slot : SlotOf D.Own D.Fact) → slice_get slots.new index ≡ Some slot
+        → IsDone current.new.items index slot) }
     ensures counted { OnOk result (steps.new + owed D.own_of D.needs_of D.fact_of D.same slots.new
         ≤ steps.old + owed D.own_of D.needs_of D.fact_of D.same slots.old) }
 {
-    if current[place] || slots.at(place).needs.is_none() {
+    if current[index] || slots.at(index).needs.is_none() {
         return Ok(());
     }
-    let given = given_of::<D>(alloc, slots, plan, current, place)?;
-    keep(alloc, d, slots, place, given, steps)?;
-    current[place] = true;
+    let given = given_of::<D>(alloc, slots, plan, current, index)?;
+    keep(alloc, d, slots, index, given, steps)?;
+    current[index] = true;
     Ok(())
 }

@@ -1,16 +1,16 @@
-// Which places lead where, by lists of the places that each needs.
+// Which indices lead where, by lists of the indices that each needs.
 ghost use Rattle.std.specs.Prelude.{◌≡◌, ℕ, ◌+◌, ◌<◌, ◌≤◌, Bool, true, false, not, Option, Some, List, ◌++◌, IfOk, OnOk, All, count_by, length, slice_get, vec_len};
 ghost use Rattle.std.specs.List.{list_any};
-ghost use Rattle.fact_store.specs.Plans.{among, is_marked, Edges, AreReached, MarksRow, HasPlaces};
+ghost use Rattle.fact_store.specs.Plans.{among, is_marked, Edges, AreReached, MarksRow, HasIndices};
 
 use std::alloc::Global;
 use tool_list::Memory;
 
-/// The places that are reached from one, itself among them, each once.
+/// The indices that are reached from one, itself among them, each once.
 pub fn reached(alloc: Global, edges: &[Vec<usize>], start: usize) -> Result<Vec<usize>, Memory>
     requires start { start < length edges.now }
-    requires places { HasPlaces edges.now }
-    ensures { IfOk result (λ places. AreReached edges.now start places.items) }
+    requires indices { HasIndices edges.now }
+    ensures { IfOk result (λ indices. AreReached edges.now start indices.items) }
 {
     let mut marks = unmarked(alloc, edges.len())?;
     let mut queue = Vec::new(alloc);
@@ -18,14 +18,14 @@ pub fn reached(alloc: Global, edges: &[Vec<usize>], start: usize) -> Result<Vec<
     marks[start] = true;
     let mut next = 0;
     while next < queue.len() {
-        let place = queue[next];
-        mark_row(&edges[place], &mut marks, &mut queue)?;
+        let index = queue[next];
+        mark_row(&edges[index], &mut marks, &mut queue)?;
         next += 1;
     }
     Ok(queue)
 }
 
-// No place marked.
+// No index marked.
 fn unmarked(alloc: Global, len: usize) -> Result<Vec<bool>, Memory>
     ensures long { IfOk result (λ marks. vec_len marks ≡ len) }
     ensures none { IfOk result (λ marks. (i : ℕ) → is_marked marks.items i ≡ false) }
@@ -35,7 +35,7 @@ fn unmarked(alloc: Global, len: usize) -> Result<Vec<bool>, Memory>
     Ok(marks)
 }
 
-/// A mark for each place, where what was marked stays so.
+/// A mark for each index, where what was marked stays so.
 pub fn cover(marks: &mut Vec<bool>, len: usize) -> Result<(), Memory>
     requires { vec_len marks.old ≤ len }
     ensures marks { (i : ℕ) → is_marked marks.new.items i ≡ is_marked marks.old.items i }
@@ -48,16 +48,16 @@ pub fn cover(marks: &mut Vec<bool>, len: usize) -> Result<(), Memory>
     Ok(())
 }
 
-// Marks the places of a row, and queues those that were not marked.
+// Marks the indices of a row, and queues those that were not marked.
 fn mark_row(row: &[usize], marks: &mut Vec<bool>, queue: &mut Vec<usize>) -> Result<(), Memory>
-    requires { All (λ place. place < vec_len marks.old) row.now }
+    requires { All (λ index. index < vec_len marks.old) row.now }
     ensures { IfOk result
         (λ _. MarksRow row.now marks.old.items marks.new.items queue.old.items queue.new.items) }
 {
-    for &place in row {
-        if !marks[place] {
-            marks[place] = true;
-            queue.push(place)?;
+    for &index in row {
+        if !marks[index] {
+            marks[index] = true;
+            queue.push(index)?;
         }
     }
     Ok(())

@@ -2,7 +2,7 @@
 ghost use Rattle.std.specs.Prelude.{◌≡◌, ◌<◌, All, IfOk, length};
 ghost use Rattle.fact_store.specs.Slots.{AreDistinct};
 ghost use Rattle.fact_values.specs.Values.{needs_or_none};
-ghost use Rattle.fact_store.specs.Plans.{IsRow, AreEdges, AreRanks, AreGrounds, IsGround, HasPlaces};
+ghost use Rattle.fact_store.specs.Plans.{IsRow, AreEdges, AreRanks, AreGrounds, IsGround, HasIndices};
 ghost use Rattle.fact_store.specs.Right.{IsPlan};
 
 use crate::graph::reached;
@@ -11,18 +11,18 @@ use crate::slot::Slot;
 use std::alloc::Global;
 use tool_list::{Chars, List, Memory};
 
-/// What is found of the present texts, by the places of their slots.
+/// What is found of the present texts, by the indices of their slots.
 #[derive(Drop)]
 pub struct Plan {
-    /// The places that each place needs.
+    /// The indices that each index needs.
     pub edges: Vec<Vec<usize>>,
-    /// How many places each place reaches.
+    /// How many indices each index reaches.
     pub ranks: Vec<usize>,
-    /// The places that each place needs and that do not lead back to it.
+    /// The indices that each index needs and that do not lead back to it.
     pub grounds: Vec<Vec<usize>>,
 }
 
-// The places of the slots that these names name.
+// The indices of the slots that these names name.
 fn row_of<O: Drop, F: Drop>(
     alloc: Global,
     slots: &Shelf<O, F>,
@@ -33,8 +33,8 @@ fn row_of<O: Drop, F: Drop>(
 {
     let mut row = Vec::new(alloc);
     for name in names {
-        if let Some(place) = slots.place_of(name.as_str()) {
-            row.push(place)?;
+        if let Some(index) = slots.index_of(name.as_str()) {
+            row.push(index)?;
         }
     }
     Ok(row)
@@ -50,62 +50,62 @@ pub fn needed<O: Drop, F: Drop>(slot: &Slot<O, F>) -> &[Chars]
     }
 }
 
-// For each slot the places of those that it needs.
+// For each slot the indices of those that it needs.
 fn edges_of<O: Drop, F: Drop>(alloc: Global, slots: &Shelf<O, F>) -> Result<Vec<Vec<usize>>, Memory>
     requires { AreDistinct slots.now }
     ensures { IfOk result (λ edges. AreEdges slots.now edges.items) }
 {
     let mut edges = Vec::new(alloc);
-    for place in 0..slots.len() {
-        edges.push(row_of(alloc, slots, needed(slots.at(place)))?)?;
+    for index in 0..slots.len() {
+        edges.push(row_of(alloc, slots, needed(slots.at(index)))?)?;
     }
     Ok(edges)
 }
 
-// How many places each place reaches.
+// How many indices each index reaches.
 fn ranks_of(alloc: Global, edges: &[Vec<usize>]) -> Result<Vec<usize>, Memory>
-    requires { HasPlaces edges.now }
+    requires { HasIndices edges.now }
     ensures { IfOk result (λ ranks. AreRanks edges.now ranks.items) }
 {
     let mut ranks = Vec::new(alloc);
-    for place in 0..edges.len() {
-        ranks.push(reached(alloc, edges, place)?.len())?;
+    for index in 0..edges.len() {
+        ranks.push(reached(alloc, edges, index)?.len())?;
     }
     Ok(ranks)
 }
 
-// Of the places in a row, those of another rank.
+// Of the indices in a row, those of another rank.
 fn ground_of(
     alloc: Global,
     ranks: &[usize],
     rank: usize,
     row: &[usize],
 ) -> Result<Vec<usize>, Memory>
-    requires { All (λ place. place < length ranks.now) row.now }
+    requires { All (λ index. index < length ranks.now) row.now }
     ensures { IfOk result (λ ground. IsGround ranks.now rank row.now ground.items) }
 {
     let mut ground = Vec::new(alloc);
-    for &place in row {
-        if ranks[place] != rank {
-            ground.push(place)?;
+    for &index in row {
+        if ranks[index] != rank {
+            ground.push(index)?;
         }
     }
     Ok(ground)
 }
 
-// For each place those that it needs and that do not lead back: they reach fewer places.
+// For each index those that it needs and that do not lead back: they reach fewer indices.
 fn grounds_of(
     alloc: Global,
     edges: &[Vec<usize>],
     ranks: &[usize],
 ) -> Result<Vec<Vec<usize>>, Memory>
-    requires places { HasPlaces edges.now }
+    requires indices { HasIndices edges.now }
     requires long { length ranks.now ≡ length edges.now }
     ensures { IfOk result (λ grounds. AreGrounds edges.now ranks.now grounds.items) }
 {
     let mut grounds = Vec::new(alloc);
-    for place in 0..edges.len() {
-        let ground = ground_of(alloc, ranks, ranks[place], &edges[place])?;
+    for index in 0..edges.len() {
+        let ground = ground_of(alloc, ranks, ranks[index], &edges[index])?;
         grounds.push(ground)?;
     }
     Ok(grounds)

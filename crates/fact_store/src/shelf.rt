@@ -1,6 +1,6 @@
 // Where slots stand, and how they are found.
 ghost use Rattle.std.specs.Prelude.{◌≡◌, ◌<◌, ◌++◌, ◌∷◌, [], Some, MatchOption, OnOk, OnErr, length, remove, slice_get, slice_set};
-ghost use Rattle.fact_store.specs.Slots.{HasNoSlot, IsPlaceOf};
+ghost use Rattle.fact_store.specs.Slots.{HasNoSlot, IsIndexOf};
 ghost use Rattle.fact_store.specs.Slots as slots_of;
 ghost use Rattle.fact_store.specs.Right as rules;
 ghost use Rattle.fact_store.specs.declared.slot.Slot.{Slot as SlotOf};
@@ -13,7 +13,7 @@ use std::alloc::Global;
 use std::marker::Model;
 use tool_list::{Chars, List, Memory};
 
-/// Slots in the order in which their names came. A place is where a slot stands in that order.
+/// Slots in the order in which their names came. An index is where a slot stands in that order.
 #[derive(Drop)]
 pub struct Shelf<O: Drop, F: Drop> {
     slots: Slab<Slot<O, F>>,
@@ -52,17 +52,17 @@ impl<O: Drop, F: Drop> Shelf<O, F> {
         self.names.len()
     }
 
-    /// The slot at a place.
-    pub fn at(&self, place: usize) -> &Slot<O, F>
-        requires { place < length self.now }
-        ensures { slice_get self.now place ≡ Some result.now }
+    /// The slot at an index.
+    pub fn at(&self, index: usize) -> &Slot<O, F>
+        requires { index < length self.now }
+        ensures { slice_get self.now index ≡ Some result.now }
     {
-        &self.slots[self.names[place]]
+        &self.slots[self.names[index]]
     }
 
-    /// The place of the slot with this name.
-    pub fn place_of(&self, name: &str) -> Option<usize>
-        ensures { MatchOption result (HasNoSlot self.now name.now) (IsPlaceOf self.now name.now) }
+    /// The index of the slot with this name.
+    pub fn index_of(&self, name: &str) -> Option<usize>
+        ensures { MatchOption result (HasNoSlot self.now name.now) (IsIndexOf self.now name.now) }
     {
         self.names.get_index_of(name)
     }
@@ -80,23 +80,23 @@ impl<O: Drop, F: Drop> Shelf<O, F> {
         Ok(())
     }
 
-    /// Takes the slot at a place away. Its key stays vacant until a slot is pushed.
-    pub fn remove(&mut self, place: usize)
-        requires { place < length self.old }
-        ensures { self.new ≡ remove self.old place }
+    /// Takes the slot at an index away. Its key stays vacant until a slot is pushed.
+    pub fn remove(&mut self, index: usize)
+        requires { index < length self.old }
+        ensures { self.new ≡ remove self.old index }
     {
-        let Some((_, key)) = self.names.shift_remove_index(place) else {
+        let Some((_, key)) = self.names.shift_remove_index(index) else {
             unreachable!();
         };
         let _ = self.slots.remove(key);
     }
 
-    /// Gives the slot at a place another text with its parts.
-    pub fn set_text(&mut self, place: usize, bytes: List<u8>, own: O, needs: Option<List<Chars>>)
-        requires { place < length self.old }
-        ensures { (slot : SlotOf O F) → slice_get self.old place ≡ Some slot
+    /// Gives the slot at an index another text with its parts.
+    pub fn set_text(&mut self, index: usize, bytes: List<u8>, own: O, needs: Option<List<Chars>>)
+        requires { index < length self.old }
+        ensures { (slot : SlotOf O F) → slice_get self.old index ≡ Some slot
             → self.new
-            ≡ slice_set self.old place
+            ≡ slice_set self.old index
             (record {
               name = slot.name;
               bytes = bytes;
@@ -106,29 +106,29 @@ impl<O: Drop, F: Drop> Shelf<O, F> {
                   slots_of.kept_after slot.kept slot.bytes bytes;
             }) }
     {
-        let key = self.names[place];
+        let key = self.names[index];
         set_text(&mut self.slots[key], bytes, own, needs);
     }
 
-    /// Puts what the needs of the slot at a place give now in the place of what they gave when its
+    /// Puts what the needs of the slot at an index give now in the place of what they gave when its
     /// fact was made.
-    pub fn set_inputs(&mut self, place: usize, given: Given<F>)
-        requires { place < length self.old }
-        ensures { (slot : SlotOf O F) → slice_get self.old place ≡ Some slot
+    pub fn set_inputs(&mut self, index: usize, given: Given<F>)
+        requires { index < length self.old }
+        ensures { (slot : SlotOf O F) → slice_get self.old index ≡ Some slot
             → self.new
-            ≡ slice_set self.old place (record slot { kept = rules.with_given slot.kept given }) }
+            ≡ slice_set self.old index (record slot { kept = rules.with_given slot.kept given }) }
     {
-        let key = self.names[place];
+        let key = self.names[index];
         set_inputs(&mut self.slots[key], given);
     }
 
-    /// Gives the slot at a place another fact.
-    pub fn keep(&mut self, place: usize, kept: Kept<F>)
-        requires { place < length self.old }
-        ensures { (slot : SlotOf O F) → slice_get self.old place ≡ Some slot
-            → self.new ≡ slice_set self.old place (record slot { kept = Some kept }) }
+    /// Gives the slot at an index another fact.
+    pub fn keep(&mut self, index: usize, kept: Kept<F>)
+        requires { index < length self.old }
+        ensures { (slot : SlotOf O F) → slice_get self.old index ≡ Some slot
+            → self.new ≡ slice_set self.old index (record slot { kept = Some kept }) }
     {
-        let key = self.names[place];
+        let key = self.names[index];
         let slot = &mut self.slots[key];
         slot.kept = Some(kept);
     }

@@ -62,24 +62,24 @@ fn make_plan<O: Drop, F: Drop>(
     Ok(())
 }
 
-// Brings the fact at a place up to the present texts.
+// Brings the fact at an index up to the present texts.
 fn bring_up<D: Derive, L>(
     alloc: Global,
     slots: &mut Shelf<D::Own, D::Fact>,
     plan: &mut Option<Plan>,
     current: &mut Vec<bool>,
-    place: usize,
+    index: usize,
     d: &mut D,
     steps: &mut Steps<L>,
 ) -> Result<(), Memory>
     requires store { IsStore D.own_of D.needs_of D.fact_of D.same slots.old plan.old
         current.old.items }
-    requires place { place < length slots.old }
+    requires index { index < length slots.old }
     ensures outlines { outlines slots.new ≡ outlines slots.old }
     ensures store { IsStore D.own_of D.needs_of D.fact_of D.same slots.new plan.new
         current.new.items }
-    ensures done { OnOk result ((slot : SlotOf D.Own D.Fact) → slice_get slots.new place ≡ Some slot
-        → IsDone current.new.items place slot) }
+    ensures done { OnOk result ((slot : SlotOf D.Own D.Fact) → slice_get slots.new index ≡ Some slot
+        → IsDone current.new.items index slot) }
     ensures rises { steps.old ≤ steps.new }
     ensures counted { OnOk result (steps.new + owed D.own_of D.needs_of D.fact_of D.same slots.new
         ≤ steps.old + owed D.own_of D.needs_of D.fact_of D.same slots.old) }
@@ -89,25 +89,25 @@ fn bring_up<D: Derive, L>(
     let Some(made) = &*plan else {
         unreachable!();
     };
-    bring_all(alloc, slots, made, current, place, d, steps)
+    bring_all(alloc, slots, made, current, index, d, steps)
 }
 
-// The fact at a place, where it stands.
+// The fact at an index, where it stands.
 fn fact_at<D: Derive>(
     slots: &Shelf<D::Own, D::Fact>,
     current: &[bool],
-    place: usize,
+    index: usize,
 ) -> Result<Answer<D::Fact>, Memory>
     requires right { IsRight D.own_of D.needs_of D.fact_of D.same slots.now current.now }
-    requires place { place < length slots.now }
-    requires done { (slot : SlotOf D.Own D.Fact) → slice_get slots.now place ≡ Some slot
-        → IsDone current.now place slot }
+    requires index { index < length slots.now }
+    requires done { (slot : SlotOf D.Own D.Fact) → slice_get slots.now index ≡ Some slot
+        → IsDone current.now index slot }
     ensures { IfOk result (λ answer. (slot : SlotOf D.Own D.Fact)
-        → slice_get slots.now place ≡ Some slot
+        → slice_get slots.now index ≡ Some slot
         → answer_state answer
         ≡ value D.own_of D.needs_of D.fact_of (texts_of slots.now) slot.name) }
 {
-    let slot = slots.at(place);
+    let slot = slots.at(index);
     if slot.needs.is_none() {
         return Ok(Answer::Broken);
     }
@@ -171,7 +171,7 @@ impl<D: Derive> FactStore<D> {
         ensures counted { OnOk result (steps.new + self.new.owed ≤ steps.old + self.old.owed) }
         ensures few { OnOk result (self.new.owed ≤ map.len self.new.texts) }
     {
-        let Some(place) = self.slots.place_of(name) else {
+        let Some(index) = self.slots.index_of(name) else {
             return Ok(Answer::NoText);
         };
         bring_up(
@@ -179,10 +179,10 @@ impl<D: Derive> FactStore<D> {
             &mut self.slots,
             &mut self.plan,
             &mut self.current,
-            place,
+            index,
             d,
             steps,
         )?;
-        fact_at::<D>(&self.slots, &self.current, place)
+        fact_at::<D>(&self.slots, &self.current, index)
     }
 }

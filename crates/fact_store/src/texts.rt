@@ -25,18 +25,18 @@ fn same_names(a: &Option<List<Chars>>, b: &Option<List<Chars>>) -> bool
     }
 }
 
-// Gives the slot at a place the text of another, with its parts. The plan stays where the needs do.
+// Gives the slot at an index the text of another, with its parts. The plan stays where the needs do.
 fn replace<O: Drop, F: Drop>(
     slots: &mut Shelf<O, F>,
     plan: &mut Option<Plan>,
-    place: usize,
+    index: usize,
     slot: Slot<O, F>,
 )
-    requires place { place < length slots.old }
+    requires index { index < length slots.old }
     requires plan { HoldsPlan slots.old plan.old }
-    ensures slots { (before : SlotOf O F) → slice_get slots.old place ≡ Some before
+    ensures slots { (before : SlotOf O F) → slice_get slots.old index ≡ Some before
         → slots.new
-        ≡ slice_set slots.old place
+        ≡ slice_set slots.old index
         (record {
           name = before.name;
           bytes = slot.bytes;
@@ -53,10 +53,10 @@ fn replace<O: Drop, F: Drop>(
         needs,
         ..
     } = slot;
-    if !same_names(&slots.at(place).needs, &needs) {
+    if !same_names(&slots.at(index).needs, &needs) {
         *plan = None;
     }
-    slots.set_text(place, bytes, own, needs);
+    slots.set_text(index, bytes, own, needs);
 }
 
 // The slot of a text, with the parts that this text has.
@@ -103,12 +103,12 @@ pub fn put<D: Derive>(
     ensures err { OnErr result (slots.new ≡ slots.old) }
 {
     let slot = slot_of(alloc, name, bytes, d)?;
-    let Some(place) = slots.place_of(name) else {
+    let Some(index) = slots.index_of(name) else {
         slots.push(alloc, slot)?;
         *plan = None;
         return Ok(());
     };
-    replace(slots, plan, place, slot);
+    replace(slots, plan, index, slot);
     Ok(())
 }
 
@@ -123,9 +123,9 @@ pub fn take_out<D: Derive>(slots: &mut Shelf<D::Own, D::Fact>, plan: &mut Option
         ≤ owed D.own_of D.needs_of D.fact_of D.same slots.old + dirty D.own_of D.needs_of D.fact_of
         D.same (texts_of slots.old) (texts_of slots.new) }
 {
-    let Some(place) = slots.place_of(name) else {
+    let Some(index) = slots.index_of(name) else {
         return;
     };
-    slots.remove(place);
+    slots.remove(index);
     *plan = None;
 }

@@ -38,7 +38,7 @@ use Rattle.family_facts.proofs.Lists.{at-contains, contains-at, zip-right}
 use Rattle.family_facts.proofs.Members.{there-member}
 use Rattle.family_facts.proofs.OneVerdict.{HasNoOther}
 use Rattle.family_tables.proofs.Tabling.{entry-append, entry-found, entry-none, entry-some}
-use Rattle.family_tables.proofs.Places.{at-taken, at-take, named-member}
+use Rattle.family_tables.proofs.Indices.{at-taken, at-take, named-member}
 use Rattle.family_tables.proofs.Bridging.{own-needs, all-needs, cyclic-map}
 use Rattle.family_tables.proofs.Graphs.{same-entry}
 use Rattle.family_check.proofs.Sums.{sum-map, sum-members}

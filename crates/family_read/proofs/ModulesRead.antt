@@ -26,7 +26,7 @@ use Rattle.family_facts.proofs.Lists.{contains-at, mapped, zip-right, zip-push}
 use Rattle.family_facts.proofs.Members.{member-there, there-member}
 use Rattle.family_facts.proofs.Once.{are_apart, is_apart, not-so}
 use Rattle.family_tables.proofs.Tabling.{entry-found, entry-none, entry-some}
-use Rattle.family_tables.proofs.Places.{at-taken, member-named, named-member}
+use Rattle.family_tables.proofs.Indices.{at-taken, member-named, named-member}
 
 -- ---- trees
 

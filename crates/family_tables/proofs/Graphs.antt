@@ -100,8 +100,8 @@ pub same-entry : (entries : List Entry) (a b : Entry) → AreOnce (names_in entr
 same-entry entries a b once ha hb e =
     let i = contains-at entries a ha in
     let j = contains-at entries b hb in
-    let place : i.0 ≡ j.0 = once i.0 j.0 b.0 (named-at entries i.0 a i.1 ∙ ap (λ n. Some n) e) (named-at entries j.0 b j.1) in
-    at-same entries j.0 a b (ap (slice_get entries) (sym place) ∙ i.1) j.1
+    let index : i.0 ≡ j.0 = once i.0 j.0 b.0 (named-at entries i.0 a i.1 ∙ ap (λ n. Some n) e) (named-at entries j.0 b j.1) in
+    at-same entries j.0 a b (ap (slice_get entries) (sym index) ∙ i.1) j.1
 
 pub entry-needs : (entries : List Entry) (i : ℕ) (e : Entry) → AreOnce (names_in entries) → slice_get entries i ≡ Some e → (need : List ℕ) → Contains e.1.needs need ↔ Needs entries e.0 need
 entry-needs entries i e once h need =

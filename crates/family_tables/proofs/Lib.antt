@@ -1,7 +1,7 @@
 pub mod Graphs
 pub mod Tabling
 pub mod LexemesInText
-pub mod Places
+pub mod Indices
 pub mod Texts
 pub mod Bridging
 pub mod Importing

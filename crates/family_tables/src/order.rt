@@ -26,8 +26,8 @@ fn graph_of(alloc: Global, modules: &Table<Module>) -> Result<Graph, Memory>
     ensures { IfOk result (IsGraph (names_in modules.now) (plans.Needs modules.now)) }
 {
     let mut graph = Graph::new(alloc);
-    for place in 0..modules.len() {
-        let (name, module) = modules.at(place);
+    for index in 0..modules.len() {
+        let (name, module) = modules.at(index);
         graph.put(alloc, name, &module.needs)?;
     }
     Ok(graph)
@@ -68,8 +68,8 @@ fn graph_without(alloc: Global, modules: &Table<Module>, graph: &Graph) -> Resul
     ensures { IfOk result (IsGraph (names_in modules.now) (plans.NeedsBefore modules.now)) }
 {
     let mut without = Graph::new(alloc);
-    for place in 0..modules.len() {
-        let (name, module) = modules.at(place);
+    for index in 0..modules.len() {
+        let (name, module) = modules.at(index);
         let needs = kept_needs(alloc, graph, name, module.needs.as_slice())?;
         without.put(alloc, name, &needs)?;
     }

@@ -40,12 +40,12 @@ impl<T: Drop> Table<T> {
         self.rows.len()
     }
 
-    /// The name and the item at a place.
-    pub fn at(&self, place: usize) -> (&str, &T)
-        requires { place < length self.now }
-        ensures { slice_get self.now place ≡ Some (result.0.now, result.1.now) }
+    /// The name and the item at an index.
+    pub fn at(&self, index: usize) -> (&str, &T)
+        requires { index < length self.now }
+        ensures { slice_get self.now index ≡ Some (result.0.now, result.1.now) }
     {
-        let Some((name, item)) = self.rows.get_index(place) else {
+        let Some((name, item)) = self.rows.get_index(index) else {
             unreachable!();
         };
         (name.as_str(), item)

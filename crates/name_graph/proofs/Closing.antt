@@ -6,50 +6,50 @@ use Rattle.list_laws.proofs.Tests.{same-or-other}
 use Rattle.name_graph.specs.declared.components.Mark.{Mark}
 use Rattle.name_graph.specs.declared.components.Group.{Group}
 use Rattle.name_graph.specs.Family.{Leads, last, more}
-use Rattle.name_graph.specs.Places.{Has, Edges, Edge, IsBehind}
+use Rattle.name_graph.specs.Indices.{Has, Edges, Edge, IsBehind}
 use Rattle.name_graph.specs.SearchState.{InGroup, Followed, left, closed, pending, ahead, AreMarked, AreParted, AreOpen, AreClosed, IsWalk, closed_marks}
 use Rattle.name_graph.proofs.Lists.{at-within, at-same, at-left, at-either, at-last, at-pushed, at-taken, at-take, at-dropped, at-drop, at-set-same, at-set-other, has-left, has-right, has-either}
 use Rattle.name_graph.proofs.Walking.{cases, less-or, open-closed, open-open, new-closed}
 
--- the marks after places were closed
-pub marks-long : (marks : List Mark) (places : List ℕ) → length (closed_marks marks places) ≡ length marks
+-- the marks after indices were closed
+pub marks-long : (marks : List Mark) (indices : List ℕ) → length (closed_marks marks indices) ≡ length marks
 marks-long marks [] = refl
-marks-long marks (x ∷ places) = marks-long (slice_set marks x Mark.Closed) places ∙ length-set marks x Mark.Closed
+marks-long marks (x ∷ indices) = marks-long (slice_set marks x Mark.Closed) indices ∙ length-set marks x Mark.Closed
 
-pub marks-snoc : (marks : List Mark) (places : List ℕ) (x : ℕ) → closed_marks marks (places ++ x ∷ []) ≡ slice_set (closed_marks marks places) x Mark.Closed
+pub marks-snoc : (marks : List Mark) (indices : List ℕ) (x : ℕ) → closed_marks marks (indices ++ x ∷ []) ≡ slice_set (closed_marks marks indices) x Mark.Closed
 marks-snoc marks [] x = refl
-marks-snoc marks (y ∷ places) x = marks-snoc (slice_set marks y Mark.Closed) places x
+marks-snoc marks (y ∷ indices) x = marks-snoc (slice_set marks y Mark.Closed) indices x
 
 -- a closed mark stays
-pub marks-stay : (marks : List Mark) (places : List ℕ) (x : ℕ) → slice_get marks x ≡ Some Mark.Closed → slice_get (closed_marks marks places) x ≡ Some Mark.Closed
+pub marks-stay : (marks : List Mark) (indices : List ℕ) (x : ℕ) → slice_get marks x ≡ Some Mark.Closed → slice_get (closed_marks marks indices) x ≡ Some Mark.Closed
 marks-stay marks [] x e = e
-marks-stay marks (y ∷ places) x e = marks-stay (slice_set marks y Mark.Closed) places x (cases (same-or-other x y)
+marks-stay marks (y ∷ indices) x e = marks-stay (slice_set marks y Mark.Closed) indices x (cases (same-or-other x y)
     (λ same. ap (slice_get (slice_set marks y Mark.Closed)) same ∙ at-set-same marks y Mark.Closed (let l : x < length marks = at-within marks x Mark.Closed e in omega arith))
     (λ other. at-set-other marks y x Mark.Closed other ∙ e))
 
 -- what is new was new
-pub marks-new : (marks : List Mark) (places : List ℕ) (x : ℕ) → slice_get (closed_marks marks places) x ≡ Some Mark.New → slice_get marks x ≡ Some Mark.New
+pub marks-new : (marks : List Mark) (indices : List ℕ) (x : ℕ) → slice_get (closed_marks marks indices) x ≡ Some Mark.New → slice_get marks x ≡ Some Mark.New
 marks-new marks [] x e = e
-marks-new marks (y ∷ places) x e =
-    let f = marks-new (slice_set marks y Mark.Closed) places x e in
+marks-new marks (y ∷ indices) x e =
+    let f = marks-new (slice_set marks y Mark.Closed) indices x e in
     cases (same-or-other x y)
     (λ same.
     let l : x < length (slice_set marks y Mark.Closed) = at-within (slice_set marks y Mark.Closed) x Mark.New f in
     absurd (new-closed (at-same (slice_set marks y Mark.Closed) y Mark.New Mark.Closed (ap (slice_get (slice_set marks y Mark.Closed)) (sym same) ∙ f) (at-set-same marks y Mark.Closed (omega (arith, l, same, length-set marks y Mark.Closed))))))
     (λ other. sym (at-set-other marks y x Mark.Closed other) ∙ f)
 
--- the places that were closed
-pub marks-closed : (marks : List Mark) (places : List ℕ) (k x : ℕ) → slice_get places k ≡ Some x → x < length marks → slice_get (closed_marks marks places) x ≡ Some Mark.Closed
+-- the indices that were closed
+pub marks-closed : (marks : List Mark) (indices : List ℕ) (k x : ℕ) → slice_get indices k ≡ Some x → x < length marks → slice_get (closed_marks marks indices) x ≡ Some Mark.Closed
 marks-closed marks [] zero x e l = cc
 marks-closed marks [] (suc k) x e l = cc
-marks-closed marks (y ∷ places) zero x e l = let s : y ≡ x = cc in marks-stay (slice_set marks y Mark.Closed) places x (ap (λ z. slice_get (slice_set marks z Mark.Closed) x) s ∙ at-set-same marks x Mark.Closed l)
-marks-closed marks (y ∷ places) (suc k) x e l = marks-closed (slice_set marks y Mark.Closed) places k x e (omega (arith, l, length-set marks y Mark.Closed))
+marks-closed marks (y ∷ indices) zero x e l = let s : y ≡ x = cc in marks-stay (slice_set marks y Mark.Closed) indices x (ap (λ z. slice_get (slice_set marks z Mark.Closed) x) s ∙ at-set-same marks x Mark.Closed l)
+marks-closed marks (y ∷ indices) (suc k) x e l = marks-closed (slice_set marks y Mark.Closed) indices k x e (omega (arith, l, length-set marks y Mark.Closed))
 
 -- and the others
-pub marks-other : (marks : List Mark) (places : List ℕ) (x : ℕ) → (Has places x → ⊥) → slice_get (closed_marks marks places) x ≡ slice_get marks x
+pub marks-other : (marks : List Mark) (indices : List ℕ) (x : ℕ) → (Has indices x → ⊥) → slice_get (closed_marks marks indices) x ≡ slice_get marks x
 marks-other marks [] x n = refl
-marks-other marks (y ∷ places) x n =
-    marks-other (slice_set marks y Mark.Closed) places x (λ h. n (suc h.0, h.1)) ∙ at-set-other marks y x Mark.Closed (λ same. n (0, ap Some (sym same)))
+marks-other marks (y ∷ indices) x n =
+    marks-other (slice_set marks y Mark.Closed) indices x (λ h. n (suc h.0, h.1)) ∙ at-set-other marks y x Mark.Closed (λ same. n (0, ap Some (sym same)))
 
 has-or-not : (xs : List ℕ) (x : ℕ) → Has xs x ⊎ (Has xs x → ⊥)
 has-or-not [] x = inr none
@@ -75,7 +75,7 @@ module _ (edges : Edges) (marks : List Mark) (path todo : List ℕ) (before : Li
   inside : top.first < length path
   inside = let p = w.parted in let q = p.within (length before) top stands in q.0
 
-  -- an open place of an earlier group
+  -- an open index of an earlier group
   in-before : (r : ℕ) (g : Group) (i : ℕ) → InGroup before r g i → i < top.first → InGroup (before ++ top ∷ []) r g i
   in-before r g i h l = record {
     stands = at-left before (top ∷ []) r g h.stands;
@@ -100,7 +100,7 @@ module _ (edges : Edges) (marks : List Mark) (path todo : List ℕ) (before : Li
       rest zero (suc f) l = absurd (omega arith)
       rest (suc i) (suc f) l = let r = rest i f (omega arith) in (r.0, let q : i ≡ f + r.0 = r.1 in omega arith)
 
-  -- an open place before the group is not in it
+  -- an open index before the group is not in it
   not-grouped : (i x : ℕ) → slice_get path i ≡ Some x → i < top.first → Has group x → ⊥
   not-grouped i x e l h =
       let m = w.marked in
@@ -161,15 +161,15 @@ module _ (edges : Edges) (marks : List Mark) (path todo : List ℕ) (before : Li
         let q = o.owned u j e in
         record {
           i = q.i;
-          place = q.place;
-          stands = at-take top.first path q.i q.place (q.before (length before) top stands (let l : u < length todo = at-within todo u j e in omega (arith, l, done))) q.stands;
+          index = q.index;
+          stands = at-take top.first path q.i q.index (q.before (length before) top stands (let l : u < length todo = at-within todo u j e in omega (arith, l, done))) q.stands;
           needs = q.needs;
           behind = λ r g f n. q.behind r g (at-left before (top ∷ []) r g f) n;
           before = λ r g f n. q.before r g (at-left before (top ∷ []) r g f) n;
         };
   }
 
-  -- what a place of the group needs is closed, or in the group
+  -- what an index of the group needs is closed, or in the group
   needs-of : (i x j : ℕ) → top.first ≤ i → slice_get path i ≡ Some x → Edge edges x j → Has order j ⊎ ((b : ℕ) × (slice_get path b ≡ Some j) × (top.first ≤ b) × (top.cyclic ≡ false → i < b))
   needs-of i x j l e d = let o = w.opened in by (o.follows (length before) top i x j (in-top i l) e d)
     where
@@ -191,7 +191,7 @@ module _ (edges : Edges) (marks : List Mark) (path todo : List ℕ) (before : Li
       by true = has-left cyclic group x h
       by false = h
 
-  -- where it is not cyclic, it is one place, and needs none of the group
+  -- where it is not cyclic, it is one index, and needs none of the group
   plain-needs : (i x j : ℕ) → top.cyclic ≡ false → top.first ≤ i → slice_get path i ≡ Some x → Edge edges x j → Has order j
   plain-needs i x j n l e d = let o = w.opened in cases (needs-of i x j l e d) (λ h. h) (λ k.
       let a : i ≡ top.first = o.alone (length before) top i (in-top i l) (at-within path i x e) n in

@@ -1,18 +1,18 @@
--- A need that leads back to an open place joins the groups from there on.
+-- A need that leads back to an open index joins the groups from there on.
 use Rattle.std.proofs.Common.{◌≡◌, ℕ, ◌<◌, ◌≤◌, true, false, List, [], ◌∷◌, ◌++◌, Some, refl, sym, ap, ◌∙◌, subst, inl, inr, take, length, arith}
 use Rattle.std.specs.Prelude.{◌⊎◌, slice_get}
 use Rattle.std.proofs.lemmas.List.{length-append, length-take}
 use Rattle.list_laws.proofs.Tests.{same-or-other}
 use Rattle.name_graph.specs.declared.components.Mark.{Mark}
 use Rattle.name_graph.specs.declared.components.Group.{Group}
-use Rattle.name_graph.specs.Places.{Edges, Edge, Way}
+use Rattle.name_graph.specs.Indices.{Edges, Edge, Way}
 use Rattle.name_graph.specs.SearchState.{InGroup, Followed, left, closed, pending, ahead, IsOwned, AreParted, AreOpen, IsWalk}
 use Rattle.name_graph.proofs.Lists.{at-within, at-there, at-same, at-left, at-one, at-last, at-pushed, at-taken, at-take}
 use Rattle.name_graph.proofs.Walking.{cases, less-or, GroupOf, group-of, to-last}
 use Rattle.name_graph.proofs.Ways.{edge-way, way-leads, way-way, way-edge}
 
 module _ (edges : Edges) (marks : List Mark) (path todo : List ℕ) (groups : List Group) (order cyclic : List ℕ) (need : ℕ) (w : IsWalk edges (need ∷ []) marks path todo groups order cyclic)
-    (b : ℕ) (m : slice_get marks need ≡ Some (Mark.Open b)) (i0 place : ℕ) (at0 : slice_get path i0 ≡ Some place) (d0 : Edge edges place need) (last0 : (r : ℕ) (group : Group) → slice_get groups r ≡ Some group → group.first ≤ i0)
+    (b : ℕ) (m : slice_get marks need ≡ Some (Mark.Open b)) (i0 index : ℕ) (at0 : slice_get path i0 ≡ Some index) (d0 : Edge edges index need) (last0 : (r : ℕ) (group : Group) → slice_get groups r ≡ Some group → group.first ≤ i0)
     (q : ℕ) (held : Group) (h0 : InGroup groups q held b) where
   one : Group
   one = record held { cyclic = true }
@@ -55,9 +55,9 @@ module _ (edges : Edges) (marks : List Mark) (path todo : List ℕ) (groups : Li
       ))
       (λ end. inr (end.1, subst (λ (g : Group). g.first ≤ i) (sym end.1) h.begun))
 
-  -- from each open place to the one that the need leads back to
-  to-here : (i x : ℕ) → slice_get path i ≡ Some x → Way edges x place
-  to-here i x f = to-last edges (need ∷ []) path todo groups order w.parted w.opened i i0 x place f at0 last0 some
+  -- from each open index to the one that the need leads back to
+  to-here : (i x : ℕ) → slice_get path i ≡ Some x → Way edges x index
+  to-here i x f = to-last edges (need ∷ []) path todo groups order w.parted w.opened i i0 x index f at0 last0 some
 
   onto : (i x : ℕ) → slice_get path i ≡ Some x → held.first ≤ i → Way edges need x
   onto i x f l =
@@ -93,7 +93,7 @@ module _ (edges : Edges) (marks : List Mark) (path todo : List ℕ) (groups : Li
   follow-joined group i j l k (pending u f n) = pending u f (omega arith)
   follow-joined group i j l k (ahead c f n t) = ahead c f (omega arith) (λ n. cc n)
 
-  -- the group in which an open place was, at the joined one or behind it
+  -- the group in which an open index was, at the joined one or behind it
   behind-joined : (i : ℕ) → held.first ≤ i → (g : GroupOf groups i) × (held.first ≤ (g.group).first) × (held.pending ≤ (g.group).pending)
   behind-joined i l =
       let p = w.parted in
@@ -109,7 +109,7 @@ module _ (edges : Edges) (marks : List Mark) (path todo : List ℕ) (groups : Li
   unfolding one
   own-joined u j o = record {
     i = o.i;
-    place = o.place;
+    index = o.index;
     stands = o.stands;
     needs = o.needs;
     behind = λ r group f n. cases (stands-joined r group f) (λ before. o.behind r group before.0 n) (λ end. subst (λ (g : Group). g.first ≤ o.i) end.1 (o.behind q held h0.stands (subst (λ (g : Group). g.pending ≤ u) (sym end.1) n)));
@@ -122,9 +122,9 @@ module _ (edges : Edges) (marks : List Mark) (path todo : List ℕ) (groups : Li
     onward = o.onward;
     back = λ r group i x y h f g. cases (in-joined r group i h)
         (λ k. o.back r group i x y k.0 f g)
-        (λ k. way-way edges x place y (to-here i x f) (way-way edges place need y (way-edge edges place place need (inl refl) d0) (onto group.first y g (let z : held.first ≡ group.first = ap (λ (z : Group). z.first) k.0 in omega arith))));
+        (λ k. way-way edges x index y (to-here i x f) (way-way edges index need y (way-edge edges index index need (inl refl) d0) (onto group.first y g (let z : held.first ≡ group.first = ap (λ (z : Group). z.first) k.0 in omega arith))));
     alone = λ r group i h l n. cases (in-joined r group i h) (λ k. o.alone r group i k.0 l n) (λ k. let z : true ≡ false = ap (λ (z : Group). z.cyclic) k.0 ∙ n in cc z);
-    loops = λ r group i x h f n. cases (in-joined r group i h) (λ k. o.loops r group i x k.0 f n) (λ k. way-leads edges x place x (to-here i x f) (edge-way edges place need x d0 (onto i x f k.1)));
+    loops = λ r group i x h f n. cases (in-joined r group i h) (λ k. o.loops r group i x k.0 f n) (λ k. way-leads edges x index x (to-here i x f) (edge-way edges index need x d0 (onto i x f k.1)));
     follows = λ r group i x j h f d. cases (in-joined r group i h)
         (λ k.
         let p = w.parted in

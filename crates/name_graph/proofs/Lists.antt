@@ -1,7 +1,7 @@
 -- What stands where in lists.
 use Rattle.std.proofs.Common.{◌≡◌, ◌≢◌, ℕ, zero, suc, ◌+◌, ◌<◌, List, [], ◌∷◌, ◌++◌, Option, Some, refl, sym, ap, ◌∙◌, inl, inr, take, drop, length, arith}
 use Rattle.std.specs.Prelude.{◌⊎◌, slice_get, slice_set}
-use Rattle.name_graph.specs.Places.{Has}
+use Rattle.name_graph.specs.Indices.{Has}
 
 module _ {A : Type 0} where
   pub at-within : (xs : List A) (i : ℕ) (x : A) → slice_get xs i ≡ Some x → i < length xs

@@ -7,7 +7,7 @@ use Rattle.list_laws.proofs.Tests.{same-or-other}
 use Rattle.name_graph.specs.declared.components.Mark.{Mark}
 use Rattle.name_graph.specs.declared.components.Group.{Group}
 use Rattle.name_graph.specs.declared.components.Walk.{Walk}
-use Rattle.name_graph.specs.Places.{Has, Edges, Way, HasPlaces, IsOrdered}
+use Rattle.name_graph.specs.Indices.{Has, Edges, Way, HasIndices, IsOrdered}
 use Rattle.name_graph.specs.SearchState.{AreParted, IsWalk, AreWalk, IsTop, IsPopped, AreJoined, WentOn, closed_marks, unvisited, work, KeepsFound}
 use Rattle.name_graph.proofs.Lists.{at-within, at-there, at-same, at-taken, at-last, at-set-same, at-set-other}
 use Rattle.name_graph.proofs.Ways.{way-edge}
@@ -24,8 +24,8 @@ pub on-ok-one : {T E : Type 0} (A P : Type 0) (r : Result T E) → OnOk r A → 
 on-ok-one A P (Ok x) a f = f a
 on-ok-one A P (Err x) a f = tt
 
-pub marks-next : (marks : List Mark) (places : List ℕ) (k : ℕ) → k < length places → slice_set (closed_marks marks (take k places)) (get_or places k 0) Mark.Closed ≡ closed_marks marks (take (k + 1) places)
-marks-next marks places k l = sym (ap (closed_marks marks) (taken places k l) ∙ marks-snoc marks (take k places) (get_or places k 0))
+pub marks-next : (marks : List Mark) (indices : List ℕ) (k : ℕ) → k < length indices → slice_set (closed_marks marks (take k indices)) (get_or indices k 0) Mark.Closed ≡ closed_marks marks (take (k + 1) indices)
+marks-next marks indices k l = sym (ap (closed_marks marks) (taken indices k l) ∙ marks-snoc marks (take k indices) (get_or indices k 0))
   where
     taken : (xs : List ℕ) (k : ℕ) → k < length xs → take (k + 1) xs ≡ take k xs ++ get_or xs k 0 ∷ []
     taken xs k l = take_more xs k 0 l
@@ -83,9 +83,9 @@ unvisited-set (Mark.New ∷ marks) (r ∷ edges) (suc i) = omega (arith, unvisit
 unvisited-set (Mark.Open j ∷ marks) (r ∷ edges) (suc i) = unvisited-set marks edges i
 unvisited-set (Mark.Closed ∷ marks) (r ∷ edges) (suc i) = unvisited-set marks edges i
 
-unvisited-closed : (marks : List Mark) (edges : Edges) (places : List ℕ) → unvisited (closed_marks marks places) edges ≤ unvisited marks edges
+unvisited-closed : (marks : List Mark) (edges : Edges) (indices : List ℕ) → unvisited (closed_marks marks indices) edges ≤ unvisited marks edges
 unvisited-closed marks edges [] = omega arith
-unvisited-closed marks edges (x ∷ places) = omega (arith, unvisited-closed (slice_set marks x Mark.Closed) edges places, unvisited-set marks edges x)
+unvisited-closed marks edges (x ∷ indices) = omega (arith, unvisited-closed (slice_set marks x Mark.Closed) edges indices, unvisited-set marks edges x)
 
 -- a walk in other words
 pub walk-as : (edges : Edges) (loose : List ℕ) (m m' : List Mark) (p p' t t' : List ℕ) (g g' : List Group) (o o' c c' : List ℕ) → m' ≡ m → p' ≡ p → t' ≡ t → g' ≡ g → o' ≡ o → c' ≡ c → IsWalk edges loose m p t g o c → IsWalk edges loose m' p' t' g' o' c'
@@ -96,7 +96,7 @@ walk-as edges loose m m' p p' t t' g g' o o' c c' em ep et eg eo ec w =
 some-groups : (path todo : List ℕ) (groups : List Group) (i x : ℕ) → AreParted path todo groups → slice_get path i ≡ Some x → 0 < length groups
 some-groups path todo groups i x p e = cases (less-or 0 (length groups)) (λ l. l) (λ l. let q = p.none (omega (arith, l)) in let k : i < length path = at-within path i x e in absurd (omega (arith, k, q.0)))
 
--- a place that was opened is new no more
+-- an index that was opened is new no more
 set-new : (marks : List Mark) (y x k : ℕ) → slice_get (slice_set marks y (Mark.Open k)) x ≡ Some Mark.New → slice_get marks x ≡ Some Mark.New
 set-new marks y x k e = cases (same-or-other x y)
     (λ same.
@@ -110,37 +110,37 @@ still-new marks new y k e x f = set-new marks y x k (ap (λ z. slice_get z x) (s
 pub not-new : (marks : List Mark) (y k : ℕ) → y < length marks → slice_get (slice_set marks y (Mark.Open k)) y ≡ Some Mark.New → ⊥
 not-new marks y k l e = new-open k (at-same (slice_set marks y (Mark.Open k)) y Mark.New (Mark.Open k) e (at-set-same marks y (Mark.Open k) l))
 
--- the first place of a walk with none open
-pub begun : (edges : Edges) (old new : Walk) (place : ℕ) → AreWalk edges [] old → length old.groups.items ≡ 0 → slice_get old.marks.items place ≡ Some Mark.New → place < length edges
-    → new.marks.items ≡ slice_set old.marks.items place (Mark.Open (length old.path.items)) → new.path.items ≡ old.path.items ++ place ∷ []
-    → ((row : List ℕ) → slice_get edges place ≡ Some row → new.todo.items ≡ old.todo.items ++ row)
+-- the first index of a walk with none open
+pub begun : (edges : Edges) (old new : Walk) (index : ℕ) → AreWalk edges [] old → length old.groups.items ≡ 0 → slice_get old.marks.items index ≡ Some Mark.New → index < length edges
+    → new.marks.items ≡ slice_set old.marks.items index (Mark.Open (length old.path.items)) → new.path.items ≡ old.path.items ++ index ∷ []
+    → ((row : List ℕ) → slice_get edges index ≡ Some row → new.todo.items ≡ old.todo.items ++ row)
     → new.groups.items ≡ old.groups.items ++ record { first = length old.path.items; pending = length old.todo.items; cyclic = false } ∷ []
     → new.order.items ≡ old.order.items → new.cyclic.items ≡ old.cyclic.items → AreWalk edges [] new
-begun edges old new place w none n l em ep et eg eo ec =
-    let r = at-there edges place l in
+begun edges old new index w none n l em ep et eg eo ec =
+    let r = at-there edges index l in
     let p = w.parted in
     let z = p.none none in
     walk-as edges [] _ new.marks.items _ new.path.items _ new.todo.items _ new.groups.items _ new.order.items _ new.cyclic.items em ep (et r.0 r.1) eg eo ec
-    (walk-opened edges old.marks.items old.path.items old.todo.items old.groups.items old.order.items old.cyclic.items place r.0 (walk-loose edges old.marks.items old.path.items old.todo.items old.groups.items old.order.items old.cyclic.items place w) n
+    (walk-opened edges old.marks.items old.path.items old.todo.items old.groups.items old.order.items old.cyclic.items index r.0 (walk-loose edges old.marks.items old.path.items old.todo.items old.groups.items old.order.items old.cyclic.items index w) n
     (λ a y f. let k : a < length old.path.items = at-within old.path.items a y f in absurd (omega (arith, k, z.0))) r.1)
 
--- all places closed
-pub arranged : (edges : Edges) (walk : Walk) → AreWalk edges [] walk → length walk.groups.items ≡ 0 → ((place : ℕ) → place < length edges → slice_get walk.marks.items place ≡ Some Mark.New → ⊥) → IsOrdered edges walk.order.items walk.cyclic.items
+-- all indices closed
+pub arranged : (edges : Edges) (walk : Walk) → AreWalk edges [] walk → length walk.groups.items ≡ 0 → ((index : ℕ) → index < length edges → slice_get walk.marks.items index ≡ Some Mark.New → ⊥) → IsOrdered edges walk.order.items walk.cyclic.items
 arranged edges walk w none found = let s = w.shut in let m = w.marked in let p = w.parted in record {
-  all = λ place l. (let r = at-there walk.marks.items place (omega (arith, l, w.long)) in by place l r.0 r.1);
-  within = λ place h. (let l : place < length walk.marks.items = at-within walk.marks.items place Mark.Closed (m.closed_mark place h) in omega (arith, l, w.long));
+  all = λ index l. (let r = at-there walk.marks.items index (omega (arith, l, w.long)) in by index l r.0 r.1);
+  within = λ index h. (let l : index < length walk.marks.items = at-within walk.marks.items index Mark.Closed (m.closed_mark index h) in omega (arith, l, w.long));
   once = s.once;
   loops = s.cycles;
   others = s.behind;
 }
   where
-    by : (place : ℕ) → place < length edges → (mark : Mark) → slice_get walk.marks.items place ≡ Some mark → Has walk.order.items place
-    by place l Mark.New e = absurd (found place l e)
-    by place l (Mark.Open i) e = let m = w.marked in let p = w.parted in let q = p.none none in let k : i < length walk.path.items = at-within walk.path.items i place (m.open_there place i e) in absurd (omega (arith, k, q.0))
-    by place l Mark.Closed e = let m = w.marked in m.closed_there place e
+    by : (index : ℕ) → index < length edges → (mark : Mark) → slice_get walk.marks.items index ≡ Some mark → Has walk.order.items index
+    by index l Mark.New e = absurd (found index l e)
+    by index l (Mark.Open i) e = let m = w.marked in let p = w.parted in let q = p.none none in let k : i < length walk.path.items = at-within walk.path.items i index (m.open_there index i e) in absurd (omega (arith, k, q.0))
+    by index l Mark.Closed e = let m = w.marked in m.closed_there index e
 
-module _ (edges : Edges) (old new : Walk) (need : ℕ) (all : HasPlaces edges) (p : IsPopped edges need old) where
-  -- a place that was new
+module _ (edges : Edges) (old new : Walk) (need : ℕ) (all : HasIndices edges) (p : IsPopped edges need old) where
+  -- an index that was new
   pub opened-on : slice_get old.marks.items need ≡ Some Mark.New → need < length edges
       → new.marks.items ≡ slice_set old.marks.items need (Mark.Open (length old.path.items)) → new.path.items ≡ old.path.items ++ need ∷ []
       → ((row : List ℕ) → slice_get edges need ≡ Some row → new.todo.items ≡ old.todo.items ++ row)
@@ -150,7 +150,7 @@ module _ (edges : Edges) (old new : Walk) (need : ℕ) (all : HasPlaces edges) (
       let w = p.walk_on in
       let r = at-there edges need l in
       let ways : (a y : ℕ) → slice_get old.path.items a ≡ Some y → Way edges y need = λ a y f.
-      way-edge edges y p.place need (to-last edges (need ∷ []) old.path.items old.todo.items old.groups.items old.order.items w.parted w.opened a p.i y p.place f p.stands p.last (some-groups old.path.items old.todo.items old.groups.items p.i p.place w.parted p.stands)) p.needs
+      way-edge edges y p.index need (to-last edges (need ∷ []) old.path.items old.todo.items old.groups.items old.order.items w.parted w.opened a p.i y p.index f p.stands p.last (some-groups old.path.items old.todo.items old.groups.items p.i p.index w.parted p.stands)) p.needs
       in
       record {
         walk = walk-as edges [] _ new.marks.items _ new.path.items _ new.todo.items _ new.groups.items _ new.order.items _ new.cyclic.items em ep (et r.0 r.1) eg eo ec (walk-opened edges old.marks.items old.path.items old.todo.items old.groups.items old.order.items old.cyclic.items need r.0 w n ways r.1);
@@ -173,18 +173,18 @@ module _ (edges : Edges) (old new : Walk) (need : ℕ) (all : HasPlaces edges) (
       let h = j.holds in
       let l : j.r < length old.groups.items = at-within old.groups.items j.r j.group h.stands in
       record {
-        walk = walk-as edges [] _ new.marks.items _ new.path.items _ new.todo.items _ new.groups.items _ new.order.items _ new.cyclic.items em ep et j.joined eo ec (walk-joined-at edges old.marks.items old.path.items old.todo.items old.groups.items old.order.items old.cyclic.items need p.walk_on b m p.i p.place p.stands p.needs p.last j.r j.group j.holds);
+        walk = walk-as edges [] _ new.marks.items _ new.path.items _ new.todo.items _ new.groups.items _ new.order.items _ new.cyclic.items em ep et j.joined eo ec (walk-joined-at edges old.marks.items old.path.items old.todo.items old.groups.items old.order.items old.cyclic.items need p.walk_on b m p.i p.index p.stands p.needs p.last j.r j.group j.holds);
         less = omega (arith, ap length et, ap length j.joined, length-append (take j.r old.groups.items) (record j.group { cyclic = true } ∷ []), length-take j.r old.groups.items, l, ap (λ z. unvisited z edges) em);
         keeps = λ x c. ap (λ z. slice_get z x) (sym em) ∙ c;
       }
 
-module _ (edges : Edges) (old : Walk) (all : HasPlaces edges) (w : AreWalk edges [] old) (top : Group) (t : IsTop old.groups.items top) where
-  -- a need that is to be followed is one of the places
+module _ (edges : Edges) (old : Walk) (all : HasIndices edges) (w : AreWalk edges [] old) (top : Group) (t : IsTop old.groups.items top) where
+  -- a need that is to be followed is one of the indices
   pub need-within : (rest : List ℕ) (need : ℕ) → old.todo.items ≡ rest ++ need ∷ [] → need < length edges
   need-within rest need e =
       let o = w.opened in
       let q = o.owned (length rest) need (ap (λ z. slice_get z (length rest)) e ∙ at-last rest need) in
-      all q.place need q.needs
+      all q.index need q.needs
 
   pub is-popped : (new : Walk) (need : ℕ) → top.pending < length old.todo.items → old.todo.items ≡ new.todo.items ++ need ∷ [] → new.marks.items ≡ old.marks.items → new.path.items ≡ old.path.items → new.groups.items ≡ old.groups.items → new.order.items ≡ old.order.items → new.cyclic.items ≡ old.cyclic.items → IsPopped edges need new
   is-popped new need l e em ep eg eo ec =
@@ -195,7 +195,7 @@ module _ (edges : Edges) (old : Walk) (all : HasPlaces edges) (w : AreWalk edges
       record {
         walk_on = walk-as edges (need ∷ []) _ new.marks.items _ new.path.items _ rest _ new.groups.items _ new.order.items _ new.cyclic.items em ep refl eg eo ec (walk-popped edges old.marks.items old.path.items rest old.groups.items old.order.items old.cyclic.items need (subst (λ z. IsWalk edges [] old.marks.items old.path.items z old.groups.items old.order.items old.cyclic.items) e w) under);
         i = q.i;
-        place = q.place;
+        index = q.index;
         stands = ap (λ z. slice_get z q.i) ep ∙ q.stands;
         needs = q.needs;
         last = λ r group f. (let g = ap (λ z. slice_get z r) (sym eg) ∙ f in q.behind r group g (under r group g));

@@ -1,4 +1,4 @@
--- Names and the places where they stand.
+-- Names and the indices where they stand.
 use Rattle.std.proofs.Common.{◌≡◌, ℕ, zero, suc, ◌+◌, ◌<◌, Bool, true, false, List, [], ◌∷◌, ◌++◌, Option, Some, None, refl, sym, ap, ◌∙◌, subst, cond, inl, inr, map, take, length, get_or, arith}
 use Rattle.std.specs.Prelude.{◌⊎◌, Contains, slice_get, filter_map, nat_lt, string_bytes, String, All}
 use Rattle.std.specs.List.{cons_option, position_or_len, list_any, IsDistinct}
@@ -20,8 +20,8 @@ use Rattle.indexmap.specs.IndexMap.{insert_entry}
 use Rattle.list_laws.proofs.Lists.{at-map, at-mapped}
 use Rattle.list_laws.proofs.Texts.{any-contains, contains-any, same-text, text-itself}
 use Rattle.name_graph.specs.Family.{name_cmp, needs_or_none, Needs, Leads, last, more, Reaches}
-use Rattle.name_graph.specs.Places.{Has, Edge, Way, HasPlaces, AreReached}
-use Rattle.name_graph.specs.Rows.{Rows, AreDistinct, named, family_of, place_of, places_of, edges_of, SomeNeeds}
+use Rattle.name_graph.specs.Indices.{Has, Edge, Way, HasIndices, AreReached}
+use Rattle.name_graph.specs.Rows.{Rows, AreDistinct, named, family_of, index_of, indices_of, edges_of, SomeNeeds}
 use Rattle.name_graph.proofs.Lists.{at-within, at-there, at-same}
 use Rattle.name_graph.proofs.Ways.{edge-way}
 
@@ -63,9 +63,9 @@ found-has {A} {B} h (z ∷ xs) y k = by (h z) refl (found-has h xs y) k
     by (Some v) q rest (suc i, e) = let r = rest (i, e) in (r.0, (suc (r.1).0, (r.1).1), r.2)
 
 -- the first row whose name passes
-pub place-some : (rows : Rows) (q : List ℕ) (i : ℕ) → place_of rows q ≡ Some i → (row : Row) × (slice_get rows i ≡ Some row) × (name row ≡ q)
-place-some [] q i h = cc
-place-some (a ∷ rows) q i h =
+pub index-some : (rows : Rows) (q : List ℕ) (i : ℕ) → index_of rows q ≡ Some i → (row : Row) × (slice_get rows i ≡ Some row) × (name row ≡ q)
+index-some [] q i h = cc
+index-some (a ∷ rows) q i h =
     let p : String Global → Bool = λ key. bytes_eq q (string_bytes key) in
     let r = position-Some p (keys_of (a ∷ rows)) i a.0 h in
     let l : i < length (a ∷ rows) = omega (arith, r.0, length-map (a ∷ rows) (λ (e : Row). e.0)) in
@@ -73,8 +73,8 @@ place-some (a ∷ rows) q i h =
     let g : get_or (keys_of (a ∷ rows)) i a.0 ≡ (e.0).0 = get_or_from_slice_get (keys_of (a ∷ rows)) i (e.0).0 a.0 (at-map (λ (z : Row). z.0) (a ∷ rows) i e.0 e.1) in
     (e.0, e.1, sym (same-text q (name e.0) (ap p (sym g) ∙ r.1)))
 
-pub place-none : (rows : Rows) (q : List ℕ) → place_of rows q ≡ None → (i : ℕ) (row : Row) → slice_get rows i ≡ Some row → name row ≡ q → ⊥
-place-none rows q h i row e n = by (nat_lt (position_or_len p (keys_of rows)) (length (keys_of rows))) refl
+pub index-none : (rows : Rows) (q : List ℕ) → index_of rows q ≡ None → (i : ℕ) (row : Row) → slice_get rows i ≡ Some row → name row ≡ q → ⊥
+index-none rows q h i row e n = by (nat_lt (position_or_len p (keys_of rows)) (length (keys_of rows))) refl
   where
     p : String Global → Bool
     p key = bytes_eq q (string_bytes key)
@@ -163,36 +163,36 @@ module _ (rows : Rows) (d : AreDistinct rows) where
 
   pub edge-needs : (i j : ℕ) (a b : Row) → slice_get rows i ≡ Some a → slice_get rows j ≡ Some b → Edge (edges_of rows) i j → Contains a.1 (name b)
   edge-needs i j a b e f g =
-      let r = at-mapped (λ (row : Row). places_of rows row.1) rows i g.0 g.1 in
+      let r = at-mapped (λ (row : Row). indices_of rows row.1) rows i g.0 g.1 in
       let same : r.0 ≡ a = at-same rows i r.0 a r.1 e in
-      let h : Has (places_of rows a.1) j = subst (λ z. Has z j) (sym r.2 ∙ ap (λ (row : Row). places_of rows row.1) same) g.2 in
-      let q = found-has (place_of rows) a.1 j h in
-      let p = place-some rows q.0 j q.2 in
+      let h : Has (indices_of rows a.1) j = subst (λ z. Has z j) (sym r.2 ∙ ap (λ (row : Row). indices_of rows row.1) same) g.2 in
+      let q = found-has (index_of rows) a.1 j h in
+      let p = index-some rows q.0 j q.2 in
       let s : p.0 ≡ b = at-same rows j p.0 b p.1 f in
       subst (Contains a.1) (sym p.2 ∙ ap name s) (has-contains a.1 q.0 q.1)
 
   pub needs-edge : (i j : ℕ) (a b : Row) → slice_get rows i ≡ Some a → slice_get rows j ≡ Some b → Contains a.1 (name b) → Edge (edges_of rows) i j
-  needs-edge i j a b e f c = by (place_of rows (name b)) refl
+  needs-edge i j a b e f c = by (index_of rows (name b)) refl
     where
-      by : (o : Option ℕ) → place_of rows (name b) ≡ o → Edge (edges_of rows) i j
-      by None t = absurd (place-none rows (name b) t j b f refl)
+      by : (o : Option ℕ) → index_of rows (name b) ≡ o → Edge (edges_of rows) i j
+      by None t = absurd (index-none rows (name b) t j b f refl)
       by (Some k) t =
-          let p = place-some rows (name b) k t in
+          let p = index-some rows (name b) k t in
           let same : k ≡ j = d k j p.0 b p.1 f p.2 in
-          (places_of rows a.1, at-map (λ (row : Row). places_of rows row.1) rows i a e, has-found (place_of rows) a.1 (name b) j (contains-has a.1 (name b) c) (t ∙ ap Some same))
+          (indices_of rows a.1, at-map (λ (row : Row). indices_of rows row.1) rows i a e, has-found (index_of rows) a.1 (name b) j (contains-has a.1 (name b) c) (t ∙ ap Some same))
 
-  pub edges-places : HasPlaces (edges_of rows)
-  edges-places i j g =
-      let r = at-mapped (λ (row : Row). places_of rows row.1) rows i g.0 g.1 in
-      let h : Has (places_of rows (r.0).1) j = subst (λ z. Has z j) (sym r.2) g.2 in
-      let q = found-has (place_of rows) (r.0).1 j h in
-      let p = place-some rows q.0 j q.2 in
-      omega (arith, at-within rows j p.0 p.1, length-map rows (λ (row : Row). places_of rows row.1))
+  pub edges-indices : HasIndices (edges_of rows)
+  edges-indices i j g =
+      let r = at-mapped (λ (row : Row). indices_of rows row.1) rows i g.0 g.1 in
+      let h : Has (indices_of rows (r.0).1) j = subst (λ z. Has z j) (sym r.2) g.2 in
+      let q = found-has (index_of rows) (r.0).1 j h in
+      let p = index-some rows q.0 j q.2 in
+      omega (arith, at-within rows j p.0 p.1, length-map rows (λ (row : Row). indices_of rows row.1))
 
   pub row-at : (i j : ℕ) → Edge (edges_of rows) i j → (row : Row) × (slice_get rows j ≡ Some row)
-  row-at i j g = at-there rows j (omega (arith, edges-places i j g, length-map rows (λ (row : Row). places_of rows row.1)))
+  row-at i j g = at-there rows j (omega (arith, edges-indices i j g, length-map rows (λ (row : Row). indices_of rows row.1)))
 
-  -- steps between places are needs between their names
+  -- steps between indices are needs between their names
   pub steps-reach : (i k : ℕ) (a c : Row) (need : List ℕ) → slice_get rows i ≡ Some a → slice_get rows k ≡ Some c → Leads (Edge (edges_of rows)) i k → Contains c.1 need → Reaches (family_of rows) (name a) need
   steps-reach i k a c need e f (last g) h = more (row-needs i a (name c) e (edge-needs i k a c e f g)) (last (row-needs k c need f h))
   steps-reach i k a c need e f (more {b = m} g l) h = let r = row-at i m g in more (row-needs i a (name r.0) e (edge-needs i m a r.0 e r.1 g)) (steps-reach m k r.0 c need r.1 f l h)
@@ -205,10 +205,10 @@ module _ (rows : Rows) (d : AreDistinct rows) where
 
   -- and the other way round
   pub record Found (i : ℕ) (need : List ℕ) : Type 0 where
-    pub place : ℕ
+    pub index : ℕ
     pub row : Row
-    pub way : Way (edges_of rows) i place
-    pub stands : slice_get rows place ≡ Some row
+    pub way : Way (edges_of rows) i index
+    pub stands : slice_get rows index ≡ Some row
     pub needs : Contains row.1 need
 
   pub first-row : {q need : List ℕ} → Reaches (family_of rows) q need → (i : ℕ) × (row : Row) × (slice_get rows i ≡ Some row) × (name row ≡ q)
@@ -219,30 +219,30 @@ module _ (rows : Rows) (d : AreDistinct rows) where
   reach-way {q} {need} (last n) i a e s =
       let r = needs-row rows q need n in
       let same : r.0 ≡ i = d r.0 i r.1 a r.2 e (r.3 ∙ sym s) in
-      record { place = i; row = r.1; way = inl refl; stands = ap (slice_get rows) (sym same) ∙ r.2; needs = r.4 }
+      record { index = i; row = r.1; way = inl refl; stands = ap (slice_get rows) (sym same) ∙ r.2; needs = r.4 }
   reach-way {q} {need} (more {b = m} n l) i a e s =
       let r = needs-row rows q m n in
       let same : r.0 ≡ i = d r.0 i r.1 a r.2 e (r.3 ∙ sym s) in
       let f = first-row l in
       let g : Edge (edges_of rows) i f.0 = needs-edge i f.0 r.1 f.1 (ap (slice_get rows) (sym same) ∙ r.2) f.2 (subst (Contains (r.1).1) (sym f.3) r.4) in
       let w = reach-way l f.0 f.1 f.2 f.3 in
-      record { place = w.place; row = w.row; way = inr (edge-way (edges_of rows) i f.0 w.place g w.way); stands = w.stands; needs = w.needs }
+      record { index = w.index; row = w.row; way = inr (edge-way (edges_of rows) i f.0 w.index g w.way); stands = w.stands; needs = w.needs }
 
   -- the answer of a search
   pub found-reaches : (i : ℕ) (a : Row) (seen : List Bool) (need : List ℕ) → slice_get rows i ≡ Some a → AreReached (edges_of rows) i seen → SomeNeeds rows seen need → Reaches (family_of rows) (name a) need
-  found-reaches i a seen need e r s = way-reach i s.place a s.row need e s.stands (r.sound s.place s.marked) s.needs
+  found-reaches i a seen need e r s = way-reach i s.index a s.row need e s.stands (r.sound s.index s.marked) s.needs
 
   pub reaches-found : (i : ℕ) (a : Row) (seen : List Bool) (need : List ℕ) → slice_get rows i ≡ Some a → AreReached (edges_of rows) i seen → Reaches (family_of rows) (name a) need → SomeNeeds rows seen need
-  reaches-found i a seen need e r l = let f = reach-way l i a e refl in record { place = f.place; row = f.row; marked = r.all f.place f.way; stands = f.stands; needs = f.needs }
+  reaches-found i a seen need e r l = let f = reach-way l i a e refl in record { index = f.index; row = f.row; marked = r.all f.index f.way; stands = f.stands; needs = f.needs }
 
-pub absent-reaches : (rows : Rows) (q need : List ℕ) → place_of rows q ≡ None → Reaches (family_of rows) q need → ⊥
-absent-reaches rows q need h (last n) = let r = needs-row rows _ _ n in place-none rows q h r.0 r.1 r.2 r.3
-absent-reaches rows q need h (more n l) = let r = needs-row rows _ _ n in place-none rows q h r.0 r.1 r.2 r.3
+pub absent-reaches : (rows : Rows) (q need : List ℕ) → index_of rows q ≡ None → Reaches (family_of rows) q need → ⊥
+absent-reaches rows q need h (last n) = let r = needs-row rows _ _ n in index-none rows q h r.0 r.1 r.2 r.3
+absent-reaches rows q need h (more n l) = let r = needs-row rows _ _ n in index-none rows q h r.0 r.1 r.2 r.3
 
 pub needs-here : (rows : Rows) (seen : List Bool) (k : ℕ) (needs : List (List ℕ)) (q : List ℕ) → slice_get seen k ≡ Some true → slice_get (map (λ (row : Row). row.1) rows) k ≡ Some needs → list_any (bytes_eq q) needs ≡ true → SomeNeeds rows seen q
 needs-here rows seen k needs q m e h =
     let r = at-mapped (λ (row : Row). row.1) rows k needs e in
-    record { place = k; row = r.0; marked = m; stands = r.1; needs = any-contains (r.0).1 q (ap (list_any (bytes_eq q)) r.2 ∙ h) }
+    record { index = k; row = r.0; marked = m; stands = r.1; needs = any-contains (r.0).1 q (ap (list_any (bytes_eq q)) r.2 ∙ h) }
 
 pub needs-not : (rows : Rows) (k : ℕ) (needs : List (List ℕ)) (q : List ℕ) → slice_get (map (λ (row : Row). row.1) rows) k ≡ Some needs → list_any (bytes_eq q) needs ≡ false → (row : Row) → slice_get rows k ≡ Some row → Contains row.1 q → ⊥
 needs-not rows k needs q e h row f c =
@@ -251,32 +251,32 @@ needs-not rows k needs q e h row f c =
     let t : true ≡ false = sym (contains-any row.1 q c) ∙ ap (list_any (bytes_eq q)) (sym (ap (λ (z : Row). z.1) same) ∙ r.2) ∙ h in
     cc t
 
--- places and edges that grow by one
-pub places-skip : (rows : Rows) (names : List (List ℕ)) (k : ℕ) (n : List ℕ) → k < length names → get_or names k n ≡ n → place_of rows n ≡ None → places_of rows (take k names) ≡ places_of rows (take (k + 1) names)
-places-skip rows names k n l g e =
-    sym (ap (places_of rows) (take_more names k n l ∙ ap (λ z. take k names ++ z ∷ []) g) ∙ filter_map-append (place_of rows) (take k names) (n ∷ []) ∙ ap (λ (o : Option ℕ). places_of rows (take k names) ++ cons_option o []) e ∙ nothing (places_of rows (take k names)))
+-- indices and edges that grow by one
+pub indices-skip : (rows : Rows) (names : List (List ℕ)) (k : ℕ) (n : List ℕ) → k < length names → get_or names k n ≡ n → index_of rows n ≡ None → indices_of rows (take k names) ≡ indices_of rows (take (k + 1) names)
+indices-skip rows names k n l g e =
+    sym (ap (indices_of rows) (take_more names k n l ∙ ap (λ z. take k names ++ z ∷ []) g) ∙ filter_map-append (index_of rows) (take k names) (n ∷ []) ∙ ap (λ (o : Option ℕ). indices_of rows (take k names) ++ cons_option o []) e ∙ nothing (indices_of rows (take k names)))
   where
     nothing : (xs : List ℕ) → xs ++ [] ≡ xs
     nothing [] = refl
     nothing (x ∷ xs) = ap (λ ys. x ∷ ys) (nothing xs)
 
-pub places-more : (rows : Rows) (names : List (List ℕ)) (k i : ℕ) (n : List ℕ) → k < length names → get_or names k n ≡ n → place_of rows n ≡ Some i → places_of rows (take k names) ++ i ∷ [] ≡ places_of rows (take (k + 1) names)
-places-more rows names k i n l g e =
-    sym (ap (places_of rows) (take_more names k n l ∙ ap (λ z. take k names ++ z ∷ []) g) ∙ filter_map-append (place_of rows) (take k names) (n ∷ []) ∙ ap (λ (o : Option ℕ). places_of rows (take k names) ++ cons_option o []) e)
+pub indices-more : (rows : Rows) (names : List (List ℕ)) (k i : ℕ) (n : List ℕ) → k < length names → get_or names k n ≡ n → index_of rows n ≡ Some i → indices_of rows (take k names) ++ i ∷ [] ≡ indices_of rows (take (k + 1) names)
+indices-more rows names k i n l g e =
+    sym (ap (indices_of rows) (take_more names k n l ∙ ap (λ z. take k names ++ z ∷ []) g) ∙ filter_map-append (index_of rows) (take k names) (n ∷ []) ∙ ap (λ (o : Option ℕ). indices_of rows (take k names) ++ cons_option o []) e)
 
 pub map-pushed : {A B : Type 0} (f : A → B) (xs : List A) (x : A) → map f (xs ++ x ∷ []) ≡ map f xs ++ f x ∷ []
 map-pushed f [] x = refl
 map-pushed f (y ∷ xs) x = ap (λ ys. f y ∷ ys) (map-pushed f xs x)
 
-pub edges-more : (rows all : Rows) (k : ℕ) (needs : List (List ℕ)) → slice_get (map (λ (row : Row). row.1) rows) k ≡ Some needs → map (λ (row : Row). places_of all row.1) (take k rows) ++ places_of all needs ∷ [] ≡ map (λ (row : Row). places_of all row.1) (take (k + 1) rows)
+pub edges-more : (rows all : Rows) (k : ℕ) (needs : List (List ℕ)) → slice_get (map (λ (row : Row). row.1) rows) k ≡ Some needs → map (λ (row : Row). indices_of all row.1) (take k rows) ++ indices_of all needs ∷ [] ≡ map (λ (row : Row). indices_of all row.1) (take (k + 1) rows)
 edges-more rows all k needs h =
     let r = at-mapped (λ (row : Row). row.1) rows k needs h in
-    ap (λ z. map (λ (row : Row). places_of all row.1) (take k rows) ++ places_of all z ∷ []) (sym r.2)
-    ∙ sym (map-pushed (λ (row : Row). places_of all row.1) (take k rows) r.0)
-    ∙ ap (map (λ (row : Row). places_of all row.1)) (sym (take_more rows k r.0 (at-within rows k r.0 r.1) ∙ ap (λ z. take k rows ++ z ∷ []) (get_or_from_slice_get rows k r.0 r.0 r.1)))
+    ap (λ z. map (λ (row : Row). indices_of all row.1) (take k rows) ++ indices_of all z ∷ []) (sym r.2)
+    ∙ sym (map-pushed (λ (row : Row). indices_of all row.1) (take k rows) r.0)
+    ∙ ap (map (λ (row : Row). indices_of all row.1)) (sym (take_more rows k r.0 (at-within rows k r.0 r.1) ∙ ap (λ z. take k rows ++ z ∷ []) (get_or_from_slice_get rows k r.0 r.0 r.1)))
 
-pub edges-step : (rows : Rows) (k : ℕ) (old new : List (List ℕ)) (now : List ℕ) (needs : List (List ℕ)) → new ≡ old ++ now ∷ [] → now ≡ places_of rows needs → old ≡ map (λ (row : Row). places_of rows row.1) (take k rows) → slice_get (map (λ (row : Row). row.1) rows) k ≡ Some needs → new ≡ map (λ (row : Row). places_of rows row.1) (take (k + 1) rows)
-edges-step rows k old new now needs e p o h = e ∙ ap (λ z. z ++ now ∷ []) o ∙ ap (λ z. map (λ (row : Row). places_of rows row.1) (take k rows) ++ z ∷ []) p ∙ edges-more rows rows k needs h
+pub edges-step : (rows : Rows) (k : ℕ) (old new : List (List ℕ)) (now : List ℕ) (needs : List (List ℕ)) → new ≡ old ++ now ∷ [] → now ≡ indices_of rows needs → old ≡ map (λ (row : Row). indices_of rows row.1) (take k rows) → slice_get (map (λ (row : Row). row.1) rows) k ≡ Some needs → new ≡ map (λ (row : Row). indices_of rows row.1) (take (k + 1) rows)
+edges-step rows k old new now needs e p o h = e ∙ ap (λ z. z ++ now ∷ []) o ∙ ap (λ z. map (λ (row : Row). indices_of rows row.1) (take k rows) ++ z ∷ []) p ∙ edges-more rows rows k needs h
 
 -- the family after a name was put
 put-find : (rows : Rows) (key : String Global) (needs : List (List ℕ)) (q : List ℕ) → find name_cmp q (named (insert_entry string_eq rows key needs)) ≡ cond (eq_by_cmp name_cmp q (string_bytes key)) (Some needs) (find name_cmp q (named rows))

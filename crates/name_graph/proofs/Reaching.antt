@@ -1,10 +1,10 @@
--- The search from a place.
+-- The search from an index.
 use Rattle.std.proofs.Common.{◌≡◌, ℕ, zero, suc, ◌+◌, ◌<◌, Bool, true, false, List, [], ◌∷◌, ◌++◌, Some, sym, ap, ◌∙◌, subst, inl, inr, length, arith}
 use Rattle.std.specs.Prelude.{◌⊎◌, slice_get, slice_set}
 use Rattle.std.proofs.lemmas.List.{length-set, length-append}
 use Rattle.list_laws.proofs.Tests.{same-or-other}
 use Rattle.name_graph.specs.Family.{Leads, last, more}
-use Rattle.name_graph.specs.Places.{Has, Edges, Edge, Way, HasPlaces, AreReached}
+use Rattle.name_graph.specs.Indices.{Has, Edges, Edge, Way, HasIndices, AreReached}
 use Rattle.name_graph.proofs.Lists.{at-set-same, at-set-other, at-pushed, at-last, at-same, at-there, at-within, has-left, has-right, has-either}
 use Rattle.name_graph.proofs.Ways.{way-edge}
 
@@ -34,18 +34,18 @@ unseen-set (false ∷ seen) (r ∷ edges) zero row s e = let h : r ≡ row = cc 
 unseen-set (true ∷ seen) (r ∷ edges) (suc i) row s e = unseen-set seen edges i row s e
 unseen-set (false ∷ seen) (r ∷ edges) (suc i) row s e = omega (arith, unseen-set seen edges i row s e)
 
-module _ (edges : Edges) (start : ℕ) (seen : List Bool) (todo rest : List ℕ) (place : ℕ) (s : IsSearch edges start seen todo) (popped : todo ≡ rest ++ place ∷ []) where
-  pub popped-has : Has todo place
-  popped-has = (length rest, ap (λ z. slice_get z (length rest)) popped ∙ at-last rest place)
+module _ (edges : Edges) (start : ℕ) (seen : List Bool) (todo rest : List ℕ) (index : ℕ) (s : IsSearch edges start seen todo) (popped : todo ≡ rest ++ index ∷ []) where
+  pub popped-has : Has todo index
+  popped-has = (length rest, ap (λ z. slice_get z (length rest)) popped ∙ at-last rest index)
 
   pub kept-has : (i : ℕ) → Has rest i → Has todo i
-  kept-has i h = subst (λ z. Has z i) (sym popped) (has-left rest (place ∷ []) i h)
+  kept-has i h = subst (λ z. Has z i) (sym popped) (has-left rest (index ∷ []) i h)
 
-  left : (i : ℕ) → Has todo i → Has rest i ⊎ (place ≡ i)
-  left i h = elim (at-pushed rest place h.0 i (ap (λ z. slice_get z h.0) (sym popped) ∙ h.1)) as (λ _. Has rest i ⊎ (place ≡ i)) [ inl before ↦ inl (h.0, before) | inr end ↦ inr end.1 ]
+  left : (i : ℕ) → Has todo i → Has rest i ⊎ (index ≡ i)
+  left i h = elim (at-pushed rest index h.0 i (ap (λ z. slice_get z h.0) (sym popped) ∙ h.1)) as (λ _. Has rest i ⊎ (index ≡ i)) [ inl before ↦ inl (h.0, before) | inr end ↦ inr end.1 ]
 
-  -- a place that was seen
-  pub search-skip : slice_get seen place ≡ Some true → IsSearch edges start seen rest
+  -- an index that was seen
+  pub search-skip : slice_get seen index ≡ Some true → IsSearch edges start seen rest
   search-skip p = record {
     long = s.long;
     sound = s.sound;
@@ -60,35 +60,35 @@ module _ (edges : Edges) (start : ℕ) (seen : List Bool) (todo rest : List ℕ)
       again i (inr h) = elim (left i h) as (λ _. (slice_get seen i ≡ Some true) ⊎ Has rest i) [ inl k ↦ inr k | inr same ↦ inl (ap (slice_get seen) (sym same) ∙ p) ]
 
   -- one that was not
-  pub search-see : (row : List ℕ) → HasPlaces edges → slice_get edges place ≡ Some row → IsSearch edges start (slice_set seen place true) (rest ++ row)
+  pub search-see : (row : List ℕ) → HasIndices edges → slice_get edges index ≡ Some row → IsSearch edges start (slice_set seen index true) (rest ++ row)
   search-see row all e = record {
-    long = length-set seen place true ∙ s.long;
-    sound = λ i q. elim (same-or-other i place) as (λ _. Way edges start i) [ inl same ↦ subst (Way edges start) (sym same) way | inr other ↦ s.sound i (sym (at-set-other seen place i true other) ∙ q) ];
-    due = λ i h. elim (has-either rest row i h) as (λ _. Way edges start i) [ inl before ↦ s.due i (kept-has i before) | inr new ↦ way-edge edges start place i way (row, e, new) ];
-    within = λ i h. elim (has-either rest row i h) as (λ _. i < length edges) [ inl before ↦ s.within i (kept-has i before) | inr new ↦ all place i (row, e, new) ];
+    long = length-set seen index true ∙ s.long;
+    sound = λ i q. elim (same-or-other i index) as (λ _. Way edges start i) [ inl same ↦ subst (Way edges start) (sym same) way | inr other ↦ s.sound i (sym (at-set-other seen index i true other) ∙ q) ];
+    due = λ i h. elim (has-either rest row i h) as (λ _. Way edges start i) [ inl before ↦ s.due i (kept-has i before) | inr new ↦ way-edge edges start index i way (row, e, new) ];
+    within = λ i h. elim (has-either rest row i h) as (λ _. i < length edges) [ inl before ↦ s.within i (kept-has i before) | inr new ↦ all index i (row, e, new) ];
     first = again start s.first;
-    closed = λ i j q d. elim (same-or-other i place) as (λ _. (slice_get (slice_set seen place true) j ≡ Some true) ⊎ Has (rest ++ row) j) [
+    closed = λ i j q d. elim (same-or-other i index) as (λ _. (slice_get (slice_set seen index true) j ≡ Some true) ⊎ Has (rest ++ row) j) [
       | inl same ↦
-          let f : slice_get edges place ≡ Some d.0 = ap (slice_get edges) (sym same) ∙ d.1 in
-          inr (has-right rest row j (subst (λ z. Has z j) (at-same edges place d.0 row f e) d.2))
-      | inr other ↦ again j (s.closed i j (sym (at-set-other seen place i true other) ∙ q) d)
+          let f : slice_get edges index ≡ Some d.0 = ap (slice_get edges) (sym same) ∙ d.1 in
+          inr (has-right rest row j (subst (λ z. Has z j) (at-same edges index d.0 row f e) d.2))
+      | inr other ↦ again j (s.closed i j (sym (at-set-other seen index i true other) ∙ q) d)
     ];
   }
     where
-      way : Way edges start place
-      way = s.due place popped-has
+      way : Way edges start index
+      way = s.due index popped-has
 
-      here : slice_get (slice_set seen place true) place ≡ Some true
-      here = at-set-same seen place true (let l : place < length edges = s.within place popped-has in omega (arith, l, s.long))
+      here : slice_get (slice_set seen index true) index ≡ Some true
+      here = at-set-same seen index true (let l : index < length edges = s.within index popped-has in omega (arith, l, s.long))
 
-      again : (i : ℕ) → (slice_get seen i ≡ Some true) ⊎ Has todo i → (slice_get (slice_set seen place true) i ≡ Some true) ⊎ Has (rest ++ row) i
-      again i (inl q) = elim (same-or-other i place) as (λ _. (slice_get (slice_set seen place true) i ≡ Some true) ⊎ Has (rest ++ row) i) [
-        | inl same ↦ inl (ap (slice_get (slice_set seen place true)) same ∙ here)
-        | inr other ↦ inl (at-set-other seen place i true other ∙ q)
+      again : (i : ℕ) → (slice_get seen i ≡ Some true) ⊎ Has todo i → (slice_get (slice_set seen index true) i ≡ Some true) ⊎ Has (rest ++ row) i
+      again i (inl q) = elim (same-or-other i index) as (λ _. (slice_get (slice_set seen index true) i ≡ Some true) ⊎ Has (rest ++ row) i) [
+        | inl same ↦ inl (ap (slice_get (slice_set seen index true)) same ∙ here)
+        | inr other ↦ inl (at-set-other seen index i true other ∙ q)
       ]
-      again i (inr h) = elim (left i h) as (λ _. (slice_get (slice_set seen place true) i ≡ Some true) ⊎ Has (rest ++ row) i) [
+      again i (inr h) = elim (left i h) as (λ _. (slice_get (slice_set seen index true) i ≡ Some true) ⊎ Has (rest ++ row) i) [
         | inl k ↦ inr (has-left rest row i k)
-        | inr same ↦ inl (ap (slice_get (slice_set seen place true)) (sym same) ∙ here)
+        | inr same ↦ inl (ap (slice_get (slice_set seen index true)) (sym same) ∙ here)
       ]
 
 -- one that was not, with less to do
@@ -96,13 +96,13 @@ pub record IsSmaller (edges : Edges) (start : ℕ) (seen new_seen : List Bool) (
   pub search : IsSearch edges start new_seen new_todo
   pub smaller : length new_todo + unseen new_seen edges < length todo + unseen seen edges
 
-pub search-step : (edges : Edges) (start : ℕ) (seen new_seen : List Bool) (todo rest new_todo : List ℕ) (place : ℕ) → IsSearch edges start seen todo → todo ≡ rest ++ place ∷ [] → HasPlaces edges → slice_get seen place ≡ Some false → new_seen ≡ slice_set seen place true → ((row : List ℕ) → slice_get edges place ≡ Some row → new_todo ≡ rest ++ row) → IsSmaller edges start seen new_seen todo new_todo
-search-step edges start seen new_seen todo rest new_todo place s popped all u n t =
-    let r = at-there edges place (s.within place (popped-has edges start seen todo rest place s popped)) in
-    let q : IsSearch edges start (slice_set seen place true) (rest ++ r.0) = search-see edges start seen todo rest place s popped r.0 all r.1 in
+pub search-step : (edges : Edges) (start : ℕ) (seen new_seen : List Bool) (todo rest new_todo : List ℕ) (index : ℕ) → IsSearch edges start seen todo → todo ≡ rest ++ index ∷ [] → HasIndices edges → slice_get seen index ≡ Some false → new_seen ≡ slice_set seen index true → ((row : List ℕ) → slice_get edges index ≡ Some row → new_todo ≡ rest ++ row) → IsSmaller edges start seen new_seen todo new_todo
+search-step edges start seen new_seen todo rest new_todo index s popped all u n t =
+    let r = at-there edges index (s.within index (popped-has edges start seen todo rest index s popped)) in
+    let q : IsSearch edges start (slice_set seen index true) (rest ++ r.0) = search-see edges start seen todo rest index s popped r.0 all r.1 in
     record {
-      search = subst (λ z. IsSearch edges start z new_todo) (sym n) (subst (IsSearch edges start (slice_set seen place true)) (sym (t r.0 r.1)) q);
-      smaller = omega (arith, unseen-set seen edges place r.0 u r.1, ap (λ z. unseen z edges) n, ap length (t r.0 r.1), length-append rest r.0, ap length popped, length-append rest (place ∷ []));
+      search = subst (λ z. IsSearch edges start z new_todo) (sym n) (subst (IsSearch edges start (slice_set seen index true)) (sym (t r.0 r.1)) q);
+      smaller = omega (arith, unseen-set seen edges index r.0 u r.1, ap (λ z. unseen z edges) n, ap length (t r.0 r.1), length-append rest r.0, ap length popped, length-append rest (index ∷ []));
     }
 
 -- with nothing to do, all is seen

@@ -5,7 +5,7 @@ use Rattle.std.proofs.lemmas.List.{length-set, length-append}
 use Rattle.list_laws.proofs.Tests.{same-or-other}
 use Rattle.name_graph.specs.declared.components.Mark.{Mark}
 use Rattle.name_graph.specs.declared.components.Group.{Group}
-use Rattle.name_graph.specs.Places.{Has, Edges, Way}
+use Rattle.name_graph.specs.Indices.{Has, Edges, Way}
 use Rattle.name_graph.specs.SearchState.{InGroup, Followed, left, closed, pending, ahead, IsOwned, AreMarked, AreParted, AreOpen, IsWalk}
 use Rattle.name_graph.proofs.Lists.{at-within, at-there, at-same, at-left, at-right, at-either, at-one, at-last, at-pushed, at-set-same, at-set-other}
 use Rattle.name_graph.proofs.Ways.{way-way}
@@ -26,13 +26,13 @@ open-closed i e = cc
 pub open-open : (i j : ℕ) → ◌≡◌ {A = Mark} (Mark.Open i) (Mark.Open j) → i ≡ j
 open-open i j e = cc
 
--- the first place is open before all others
+-- the first index is open before all others
 pub less-or : (i j : ℕ) → (i < j) ⊎ (j ≤ i)
 less-or i zero = inr (omega arith)
 less-or zero (suc j) = inl (omega arith)
 less-or (suc i) (suc j) = cases (less-or i j) (λ l. inl (omega arith)) (λ l. inr (omega arith))
 
--- the group of an open place
+-- the group of an open index
 pub record GroupOf (groups : List Group) (i : ℕ) : Type 0 where
   pub r : ℕ
   pub group : Group
@@ -49,7 +49,7 @@ group-below groups i (suc n) l base above some =
 pub group-of : (path todo : List ℕ) (groups : List Group) → AreParted path todo groups → (i : ℕ) → 0 < length groups → GroupOf groups i
 group-of path todo groups p i some = group-below groups i (length groups) (omega arith) (λ group e. let b = p.base group e in let z : group.first ≡ 0 = b.0 in omega arith) (λ s other k e. let l : s < length groups = at-within groups s other e in absurd (omega arith)) some
 
--- from each open place steps lead to each of the last group
+-- from each open index steps lead to each of the last group
 pub to-last : (edges : Edges) (loose path todo : List ℕ) (groups : List Group) (order : List ℕ) → AreParted path todo groups → AreOpen edges loose path todo groups order → (a i x y : ℕ) → slice_get path a ≡ Some x → slice_get path i ≡ Some y → ((r : ℕ) (group : Group) → slice_get groups r ≡ Some group → group.first ≤ i) → 0 < length groups → Way edges x y
 to-last edges loose path todo groups order p o a i x y e f top some = cases (less-or i a)
     (λ l.
@@ -136,14 +136,14 @@ walk-popped edges marks path rest groups order cyclic need w top = record {
     again group i j (pending u e l) = cases (at-pushed rest need u j e) (λ before. pending u before l) (λ end. left (0, ap Some end.1))
     again group i j (ahead b e l n) = ahead b e l n
 
--- a place is opened in a group of its own
-module _ (edges : Edges) (marks : List Mark) (path todo : List ℕ) (groups : List Group) (order cyclic : List ℕ) (place : ℕ) (row : List ℕ) (w : IsWalk edges (place ∷ []) marks path todo groups order cyclic)
-    (new : slice_get marks place ≡ Some Mark.New) (ways : (a y : ℕ) → slice_get path a ≡ Some y → Way edges y place) (e : slice_get edges place ≡ Some row) where
+-- an index is opened in a group of its own
+module _ (edges : Edges) (marks : List Mark) (path todo : List ℕ) (groups : List Group) (order cyclic : List ℕ) (index : ℕ) (row : List ℕ) (w : IsWalk edges (index ∷ []) marks path todo groups order cyclic)
+    (new : slice_get marks index ≡ Some Mark.New) (ways : (a y : ℕ) → slice_get path a ≡ Some y → Way edges y index) (e : slice_get edges index ≡ Some row) where
   grown : Group
   grown = record { first = length path; pending = length todo; cyclic = false }
 
-  apart : (x : ℕ) (m : Mark) → slice_get marks x ≡ Some m → (Mark.New ≡ m → ⊥) → x ≢ place
-  apart x m f n same = n (at-same marks place Mark.New m new (ap (slice_get marks) (sym same) ∙ f))
+  apart : (x : ℕ) (m : Mark) → slice_get marks x ≡ Some m → (Mark.New ≡ m → ⊥) → x ≢ index
+  apart x m f n same = n (at-same marks index Mark.New m new (ap (slice_get marks) (sym same) ∙ f))
 
   -- the last group, or an earlier one
   in-grown : (r : ℕ) (group : Group) (i : ℕ) → InGroup (groups ++ grown ∷ []) r group i → (InGroup groups r group i × (i < length path)) ⊎ ((grown ≡ group) × (length path ≤ i))
@@ -155,77 +155,77 @@ module _ (edges : Edges) (marks : List Mark) (path todo : List ℕ) (groups : Li
       ))
       (λ end. inr (end.1, subst (λ (g : Group). g.first ≤ i) (sym end.1) h.begun))
 
-  old-at : (i x : ℕ) → i < length path → slice_get (path ++ place ∷ []) i ≡ Some x → slice_get path i ≡ Some x
-  old-at i x l f = cases (at-pushed path place i x f) (λ before. before) (λ end. let same : i ≡ length path = end.0 in absurd (omega arith))
+  old-at : (i x : ℕ) → i < length path → slice_get (path ++ index ∷ []) i ≡ Some x → slice_get path i ≡ Some x
+  old-at i x l f = cases (at-pushed path index i x f) (λ before. before) (λ end. let same : i ≡ length path = end.0 in absurd (omega arith))
 
-  new-at : (i x : ℕ) → length path ≤ i → slice_get (path ++ place ∷ []) i ≡ Some x → (i ≡ length path) × (place ≡ x)
-  new-at i x l f = cases (at-pushed path place i x f) (λ before. let k : i < length path = at-within path i x before in absurd (omega arith)) (λ end. end)
+  new-at : (i x : ℕ) → length path ≤ i → slice_get (path ++ index ∷ []) i ≡ Some x → (i ≡ length path) × (index ≡ x)
+  new-at i x l f = cases (at-pushed path index i x f) (λ before. let k : i < length path = at-within path i x before in absurd (omega arith)) (λ end. end)
 
-  marked-open : AreMarked (slice_set marks place (Mark.Open (length path))) (path ++ place ∷ []) order
+  marked-open : AreMarked (slice_set marks index (Mark.Open (length path))) (path ++ index ∷ []) order
   marked-open = let m = w.marked in record {
-    open_there = λ x i f. cases (same-or-other x place)
+    open_there = λ x i f. cases (same-or-other x index)
         (λ same.
-        let k : ◌≡◌ {A = Mark} (Mark.Open (length path)) (Mark.Open i) = at-same (slice_set marks place (Mark.Open (length path))) place (Mark.Open (length path)) (Mark.Open i) (at-set-same marks place (Mark.Open (length path)) (at-within marks place Mark.New new)) (ap (slice_get (slice_set marks place (Mark.Open (length path)))) (sym same) ∙ f) in
-        ap (slice_get (path ++ place ∷ [])) (sym (open-open (length path) i k)) ∙ at-last path place ∙ ap Some (sym same))
-        (λ other. at-left path (place ∷ []) i x (m.open_there x i (sym (at-set-other marks place x (Mark.Open (length path)) other) ∙ f)));
-    open_mark = λ i x f. cases (at-pushed path place i x f)
-        (λ before. let g = m.open_mark i x before in at-set-other marks place x (Mark.Open (length path)) (apart x (Mark.Open i) g (new-open i)) ∙ g)
-        (λ end. ap (slice_get (slice_set marks place (Mark.Open (length path)))) (sym end.1) ∙ at-set-same marks place (Mark.Open (length path)) (at-within marks place Mark.New new) ∙ ap (λ z. Some (Mark.Open z)) (sym end.0));
-    closed_there = λ x f. cases (same-or-other x place)
+        let k : ◌≡◌ {A = Mark} (Mark.Open (length path)) (Mark.Open i) = at-same (slice_set marks index (Mark.Open (length path))) index (Mark.Open (length path)) (Mark.Open i) (at-set-same marks index (Mark.Open (length path)) (at-within marks index Mark.New new)) (ap (slice_get (slice_set marks index (Mark.Open (length path)))) (sym same) ∙ f) in
+        ap (slice_get (path ++ index ∷ [])) (sym (open-open (length path) i k)) ∙ at-last path index ∙ ap Some (sym same))
+        (λ other. at-left path (index ∷ []) i x (m.open_there x i (sym (at-set-other marks index x (Mark.Open (length path)) other) ∙ f)));
+    open_mark = λ i x f. cases (at-pushed path index i x f)
+        (λ before. let g = m.open_mark i x before in at-set-other marks index x (Mark.Open (length path)) (apart x (Mark.Open i) g (new-open i)) ∙ g)
+        (λ end. ap (slice_get (slice_set marks index (Mark.Open (length path)))) (sym end.1) ∙ at-set-same marks index (Mark.Open (length path)) (at-within marks index Mark.New new) ∙ ap (λ z. Some (Mark.Open z)) (sym end.0));
+    closed_there = λ x f. cases (same-or-other x index)
         (λ same.
-        let k : ◌≡◌ {A = Mark} (Mark.Open (length path)) Mark.Closed = at-same (slice_set marks place (Mark.Open (length path))) place (Mark.Open (length path)) Mark.Closed (at-set-same marks place (Mark.Open (length path)) (at-within marks place Mark.New new)) (ap (slice_get (slice_set marks place (Mark.Open (length path)))) (sym same) ∙ f) in
+        let k : ◌≡◌ {A = Mark} (Mark.Open (length path)) Mark.Closed = at-same (slice_set marks index (Mark.Open (length path))) index (Mark.Open (length path)) Mark.Closed (at-set-same marks index (Mark.Open (length path)) (at-within marks index Mark.New new)) (ap (slice_get (slice_set marks index (Mark.Open (length path)))) (sym same) ∙ f) in
         absurd (open-closed (length path) k))
-        (λ other. m.closed_there x (sym (at-set-other marks place x (Mark.Open (length path)) other) ∙ f));
-    closed_mark = λ x h. let g = m.closed_mark x h in at-set-other marks place x (Mark.Open (length path)) (apart x Mark.Closed g new-closed) ∙ g;
+        (λ other. m.closed_there x (sym (at-set-other marks index x (Mark.Open (length path)) other) ∙ f));
+    closed_mark = λ x h. let g = m.closed_mark x h in at-set-other marks index x (Mark.Open (length path)) (apart x Mark.Closed g new-closed) ∙ g;
   }
 
-  parted-open : AreParted (path ++ place ∷ []) (todo ++ row) (groups ++ grown ∷ [])
+  parted-open : AreParted (path ++ index ∷ []) (todo ++ row) (groups ++ grown ∷ [])
   unfolding grown
   parted-open = let p = w.parted in record {
     base = λ group f. cases (at-pushed groups grown 0 group f) (λ before. p.base group before) (λ end. let q = p.none (sym end.0) in (ap (λ (g : Group). g.first) (sym end.1) ∙ q.0, ap (λ (g : Group). g.pending) (sym end.1) ∙ q.1));
     none = λ z. absurd (omega (arith, z, length-append groups (grown ∷ [])));
     within = λ r group f. cases (at-pushed groups grown r group f)
-        (λ before. let q = p.within r group before in (omega (arith, q.0, length-append path (place ∷ [])), omega (arith, q.1, length-append todo row)))
-        (λ end. subst (λ (g : Group). (g.first < length (path ++ place ∷ [])) × (g.pending ≤ length (todo ++ row))) end.1 (omega (arith, length-append path (place ∷ [])), omega (arith, length-append todo row)));
+        (λ before. let q = p.within r group before in (omega (arith, q.0, length-append path (index ∷ [])), omega (arith, q.1, length-append todo row)))
+        (λ end. subst (λ (g : Group). (g.first < length (path ++ index ∷ [])) × (g.pending ≤ length (todo ++ row))) end.1 (omega (arith, length-append path (index ∷ [])), omega (arith, length-append todo row)));
     rising = λ r s group other l f g. cases (at-pushed groups grown s other g)
         (λ before. p.rising r s group other l (cases (at-pushed groups grown r group f) (λ b. b) (λ end. let k : s < length groups = at-within groups s other before in let q : r ≡ length groups = end.0 in absurd (omega arith))) before)
         (λ end. let b : slice_get groups r ≡ Some group = cases (at-pushed groups grown r group f) (λ b. b) (λ q. let k : s ≡ length groups = end.0 in let z : r ≡ length groups = q.0 in absurd (omega arith)) in subst (λ (g : Group). (group.first < g.first) × (group.pending ≤ g.pending)) end.1 (p.within r group b));
   }
 
-  follow-old : (group : Group) (i j : ℕ) → group.first ≤ i → i < length path → Followed (place ∷ []) path todo order group i j → Followed [] (path ++ place ∷ []) (todo ++ row) order group i j
-  follow-old group i j b l (left (k, f)) = ahead (length path) (at-last path place ∙ ap Some ((at-one place k j f).1)) (omega arith) (λ n. l)
+  follow-old : (group : Group) (i j : ℕ) → group.first ≤ i → i < length path → Followed (index ∷ []) path todo order group i j → Followed [] (path ++ index ∷ []) (todo ++ row) order group i j
+  follow-old group i j b l (left (k, f)) = ahead (length path) (at-last path index ∙ ap Some ((at-one index k j f).1)) (omega arith) (λ n. l)
   follow-old group i j b l (closed h) = closed h
   follow-old group i j b l (pending u f m) = pending u (at-left todo row u j f) m
-  follow-old group i j b l (ahead c f m n) = ahead c (at-left path (place ∷ []) c j f) m n
+  follow-old group i j b l (ahead c f m n) = ahead c (at-left path (index ∷ []) c j f) m n
 
-  own-old : (u j : ℕ) → u < length todo → IsOwned edges path groups u j → IsOwned edges (path ++ place ∷ []) (groups ++ grown ∷ []) u j
+  own-old : (u j : ℕ) → u < length todo → IsOwned edges path groups u j → IsOwned edges (path ++ index ∷ []) (groups ++ grown ∷ []) u j
   unfolding grown
   own-old u j l q = record {
     i = q.i;
-    place = q.place;
-    stands = at-left path (place ∷ []) q.i q.place q.stands;
+    index = q.index;
+    stands = at-left path (index ∷ []) q.i q.index q.stands;
     needs = q.needs;
     behind = λ r group f m. cases (at-pushed groups grown r group f) (λ before. q.behind r group before m) (λ end. let k : length todo ≤ u = subst (λ (g : Group). g.pending ≤ u) (sym end.1) m in absurd (omega arith));
-    before = λ r group f m. cases (at-pushed groups grown r group f) (λ b. q.before r group b m) (λ end. subst (λ (g : Group). q.i < g.first) end.1 (at-within path q.i q.place q.stands));
+    before = λ r group f m. cases (at-pushed groups grown r group f) (λ b. q.before r group b m) (λ end. subst (λ (g : Group). q.i < g.first) end.1 (at-within path q.i q.index q.stands));
   }
 
-  own-new : (k j : ℕ) → slice_get row k ≡ Some j → IsOwned edges (path ++ place ∷ []) (groups ++ grown ∷ []) (length todo + k) j
+  own-new : (k j : ℕ) → slice_get row k ≡ Some j → IsOwned edges (path ++ index ∷ []) (groups ++ grown ∷ []) (length todo + k) j
   unfolding grown
   own-new k j f = let p = w.parted in record {
     i = length path;
-    place = place;
-    stands = at-last path place;
+    index = index;
+    stands = at-last path index;
     needs = (row, e, (k, f));
     behind = λ r group g m. cases (at-pushed groups grown r group g) (λ b. let q = p.within r group b in let l : group.first < length path = q.0 in omega arith) (λ end. subst (λ (h : Group). h.first ≤ length path) end.1 (omega arith));
     before = λ r group g m. cases (at-pushed groups grown r group g) (λ b. let q = p.within r group b in let l : group.pending ≤ length todo = q.1 in absurd (omega arith)) (λ end. let l : length todo + k < length todo = subst (λ (h : Group). length todo + k < h.pending) (sym end.1) m in absurd (omega arith));
   }
 
-  opened-open : AreOpen edges [] (path ++ place ∷ []) (todo ++ row) (groups ++ grown ∷ []) order
+  opened-open : AreOpen edges [] (path ++ index ∷ []) (todo ++ row) (groups ++ grown ∷ []) order
   unfolding grown
   opened-open = let o = w.opened in record {
-    onward = λ a b x y f g l. cases (at-pushed path place b y g)
+    onward = λ a b x y f g l. cases (at-pushed path index b y g)
         (λ before. o.onward a b x y (old-at a x (let k : b < length path = at-within path b y before in omega arith) f) before l)
-        (λ end. cases (at-pushed path place a x f) (λ before. subst (Way edges x) end.1 (ways a x before)) (λ same. inl (sym same.1 ∙ end.1)));
+        (λ end. cases (at-pushed path index a x f) (λ before. subst (Way edges x) end.1 (ways a x before)) (λ same. inl (sym same.1 ∙ end.1)));
     back = λ r group i x y h f g. cases (in-grown r group i h)
         (λ q. o.back r group i x y q.0 (old-at i x q.1 f) (old-at group.first y (let l : group.first ≤ i = h.begun in let k : i < length path = q.1 in omega arith) g))
         (λ q.
@@ -234,7 +234,7 @@ module _ (edges : Edges) (marks : List Mark) (path todo : List ℕ) (groups : Li
         inl (sym a.1 ∙ b.1));
     alone = λ r group i h l n. cases (in-grown r group i h)
         (λ q. o.alone r group i q.0 q.1 n)
-        (λ q. let k : length path ≡ group.first = ap (λ (z : Group). z.first) q.0 in let m : length path ≤ i = q.1 in omega (arith, l, k, m, length-append path (place ∷ [])));
+        (λ q. let k : length path ≡ group.first = ap (λ (z : Group). z.first) q.0 in let m : length path ≤ i = q.1 in omega (arith, l, k, m, length-append path (index ∷ [])));
     loops = λ r group i x h f n. cases (in-grown r group i h)
         (λ q. o.loops r group i x q.0 (old-at i x q.1 f) n)
         (λ q. let k : false ≡ true = ap (λ (z : Group). z.cyclic) q.0 ∙ n in cc k);
@@ -242,18 +242,18 @@ module _ (edges : Edges) (marks : List Mark) (path todo : List ℕ) (groups : Li
         (λ q. follow-old group i j h.begun q.1 (o.follows r group i x j q.0 (old-at i x q.1 f) d))
         (λ q.
         let a = new-at i x q.1 f in
-        let same : d.0 ≡ row = at-same edges place d.0 row (ap (slice_get edges) a.1 ∙ d.1) e in
+        let same : d.0 ≡ row = at-same edges index d.0 row (ap (slice_get edges) a.1 ∙ d.1) e in
         let k : Has row j = subst (λ z. Has z j) same d.2 in
         pending (length todo + k.0) (at-right todo row k.0 j k.1) (let l : length todo ≡ group.pending = ap (λ (z : Group). z.pending) q.0 in omega arith));
     owned = λ u j f. cases (at-either todo row u j f)
         (λ before. own-old u j (at-within todo u j before) (o.owned u j before))
-        (λ q. subst (λ z. IsOwned edges (path ++ place ∷ []) (groups ++ grown ∷ []) z j) (sym q.1) (own-new q.0 j q.2));
+        (λ q. subst (λ z. IsOwned edges (path ++ index ∷ []) (groups ++ grown ∷ []) z j) (sym q.1) (own-new q.0 j q.2));
   }
 
-  pub walk-opened : IsWalk edges [] (slice_set marks place (Mark.Open (length path))) (path ++ place ∷ []) (todo ++ row) (groups ++ record { first = length path; pending = length todo; cyclic = false } ∷ []) order cyclic
+  pub walk-opened : IsWalk edges [] (slice_set marks index (Mark.Open (length path))) (path ++ index ∷ []) (todo ++ row) (groups ++ record { first = length path; pending = length todo; cyclic = false } ∷ []) order cyclic
   unfolding grown
   walk-opened = record {
-    long = length-set marks place (Mark.Open (length path)) ∙ w.long;
+    long = length-set marks index (Mark.Open (length path)) ∙ w.long;
     marked = marked-open;
     parted = parted-open;
     opened = opened-open;

@@ -1,7 +1,7 @@
 -- Steps put together.
 use Rattle.std.proofs.Common.{ℕ, subst, sym, inl, inr}
 use Rattle.name_graph.specs.Family.{Leads, last, more}
-use Rattle.name_graph.specs.Places.{Edges, Edge, Way}
+use Rattle.name_graph.specs.Indices.{Edges, Edge, Way}
 
 pub leads-leads : {A : Type 0} {Step : A → A → Type 0} {a b c : A} → Leads Step a b → Leads Step b c → Leads Step a c
 leads-leads (last s) l = more s l

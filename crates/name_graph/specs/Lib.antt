@@ -1,4 +1,4 @@
 pub mod Family
-pub mod Places
+pub mod Indices
 pub mod Rows
 pub mod SearchState

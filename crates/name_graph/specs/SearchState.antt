@@ -1,48 +1,48 @@
--- A walk along needs: which places are open, which are closed, and what is known of them.
+-- A walk along needs: which indices are open, which are closed, and what is known of them.
 use Rattle.std.specs.Prelude.{◌≡◌, ◌<◌, ◌≤◌, ◌+◌, ◌⊎◌, ℕ, suc, true, false, Some, List, [], ◌∷◌, ◌++◌, take, length, slice_get, slice_set}
 use Rattle.name_graph.specs.declared.components.Mark.{Mark}
 use Rattle.name_graph.specs.declared.components.Group.{Group}
 use Rattle.name_graph.specs.declared.components.Walk.{Walk}
 use Rattle.name_graph.specs.Family.{Leads}
-use Rattle.name_graph.specs.Places.{Has, Edges, Edge, Way, IsBehind}
+use Rattle.name_graph.specs.Indices.{Has, Edges, Edge, Way, IsBehind}
 
--- the open place at this index is in this group: it is the last one that begins no later
+-- what is open at this index of the path is in this group: it is the last one that begins no later
 pub record InGroup (groups : List Group) (r : ℕ) (group : Group) (i : ℕ) : Type 0 where
   pub stands : slice_get groups r ≡ Some group
   pub begun : group.first ≤ i
   pub ends : (s : ℕ) (other : Group) → r < s → slice_get groups s ≡ Some other → i < other.first
 
--- what became of the need of an open place: it is loose, closed, to be followed by the group or a later one, or open in the group or a later one
+-- what became of the need of an open index: it is loose, closed, to be followed by the group or a later one, or open in the group or a later one
 pub data Followed (loose path todo order : List ℕ) (group : Group) (i need : ℕ) : Type 0 where
   left : Has loose need → Followed loose path todo order group i need
   closed : Has order need → Followed loose path todo order group i need
   pending : (u : ℕ) → slice_get todo u ≡ Some need → group.pending ≤ u → Followed loose path todo order group i need
   ahead : (b : ℕ) → slice_get path b ≡ Some need → group.first ≤ b → (group.cyclic ≡ false → i < b) → Followed loose path todo order group i need
 
--- what is to be followed belongs to the group of an open place
+-- what is to be followed belongs to the group of an open index
 pub record IsOwned (edges : Edges) (path : List ℕ) (groups : List Group) (u need : ℕ) : Type 0 where
   pub i : ℕ
-  pub place : ℕ
-  pub stands : slice_get path i ≡ Some place
-  pub needs : Edge edges place need
+  pub index : ℕ
+  pub stands : slice_get path i ≡ Some index
+  pub needs : Edge edges index need
   pub behind : (r : ℕ) (group : Group) → slice_get groups r ≡ Some group → group.pending ≤ u → group.first ≤ i
   pub before : (r : ℕ) (group : Group) → slice_get groups r ≡ Some group → u < group.pending → i < group.first
 
--- the marks agree with the open and the closed places
+-- the marks agree with the open and the closed indices
 pub record AreMarked (marks : List Mark) (path order : List ℕ) : Type 0 where
-  pub open_there : (place i : ℕ) → slice_get marks place ≡ Some (Mark.Open i) → slice_get path i ≡ Some place
-  pub open_mark : (i place : ℕ) → slice_get path i ≡ Some place → slice_get marks place ≡ Some (Mark.Open i)
-  pub closed_there : (place : ℕ) → slice_get marks place ≡ Some Mark.Closed → Has order place
-  pub closed_mark : (place : ℕ) → Has order place → slice_get marks place ≡ Some Mark.Closed
+  pub open_there : (index i : ℕ) → slice_get marks index ≡ Some (Mark.Open i) → slice_get path i ≡ Some index
+  pub open_mark : (i index : ℕ) → slice_get path i ≡ Some index → slice_get marks index ≡ Some (Mark.Open i)
+  pub closed_there : (index : ℕ) → slice_get marks index ≡ Some Mark.Closed → Has order index
+  pub closed_mark : (index : ℕ) → Has order index → slice_get marks index ≡ Some Mark.Closed
 
--- the groups part the open places and what is to be followed
+-- the groups part the open indices and what is to be followed
 pub record AreParted (path todo : List ℕ) (groups : List Group) : Type 0 where
   pub base : (group : Group) → slice_get groups 0 ≡ Some group → (group.first ≡ 0) × (group.pending ≡ 0)
   pub none : length groups ≡ 0 → (length path ≡ 0) × (length todo ≡ 0)
   pub within : (r : ℕ) (group : Group) → slice_get groups r ≡ Some group → (group.first < length path) × (group.pending ≤ length todo)
   pub rising : (r s : ℕ) (group other : Group) → r < s → slice_get groups r ≡ Some group → slice_get groups s ≡ Some other → (group.first < other.first) × (group.pending ≤ other.pending)
 
--- open places reach the later ones and those of their own group
+-- open indices reach the later ones and those of their own group
 pub record AreOpen (edges : Edges) (loose path todo : List ℕ) (groups : List Group) (order : List ℕ) : Type 0 where
   pub onward : (a b x y : ℕ) → slice_get path a ≡ Some x → slice_get path b ≡ Some y → a ≤ b → Way edges x y
   pub back : (r : ℕ) (group : Group) (i x y : ℕ) → InGroup groups r group i → slice_get path i ≡ Some x → slice_get path group.first ≡ Some y → Way edges x y
@@ -51,12 +51,12 @@ pub record AreOpen (edges : Edges) (loose path todo : List ℕ) (groups : List G
   pub follows : (r : ℕ) (group : Group) (i x need : ℕ) → InGroup groups r group i → slice_get path i ≡ Some x → Edge edges x need → Followed loose path todo order group i need
   pub owned : (u need : ℕ) → slice_get todo u ≡ Some need → IsOwned edges path groups u need
 
--- closed places need closed ones alone
+-- closed indices need closed ones alone
 pub record AreClosed (edges : Edges) (order cyclic : List ℕ) : Type 0 where
-  pub shut : (place need : ℕ) → Has order place → Edge edges place need → Has order need
-  pub once : (i j place : ℕ) → slice_get order i ≡ Some place → slice_get order j ≡ Some place → i ≡ j
-  pub cycles : (place : ℕ) → Has cyclic place → Has order place × Leads (Edge edges) place place
-  pub behind : (i place : ℕ) → slice_get order i ≡ Some place → Has cyclic place ⊎ IsBehind edges order i place
+  pub shut : (index need : ℕ) → Has order index → Edge edges index need → Has order need
+  pub once : (i j index : ℕ) → slice_get order i ≡ Some index → slice_get order j ≡ Some index → i ≡ j
+  pub cycles : (index : ℕ) → Has cyclic index → Has order index × Leads (Edge edges) index index
+  pub behind : (i index : ℕ) → slice_get order i ≡ Some index → Has cyclic index ⊎ IsBehind edges order i index
 
 -- what is known of a walk, where these needs are not yet among what is to be followed
 pub record IsWalk (edges : Edges) (loose : List ℕ) (marks : List Mark) (path todo : List ℕ) (groups : List Group) (order cyclic : List ℕ) : Type 0 where
@@ -66,7 +66,7 @@ pub record IsWalk (edges : Edges) (loose : List ℕ) (marks : List Mark) (path t
   pub opened : AreOpen edges loose path todo groups order
   pub shut : AreClosed edges order cyclic
 
--- the work that is left: places that are new with their rows, groups, and what is to be followed
+-- the work that is left: indices that are new with their rows, groups, and what is to be followed
 abbrev pub unvisited : List Mark → Edges → ℕ
 unvisited [] rows = 0
 unvisited (mark ∷ marks) [] = 0
@@ -80,7 +80,7 @@ work edges walk = (length walk.todo.items + length walk.groups.items) + unvisite
 
 -- what is new was so before
 abbrev pub KeepsFound : List Mark → List Mark → Type 0
-KeepsFound old new = (place : ℕ) → slice_get new place ≡ Some Mark.New → slice_get old place ≡ Some Mark.New
+KeepsFound old new = (index : ℕ) → slice_get new index ≡ Some Mark.New → slice_get old index ≡ Some Mark.New
 
 -- the same of a walk in code
 abbrev pub AreWalk : Edges → List ℕ → Walk → Type 0
@@ -92,7 +92,7 @@ pub record WentOn (edges : Edges) (before : ℕ) (old new : Walk) : Type 0 where
   pub less : work edges new < before
   pub keeps : KeepsFound old.marks.items new.marks.items
 
--- the groups from that of the open place at this index on are one
+-- the groups from that of what is open at this index of the path on are one
 pub record AreJoined (old : List Group) (i : ℕ) (new : List Group) : Type 0 where
   pub r : ℕ
   pub group : Group
@@ -103,16 +103,16 @@ pub record AreJoined (old : List Group) (i : ℕ) (new : List Group) : Type 0 wh
 abbrev pub IsTop : List Group → Group → Type 0
 IsTop groups top = (r : ℕ) × (slice_get groups r ≡ Some top) × (length groups ≡ suc r)
 
--- a need of an open place of the last group was taken out, and is to be followed
+-- a need of an open index of the last group was taken out, and is to be followed
 pub record IsPopped (edges : Edges) (need : ℕ) (walk : Walk) : Type 0 where
   pub walk_on : AreWalk edges (need ∷ []) walk
   pub i : ℕ
-  pub place : ℕ
-  pub stands : slice_get walk.path.items i ≡ Some place
-  pub needs : Edge edges place need
+  pub index : ℕ
+  pub stands : slice_get walk.path.items i ≡ Some index
+  pub needs : Edge edges index need
   pub last : (r : ℕ) (group : Group) → slice_get walk.groups.items r ≡ Some group → group.first ≤ i
 
--- the marks once these places are closed
+-- the marks once these indices are closed
 abbrev pub closed_marks : List Mark → List ℕ → List Mark
 closed_marks marks [] = marks
-closed_marks marks (place ∷ places) = closed_marks (slice_set marks place Mark.Closed) places
+closed_marks marks (index ∷ indices) = closed_marks (slice_set marks index Mark.Closed) indices

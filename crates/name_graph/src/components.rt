@@ -1,9 +1,9 @@
-// Places in an order in which each stands behind those that it needs, and those that reach themselves.
+// Indices in an order in which each stands behind those that it needs, and those that reach themselves.
 //
-// The open places are in groups that reach one another. A need that leads back to an open place joins
+// The open indices are in groups that reach one another. A need that leads back to an open index joins
 // the groups from there on. A group is closed once all its needs were followed: they are closed then.
 ghost use Rattle.std.specs.Prelude.{◌≡◌, ◌<◌, ◌≤◌, ◌+◌, ℕ, false, Some, List, [], ◌∷◌, ◌++◌, All, IfOk, OnOk, drop, take, if◌then◌else◌, length, slice_get, slice_set, vec_len};
-ghost use Rattle.name_graph.specs.Places.{HasPlaces, IsOrdered};
+ghost use Rattle.name_graph.specs.Indices.{HasIndices, IsOrdered};
 ghost use Rattle.name_graph.specs.SearchState.{AreWalk, AreJoined, IsPopped, IsTop, WentOn, KeepsFound, work, closed_marks};
 ghost use Rattle.name_graph.specs.declared.components.Mark.{Mark as MarkOf};
 ghost use Rattle.name_graph.specs.declared.components.Group.{Group as GroupOf};
@@ -11,7 +11,7 @@ ghost use Rattle.name_graph.specs.declared.components.Group.{Group as GroupOf};
 use std::alloc::Global;
 use tool_list::{List, Memory};
 
-/// Where a place stands in a walk.
+/// Where an index stands in a walk.
 #[derive(Clone, Copy)]
 pub enum Mark {
     New,
@@ -20,7 +20,7 @@ pub enum Mark {
     Closed,
 }
 
-/// Open places that reach one another.
+/// Open indices that reach one another.
 #[derive(Clone, Copy)]
 pub struct Group {
     /// Where it begins in the path.
@@ -35,18 +35,18 @@ pub struct Group {
 #[derive(Drop)]
 pub struct Walk {
     pub marks: Vec<Mark>,
-    /// The open places.
+    /// The open indices.
     pub path: Vec<usize>,
-    /// Needs of open places that are to be followed.
+    /// Needs of open indices that are to be followed.
     pub todo: Vec<usize>,
     pub groups: Vec<Group>,
-    /// The closed places, each group behind those that it needs.
+    /// The closed indices, each group behind those that it needs.
     pub order: Vec<usize>,
-    /// The closed places that reach themselves.
+    /// The closed indices that reach themselves.
     pub cyclic: Vec<usize>,
 }
 
-/// Joins the groups from that of the open place at this index on.
+/// Joins the groups from that of the index that is open here in the path on.
 fn join(groups: &mut Vec<Group>, index: usize)
     requires some { 0 < vec_len groups.old }
     requires base { (group : GroupOf) → slice_get groups.old.items 0 ≡ Some group
@@ -61,20 +61,20 @@ fn join(groups: &mut Vec<Group>, index: usize)
     groups[top].cyclic = true;
 }
 
-/// Marks these places as closed.
-fn close_marks(marks: &mut Vec<Mark>, places: &[usize])
-    requires { All (λ place. place < vec_len marks.old) places.now }
-    ensures { marks.new.items ≡ closed_marks marks.old.items places.now }
+/// Marks these indices as closed.
+fn close_marks(marks: &mut Vec<Mark>, indices: &[usize])
+    requires { All (λ index. index < vec_len marks.old) indices.now }
+    ensures { marks.new.items ≡ closed_marks marks.old.items indices.now }
 {
-    for &place in places {
-        marks[place] = Mark::Closed;
+    for &index in indices {
+        marks[index] = Mark::Closed;
     }
 }
 
 impl Walk {
     fn new(alloc: Global, len: usize) -> Result<Walk, Memory>
-        ensures marks { IfOk result (λ walk. (place : ℕ) (mark : MarkOf)
-            → slice_get walk.marks.items place ≡ Some mark → mark ≡ Mark.New) }
+        ensures marks { IfOk result (λ walk. (index : ℕ) (mark : MarkOf)
+            → slice_get walk.marks.items index ≡ Some mark → mark ≡ Mark.New) }
         ensures long { IfOk result (λ walk. vec_len walk.marks ≡ len) }
         ensures rest { IfOk result (λ walk. (walk.path.items ≡ []) × (walk.todo.items ≡ [])
             × (walk.groups.items ≡ []) × (walk.order.items ≡ []) × (walk.cyclic.items ≡ [])) }
@@ -93,14 +93,14 @@ impl Walk {
         })
     }
 
-    // Opens a place, in a group of its own.
-    fn open(&mut self, edges: &[List<usize>], place: usize) -> Result<(), Memory>
-        requires place { place < length edges.now }
+    // Opens an index, in a group of its own.
+    fn open(&mut self, edges: &[List<usize>], index: usize) -> Result<(), Memory>
+        requires index { index < length edges.now }
         requires long { vec_len self.old.marks ≡ length edges.now }
         ensures marks { OnOk result (self.new.marks.items
-            ≡ slice_set self.old.marks.items place (Mark.Open (length self.old.path.items))) }
-        ensures path { OnOk result (self.new.path.items ≡ self.old.path.items ++ place ∷ []) }
-        ensures todo { OnOk result ((row : List ℕ) → slice_get edges.now place ≡ Some row
+            ≡ slice_set self.old.marks.items index (Mark.Open (length self.old.path.items))) }
+        ensures path { OnOk result (self.new.path.items ≡ self.old.path.items ++ index ∷ []) }
+        ensures todo { OnOk result ((row : List ℕ) → slice_get edges.now index ≡ Some row
             → self.new.todo.items ≡ self.old.todo.items ++ row) }
         ensures groups { OnOk result (self.new.groups.items
             ≡ self.old.groups.items
@@ -119,16 +119,16 @@ impl Walk {
             pending,
             cyclic: false,
         })?;
-        self.marks[place] = Mark::Open(first);
-        self.path.push(place)?;
-        self.todo.extend_from_slice(edges[place].as_slice())?;
+        self.marks[index] = Mark::Open(first);
+        self.path.push(index)?;
+        self.todo.extend_from_slice(edges[index].as_slice())?;
         Ok(())
     }
 
-    // Closes the places of a group that was the last one.
+    // Closes the indices of a group that was the last one.
     fn close(&mut self, group: Group) -> Result<(), Memory>
         requires first { group.first ≤ length self.old.path.items }
-        requires marks { All (λ place. place < length self.old.marks.items) self.old.path.items }
+        requires marks { All (λ index. index < length self.old.marks.items) self.old.path.items }
         ensures marks { OnOk result (self.new.marks.items
             ≡ closed_marks self.old.marks.items (drop group.first self.old.path.items)) }
         ensures path { OnOk result (self.new.path.items ≡ take group.first self.old.path.items) }
@@ -151,7 +151,7 @@ impl Walk {
 
     // Follows a need that was taken out of those to be followed.
     fn follow(&mut self, edges: &[List<usize>], need: usize) -> Result<(), Memory>
-        requires places { HasPlaces edges.now }
+        requires indices { HasIndices edges.now }
         requires need { need < length edges.now }
         requires walk { IsPopped edges.now need self.old }
         ensures { OnOk result (WentOn edges.now (work edges.now self.old + 1) self.old self.new) }
@@ -168,7 +168,7 @@ impl Walk {
 
     // Follows one need of the last group, or closes it.
     fn step(&mut self, edges: &[List<usize>], top: Group) -> Result<(), Memory>
-        requires places { HasPlaces edges.now }
+        requires indices { HasIndices edges.now }
         requires walk { AreWalk edges.now [] self.old }
         requires top { IsTop self.old.groups.items top }
         ensures { OnOk result (WentOn edges.now (work edges.now self.old) self.old self.new) }
@@ -186,7 +186,7 @@ impl Walk {
 
     // Closes all that is open.
     fn run(&mut self, edges: &[List<usize>]) -> Result<(), Memory>
-        requires places { HasPlaces edges.now }
+        requires indices { HasIndices edges.now }
         requires walk { AreWalk edges.now [] self.old }
         ensures walk { OnOk result (AreWalk edges.now [] self.new) }
         ensures none { OnOk result (length self.new.groups.items ≡ 0) }
@@ -199,42 +199,42 @@ impl Walk {
     }
 }
 
-/// The places in an order in which each stands behind those that it needs, unless it reaches itself.
+/// The indices in an order in which each stands behind those that it needs, unless it reaches itself.
 #[derive(Drop)]
 pub struct Ordered {
     pub order: Vec<usize>,
-    /// The places that reach themselves.
+    /// The indices that reach themselves.
     pub cyclic: Vec<usize>,
 }
 
-/// Opens and closes a place that is new, and what it reaches.
-fn visit(walk: &mut Walk, edges: &[List<usize>], place: usize) -> Result<(), Memory>
-    requires places { HasPlaces edges.now }
-    requires place { place < length edges.now }
+/// Opens and closes an index that is new, and what it reaches.
+fn visit(walk: &mut Walk, edges: &[List<usize>], index: usize) -> Result<(), Memory>
+    requires indices { HasIndices edges.now }
+    requires index { index < length edges.now }
     requires walk { AreWalk edges.now [] walk.old }
     requires none { length walk.old.groups.items ≡ 0 }
     ensures walk { OnOk result (AreWalk edges.now [] walk.new) }
     ensures none { OnOk result (length walk.new.groups.items ≡ 0) }
     ensures keeps { OnOk result (KeepsFound walk.old.marks.items walk.new.marks.items) }
-    ensures found { OnOk result (slice_get walk.new.marks.items place ≡ Some Mark.New → ⊥) }
+    ensures found { OnOk result (slice_get walk.new.marks.items index ≡ Some Mark.New → ⊥) }
 {
-    match walk.marks[place] {
+    match walk.marks[index] {
         Mark::New => {
-            walk.open(edges, place)?;
+            walk.open(edges, index)?;
             walk.run(edges)
         }
         Mark::Open(_) | Mark::Closed => Ok(()),
     }
 }
 
-/// Arranges the places, and tells which of them reach themselves.
+/// Arranges the indices, and tells which of them reach themselves.
 pub fn arrange(alloc: Global, edges: &[List<usize>]) -> Result<Ordered, Memory>
-    requires { HasPlaces edges.now }
+    requires { HasIndices edges.now }
     ensures { IfOk result (λ found. IsOrdered edges.now found.order.items found.cyclic.items) }
 {
     let mut walk = Walk::new(alloc, edges.len())?;
-    for place in 0..edges.len() {
-        visit(&mut walk, edges, place)?;
+    for index in 0..edges.len() {
+        visit(&mut walk, edges, index)?;
     }
     Ok(Ordered {
         order: walk.order,

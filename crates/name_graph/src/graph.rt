@@ -85,8 +85,8 @@ impl Graph {
         let edges = edges_of(alloc, &self.rows)?;
         let found = arrange(alloc, &edges)?;
         match first_of(&self.rows, &found.cyclic) {
-            Some(place) => Err(GraphError::Cyclic {
-                name: Chars::from_str(alloc, name_at(&self.rows, place))?,
+            Some(index) => Err(GraphError::Cyclic {
+                name: Chars::from_str(alloc, name_at(&self.rows, index))?,
             }),
             None => Ok(names_of(alloc, &self.rows, &found.order)?),
         }

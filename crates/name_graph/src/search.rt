@@ -1,6 +1,6 @@
-// Where steps lead from a place.
+// Where steps lead from an index.
 ghost use Rattle.std.specs.Prelude.{◌≡◌, ◌<◌, ℕ, List, ◌++◌, true, Some, IfOk, OnOk, length, slice_get, slice_set, vec_len};
-ghost use Rattle.name_graph.specs.Places.{HasPlaces, AreReached};
+ghost use Rattle.name_graph.specs.Indices.{HasIndices, AreReached};
 
 use std::alloc::Global;
 use tool_list::{List, Memory};
@@ -17,36 +17,36 @@ fn unseen(alloc: Global, len: usize) -> Result<Vec<bool>, Memory>
     Ok(seen)
 }
 
-// Marks a place as seen, and puts what it needs behind the places that are due.
+// Marks an index as seen, and puts what it needs behind the indices that are due.
 fn see(
     edges: &[List<usize>],
     seen: &mut Vec<bool>,
     todo: &mut Vec<usize>,
-    place: usize,
+    index: usize,
 ) -> Result<(), Memory>
-    requires place { place < length edges.now }
+    requires index { index < length edges.now }
     requires long { vec_len seen.old ≡ length edges.now }
-    ensures seen { seen.new.items ≡ slice_set seen.old.items place true }
-    ensures todo { OnOk result ((row : List ℕ) → slice_get edges.now place ≡ Some row
+    ensures seen { seen.new.items ≡ slice_set seen.old.items index true }
+    ensures todo { OnOk result ((row : List ℕ) → slice_get edges.now index ≡ Some row
         → todo.new.items ≡ todo.old.items ++ row) }
 {
-    seen[place] = true;
-    todo.extend_from_slice(edges[place].as_slice())?;
+    seen[index] = true;
+    todo.extend_from_slice(edges[index].as_slice())?;
     Ok(())
 }
 
-/// The places to which steps lead from one, itself among them.
+/// The indices to which steps lead from one, itself among them.
 pub fn reached(alloc: Global, edges: &[List<usize>], start: usize) -> Result<Vec<bool>, Memory>
     requires start { start < length edges.now }
-    requires places { HasPlaces edges.now }
+    requires indices { HasIndices edges.now }
     ensures { IfOk result (λ seen. AreReached edges.now start seen.items) }
 {
     let mut seen = unseen(alloc, edges.len())?;
     let mut todo = Vec::new(alloc);
     todo.push(start)?;
-    while let Some(place) = todo.pop() {
-        if !seen[place] {
-            see(edges, &mut seen, &mut todo, place)?;
+    while let Some(index) = todo.pop() {
+        if !seen[index] {
+            see(edges, &mut seen, &mut todo, index)?;
         }
     }
     Ok(seen)

@@ -11,7 +11,7 @@ use Rattle.fact_store.proofs.fresh.given_of.Goals as goal
 
 pub input_of-requires-clause-need : goal.input_of-requires-clause-need
 input_of-requires-clause-need g c = λ slot at.
-    let s = one_at c.args.slots.now c.args.place c.at.result.now slot c.at.ensures at in
+    let s = one_at c.args.slots.now c.args.index c.at.result.now slot c.at.ensures at in
     ap (has (needs_or_none slot.needs)) c.as_str.ensures
     ∙ ap (λ (ns : List (List ℕ)). has ns c.name-item.result) (sym (ap (λ (z : Slot g.row.D-Own.Denot g.row.D-Fact.Denot). needs_or_none z.needs) s) ∙ sym c.needed-name-items.ensures)
     ∙ has-read c.needed-name-items.result.now c.loop-name.name-index c.name-item.result c.loop-name-test.true c.name-item.is
@@ -25,10 +25,10 @@ loop-name-preserved g c = λ slot at. let same : c.in_ok-name.name ≡ c.name-it
 
 pub returns : goal.returns
 returns g c = λ slot at.
-    let s = one_at c.args.slots.now c.args.place c.at.result.now slot c.at.ensures at in
+    let s = one_at c.args.slots.now c.args.index c.at.result.now slot c.at.ensures at in
     let over : length c.needed-name-items.result.now ≤ c.loop-name.name-index = omega arith in
     c.loop-name.invariant slot at
     ∙ ap (all_given g.D.Derive.own_of g.D.Derive.needs_of g.D.Derive.fact_of (texts_of c.args.slots.now) (value g.D.Derive.own_of g.D.Derive.needs_of g.D.Derive.fact_of (texts_of c.args.slots.now)) slot.name)
     (take-all c.loop-name.name-index c.needed-name-items.result.now over ∙ c.needed-name-items.ensures
     ∙ ap (λ (z : Slot g.row.D-Own.Denot g.row.D-Fact.Denot). needs_or_none z.needs) s
-    ∙ sym (needs_in-slot g.D.Derive.own_of g.D.Derive.needs_of g.D.Derive.fact_of c.args.slots.now c.requires.right.sound c.args.place slot at))
+    ∙ sym (needs_in-slot g.D.Derive.own_of g.D.Derive.needs_of g.D.Derive.fact_of c.args.slots.now c.requires.right.sound c.args.index slot at))

@@ -9,4 +9,4 @@ use Rattle.fact_store.proofs.fresh.given_of.Given as goal
 abbrev pub invariant-loop-name : goal.invariant-loop-name
 invariant-loop-name g l =
     let texts = texts_of l.slots in
-    (slot : _) → slice_get l.slots l.place ≡ Some slot → states l.given ≡ all_given g.D.Derive.own_of g.D.Derive.needs_of g.D.Derive.fact_of texts (value g.D.Derive.own_of g.D.Derive.needs_of g.D.Derive.fact_of texts) slot.name (take l.name-index l.name-items)
+    (slot : _) → slice_get l.slots l.index ≡ Some slot → states l.given ≡ all_given g.D.Derive.own_of g.D.Derive.needs_of g.D.Derive.fact_of texts (value g.D.Derive.own_of g.D.Derive.needs_of g.D.Derive.fact_of texts) slot.name (take l.name-index l.name-items)

@@ -4,6 +4,6 @@ use Rattle.fact_store.specs.Given.{states}
 use Rattle.fact_store.proofs.fresh.same_pairs.Given as goal
 
 -- what is left decides
-abbrev pub invariant-loop-place : goal.invariant-loop-place
-invariant-loop-place g l =
-    same_given g.D.Derive.same (states l.a) (states l.b) ≡ same_given g.D.Derive.same (states (drop l.place l.a)) (states (drop l.place l.b))
+abbrev pub invariant-loop-index : goal.invariant-loop-index
+invariant-loop-index g l =
+    same_given g.D.Derive.same (states l.a) (states l.b) ≡ same_given g.D.Derive.same (states (drop l.index l.a)) (states (drop l.index l.b))

@@ -1,5 +1,5 @@
 use Rattle.fact_store.proofs.Rows.{AreEdgesUpto}
 use Rattle.fact_store.proofs.plan.edges_of.Given as goal
 
-abbrev pub invariant-loop-place : goal.invariant-loop-place
-invariant-loop-place g l = AreEdgesUpto l.slots l.edges.items l.place
+abbrev pub invariant-loop-index : goal.invariant-loop-index
+invariant-loop-index g l = AreEdgesUpto l.slots l.edges.items l.index

@@ -7,13 +7,13 @@ use Rattle.fact_store.proofs.plan.grounds_of.Goals as goal
 
 pub ground_of-requires : goal.ground_of-requires
 ground_of-requires c =
-    let edges = c.args.edges.now in let place = c.loop-place.place in let row = c.index-edges-place.result in
-    let e = slice_get_read edges _ place row refl c.loop-place-test.true c.index-edges-place.is in
-    λ k d h. omega (arith, subst (λ (xs : List ℕ). get_or xs k d < length edges) (sym c.deref.ensures.value) (c.requires.places place row e k d (omega (arith, ap length c.deref.ensures.value))), c.requires.long)
+    let edges = c.args.edges.now in let index = c.loop-index.index in let row = c.index-edges-index.result in
+    let e = slice_get_read edges _ index row refl c.loop-index-test.true c.index-edges-index.is in
+    λ k d h. omega (arith, subst (λ (xs : List ℕ). get_or xs k d < length edges) (sym c.deref.ensures.value) (c.requires.indices index row e k d (omega (arith, ap length c.deref.ensures.value))), c.requires.long)
 
-pub loop-place-preserved : goal.loop-place-preserved
-loop-place-preserved c =
-    let edges = c.args.edges.now in let ranks = c.args.ranks.now in let place = c.loop-place.place in let row = c.index-edges-place.result in let ground = c.in_ok-ground.ground in
-    let e = slice_get_read edges _ place row refl c.loop-place-test.true c.index-edges-place.is in
-    AreGroundsUpto-more edges ranks c.loop-place.grounds.items c.push.new.self.items place row ground c.loop-place.invariant e
-    (subst (λ (xs : List ℕ). IsGround ranks (slice_index ranks place) xs ground.items) c.deref.ensures.value c.in_ok-ground.ensures) c.in_ok-push.ensures.items
+pub loop-index-preserved : goal.loop-index-preserved
+loop-index-preserved c =
+    let edges = c.args.edges.now in let ranks = c.args.ranks.now in let index = c.loop-index.index in let row = c.index-edges-index.result in let ground = c.in_ok-ground.ground in
+    let e = slice_get_read edges _ index row refl c.loop-index-test.true c.index-edges-index.is in
+    AreGroundsUpto-more edges ranks c.loop-index.grounds.items c.push.new.self.items index row ground c.loop-index.invariant e
+    (subst (λ (xs : List ℕ). IsGround ranks (slice_index ranks index) xs ground.items) c.deref.ensures.value c.in_ok-ground.ensures) c.in_ok-push.ensures.items

@@ -23,14 +23,14 @@ returns-in_default-clause-owed g c =
 pub returns-clause-sound : goal.returns-clause-sound
 returns-clause-sound g c =
     let p = c.in-Some.ensures in
-    (slot_over g.D.Derive.own_of g.D.Derive.needs_of g.D.Derive.fact_of g.D.Derive.same g.met.D.Derive.same_trans c.args.slots.now c.replace.new.slots c.in-Some.place c.args.name.now c.args.bytes.now c.in_ok-slot.slot c.requires.sound p c.in_ok-slot.ensures (c.replace.ensures.slots p.0 p.1)).sound
+    (slot_over g.D.Derive.own_of g.D.Derive.needs_of g.D.Derive.fact_of g.D.Derive.same g.met.D.Derive.same_trans c.args.slots.now c.replace.new.slots c.in-Some.index c.args.name.now c.args.bytes.now c.in_ok-slot.slot c.requires.sound p c.in_ok-slot.ensures (c.replace.ensures.slots p.0 p.1)).sound
 
 pub returns-clause-texts : goal.returns-clause-texts
 returns-clause-texts g c =
     let p = c.in-Some.ensures in
-    (slot_over g.D.Derive.own_of g.D.Derive.needs_of g.D.Derive.fact_of g.D.Derive.same g.met.D.Derive.same_trans c.args.slots.now c.replace.new.slots c.in-Some.place c.args.name.now c.args.bytes.now c.in_ok-slot.slot c.requires.sound p c.in_ok-slot.ensures (c.replace.ensures.slots p.0 p.1)).texts
+    (slot_over g.D.Derive.own_of g.D.Derive.needs_of g.D.Derive.fact_of g.D.Derive.same g.met.D.Derive.same_trans c.args.slots.now c.replace.new.slots c.in-Some.index c.args.name.now c.args.bytes.now c.in_ok-slot.slot c.requires.sound p c.in_ok-slot.ensures (c.replace.ensures.slots p.0 p.1)).texts
 
 pub returns-clause-owed : goal.returns-clause-owed
 returns-clause-owed g c =
     let p = c.in-Some.ensures in
-    (slot_over g.D.Derive.own_of g.D.Derive.needs_of g.D.Derive.fact_of g.D.Derive.same g.met.D.Derive.same_trans c.args.slots.now c.replace.new.slots c.in-Some.place c.args.name.now c.args.bytes.now c.in_ok-slot.slot c.requires.sound p c.in_ok-slot.ensures (c.replace.ensures.slots p.0 p.1)).owes
+    (slot_over g.D.Derive.own_of g.D.Derive.needs_of g.D.Derive.fact_of g.D.Derive.same g.met.D.Derive.same_trans c.args.slots.now c.replace.new.slots c.in-Some.index c.args.name.now c.args.bytes.now c.in_ok-slot.slot c.requires.sound p c.in_ok-slot.ensures (c.replace.ensures.slots p.0 p.1)).owes

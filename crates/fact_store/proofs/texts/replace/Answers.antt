@@ -8,7 +8,7 @@ use Rattle.fact_store.proofs.texts.replace.Goals.{then-not-same_names+in-Some-1,
 
 pub returns-clause-plan : goal.returns-clause-plan
 returns-clause-plan g c =
-    let slots = c.args.slots.now in let x = c.at.result.now in let place = c.args.place in let new = c.set_text.new.self in
+    let slots = c.args.slots.now in let x = c.at.result.now in let index = c.args.index in let new = c.set_text.new.self in
     let written = c.set_text.ensures x c.at.ensures in
     let to = λ (p q : Option Plan) (e : q ≡ p) (h : HoldsPlan new p). subst (λ (o : Option Plan). HoldsPlan new o) (sym e) h in
     elim c.if-not-same_names.branch [
@@ -17,5 +17,5 @@ returns-clause-plan g c =
       | else-not-same_names w ↦
           to c.args.plan.now _ w.plan-is
           (subst (λ (ss : List (Slot g.row.O.Denot g.row.F.Denot)). HoldsPlan ss c.args.plan.now) (sym written)
-          (HoldsPlan-set slots place x (with_text x c.args.slot.bytes c.args.slot.own c.args.slot.needs) c.args.plan.now c.at.ensures refl (sym (c.same_names.ensures w.if-not-same_names.false)) c.requires.plan))
+          (HoldsPlan-set slots index x (with_text x c.args.slot.bytes c.args.slot.own c.args.slot.needs) c.args.plan.now c.at.ensures refl (sym (c.same_names.ensures w.if-not-same_names.false)) c.requires.plan))
     ]

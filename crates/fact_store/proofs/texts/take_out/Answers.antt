@@ -11,19 +11,19 @@ returns-in_default-clause-texts g c =
 pub remove-requires : goal.remove-requires
 remove-requires g c =
     let p = c.in-Some.ensures in
-    omega (arith, slice_get_within c.args.slots.now c.in-Some.place p.0 p.1)
+    omega (arith, slice_get_within c.args.slots.now c.in-Some.index p.0 p.1)
 
 pub returns-clause-sound : goal.returns-clause-sound
 returns-clause-sound g c =
     let p = c.in-Some.ensures in
-    (taken_out g.D.Derive.own_of g.D.Derive.needs_of g.D.Derive.fact_of g.D.Derive.same g.met.D.Derive.same_trans c.args.slots.now c.remove.new.self c.in-Some.place c.args.name.now c.requires.sound p c.remove.ensures).sound
+    (taken_out g.D.Derive.own_of g.D.Derive.needs_of g.D.Derive.fact_of g.D.Derive.same g.met.D.Derive.same_trans c.args.slots.now c.remove.new.self c.in-Some.index c.args.name.now c.requires.sound p c.remove.ensures).sound
 
 pub returns-clause-texts : goal.returns-clause-texts
 returns-clause-texts g c =
     let p = c.in-Some.ensures in
-    (taken_out g.D.Derive.own_of g.D.Derive.needs_of g.D.Derive.fact_of g.D.Derive.same g.met.D.Derive.same_trans c.args.slots.now c.remove.new.self c.in-Some.place c.args.name.now c.requires.sound p c.remove.ensures).texts
+    (taken_out g.D.Derive.own_of g.D.Derive.needs_of g.D.Derive.fact_of g.D.Derive.same g.met.D.Derive.same_trans c.args.slots.now c.remove.new.self c.in-Some.index c.args.name.now c.requires.sound p c.remove.ensures).texts
 
 pub returns-clause-owed : goal.returns-clause-owed
 returns-clause-owed g c =
     let p = c.in-Some.ensures in
-    (taken_out g.D.Derive.own_of g.D.Derive.needs_of g.D.Derive.fact_of g.D.Derive.same g.met.D.Derive.same_trans c.args.slots.now c.remove.new.self c.in-Some.place c.args.name.now c.requires.sound p c.remove.ensures).owes
+    (taken_out g.D.Derive.own_of g.D.Derive.needs_of g.D.Derive.fact_of g.D.Derive.same g.met.D.Derive.same_trans c.args.slots.now c.remove.new.self c.in-Some.index c.args.name.now c.requires.sound p c.remove.ensures).owes

@@ -4,9 +4,9 @@ use Rattle.name_graph.specs.declared.components.Mark.{Mark}
 use Rattle.name_graph.specs.SearchState.{AreWalk}
 use Rattle.name_graph.proofs.components.arrange.Given as goal
 
-abbrev pub invariant-loop-place : goal.invariant-loop-place
-invariant-loop-place l = record {
+abbrev pub invariant-loop-index : goal.invariant-loop-index
+invariant-loop-index l = record {
   walk : AreWalk l.edges [] l.walk;
   none : length l.walk.groups.items ≡ 0;
-  found : (place : ℕ) → place < l.place → slice_get l.walk.marks.items place ≡ Some Mark.New → ⊥;
+  found : (index : ℕ) → index < l.index → slice_get l.walk.marks.items index ≡ Some Mark.New → ⊥;
 }

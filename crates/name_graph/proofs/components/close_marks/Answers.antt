@@ -4,8 +4,8 @@ use Rattle.name_graph.specs.declared.components.Mark.{Mark}
 use Rattle.name_graph.proofs.Moves.{marks-next}
 use Rattle.name_graph.proofs.components.close_marks.Goals as goal
 
-pub loop-place-preserved : goal.loop-place-preserved
-loop-place-preserved c = record {
-  long = c.loop-place.invariant.long;
-  marks = ap (λ z. slice_set z (get_or c.args.places.now c.loop-place.place-index 0) Mark.Closed) c.loop-place.invariant.marks ∙ marks-next c.args.marks.now.items c.args.places.now c.loop-place.place-index c.loop-place-test.true;
+pub loop-index-preserved : goal.loop-index-preserved
+loop-index-preserved c = record {
+  long = c.loop-index.invariant.long;
+  marks = ap (λ z. slice_set z (get_or c.args.indices.now c.loop-index.index-index 0) Mark.Closed) c.loop-index.invariant.marks ∙ marks-next c.args.marks.now.items c.args.indices.now c.loop-index.index-index c.loop-index-test.true;
 }

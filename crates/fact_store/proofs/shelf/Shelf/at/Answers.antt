@@ -11,12 +11,12 @@ index-requires g c = let s = c.self.inside in omega (arith, c.requires, ap lengt
 pub index-requires-2 : goal.index-requires-2
 index-requires-2 g c =
     let s = c.self.inside in
-    let l : c.args.place < length (shelved s.slots s.names.entries) = omega (arith, c.requires, ap length c.self.view_is) in
-    has_key s.slots s.names.entries c.self.invariant c.args.place c.index.result.now l c.index.ensures
+    let l : c.args.index < length (shelved s.slots s.names.entries) = omega (arith, c.requires, ap length c.self.view_is) in
+    has_key s.slots s.names.entries c.self.invariant c.args.index c.index.result.now l c.index.ensures
 
 pub returns : goal.returns
 returns g c =
     let s = c.self.inside in
-    let l : c.args.place < length (shelved s.slots s.names.entries) = omega (arith, c.requires, ap length c.self.view_is) in
-    ap (λ (ss : List (Slot g.row.O.Denot g.row.F.Denot)). slice_get ss c.args.place) (sym c.self.view_is)
-    ∙ stands_at s.slots s.names.entries c.self.invariant c.args.place c.index.result.now c.index-2.result.now l c.index.ensures c.index-2.ensures
+    let l : c.args.index < length (shelved s.slots s.names.entries) = omega (arith, c.requires, ap length c.self.view_is) in
+    ap (λ (ss : List (Slot g.row.O.Denot g.row.F.Denot)). slice_get ss c.args.index) (sym c.self.view_is)
+    ∙ stands_at s.slots s.names.entries c.self.invariant c.args.index c.index.result.now c.index-2.result.now l c.index.ensures c.index-2.ensures

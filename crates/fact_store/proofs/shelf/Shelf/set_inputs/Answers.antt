@@ -12,21 +12,21 @@ index-key-requires g c = let s = c.self.inside in omega (arith, c.requires, ap l
 pub index_mut-requires : goal.index_mut-requires
 index_mut-requires g c =
     let s = c.self.inside in
-    let l : c.args.place < length (shelved s.slots s.names.entries) = omega (arith, c.requires, ap length c.self.view_is) in
-    has_key s.slots s.names.entries c.self.invariant c.args.place c.index-key.result.now l c.index-key.ensures
+    let l : c.args.index < length (shelved s.slots s.names.entries) = omega (arith, c.requires, ap length c.self.view_is) in
+    has_key s.slots s.names.entries c.self.invariant c.args.index c.index-key.result.now l c.index-key.ensures
 
 pub invariant_of-self : goal.invariant_of-self
 invariant_of-self g c =
     let s = c.self.inside in
-    let l : c.args.place < length (shelved s.slots s.names.entries) = omega (arith, c.requires, ap length c.self.view_is) in
-    shelf-write s.slots s.names.entries c.self.invariant c.args.place c.index-key.result.now c.index_mut.result.now c.set_inputs.new.slot l c.index-key.ensures c.index_mut.ensures.value (ap (λ (z : Slot g.row.O.Denot g.row.F.Denot). z.name) c.set_inputs.ensures)
+    let l : c.args.index < length (shelved s.slots s.names.entries) = omega (arith, c.requires, ap length c.self.view_is) in
+    shelf-write s.slots s.names.entries c.self.invariant c.args.index c.index-key.result.now c.index_mut.result.now c.set_inputs.new.slot l c.index-key.ensures c.index_mut.ensures.value (ap (λ (z : Slot g.row.O.Denot g.row.F.Denot). z.name) c.set_inputs.ensures)
 
 pub returns : goal.returns
 returns g c = λ slot at.
     let s = c.self.inside in let x = c.index_mut.result.now in
-    let l : c.args.place < length (shelved s.slots s.names.entries) = omega (arith, c.requires, ap length c.self.view_is) in
-    let here = stands_at s.slots s.names.entries c.self.invariant c.args.place c.index-key.result.now x l c.index-key.ensures c.index_mut.ensures.value in
-    let k : ◌≡◌ {A = Option (Slot g.row.O.Denot g.row.F.Denot)} (Some x) (Some slot) = sym here ∙ ap (λ (ss : List (Slot g.row.O.Denot g.row.F.Denot)). slice_get ss c.args.place) c.self.view_is ∙ at in
+    let l : c.args.index < length (shelved s.slots s.names.entries) = omega (arith, c.requires, ap length c.self.view_is) in
+    let here = stands_at s.slots s.names.entries c.self.invariant c.args.index c.index-key.result.now x l c.index-key.ensures c.index_mut.ensures.value in
+    let k : ◌≡◌ {A = Option (Slot g.row.O.Denot g.row.F.Denot)} (Some x) (Some slot) = sym here ∙ ap (λ (ss : List (Slot g.row.O.Denot g.row.F.Denot)). slice_get ss c.args.index) c.self.view_is ∙ at in
     let same : x ≡ slot = cc in
-    shelved-write s.slots s.names.entries c.self.invariant c.args.place c.index-key.result.now x c.set_inputs.new.slot l c.index-key.ensures c.index_mut.ensures.value (ap (λ (z : Slot g.row.O.Denot g.row.F.Denot). z.name) c.set_inputs.ensures)
-    ∙ (λ j. slice_set (c.self.view_is j) c.args.place ((c.set_inputs.ensures ∙ ap (λ (z : Slot g.row.O.Denot g.row.F.Denot). record z { kept = with_given z.kept c.args.given }) same) j))
+    shelved-write s.slots s.names.entries c.self.invariant c.args.index c.index-key.result.now x c.set_inputs.new.slot l c.index-key.ensures c.index_mut.ensures.value (ap (λ (z : Slot g.row.O.Denot g.row.F.Denot). z.name) c.set_inputs.ensures)
+    ∙ (λ j. slice_set (c.self.view_is j) c.args.index ((c.set_inputs.ensures ∙ ap (λ (z : Slot g.row.O.Denot g.row.F.Denot). record z { kept = with_given z.kept c.args.given }) same) j))

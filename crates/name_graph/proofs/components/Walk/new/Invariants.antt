@@ -6,5 +6,5 @@ use Rattle.name_graph.proofs.components.Walk.new.Given as goal
 abbrev pub invariant-loop : goal.invariant-loop
 invariant-loop l = record {
   long : vec_len l.marks ≡ l.counter;
-  new : (place : ℕ) (mark : Mark) → slice_get l.marks.items place ≡ Some mark → mark ≡ Mark.New;
+  new : (index : ℕ) (mark : Mark) → slice_get l.marks.items index ≡ Some mark → mark ≡ Mark.New;
 }
