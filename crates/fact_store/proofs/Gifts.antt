@@ -8,7 +8,7 @@ use Rattle.fact_store.specs.declared.slot.Slot.{Slot}
 use Rattle.fact_store.specs.declared.slot.Kept.{Kept}
 use Rattle.fact_values.specs.Names.{name_eq}
 use Rattle.fact_values.specs.States.{State, no_text, cyclic, broken, fact, same_given}
-use Rattle.fact_values.specs.Values.{needs_or_none, needs_of_text, needs_in, reaches, gives, all_given, value_of_needs, value_of_text, value, given_in}
+use Rattle.fact_values.specs.Values.{needs_of_text, needs_in, reaches, gives, all_given, value_of_needs, value_of_text, value, given_in}
 use Rattle.fact_store.specs.Given.{states}
 use Rattle.fact_store.specs.Slots.{texts_of, source, HasNoSlot, IsSound, AreSound, is_made_from, is_settled}
 use Rattle.fact_store.specs.Right.{is_fresh}
@@ -39,7 +39,7 @@ module _ {Own F : Type 0} (own_of : List ℕ → List ℕ → Own) (needs_of : O
   -- what is given to a slot's name, by its needs
   given_in-slot : (j : ℕ) (y : Slot Own F) (ns : List (List ℕ)) → slice_get slots j ≡ Some y → y.needs ≡ Some ns → given_in own_of needs_of fact_of (texts_of slots) y.name ≡ all_given own_of needs_of fact_of (texts_of slots) (value own_of needs_of fact_of (texts_of slots)) y.name ns
   given_in-slot j y ns e n =
-      ap (all_given own_of needs_of fact_of (texts_of slots) (value own_of needs_of fact_of (texts_of slots)) y.name) (needs_in-slot own_of needs_of fact_of slots sound j y e ∙ ap needs_or_none n)
+      ap (all_given own_of needs_of fact_of (texts_of slots) (value own_of needs_of fact_of (texts_of slots)) y.name) (needs_in-slot own_of needs_of fact_of slots sound j y e ∙ ap (λ (o : Option (List (List ℕ))). unwrap_or o []) n)
 
   module _ (same : F → F → Bool) (respects : (name : List ℕ) (own : Own) (xs ys : List (List ℕ × State F)) → same_given same xs ys ≡ true → fact_of name own xs ≡ fact_of name own ys) where
     -- a fact that is settled is the value

@@ -1,6 +1,6 @@
 -- What a need gives, from ranks and slots that were read.
 use Rattle.std.proofs.Common.{◌≡◌, ◌≢◌, ℕ, zero, suc, ◌<◌, Bool, true, false, List, [], ◌∷◌, Option, Some, None, sym, ap, ◌∙◌, inl, inr, length, get_or, nat_eq, arith}
-use Rattle.std.specs.Prelude.{slice_get, slice_index}
+use Rattle.std.specs.Prelude.{slice_get, slice_index, unwrap_or}
 use Rattle.std.specs.Arc.{arc_value}
 use Rattle.std.proofs.lemmas.Bool.{eqb-true, eq-eqb}
 use Rattle.std.proofs.lemmas.Grind.{get_or_default_zero}
@@ -10,7 +10,7 @@ use Rattle.fact_store.specs.declared.slot.Kept.{Kept}
 use Rattle.fact_store.specs.declared.plan.Plan.{Plan}
 use Rattle.fact_values.specs.Names.{has}
 use Rattle.fact_values.specs.States.{State, cyclic, broken, fact, same_given}
-use Rattle.fact_values.specs.Values.{needs_or_none, reaches, gives, value}
+use Rattle.fact_values.specs.Values.{reaches, gives, value}
 use Rattle.fact_store.specs.Slots.{texts_of, IsIndexOf, is_settled}
 use Rattle.fact_store.specs.Right.{IsPlan, IsDone, IsReady, IsRight}
 use Rattle.fact_values.proofs.NameLemmas.{true_or_false}
@@ -22,13 +22,13 @@ pub rank_read : (ranks : List ℕ) (k a : ℕ) → k < length ranks → a ≡ ge
 rank_read ranks k a l e = e ∙ get_or_default_zero ranks k a l
 
 module _ {Own F : Type 0} (own_of : List ℕ → List ℕ → Own) (needs_of : Own → Option (List (List ℕ))) (fact_of : List ℕ → Own → List (List ℕ × State F) → F) (same : F → F → Bool) (slots : List (Slot Own F)) (current : List Bool) (plan : Plan) (right : IsRight own_of needs_of fact_of same slots current) (planned : IsPlan slots plan) where
-  module _ (i j : ℕ) (x : Slot Own F) (n : List ℕ) (at : slice_get slots i ≡ Some x) (there : IsIndexOf slots n j) (need : has (needs_or_none x.needs) n ≡ true) (a b : ℕ) (ra : a ≡ get_or plan.ranks.items j a) (rb : b ≡ get_or plan.ranks.items i b) where
+  module _ (i j : ℕ) (x : Slot Own F) (n : List ℕ) (at : slice_get slots i ≡ Some x) (there : IsIndexOf slots n j) (need : has (unwrap_or x.needs []) n ≡ true) (a b : ℕ) (ra : a ≡ get_or plan.ranks.items j a) (rb : b ≡ get_or plan.ranks.items i b) where
     within : (k : ℕ) (z : Slot Own F) → slice_get slots k ≡ Some z → k < length plan.ranks.items
     within k z e = omega (arith, slice_get_within slots k z e, planned.edges.long, planned.ranks.long)
 
     tells : nat_eq (slice_index plan.ranks.items j) (slice_index plan.ranks.items i) ≡ reaches own_of needs_of fact_of (texts_of slots) n x.name
     tells =
-        rank_tells own_of needs_of fact_of slots right.sound plan.edges.items planned.edges plan.ranks.items planned.ranks i j x there.0 at there.1 (ap (has (needs_or_none x.needs)) there.2 ∙ need)
+        rank_tells own_of needs_of fact_of slots right.sound plan.edges.items planned.edges plan.ranks.items planned.ranks i j x there.0 at there.1 (ap (has (unwrap_or x.needs [])) there.2 ∙ need)
         ∙ ap (λ (m : List ℕ). reaches own_of needs_of fact_of (texts_of slots) m x.name) there.2
 
     pub input-cyclic : a ≡ b → cyclic ≡ gives own_of needs_of fact_of (texts_of slots) (value own_of needs_of fact_of (texts_of slots)) x.name n
@@ -51,7 +51,7 @@ module _ {Own F : Type 0} (own_of : List ℕ → List ℕ → Own) (needs_of : O
 
     module _ (ready : IsReady slots plan.ranks.items current i) where
       settled : a ≢ b → (ns : List (List ℕ)) → (there.0).needs ≡ Some ns → is_settled own_of needs_of fact_of same (texts_of slots) there.0 ≡ true
-      settled ne ns some = elim (ready x at j there.0 there.1 (ap (has (needs_or_none x.needs)) there.2 ∙ need) (apart ne)) as (λ _. is_settled own_of needs_of fact_of same (texts_of slots) there.0 ≡ true) [
+      settled ne ns some = elim (ready x at j there.0 there.1 (ap (has (unwrap_or x.needs [])) there.2 ∙ need) (apart ne)) as (λ _. is_settled own_of needs_of fact_of same (texts_of slots) there.0 ≡ true) [
         | inl none ↦ let k : ◌≡◌ {A = Option (List (List ℕ))} (Some ns) None = sym some ∙ none in cc k
         | inr mark ↦ right.settled j there.0 there.1 mark
       ]

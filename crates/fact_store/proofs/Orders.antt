@@ -1,6 +1,6 @@
 -- What stands on what is brought up first.
 use Rattle.std.proofs.Common.{◌≡◌, ℕ, suc, ◌+◌, ◌<◌, ◌≤◌, Bool, true, false, List, [], ◌∷◌, Option, Some, refl, sym, ap, ◌∙◌, subst, inl, inr, map, length, get_or, nat_eq, arith}
-use Rattle.std.specs.Prelude.{not, ◌⊎◌, slice_get, slice_index, All, Contains}
+use Rattle.std.specs.Prelude.{not, ◌⊎◌, slice_get, slice_index, All, Contains, unwrap_or}
 use Rattle.std.specs.List.Sorted.{IsPermutation, IsNonDecreasingBy}
 use Rattle.std.proofs.lemmas.Bool.{eq-eqb, cases_lt}
 use Rattle.std.proofs.lemmas.List.Elements.{All-nil, All-cons}
@@ -12,7 +12,6 @@ use Rattle.fact_store.specs.declared.slot.Slot.{Slot}
 use Rattle.fact_store.specs.declared.plan.Plan.{Plan}
 use Rattle.fact_values.specs.Names.{has}
 use Rattle.fact_values.specs.States.{State}
-use Rattle.fact_values.specs.Values.{needs_or_none}
 use Rattle.fact_store.specs.Slots.{AreSound}
 use Rattle.fact_store.specs.Plans.{among, is_marked, AreReached, IsRow, IsOrder}
 use Rattle.fact_store.specs.Right.{outlines, IsPlan, IsDone, IsReady}
@@ -64,7 +63,7 @@ module _ {Own F : Type 0} where
     edges = record {
       long = omega (arith, p.edges.long, length-outlines a, length-outlines b, ap length e);
       rows = λ i row slot er es. let w = outline_at a b i slot e es in
-          subst (λ (o : Option (List (List ℕ))). IsRow a (needs_or_none o) row.items) (ap (λ (o : List ℕ × List ℕ × Own × Option (List (List ℕ))). o.3) w.2) (IsRow-same a b (needs_or_none (w.0).needs) row.items e (p.edges.rows i row w.0 er w.1));
+          subst (λ (o : Option (List (List ℕ))). IsRow a (unwrap_or o []) row.items) (ap (λ (o : List ℕ × List ℕ × Own × Option (List (List ℕ))). o.3) w.2) (IsRow-same a b (unwrap_or (w.0).needs []) row.items e (p.edges.rows i row w.0 er w.1));
     };
     ranks = p.ranks;
     grounds = p.grounds;

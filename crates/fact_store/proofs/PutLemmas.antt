@@ -13,7 +13,6 @@ use Rattle.fact_store.specs.declared.slot.Kept.{Kept}
 use Rattle.fact_store.specs.declared.plan.Plan.{Plan}
 use Rattle.fact_values.specs.Names.{name_eq, has}
 use Rattle.fact_values.specs.States.{State}
-use Rattle.fact_values.specs.Values.{needs_or_none}
 use Rattle.fact_store.specs.Given.{states}
 use Rattle.fact_store.specs.Slots.{source, source_after, kept_after, HasNoSlot, IsSound, AreSound}
 use Rattle.fact_store.specs.Plans.{among, IsRow}
@@ -65,11 +64,11 @@ module _ {Own F : Type 0} where
   IsPlan-set slots i x y plan at n m p = record {
     edges = record {
       long = p.edges.long ∙ sym (length-set slots i y);
-      rows = λ j row slot er es. elim (set_cases slots i j y slot (slice_get_within slots i x at) es) as (λ _. IsRow (slice_set slots i y) (needs_or_none slot.needs) row.items) [
+      rows = λ j row slot er es. elim (set_cases slots i j y slot (slice_get_within slots i x at) es) as (λ _. IsRow (slice_set slots i y) (unwrap_or slot.needs []) row.items) [
         | inl this ↦
-            subst (λ (s : Slot Own F). IsRow (slice_set slots i y) (needs_or_none s.needs) row.items) this.1
-            (subst (λ (o : Option (List (List ℕ))). IsRow (slice_set slots i y) (needs_or_none o) row.items) (sym m) (still (needs_or_none x.needs) row.items (p.edges.rows i row x (ap (slice_get plan.edges.items) (sym this.0) ∙ er) at)))
-        | inr past ↦ still (needs_or_none slot.needs) row.items (p.edges.rows j row slot er past.1)
+            subst (λ (s : Slot Own F). IsRow (slice_set slots i y) (unwrap_or s.needs []) row.items) this.1
+            (subst (λ (o : Option (List (List ℕ))). IsRow (slice_set slots i y) (unwrap_or o []) row.items) (sym m) (still (unwrap_or x.needs []) row.items (p.edges.rows i row x (ap (slice_get plan.edges.items) (sym this.0) ∙ er) at)))
+        | inr past ↦ still (unwrap_or slot.needs []) row.items (p.edges.rows j row slot er past.1)
       ];
     };
     ranks = p.ranks;

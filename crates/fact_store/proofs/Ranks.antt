@@ -1,6 +1,6 @@
 -- Marks are reach, and ranks tell which needs lead back.
 use Rattle.std.proofs.Common.{◌≡◌, ℕ, zero, suc, ◌≤◌, ◌<◌, Bool, true, false, List, [], ◌∷◌, Option, Some, None, refl, sym, ap, ◌∙◌, cond, inl, inr, length, arith, nat_eq, Vec, Global}
-use Rattle.std.specs.Prelude.{◌⊎◌, slice_get, slice_index, count_by}
+use Rattle.std.specs.Prelude.{◌⊎◌, slice_get, slice_index, count_by, unwrap_or}
 use Rattle.std.specs.FinMap.{get, keys}
 use Rattle.std.proofs.lemmas.Bool.{eqb-true, eq-eqb}
 use Rattle.std.proofs.lemmas.List.Sums.{sum_by-cons}
@@ -9,7 +9,7 @@ use Rattle.list_laws.proofs.Lists.{item-at}
 use Rattle.fact_store.specs.declared.slot.Slot.{Slot}
 use Rattle.fact_values.specs.Names.{has}
 use Rattle.fact_values.specs.States.{State}
-use Rattle.fact_values.specs.Values.{needs_or_none, needs_of_text, needs_in, reaches}
+use Rattle.fact_values.specs.Values.{needs_of_text, needs_in, reaches}
 use Rattle.fact_store.specs.Slots.{texts_of, AreSound}
 use Rattle.fact_store.specs.Plans.{is_marked, Edges, AreClosed, IsReach, IsRow, AreEdges, IsRank, AreRanks}
 use Rattle.fact_values.proofs.NameLemmas.{true_or_false}
@@ -46,16 +46,16 @@ module _ {Own F : Type 0} (own_of : List ℕ → List ℕ → Own) (needs_of : O
   needs = needs_in own_of needs_of fact_of (texts_of slots)
 
   -- the needs of a slot's name are the slot's
-  pub needs_in-slot : (i : ℕ) (slot : Slot Own F) → slice_get slots i ≡ Some slot → needs_in own_of needs_of fact_of (texts_of slots) slot.name ≡ needs_or_none slot.needs
+  pub needs_in-slot : (i : ℕ) (slot : Slot Own F) → slice_get slots i ≡ Some slot → needs_in own_of needs_of fact_of (texts_of slots) slot.name ≡ unwrap_or slot.needs []
   needs_in-slot i slot e =
       let s = sound.each i slot e in
-      ap (needs_of_text own_of needs_of fact_of slot.name) (text_of-slot slots i slot sound.distinct e) ∙ ap needs_or_none (ap needs_of (sym s.own_part) ∙ sym s.needs_part)
+      ap (needs_of_text own_of needs_of fact_of slot.name) (text_of-slot slots i slot sound.distinct e) ∙ ap (λ (o : Option (List (List ℕ))). unwrap_or o []) (ap needs_of (sym s.own_part) ∙ sym s.needs_part)
 
   closed : (a : List ℕ) → has (keys (texts_of slots)) a ≡ false → needs_in own_of needs_of fact_of (texts_of slots) a ≡ []
   closed = needs_in-none own_of needs_of fact_of (texts_of slots)
 
   module _ (edges : Edges) (is : AreEdges slots edges) where
-    row_with : (i : ℕ) (slot : Slot Own F) → slice_get slots i ≡ Some slot → (row : Vec ℕ Global) × (slice_get edges i ≡ Some row) × IsRow slots (needs_or_none slot.needs) row.items
+    row_with : (i : ℕ) (slot : Slot Own F) → slice_get slots i ≡ Some slot → (row : Vec ℕ Global) × (slice_get edges i ≡ Some row) × IsRow slots (unwrap_or slot.needs []) row.items
     row_with i slot e =
         let r = item-at edges i (omega (arith, slice_get_within slots i slot e, is.long)) in (r.0, r.1, is.rows i r.0 slot r.1 e)
 
@@ -94,7 +94,7 @@ module _ {Own F : Type 0} (own_of : List ℕ → List ℕ → Own) (needs_of : O
               let w = slot_with slots a bytes et in
               let row = row_with w.index w.slot w.at in
               let m = pa w.index w.slot w.at w.named in
-              let need : has (needs_or_none w.slot.needs) z.name ≡ true = ap (λ (ns : List (List ℕ)). has ns z.name) (sym (needs_in-slot w.index w.slot w.at)) ∙ ap (λ (q : List ℕ). has (needs_in own_of needs_of fact_of (texts_of slots) q) z.name) w.named ∙ ap (has (needs_in own_of needs_of fact_of (texts_of slots) a)) n ∙ h in
+              let need : has (unwrap_or w.slot.needs []) z.name ≡ true = ap (λ (ns : List (List ℕ)). has ns z.name) (sym (needs_in-slot w.index w.slot w.at)) ∙ ap (λ (q : List ℕ). has (needs_in own_of needs_of fact_of (texts_of slots) q) z.name) w.named ∙ ap (has (needs_in own_of needs_of fact_of (texts_of slots) a)) n ∙ h in
               r.closed w.index k row.0 m row.1 (row.2.each k z e ∙ need)
 
       pub mark-reaches : (j : ℕ) (y : Slot Own F) → slice_get slots j ≡ Some y → is_marked marks j ≡ reaches own_of needs_of fact_of (texts_of slots) x.name y.name
@@ -110,7 +110,7 @@ module _ {Own F : Type 0} (own_of : List ℕ → List ℕ → Own) (needs_of : O
               closed_under-reach (needs_in own_of needs_of fact_of (texts_of slots)) AllMarked step p.0 x.name y.name p.1 start j y e refl
 
     -- a need reaches no more indices, and as many exactly where it leads back
-    module _ (ranks : List ℕ) (rs : AreRanks edges ranks) (i j : ℕ) (x y : Slot Own F) (at : slice_get slots i ≡ Some x) (there : slice_get slots j ≡ Some y) (need : has (needs_or_none x.needs) y.name ≡ true) where
+    module _ (ranks : List ℕ) (rs : AreRanks edges ranks) (i j : ℕ) (x y : Slot Own F) (at : slice_get slots i ≡ Some x) (there : slice_get slots j ≡ Some y) (need : has (unwrap_or x.needs []) y.name ≡ true) where
       rank_at : (k : ℕ) (z : Slot Own F) → slice_get slots k ≡ Some z → IsRank edges k (slice_index ranks k)
       rank_at k z e = rs.each k (omega (arith, slice_get_within slots k z e, is.long, rs.long))
 

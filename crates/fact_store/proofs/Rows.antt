@@ -1,6 +1,6 @@
 -- Rows of indices, from names that are needed.
 use Rattle.std.proofs.Common.{◌≡◌, ◌≢◌, ℕ, zero, suc, ◌+◌, ◌<◌, Bool, true, false, List, [], ◌∷◌, ◌++◌, Option, Some, refl, sym, ap, ◌∙◌, subst, inl, inr, take, length, get_or, arith, nat_eq, Vec, Global}
-use Rattle.std.specs.Prelude.{not, ◌⊎◌, ◌||◌, ◌&&◌, slice_get, slice_index}
+use Rattle.std.specs.Prelude.{not, ◌⊎◌, ◌||◌, ◌&&◌, slice_get, slice_index, unwrap_or}
 use Rattle.std.proofs.lemmas.Bool.{eqb-true, eq-eqb, cases_lt}
 use Rattle.std.proofs.lemmas.List.{take_more, length-append}
 use Rattle.std.proofs.lemmas.List.Folds.{list_any-append}
@@ -11,7 +11,6 @@ use Rattle.list_laws.proofs.Tests.{and-left, and-right, or-right}
 use Rattle.list_laws.proofs.Lists.{item-at}
 use Rattle.fact_store.specs.declared.slot.Slot.{Slot}
 use Rattle.fact_values.specs.Names.{name_eq, has}
-use Rattle.fact_values.specs.Values.{needs_or_none}
 use Rattle.fact_store.specs.Slots.{AreDistinct, HasNoSlot, IsIndexOf}
 use Rattle.fact_store.specs.Plans.{among, Edges, HasIndices, IsRow, AreEdges, AreReached, IsRank, IsGround, AreGrounds}
 use Rattle.fact_values.proofs.NameLemmas.{true_or_false, same_name, name_eq-same, or_left, or_cases, and_both}
@@ -67,16 +66,16 @@ module _ {Own F : Type 0} where
   -- the rows of the slots before n
   pub record AreEdgesUpto (slots : List (Slot Own F)) (edges : Edges) (n : ℕ) : Type 0 where
     pub long : length edges ≡ n
-    pub rows : (i : ℕ) (row : Vec ℕ Global) (slot : Slot Own F) → slice_get edges i ≡ Some row → slice_get slots i ≡ Some slot → IsRow slots (needs_or_none slot.needs) row.items
+    pub rows : (i : ℕ) (row : Vec ℕ Global) (slot : Slot Own F) → slice_get edges i ≡ Some row → slice_get slots i ≡ Some slot → IsRow slots (unwrap_or slot.needs []) row.items
 
-  pub AreEdgesUpto-more : (slots : List (Slot Own F)) (edges new : Edges) (n : ℕ) (row : Vec ℕ Global) (slot : Slot Own F) → AreEdgesUpto slots edges n → slice_get slots n ≡ Some slot → IsRow slots (needs_or_none slot.needs) row.items → new ≡ edges ++ row ∷ [] → AreEdgesUpto slots new (n + 1)
+  pub AreEdgesUpto-more : (slots : List (Slot Own F)) (edges new : Edges) (n : ℕ) (row : Vec ℕ Global) (slot : Slot Own F) → AreEdgesUpto slots edges n → slice_get slots n ≡ Some slot → IsRow slots (unwrap_or slot.needs []) row.items → new ≡ edges ++ row ∷ [] → AreEdgesUpto slots new (n + 1)
   AreEdgesUpto-more slots edges new n row slot u es r en = record {
     long = omega (arith, ap length en, length-append edges (row ∷ []), u.long);
-    rows = λ i row' slot' e f. elim (pushed-cases edges row row' i (ap (λ (xs : Edges). slice_get xs i) (sym en) ∙ e)) as (λ _. IsRow slots (needs_or_none slot'.needs) row'.items) [
+    rows = λ i row' slot' e f. elim (pushed-cases edges row row' i (ap (λ (xs : Edges). slice_get xs i) (sym en) ∙ e)) as (λ _. IsRow slots (unwrap_or slot'.needs []) row'.items) [
       | inl before ↦ u.rows i row' slot' before f
       | inr last ↦
           let k : ◌≡◌ {A = Option (Slot Own F)} (Some slot) (Some slot') = sym es ∙ ap (slice_get slots) (sym (last.0 ∙ u.long)) ∙ f in let s : slot ≡ slot' = cc in
-          subst (λ (x : Vec ℕ Global). IsRow slots (needs_or_none slot'.needs) x.items) last.1 (subst (λ (x : Slot Own F). IsRow slots (needs_or_none x.needs) row.items) s r)
+          subst (λ (x : Vec ℕ Global). IsRow slots (unwrap_or slot'.needs []) x.items) last.1 (subst (λ (x : Slot Own F). IsRow slots (unwrap_or x.needs []) row.items) s r)
     ];
   }
 

@@ -1,11 +1,10 @@
 -- What is found of the present texts: who needs whom, in which order facts are made, and which stand.
-use Rattle.std.specs.Prelude.{◌≡◌, ℕ, ◌<◌, ◌+◌, ◌||◌, ◌&&◌, Bool, true, false, not, List, Option, Some, None, All, Contains, length, take, count_by, slice_get, slice_index, nat_eq, Vec}
+use Rattle.std.specs.Prelude.{◌≡◌, ℕ, ◌<◌, ◌+◌, ◌||◌, ◌&&◌, Bool, true, false, not, List, Option, Some, None, All, Contains, length, take, count_by, slice_get, slice_index, nat_eq, Vec, unwrap_or, []}
 use Rattle.std.specs.List.{list_any}
 use Rattle.std.specs.List.Sorted.{IsNonDecreasingBy}
 use Rattle.std.specs.declared.alloc.Global.{Global}
 use Rattle.fact_store.specs.declared.slot.Slot.{Slot}
 use Rattle.fact_values.specs.Names.{has}
-use Rattle.fact_values.specs.Values.{needs_or_none}
 
 -- whether an index is among these
 abbrev pub among : List ℕ → ℕ → Bool
@@ -68,7 +67,7 @@ module _ {Own F : Type 0} where
   -- for each slot the indices of those that it needs
   pub record AreEdges (slots : List (Slot Own F)) (edges : Edges) : Type 0 where
     pub long : length edges ≡ length slots
-    pub rows : (i : ℕ) (row : Vec ℕ Global) (slot : Slot Own F) → slice_get edges i ≡ Some row → slice_get slots i ≡ Some slot → IsRow slots (needs_or_none slot.needs) row.items
+    pub rows : (i : ℕ) (row : Vec ℕ Global) (slot : Slot Own F) → slice_get edges i ≡ Some row → slice_get slots i ≡ Some slot → IsRow slots (unwrap_or slot.needs []) row.items
 
 -- how many indices each index reaches
 abbrev pub IsRank : Edges → ℕ → ℕ → Type 0

@@ -1,12 +1,11 @@
 -- What a store keeps true.
-use Rattle.std.specs.Prelude.{◌≡◌, ℕ, ◌≤◌, ◌⊎◌, Bool, true, false, ◌&&◌, List, Option, Some, None, length, map, slice_get, slice_set, slice_index, nat_eq, is_none}
+use Rattle.std.specs.Prelude.{◌≡◌, ℕ, ◌≤◌, ◌⊎◌, Bool, true, false, ◌&&◌, List, Option, Some, None, length, map, slice_get, slice_set, slice_index, nat_eq, is_none, unwrap_or, []}
 use Rattle.fact_store.specs.declared.slot.Slot.{Slot}
 use Rattle.fact_store.specs.declared.slot.Kept.{Kept}
 use Rattle.fact_store.specs.declared.given.Input.{Input}
 use Rattle.fact_store.specs.declared.plan.Plan.{Plan}
 use Rattle.fact_values.specs.Names.{has}
 use Rattle.fact_values.specs.States.{State, same_given}
-use Rattle.fact_values.specs.Values.{needs_or_none}
 use Rattle.fact_store.specs.Given.{states}
 use Rattle.fact_store.specs.Slots.{texts_of, IsSound, AreSound, is_settled}
 use Rattle.fact_store.specs.Plans.{is_marked, AreEdges, AreRanks, AreGrounds}
@@ -49,7 +48,7 @@ module _ {Own F : Type 0} where
   abbrev pub IsReady : List (Slot Own F) → List ℕ → List Bool → ℕ → Type 0
   IsReady slots ranks current index =
       (slot : Slot Own F) → slice_get slots index ≡ Some slot →
-      (j : ℕ) (other : Slot Own F) → slice_get slots j ≡ Some other → has (needs_or_none slot.needs) other.name ≡ true →
+      (j : ℕ) (other : Slot Own F) → slice_get slots j ≡ Some other → has (unwrap_or slot.needs []) other.name ≡ true →
       nat_eq (slice_index ranks j) (slice_index ranks index) ≡ false → IsDone current j other
 
   module _ (own_of : List ℕ → List ℕ → Own) (needs_of : Own → Option (List (List ℕ))) (fact_of : List ℕ → Own → List (List ℕ × State F) → F) (same : F → F → Bool) where

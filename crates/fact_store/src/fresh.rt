@@ -1,11 +1,11 @@
 // How a fact is brought up to the present texts.
-ghost use Rattle.std.specs.Prelude.{◌≡◌, ℕ, ◌+◌, ◌<◌, ◌≤◌, ◌||◌, true, Option, Some, None, IfOk, OnOk, OnErr, length, vec_len, map, if◌then◌else◌, option_map};
+ghost use Rattle.std.specs.Prelude.{◌≡◌, ℕ, ◌+◌, ◌<◌, ◌≤◌, ◌||◌, true, Option, Some, None, IfOk, OnOk, OnErr, length, vec_len, map, if◌then◌else◌, option_map, unwrap_or, []};
 ghost use Rattle.std.specs.Arc.{arc_value};
 ghost use Rattle.std.specs.List.{slice_get};
 ghost use Rattle.fact_values.specs.Names.{has};
 ghost use Rattle.fact_values.specs.States.{same_state, same_given};
 ghost use Rattle.fact_store.specs.Given.{input_state, states};
-ghost use Rattle.fact_values.specs.Values.{needs_or_none, gives, value, given_in, ComesFromTexts};
+ghost use Rattle.fact_values.specs.Values.{gives, value, given_in, ComesFromTexts};
 ghost use Rattle.fact_store.specs.Slots.{texts_of, IsSound, owed};
 ghost use Rattle.fact_store.specs.Right.{IsPlan, IsDone, IsReady, IsRight, Keeps, Brings};
 ghost use Rattle.fact_store.specs.Right as rules;
@@ -34,7 +34,7 @@ fn input_of<D: Derive>(
     requires ready { IsReady slots.now plan.now.ranks.items current.now index }
     requires index { index < length slots.now }
     requires need { (slot : SlotOf D.Own D.Fact) → slice_get slots.now index ≡ Some slot
-        → has (needs_or_none slot.needs) need.now ≡ true }
+        → has (unwrap_or slot.needs []) need.now ≡ true }
     ensures { IfOk result (λ input. (slot : SlotOf D.Own D.Fact)
         → slice_get slots.now index ≡ Some slot
         → input_state input

@@ -1,7 +1,6 @@
 // What is found of the present texts.
-ghost use Rattle.std.specs.Prelude.{◌≡◌, ◌<◌, All, IfOk, length};
+ghost use Rattle.std.specs.Prelude.{◌≡◌, ◌<◌, All, IfOk, length, unwrap_or, []};
 ghost use Rattle.fact_store.specs.Slots.{AreDistinct};
-ghost use Rattle.fact_values.specs.Values.{needs_or_none};
 ghost use Rattle.fact_store.specs.Plans.{IsRow, AreEdges, AreRanks, AreGrounds, IsGround, HasIndices};
 ghost use Rattle.fact_store.specs.Right.{IsPlan};
 
@@ -42,7 +41,7 @@ fn row_of<O: Drop, F: Drop>(
 
 /// The names that a slot needs.
 pub fn needed<O: Drop, F: Drop>(slot: &Slot<O, F>) -> &[Chars]
-    ensures { result.now ≡ needs_or_none slot.now.needs }
+    ensures { result.now ≡ unwrap_or slot.now.needs [] }
 {
     match &slot.needs {
         Some(names) => names.as_slice(),

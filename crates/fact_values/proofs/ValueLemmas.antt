@@ -1,6 +1,6 @@
 -- The value of a name is made of those of its needs, whether they lead back or not.
 use Rattle.std.proofs.Common.{◌≡◌, ℕ, Bool, true, false, List, [], ◌∷◌, Option, Some, None, refl, sym, ap, ◌∙◌, cond, inl, inr, map}
-use Rattle.std.specs.Prelude.{is_some}
+use Rattle.std.specs.Prelude.{is_some, unwrap_or}
 use Rattle.std.specs.FinMap.{get, keys, contains_key-keys}
 use Rattle.order_rec.specs.Ranked.{lower, ranked}
 use Rattle.order_rec.proofs.Rank.{ranked-step, lower-lt}
@@ -8,7 +8,7 @@ use Rattle.list_laws.proofs.Tests.{or-right}
 use Rattle.fact_values.specs.Names.{name_eq, has, Texts}
 use Rattle.fact_values.specs.Reach.{rank}
 use Rattle.fact_values.specs.States.{State, no_text, cyclic, fact}
-use Rattle.fact_values.specs.Values.{needs_or_none, needs_of_text, needs_in, reaches, gives, value_of_needs, value_of_text, value}
+use Rattle.fact_values.specs.Values.{needs_of_text, needs_in, reaches, gives, value_of_needs, value_of_text, value}
 use Rattle.fact_values.proofs.NameLemmas.{true_or_false, has_head}
 use Rattle.fact_values.proofs.ReachLemmas.{leads-need, rank-lt}
 
@@ -33,7 +33,7 @@ module _ {Own F : Type 0} (own_of : List ℕ → List ℕ → Own) (needs_of : O
   value_of_text-same texts f g name None h = refl
   value_of_text-same texts f g name (Some b) h = of_needs (needs_of (own_of name b)) h
     where
-      of_needs : (o : Option (List (List ℕ))) → ((need : List ℕ) → has (needs_or_none o) need ≡ true → gives own_of needs_of fact_of texts f name need ≡ gives own_of needs_of fact_of texts g name need) → value_of_needs own_of needs_of fact_of texts f name (own_of name b) o ≡ value_of_needs own_of needs_of fact_of texts g name (own_of name b) o
+      of_needs : (o : Option (List (List ℕ))) → ((need : List ℕ) → has (unwrap_or o []) need ≡ true → gives own_of needs_of fact_of texts f name need ≡ gives own_of needs_of fact_of texts g name need) → value_of_needs own_of needs_of fact_of texts f name (own_of name b) o ≡ value_of_needs own_of needs_of fact_of texts g name (own_of name b) o
       of_needs None h = refl
       of_needs (Some needs) h = ap (λ xs. fact (fact_of name (own_of name b) xs)) (map-same (λ need. (need, gives own_of needs_of fact_of texts f name need)) (λ need. (need, gives own_of needs_of fact_of texts g name need)) needs (λ need m. ap (λ s. (need, s)) (h need m)))
 

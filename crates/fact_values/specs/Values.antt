@@ -1,21 +1,16 @@
 -- The value of a name, from the texts alone.
-use Rattle.std.specs.Prelude.{ℕ, Bool, true, false, ◌&&◌, not, ◌≡◌, IsSome, if◌then◌else◌, List, [], Option, Some, None, map, count_by}
+use Rattle.std.specs.Prelude.{ℕ, Bool, true, false, ◌&&◌, not, ◌≡◌, IsSome, if◌then◌else◌, List, [], Option, Some, None, map, count_by, unwrap_or}
 use Rattle.std.specs.FinMap.{get, keys}
 use Rattle.order_rec.specs.Ranked.{ranked}
 use Rattle.fact_values.specs.Names.{name_eq, Texts}
 use Rattle.fact_values.specs.Reach.{leads, rank}
 use Rattle.fact_values.specs.States.{State, no_text, cyclic, broken, fact, same_given}
 
--- the needs of an own part, of which a broken one has none
-abbrev pub needs_or_none : Option (List (List ℕ)) → List (List ℕ)
-needs_or_none None = []
-needs_or_none (Some names) = names
-
 module _ {Own F : Type 0} (own_of : List ℕ → List ℕ → Own) (needs_of : Own → Option (List (List ℕ))) (fact_of : List ℕ → Own → List (List ℕ × State F) → F) where
   -- the needs of a text under a name; without a text there are none
   abbrev pub needs_of_text : List ℕ → Option (List ℕ) → List (List ℕ)
   needs_of_text name None = []
-  needs_of_text name (Some bytes) = needs_or_none (needs_of (own_of name bytes))
+  needs_of_text name (Some bytes) = unwrap_or (needs_of (own_of name bytes)) []
 
   -- the needs of a name
   abbrev pub needs_in : Texts → List ℕ → List (List ℕ)

@@ -7,12 +7,12 @@ use Rattle.list_laws.proofs.Lists.{contains-map}
 use Rattle.list_laws.proofs.Texts.{same-text, text-itself}
 use Rattle.module_model.specs.Exports.{nothing}
 use Rattle.module_model.specs.Resolution.{outside_in}
-use Rattle.name_graph.specs.Family.{last, more}
+use Rattle.name_graph.specs.Family.{Leads, last, more}
 use Rattle.front_laws.specs.Fronts.{Front, IsFront, Tree, Fault}
 use Rattle.module_facts.proofs.Inserting.{in-order}
 use Rattle.module_facts.specs.Ordered.{in_order}
 use Rattle.module_facts.specs.Checks.{ImportStatus, Unknown, Cyclic, Refused, Accepted, all_faults, files_given}
-use Rattle.family_facts.specs.Family.{Member, Needs, Reaches, IsCyclic, Diagnosed, IsGiven, unknown, cyclic, refused, accepted, IsDiagnosed, front_fault, checked, is_there}
+use Rattle.family_facts.specs.Family.{Member, Needs, IsCyclic, Diagnosed, IsGiven, unknown, cyclic, refused, accepted, IsDiagnosed, front_fault, checked, is_there}
 use Rattle.family_facts.proofs.Members.{AreOneEach, member-there, there-member}
 use Rattle.family_facts.proofs.OneVerdict.{HasNoOther, fault-needs, needs-or-not, not-there}
 use Rattle.family_facts.proofs.Steps.{leads-or-not, without}
@@ -103,7 +103,7 @@ module _ (one : HasNoOther) (front : HasSome) (family : List Member) (distinct :
 
   -- a module itself, or one that it reaches
   abbrev IsOn : List ℕ → List ℕ → Type 0
-  IsOn name x = (x ≡ name) ⊎ Reaches family name x
+  IsOn name x = (x ≡ name) ⊎ Leads (Needs family) name x
 
   on-need : (name need x : List ℕ) → Needs family name need → IsOn need x → IsOn name x
   on-need name need x n (inl same) = inr (last (subst (λ z. Needs family name z) (sym same) n))
@@ -111,7 +111,7 @@ module _ (one : HasNoOther) (front : HasSome) (family : List Member) (distinct :
 
   back-cyclic : (name need x : List ℕ) → IsOn need x → x ≡ name → IsCyclic family name need
   back-cyclic name need x (inl same) back = inl (sym same ∙ back)
-  back-cyclic name need x (inr rest) back = inr (subst (λ z. Reaches family need z) back rest)
+  back-cyclic name need x (inr rest) back = inr (subst (λ z. Leads (Needs family) need z) back rest)
 
   -- by the modules that are left: all that are there, of those that the name is or reaches
   finding : (n : ℕ) (left : List (List ℕ)) (name : List ℕ) → length left ≤ n → is_there family name ≡ true → ((x : List ℕ) → is_there family x ≡ true → IsOn name x → Contains left x) → HasFinding name

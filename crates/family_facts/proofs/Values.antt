@@ -1,7 +1,7 @@
 -- What is found of a module of a family is what the function of its texts gives.
 use Rattle.std.proofs.Common.{◌≡◌, ◌≢◌, ℕ, Bool, true, false, List, [], ◌∷◌, Option, Some, None, refl, sym, ap, ◌∙◌, subst, map, cond, inl, inr}
 use mathlib.Core.Path.{fun_ext}
-use Rattle.std.specs.Prelude.{◌||◌, Contains}
+use Rattle.std.specs.Prelude.{◌||◌, Contains, unwrap_or}
 use Rattle.std.specs.Cmp.Lexicographic.{nat_list_cmp_total}
 use Rattle.std.specs.FinMap.{find, get, get-from_entries, keys}
 use Rattle.std.specs.Str.{bytes_eq}
@@ -12,7 +12,7 @@ use Rattle.module_model.specs.Exports.{ModuleView, nothing}
 use Rattle.tla_model.specs.Lexemes.{spelled}
 use Rattle.module_model.specs.Resolution.{outside_in}
 use Rattle.unit_grammar.specs.Units.{ModuleUnits}
-use Rattle.name_graph.specs.Family.{last, more}
+use Rattle.name_graph.specs.Family.{Leads, last, more}
 use Rattle.module_graph.specs.Imports.{imports_of}
 use Rattle.front_laws.specs.Fronts.{Front, IsFront, Tree, Fault}
 use Rattle.module_facts.specs.Checks.{ImportStatus, Unknown, Refused, Accepted, all_faults, files_given}
@@ -141,7 +141,7 @@ module _ (one : HasNoOther) (order : (all found : List Diagnostic) → AreInOrde
   needs-of-member m h = ap (values.needs_of_text own_of needs_of fact_of m.name) (text-of-member family distinct m h)
 
   needs-of-tree : (m : Member) (found : ModuleUnits) → Contains family m → IsFront m.name m.bytes (Tree found) → needs m.name ≡ map (spelled m.bytes) (imports_of m.bytes found)
-  needs-of-tree m found h is = needs-of-member m h ∙ ap (λ f. values.needs_or_none (needs_by m.bytes f)) (front-one m (Tree found) is)
+  needs-of-tree m found h is = needs-of-member m h ∙ ap (λ f. unwrap_or (needs_by m.bytes f) []) (front-one m (Tree found) is)
 
   -- one name needs another by the texts exactly where it does by the family
   need-in : (name need : List ℕ) → Needs family name need → has (needs name) need ≡ true
@@ -149,7 +149,7 @@ module _ (one : HasNoOther) (order : (all found : List Diagnostic) → AreInOrde
       subst (λ z. has (needs z) need ≡ true) n.named
       (ap (λ ns. has ns need) (needs-of-tree n.member n.found n.there n.front) ∙ contains-has (map (spelled n.member.bytes) (imports_of n.member.bytes n.found)) need n.needs)
 
-  need-by-front : (m : Member) (need : List ℕ) → Contains family m → (f : Front) → front_of m.name m.bytes ≡ f → has (values.needs_or_none (needs_by m.bytes f)) need ≡ true → Needs family m.name need
+  need-by-front : (m : Member) (need : List ℕ) → Contains family m → (f : Front) → front_of m.name m.bytes ≡ f → has (unwrap_or (needs_by m.bytes f) []) need ≡ true → Needs family m.name need
   need-by-front m need h (Tree found) e has-need =
       record { member = m; found = found; there = h; named = refl; front = subst (λ f. IsFront m.name m.bytes f) e (front-is m.name m.bytes); needs = has-contains (map (spelled m.bytes) (imports_of m.bytes found)) need has-need }
   need-by-front m need h (Fault fault) e has-need = cc
@@ -158,7 +158,7 @@ module _ (one : HasNoOther) (order : (all found : List Diagnostic) → AreInOrde
   need-of-text name need None e h = cc
   need-of-text name need (Some bytes) e h =
       let t = text-member family name bytes e in
-      let own : has (values.needs_or_none (needs_by t.member.bytes (front_of t.member.name t.member.bytes))) need ≡ true = subst (λ b. has (values.needs_or_none (needs_by b (front_of t.member.name b))) need ≡ true) (sym t.is) (subst (λ n. has (values.needs_or_none (needs_by bytes (front_of n bytes))) need ≡ true) (sym t.named) h) in
+      let own : has (unwrap_or (needs_by t.member.bytes (front_of t.member.name t.member.bytes)) []) need ≡ true = subst (λ b. has (unwrap_or (needs_by b (front_of t.member.name b)) []) need ≡ true) (sym t.is) (subst (λ n. has (unwrap_or (needs_by bytes (front_of n bytes)) []) need ≡ true) (sym t.named) h) in
       subst (λ z. Needs family z need) t.named (need-by-front t.member need t.there (front_of t.member.name t.member.bytes) refl own)
 
   need-out : (name need : List ℕ) → has (needs name) need ≡ true → Needs family name need
@@ -167,7 +167,7 @@ module _ (one : HasNoOther) (order : (all found : List Diagnostic) → AreInOrde
 
   -- ---- cycles
 
-  path-of : {a b : List ℕ} → families.Reaches family a b → (xs : List (List ℕ)) × IsPath needs a xs b
+  path-of : {a b : List ℕ} → Leads (families.Needs family) a b → (xs : List (List ℕ)) × IsPath needs a xs b
   path-of (last {a = a} {b = b} n) = (b ∷ [], (need-in a b n, refl))
   path-of (more {a = a} {b = b} n rest) = let p = path-of rest in (b ∷ p.0, (need-in a b n, p.1))
 
@@ -175,7 +175,7 @@ module _ (one : HasNoOther) (order : (all found : List Diagnostic) → AreInOrde
   cyclic-path name need (inl e) = ([], e)
   cyclic-path name need (inr r) = path-of r
 
-  leads-path : (a x : List ℕ) (xs : List (List ℕ)) (b : List ℕ) → has (needs a) x ≡ true → IsPath needs x xs b → families.Reaches family a b
+  leads-path : (a x : List ℕ) (xs : List (List ℕ)) (b : List ℕ) → has (needs a) x ≡ true → IsPath needs x xs b → Leads (families.Needs family) a b
   leads-path a x [] b h e = last (subst (λ z. Needs family a z) e (need-out a x h))
   leads-path a x (y ∷ ys) b h p = more (need-out a x h) (leads-path x y ys b p.0 p.1)
 
@@ -218,7 +218,7 @@ module _ (one : HasNoOther) (order : (all found : List Diagnostic) → AreInOrde
 
   given-of-tree : (m : Member) (found : ModuleUnits) → Contains family m → front_of m.name m.bytes ≡ Tree found → values.given_in own_of needs_of fact_of texts m.name ≡ map (λ need. (need, gives m.name need)) (map (spelled m.bytes) (imports_of m.bytes found))
   unfolding needs gives state
-  given-of-tree m found h e = ap (λ ns. values.all_given own_of needs_of fact_of texts (state_of texts) m.name ns) (needs-of-member m h ∙ ap (λ f. values.needs_or_none (needs_by m.bytes f)) e)
+  given-of-tree m found h e = ap (λ ns. values.all_given own_of needs_of fact_of texts (state_of texts) m.name ns) (needs-of-member m h ∙ ap (λ f. unwrap_or (needs_by m.bytes f) []) e)
 
   no-faults : (fault : Diagnostic) (d : Diagnosed) → d ≡ record { faults = fault ∷ []; outside = nothing } → d.faults ≢ []
   no-faults fault d e none = let k : fault ∷ [] ≡ [] = sym (ap (λ (x : Diagnosed). x.faults) e) ∙ none in cc

@@ -7,7 +7,7 @@ use Rattle.module_model.specs.Bindings.{AreInOrder}
 use Rattle.module_model.specs.Exports.{ModuleView, nothing}
 use Rattle.tla_model.specs.Lexemes.{spelled}
 use Rattle.module_model.specs.Resolution.{outside_in}
-use Rattle.name_graph.specs.Family.{Leads}
+use Rattle.name_graph.specs.Family.{LeadsBack}
 use Rattle.module_graph.specs.Imports.{imports_of}
 use Rattle.front_laws.specs.Fronts.{IsFront, Tree, Fault}
 use Rattle.unit_grammar.specs.Units.{ModuleUnits}
@@ -47,13 +47,9 @@ module _ (family : List Member) where
     pub front : IsFront member.name member.bytes (Tree found)
     pub needs : Contains (map (spelled member.bytes) (imports_of member.bytes found)) need
 
-  -- one or more needs lead from one module to another
-  abbrev pub Reaches : List ℕ → List ℕ → Type 0
-  Reaches = Leads Needs
-
   -- an import of a module is cyclic where it is that module or reaches it
   abbrev pub IsCyclic : List ℕ → List ℕ → Type 0
-  IsCyclic name need = (need ≡ name) ⊎ Reaches need name
+  IsCyclic = LeadsBack Needs
 
   mutual
     -- what one module is to another that needs it

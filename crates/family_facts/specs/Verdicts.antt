@@ -1,5 +1,5 @@
 -- The verdicts on the files of a family, and what they take.
-use Rattle.std.specs.Prelude.{◌≡◌, ◌+◌, ◌-◌, ◌^◌, min, ℕ, List, [], ◌∷◌, Option, Some, None, map, slice_get, take, sum_by, codes}
+use Rattle.std.specs.Prelude.{◌≡◌, ◌+◌, ◌-◌, ◌^◌, min, ℕ, List, [], ◌∷◌, Option, Some, None, map, slice_get, take, sum_by, codes, unwrap_or}
 use Rattle.std.specs.List.{All, AllZip}
 use Rattle.tla_lexeme.specs.Spans.{IsPlaced}
 use Rattle.front_laws.specs.Fronts.{Front, Tree, Fault, readable_len}
@@ -11,18 +11,13 @@ use Rattle.family_facts.specs.Fronts.{front_of}
 use Rattle.family_facts.specs.declared.verdict.File.{File}
 use Rattle.family_facts.specs.declared.verdict.Verdict.{Verdict}
 
--- a text, which is empty where there is none
-abbrev pub text_or_none : Option (List ℕ) → List ℕ
-text_or_none None = []
-text_or_none (Some text) = text
-
 -- the built-in modules
 abbrev pub built_in_names : List (List ℕ)
 built_in_names = codes "Naturals" ∷ codes "Integers" ∷ codes "Reals" ∷ codes "Sequences" ∷ codes "FiniteSets" ∷ codes "Bags" ∷ codes "RealTime" ∷ codes "TLC" ∷ []
 
 -- the built-in module of a name, as a member of a family
 abbrev pub built_in : List ℕ → Member
-built_in name = record { name = name; bytes = text_or_none (std_text name) }
+built_in name = record { name = name; bytes = unwrap_or (std_text name) [] }
 
 -- all built-in modules
 abbrev pub built_in_members : List Member

@@ -17,7 +17,7 @@ use Rattle.std_modules.specs.StdTexts.{std_text}
 use Rattle.list_laws.proofs.Options.{some-there}
 use Rattle.list_laws.proofs.Tests.{and-both}
 use Rattle.family_facts.specs.Family.{Member, is_there}
-use Rattle.family_facts.specs.Verdicts.{AreDistinct, built_in, member_of, text_or_none}
+use Rattle.family_facts.specs.Verdicts.{AreDistinct, built_in, member_of}
 use Rattle.family_tables.specs.Modules.{Entry, IsEntry, IsModule, IsTreeOf, AreModules, added}
 use Rattle.family_tables.specs.Tables.{entry_of, names_in}
 use Rattle.family_tables.specs.declared.reading.Module.{Module}
@@ -86,7 +86,7 @@ none-item : {T : Type 0} (o : Option T) (x : T) → is_some o ≡ false → o �
 none-item None x e s = cc
 none-item (Some y) x e s = cc
 
-pub unwrapped : (o : Option (Bor (List ℕ))) (r d : Bor (List ℕ)) → r ≡ unwrap_or o d → d.now ≡ [] → r.now ≡ text_or_none (option_copied o)
+pub unwrapped : (o : Option (Bor (List ℕ))) (r d : Bor (List ℕ)) → r ≡ unwrap_or o d → d.now ≡ [] → r.now ≡ unwrap_or (option_copied o) []
 unwrapped None r d e n = ap (λ (x : Bor (List ℕ)). x.now) e ∙ n
 unwrapped (Some x) r d e n = ap (λ (y : Bor (List ℕ)). y.now) e
 
@@ -100,7 +100,7 @@ built-in-there members entries name o e some are =
     subst (λ ms. AreModules ms entries) (sym (ap (λ b. cond b members (members ++ built_in name ∷ [])) there)) are
 
 -- and another one is
-pub built-in-more : (members : List Member) (entries entries' : List Entry) (name bytes : List ℕ) (o : Option (Bor Module)) (m : Module) → option_copied o ≡ entry_of entries name → is_some o ≡ false → bytes ≡ text_or_none (std_text name) → IsModule name bytes m → entries' ≡ entries ++ (name, m) ∷ [] → AreModules members entries →
+pub built-in-more : (members : List Member) (entries entries' : List Entry) (name bytes : List ℕ) (o : Option (Bor Module)) (m : Module) → option_copied o ≡ entry_of entries name → is_some o ≡ false → bytes ≡ unwrap_or (std_text name) [] → IsModule name bytes m → entries' ≡ entries ++ (name, m) ∷ [] → AreModules members entries →
     AreModules (added members (built_in name)) entries'
 built-in-more members entries entries' name bytes o m e none isbytes is same are =
     let new : is_there members name ≡ false = ⊎_elim

@@ -1,5 +1,5 @@
 // The modules of a family with what they need.
-ghost use Rattle.std.specs.Prelude.{◌≡◌, ◌<◌, ◌^◌, ℕ, List as ListOf, IfOk, IfErr, OnOk, length, map, sum_by, take};
+ghost use Rattle.std.specs.Prelude.{◌≡◌, ◌<◌, ◌^◌, ℕ, List as ListOf, IfOk, IfErr, OnOk, length, map, sum_by, take, unwrap_or, []};
 ghost use Rattle.std.specs.List.{AllByRecursion, fold};
 ghost use Rattle.unit_grammar.specs.Units.{ModuleUnits};
 ghost use Rattle.unit_grammar.specs.UnitNodes.{module_of};
@@ -12,7 +12,7 @@ ghost use Rattle.tla_model.specs.Lexemes.{LexemesLie};
 ghost use Rattle.tla_model.specs.Lexemes as lexemes_of;
 ghost use Rattle.std_modules.specs.StdTexts.{std_text};
 ghost use Rattle.family_facts.specs.Family.{Member};
-ghost use Rattle.family_facts.specs.Verdicts.{AreDistinct, built_in, family_of, member_of, text_or_none};
+ghost use Rattle.family_facts.specs.Verdicts.{AreDistinct, built_in, family_of, member_of};
 ghost use Rattle.family_tables.specs.Modules as modules_of;
 ghost use Rattle.family_tables.specs.Modules.{IsTreeOf, IsModule, AreModules, added};
 
@@ -123,7 +123,7 @@ fn read_files(alloc: Global, files: &[File]) -> Result<Table<Module>, Memory>
 
 // Adds the built-in module of a name, unless a module has this name.
 fn add_built_in(alloc: Global, modules: &mut Table<Module>, name: &str) -> Result<(), Memory>
-    requires { length (text_or_none (std_text name.now)) < 2 ^ 31 }
+    requires { length (unwrap_or (std_text name.now) []) < 2 ^ 31 }
     ensures { (members : ListOf Member) → AreModules members modules.old
         → OnOk result (AreModules (added members (built_in name.now)) modules.new) }
 {
@@ -138,7 +138,7 @@ fn add_built_in(alloc: Global, modules: &mut Table<Module>, name: &str) -> Resul
 
 // Adds the built-in modules of these names, but for those whose name a module has.
 fn add_all(alloc: Global, modules: &mut Table<Module>, names: &[&'static str]) -> Result<(), Memory>
-    requires { AllByRecursion (λ name. length (text_or_none (std_text name.now))
+    requires { AllByRecursion (λ name. length (unwrap_or (std_text name.now) [])
         < 2 ^ 31) names.now }
     ensures { (members : ListOf Member) → AreModules members modules.old
         → OnOk result

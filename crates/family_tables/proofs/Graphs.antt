@@ -1,6 +1,6 @@
 -- Graphs of needs, the orders that they have, and cycles.
 use Rattle.std.proofs.Common.{◌≡◌, ◌<◌, ℕ, zero, suc, ◌+◌, List, [], ◌∷◌, ◌++◌, Option, Some, None, Result, Ok, Err, IfOk, refl, sym, ap, ◌∙◌, cond, take, length, get_or, true, false, Bool, ⊎_elim, inl, inr, subst, add-one}
-use Rattle.std.specs.Prelude.{◌⊎◌, ◌↔◌, Contains, slice_get, IsSome, IsTrue, option_map}
+use Rattle.std.specs.Prelude.{◌⊎◌, ◌↔◌, Contains, slice_get, IsSome, IsTrue, option_map, unwrap_or}
 use Rattle.std.specs.Cmp.Lexicographic.{nat_list_cmp_total}
 use Rattle.std.specs.FinMap.{get, insert, empty, get-insert, get-empty}
 use Rattle.std.specs.Str.{bytes_eq}
@@ -11,11 +11,11 @@ use Rattle.std.proofs.lemmas.Map.Text.{is_eq-slice_cmp}
 use Rattle.std.proofs.lemmas.Option.{slice_get-map}
 use Rattle.tool_list.specs.declared.Memory.{Memory}
 use Rattle.name_graph.specs.Family as graphs
-use Rattle.name_graph.specs.Family.{Leads, last, more, name_cmp, needs_or_none}
+use Rattle.name_graph.specs.Family.{Leads, LeadsBack, last, more, name_cmp}
 use Rattle.list_laws.proofs.Lists.{contains-map}
 use Rattle.list_laws.proofs.Texts.{same-text, text-itself}
 use Rattle.family_tables.specs.Modules.{Entry}
-use Rattle.family_tables.specs.Plans.{AreOnce, Needs, Reaches, IsCyclic, NeedsBefore, IsGraph, IsCyclicIn, AreKept, IsOrder}
+use Rattle.family_tables.specs.Plans.{AreOnce, Needs, NeedsBefore, IsGraph, AreKept, IsOrder}
 use Rattle.family_tables.specs.Tables.{names_in}
 use Rattle.family_facts.proofs.Lists.{at-contains, at-same, contains-at, contains-pushed, here, none-there}
 
@@ -61,8 +61,8 @@ module _ (names : List (List ℕ)) (Has : List ℕ → List ℕ → Type 0) (gra
       (λ (t : bytes_eq q name ≡ true).
       let e : get (insert graph name needs) q ≡ Some needs = get-put graph name needs q ∙ ap (λ b. cond b (Some needs) (get graph q)) t in
       let s : q ≡ name = same-text q name t in (
-        λ n. subst (λ x. Has x need) (sym s) ((own need).0 (subst (λ o. Contains (needs_or_none o) need) e n)),
-        λ h. subst (λ o. Contains (needs_or_none o) need) (sym e) ((own need).1 (subst (λ x. Has x need) s h)),
+        λ n. subst (λ x. Has x need) (sym s) ((own need).0 (subst (λ o. Contains (unwrap_or o []) need) e n)),
+        λ h. subst (λ o. Contains (unwrap_or o []) need) (sym e) ((own need).1 (subst (λ x. Has x need) s h)),
       ))
       (λ (f : bytes_eq q name ≡ false).
       let e : get (insert graph name needs) q ≡ get graph q = get-put graph name needs q ∙ ap (λ b. cond b (Some needs) (get graph q)) f in
@@ -70,8 +70,8 @@ module _ (names : List (List ℕ)) (Has : List ℕ → List ℕ → Type 0) (gra
         | inl b ↦ b
         | inr same ↦ let k : true ≡ false = sym (text-itself q name (sym same)) ∙ f in cc
       ] in (
-        λ n. ((is.needs q need before).0 (subst (λ o. Contains (needs_or_none o) need) e n)),
-        λ h. subst (λ o. Contains (needs_or_none o) need) (sym e) ((is.needs q need before).1 h),
+        λ n. ((is.needs q need before).0 (subst (λ o. Contains (unwrap_or o []) need) e n)),
+        λ h. subst (λ o. Contains (unwrap_or o []) need) (sym e) ((is.needs q need before).1 h),
       ))
       (cases_Bool (bytes_eq q name))
 
@@ -118,7 +118,7 @@ needs-named entries name need n = subst (λ x. Contains (names_in entries) x) n.
 pub graph-has : (names : List (List ℕ)) (Has : List ℕ → List ℕ → Type 0) (graph : graphs.Family) → IsGraph names Has graph → (name need : List ℕ) → graphs.Needs graph name need → Has name need
 graph-has names Has graph is name need n = (is.needs name need ((is.put name).0 (put (get graph name) n))).0 n
   where
-    put : (o : Option (List (List ℕ))) → Contains (needs_or_none o) need → IsSome o
+    put : (o : Option (List (List ℕ))) → Contains (unwrap_or o []) need → IsSome o
     put None c = absurd (none-there need c)
     put (Some needs) c = refl
 
@@ -129,13 +129,13 @@ module _ (entries : List Entry) (graph : graphs.Family) (is : IsGraph (names_in 
   to-graph : (name need : List ℕ) → Needs entries name need → graphs.Needs graph name need
   to-graph name need n = (is.needs name need (needs-named entries name need n)).1 n
 
-  cyclic-from : (name need : List ℕ) → IsCyclicIn graph name need → IsCyclic entries name need
-  cyclic-from name need c = elim c as (λ _. IsCyclic entries name need) [ inl e ↦ inl e | inr r ↦ inr (leads-map from-graph r) ]
+  cyclic-from : (name need : List ℕ) → LeadsBack (graphs.Needs graph) name need → LeadsBack (Needs entries) name need
+  cyclic-from name need c = elim c as (λ _. LeadsBack (Needs entries) name need) [ inl e ↦ inl e | inr r ↦ inr (leads-map from-graph r) ]
 
-  cyclic-to : (name need : List ℕ) → IsCyclic entries name need → IsCyclicIn graph name need
-  cyclic-to name need c = elim c as (λ _. IsCyclicIn graph name need) [ inl e ↦ inl e | inr r ↦ inr (leads-map to-graph r) ]
+  cyclic-to : (name need : List ℕ) → LeadsBack (Needs entries) name need → LeadsBack (graphs.Needs graph) name need
+  cyclic-to name need c = elim c as (λ _. LeadsBack (graphs.Needs graph) name need) [ inl e ↦ inl e | inr r ↦ inr (leads-map to-graph r) ]
 
-  pub cyclic-answer : (name need : List ℕ) (r : Result Bool Memory) → IfOk r (λ answer. IsTrue answer ↔ IsCyclicIn graph name need) → IfOk r (λ answer. IsTrue answer ↔ IsCyclic entries name need)
+  pub cyclic-answer : (name need : List ℕ) (r : Result Bool Memory) → IfOk r (λ answer. IsTrue answer ↔ LeadsBack (graphs.Needs graph) name need) → IfOk r (λ answer. IsTrue answer ↔ LeadsBack (Needs entries) name need)
   cyclic-answer name need (Ok b) h = (λ t. cyclic-from name need (h.0 t), λ c. h.1 (cyclic-to name need c))
   cyclic-answer name need (Err e) h = tt
 
@@ -146,14 +146,14 @@ module _ (entries : List Entry) (graph : graphs.Family) (is : IsGraph (names_in 
     λ n. (k need).1 (subst (λ ns. Contains ns need) (sym same) ((entry-needs entries i e once h need).1 n.0), λ cyclic. n.1 (cyclic-from e.0 need cyclic)),
   )
 
-  pub acyclic : ((name : List ℕ) → graphs.Reaches graph name name → ⊥) → (name : List ℕ) → Reaches entries name name → ⊥
+  pub acyclic : ((name : List ℕ) → graphs.Reaches graph name name → ⊥) → (name : List ℕ) → Leads (Needs entries) name name → ⊥
   acyclic none name r = none name (leads-map to-graph r)
 
 -- no cycle has only needs that are not cyclic
 pub no-cycle : (entries : List Entry) (name : List ℕ) → Leads (NeedsBefore entries) name name → ⊥
 no-cycle entries name h =
     let f = first-step h in
-    (f.1).1 (elim f.2 as (λ _. IsCyclic entries name f.0) [ inl e ↦ inl e | inr rest ↦ inr (leads-map (λ a b n. n.0) rest) ])
+    (f.1).1 (elim f.2 as (λ _. LeadsBack (Needs entries) name f.0) [ inl e ↦ inl e | inr rest ↦ inr (leads-map (λ a b n. n.0) rest) ])
 
 pub no-fault : (entries : List Entry) (graph : graphs.Family) (name : List ℕ) → IsGraph (names_in entries) (NeedsBefore entries) graph → graphs.Reaches graph name name → ⊥
 no-fault entries graph name is r = no-cycle entries name (leads-map (graph-has (names_in entries) (NeedsBefore entries) graph is) r)
@@ -166,7 +166,7 @@ order-is entries Has graph order is has o = record {
   behind = λ i j name need hi hj n. o.behind i j name need hi hj ((is.needs name need ((is.put name).0 ((o.all name).1 (at-contains order i name hi)))).1 (has name need n));
 }
 
-pub no-need-cyclic : (entries : List Entry) (name need : List ℕ) → ((other : List ℕ) → Reaches entries other other → ⊥) → Needs entries name need → (IsTrue false → IsCyclic entries name need) × (IsCyclic entries name need → IsTrue false)
+pub no-need-cyclic : (entries : List Entry) (name need : List ℕ) → ((other : List ℕ) → Leads (Needs entries) other other → ⊥) → Needs entries name need → (IsTrue false → LeadsBack (Needs entries) name need) × (LeadsBack (Needs entries) name need → IsTrue false)
 no-need-cyclic entries name need none n = (
   λ t. cc,
   λ c. elim c as (λ _. IsTrue false) [
@@ -177,13 +177,13 @@ no-need-cyclic entries name need none n = (
 
 -- ---- needs that are kept
 
-pub kept-more : (graph : graphs.Family) (name item : List ℕ) (needs : List (List ℕ)) (i : ℕ) (d : List ℕ) (kept kept' : List (List ℕ)) → i < length needs → item ≡ get_or needs i d → AreKept graph name (take i needs) kept → (IsCyclicIn graph name item → ⊥) → kept' ≡ kept ++ item ∷ [] → AreKept graph name (take (i + 1) needs) kept'
+pub kept-more : (graph : graphs.Family) (name item : List ℕ) (needs : List (List ℕ)) (i : ℕ) (d : List ℕ) (kept kept' : List (List ℕ)) → i < length needs → item ≡ get_or needs i d → AreKept graph name (take i needs) kept → (LeadsBack (graphs.Needs graph) name item → ⊥) → kept' ≡ kept ++ item ∷ [] → AreKept graph name (take (i + 1) needs) kept'
 kept-more graph name item needs i d kept kept' l is inv not same =
     subst (λ ks. AreKept graph name (take (i + 1) needs) ks) (sym same)
     (subst (λ ns. AreKept graph name ns (kept ++ item ∷ [])) (ap (λ x. take i needs ++ x ∷ []) is ∙ sym (take_more needs i d l)) (λ need. (
-      λ c. elim (contains-pushed kept item need c) as (λ _. Contains (take i needs ++ item ∷ []) need × (IsCyclicIn graph name need → ⊥)) [
+      λ c. elim (contains-pushed kept item need c) as (λ _. Contains (take i needs ++ item ∷ []) need × (LeadsBack (graphs.Needs graph) name need → ⊥)) [
         | inl b ↦ let r = (inv need).0 b in (Contains-append_left (take i needs) (item ∷ []) need r.0, r.1)
-        | inr e ↦ (subst (λ x. Contains (take i needs ++ item ∷ []) x) e (Contains-append_right (take i needs) (item ∷ []) item (here item [])), subst (λ x. IsCyclicIn graph name x → ⊥) e not)
+        | inr e ↦ (subst (λ x. Contains (take i needs ++ item ∷ []) x) e (Contains-append_right (take i needs) (item ∷ []) item (here item [])), subst (λ x. LeadsBack (graphs.Needs graph) name x → ⊥) e not)
       ],
       λ h. elim (contains-pushed (take i needs) item need h.0) as (λ _. Contains (kept ++ item ∷ []) need) [
         | inl b ↦ Contains-append_left kept (item ∷ []) need ((inv need).1 (b, h.1))
@@ -191,13 +191,13 @@ kept-more graph name item needs i d kept kept' l is inv not same =
       ],
     )))
 
-pub kept-skip : (graph : graphs.Family) (name item : List ℕ) (needs : List (List ℕ)) (i : ℕ) (d : List ℕ) (kept kept' : List (List ℕ)) → i < length needs → item ≡ get_or needs i d → AreKept graph name (take i needs) kept → IsCyclicIn graph name item → kept' ≡ kept → AreKept graph name (take (i + 1) needs) kept'
+pub kept-skip : (graph : graphs.Family) (name item : List ℕ) (needs : List (List ℕ)) (i : ℕ) (d : List ℕ) (kept kept' : List (List ℕ)) → i < length needs → item ≡ get_or needs i d → AreKept graph name (take i needs) kept → LeadsBack (graphs.Needs graph) name item → kept' ≡ kept → AreKept graph name (take (i + 1) needs) kept'
 kept-skip graph name item needs i d kept kept' l is inv cyclic same =
     subst (λ ks. AreKept graph name (take (i + 1) needs) ks) (sym same)
     (subst (λ ns. AreKept graph name ns kept) (ap (λ x. take i needs ++ x ∷ []) is ∙ sym (take_more needs i d l)) (λ need. (
       λ c. let r = (inv need).0 c in (Contains-append_left (take i needs) (item ∷ []) need r.0, r.1),
       λ h. elim (contains-pushed (take i needs) item need h.0) as (λ _. Contains kept need) [
         | inl b ↦ (inv need).1 (b, h.1)
-        | inr e ↦ absurd (h.1 (subst (λ x. IsCyclicIn graph name x) e cyclic))
+        | inr e ↦ absurd (h.1 (subst (λ x. LeadsBack (graphs.Needs graph) name x) e cyclic))
       ],
     )))

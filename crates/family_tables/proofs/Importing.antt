@@ -16,6 +16,7 @@ use Rattle.list_laws.proofs.Texts.{same-text, text-itself}
 use Rattle.family_facts.specs.Family as families
 use Rattle.family_facts.specs.Family.{Member, IsGiven, unknown, cyclic, refused, accepted, is_there}
 use Rattle.family_tables.specs.Modules.{Entry}
+use Rattle.name_graph.specs.Family.{LeadsBack}
 use Rattle.family_tables.specs.Plans as plans
 use Rattle.family_tables.specs.Plans.{IsPlan}
 use Rattle.family_tables.specs.Tables.{entry_of}
@@ -36,7 +37,7 @@ IsGivenBy (outcome.Accepted face) given = given ≡ Accepted (face_outside (arc_
 
 -- what is asked of a plan of the modules
 abbrev pub SaysCyclic : Plan → List ℕ → List ℕ → Bool → Type 0
-SaysCyclic plan name need answer = (entries : List Entry) → IsPlan entries plan → plans.Needs entries name need → IsTrue answer ↔ plans.IsCyclic entries name need
+SaysCyclic plan name need answer = (entries : List Entry) → IsPlan entries plan → plans.Needs entries name need → IsTrue answer ↔ LeadsBack (plans.Needs entries) name need
 
 module _ (family : List Member) (plan : Plan) (outcomes : List (List ℕ × Outcome)) (name need : List ℕ) (answer : Bool) (says : SaysCyclic plan name need answer) (ready : IsReady family plan outcomes name) (n : families.Needs family name need) where
   cyclic-here : answer ≡ true → families.IsCyclic family name need

@@ -1,15 +1,12 @@
 -- In which order modules are checked, and which of their needs are cyclic.
 use Rattle.std.specs.Prelude.{◌≡◌, ◌<◌, ◌↔◌, ◌⊎◌, ℕ, List, Option, Some, None, Contains, IsSome, slice_get}
 use Rattle.std.specs.FinMap.{get}
-use Rattle.name_graph.specs.Family.{Leads}
+use Rattle.name_graph.specs.Family.{Leads, LeadsBack}
+pub use Rattle.name_graph.specs.Family.{AreOnce}
 use Rattle.name_graph.specs.Family as graphs
 use Rattle.family_tables.specs.Modules.{Entry}
 use Rattle.family_tables.specs.Tables.{names_in}
 use Rattle.family_tables.specs.declared.order.Plan.{Plan}
-
--- no name stands twice
-abbrev pub AreOnce : List (List ℕ) → Type 0
-AreOnce names = (i j : ℕ) (name : List ℕ) → slice_get names i ≡ Some name → slice_get names j ≡ Some name → i ≡ j
 
 -- ---- needs
 
@@ -21,17 +18,9 @@ module _ (entries : List Entry) where
     pub named : entry.0 ≡ name
     pub needs : Contains entry.1.needs need
 
-  -- a module needs another, at once or through others
-  abbrev pub Reaches : List ℕ → List ℕ → Type 0
-  Reaches = Leads Needs
-
-  -- a need of a module is cyclic where it is that module or reaches it
-  abbrev pub IsCyclic : List ℕ → List ℕ → Type 0
-  IsCyclic name need = (need ≡ name) ⊎ Reaches need name
-
-  -- a need that is not cyclic
+  -- a need that does not lead back
   abbrev pub NeedsBefore : List ℕ → List ℕ → Type 0
-  NeedsBefore name need = Needs name need × (IsCyclic name need → ⊥)
+  NeedsBefore name need = Needs name need × (LeadsBack Needs name need → ⊥)
 
 -- ---- graphs
 
@@ -40,17 +29,13 @@ pub record IsGraph (names : List (List ℕ)) (Has : List ℕ → List ℕ → Ty
   pub put : (name : List ℕ) → IsSome (get graph name) ↔ Contains names name
   pub needs : (name need : List ℕ) → Contains names name → graphs.Needs graph name need ↔ Has name need
 
--- a need of a name in a graph is cyclic
-abbrev pub IsCyclicIn : graphs.Family → List ℕ → List ℕ → Type 0
-IsCyclicIn graph name need = (need ≡ name) ⊎ graphs.Reaches graph need name
-
--- those of some needs that are not cyclic
+-- those of some needs that do not lead back
 abbrev pub AreKept : graphs.Family → List ℕ → List (List ℕ) → List (List ℕ) → Type 0
-AreKept graph name needs kept = (need : List ℕ) → Contains kept need ↔ (Contains needs need × (IsCyclicIn graph name need → ⊥))
+AreKept graph name needs kept = (need : List ℕ) → Contains kept need ↔ (Contains needs need × (LeadsBack (graphs.Needs graph) name need → ⊥))
 
 -- ---- plans
 
--- each module once, and each behind what it needs, but for cyclic needs
+-- each module once, and each behind what it needs, but for needs that lead back
 pub record IsOrder (entries : List Entry) (names : List (List ℕ)) : Type 0 where
   pub all : (name : List ℕ) → Contains names name ↔ Contains (names_in entries) name
   pub once : AreOnce names
@@ -58,7 +43,7 @@ pub record IsOrder (entries : List Entry) (names : List (List ℕ)) : Type 0 whe
 
 -- there is a graph of the needs where some module reaches itself
 abbrev pub IsCycles : List Entry → Option graphs.Family → Type 0
-IsCycles entries None = (name : List ℕ) → Reaches entries name name → ⊥
+IsCycles entries None = (name : List ℕ) → Leads (Needs entries) name name → ⊥
 IsCycles entries (Some graph) = IsGraph (names_in entries) (Needs entries) graph
 
 -- a plan has an order of the modules, and where some module reaches itself the graph of their needs

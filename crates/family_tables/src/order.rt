@@ -1,9 +1,11 @@
 // The order in which modules are checked.
 ghost use Rattle.std.specs.Prelude.{◌≡◌, ◌↔◌, ℕ, List as ListOf, IsTrue, IfOk, Contains};
+ghost use Rattle.name_graph.specs.Family as graphs;
+ghost use Rattle.name_graph.specs.Family.{LeadsBack};
 ghost use Rattle.family_tables.specs.Modules.{Entry};
 ghost use Rattle.family_tables.specs.Tables.{names_in};
 ghost use Rattle.family_tables.specs.Plans as plans;
-ghost use Rattle.family_tables.specs.Plans.{AreOnce, IsCyclicIn, IsGraph, AreKept, IsOrder, IsPlan};
+ghost use Rattle.family_tables.specs.Plans.{AreOnce, IsGraph, AreKept, IsOrder, IsPlan};
 
 use crate::reading::Module;
 use crate::table::Table;
@@ -35,7 +37,8 @@ fn graph_of(alloc: Global, modules: &Table<Module>) -> Result<Graph, Memory>
 
 // Whether a need of a name is that name or reaches it.
 fn is_cyclic_in(alloc: Global, graph: &Graph, name: &str, need: &str) -> Result<bool, Memory>
-    ensures { IfOk result (λ answer. IsTrue answer ↔ IsCyclicIn graph.now name.now need.now) }
+    ensures { IfOk result
+        (λ answer. IsTrue answer ↔ LeadsBack (graphs.Needs graph.now) name.now need.now) }
 {
     if need == name {
         return Ok(true);
@@ -131,7 +134,8 @@ impl Plan {
     pub fn is_cyclic(&self, alloc: Global, name: &str, need: &str) -> Result<bool, Memory>
         ensures { (modules : ListOf Entry) → IsPlan modules self.now
             → plans.Needs modules name.now need.now
-            → IfOk result (λ answer. IsTrue answer ↔ plans.IsCyclic modules name.now need.now) }
+            → IfOk result
+            (λ answer. IsTrue answer ↔ LeadsBack (plans.Needs modules) name.now need.now) }
     {
         match &self.cycles {
             Some(graph) => is_cyclic_in(alloc, graph, name, need),

@@ -1,6 +1,6 @@
 -- Names and the indices where they stand.
 use Rattle.std.proofs.Common.{◌≡◌, ℕ, zero, suc, ◌+◌, ◌<◌, Bool, true, false, List, [], ◌∷◌, ◌++◌, Option, Some, None, refl, sym, ap, ◌∙◌, subst, cond, inl, inr, map, take, length, get_or, arith}
-use Rattle.std.specs.Prelude.{◌⊎◌, Contains, slice_get, filter_map, nat_lt, string_bytes, String, All}
+use Rattle.std.specs.Prelude.{◌⊎◌, Contains, slice_get, filter_map, nat_lt, string_bytes, String, All, unwrap_or}
 use Rattle.std.specs.List.{cons_option, position_or_len, list_any, IsDistinct}
 use Rattle.std.specs.Map.{keys_of}
 use Rattle.std.specs.Ordering.{is_eq, eq_by_cmp}
@@ -19,7 +19,7 @@ use Rattle.std.proofs.lemmas.Option.{slice_get-get_or, get_or_from_slice_get}
 use Rattle.indexmap.specs.IndexMap.{insert_entry}
 use Rattle.list_laws.proofs.Lists.{at-map, at-mapped}
 use Rattle.list_laws.proofs.Texts.{any-contains, contains-any, same-text, text-itself}
-use Rattle.name_graph.specs.Family.{name_cmp, needs_or_none, Needs, Leads, last, more, Reaches}
+use Rattle.name_graph.specs.Family.{name_cmp, Needs, Leads, last, more, Reaches}
 use Rattle.name_graph.specs.Indices.{Has, Edge, Way, HasIndices, AreReached}
 use Rattle.name_graph.specs.Rows.{Rows, AreDistinct, named, family_of, index_of, indices_of, edges_of, SomeNeeds}
 use Rattle.name_graph.proofs.Lists.{at-within, at-there, at-same}
@@ -153,13 +153,13 @@ family-some rows q needs h = find-some rows q needs (sym (get-from_entries nat_l
 pub needs-row : (rows : Rows) (q need : List ℕ) → Needs (family_of rows) q need → (i : ℕ) × (row : Row) × (slice_get rows i ≡ Some row) × (name row ≡ q) × Contains row.1 need
 needs-row rows q need h = by (get (family_of rows) q) refl h
   where
-    by : (o : Option (List (List ℕ))) → get (family_of rows) q ≡ o → Contains (needs_or_none o) need → (i : ℕ) × (row : Row) × (slice_get rows i ≡ Some row) × (name row ≡ q) × Contains row.1 need
+    by : (o : Option (List (List ℕ))) → get (family_of rows) q ≡ o → Contains (unwrap_or o []) need → (i : ℕ) × (row : Row) × (slice_get rows i ≡ Some row) × (name row ≡ q) × Contains row.1 need
     by None t c = let l : c.0 < 0 = c.1 in absurd (omega arith)
     by (Some needs) t c = let r = family-some rows q needs t in (r.0, r.1, r.2, r.3, subst (λ ns. Contains ns need) (sym r.4) c)
 
 module _ (rows : Rows) (d : AreDistinct rows) where
   pub row-needs : (i : ℕ) (row : Row) (need : List ℕ) → slice_get rows i ≡ Some row → Contains row.1 need → Needs (family_of rows) (name row) need
-  row-needs i row need e c = subst (λ (o : Option (List (List ℕ))). Contains (needs_or_none o) need) (sym (family-there rows d i row e)) c
+  row-needs i row need e c = subst (λ (o : Option (List (List ℕ))). Contains (unwrap_or o []) need) (sym (family-there rows d i row e)) c
 
   pub edge-needs : (i j : ℕ) (a b : Row) → slice_get rows i ≡ Some a → slice_get rows j ≡ Some b → Edge (edges_of rows) i j → Contains a.1 (name b)
   edge-needs i j a b e f g =

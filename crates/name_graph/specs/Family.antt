@@ -1,5 +1,5 @@
 -- Which names need which, and what follows of it.
-use Rattle.std.specs.Prelude.{◌≡◌, ◌<◌, ◌↔◌, ℕ, List, [], Option, Some, None, Contains, IsSome, slice_get}
+use Rattle.std.specs.Prelude.{◌≡◌, ◌<◌, ◌↔◌, ◌⊎◌, ℕ, List, [], Option, Some, None, Contains, IsSome, slice_get, unwrap_or}
 use Rattle.std.specs.Ordering.{nat_cmp}
 use Rattle.std.specs.Cmp.Lexicographic.{slice_cmp}
 use Rattle.std.specs.Coded.{Coded, coded_list, coded_ℕ}
@@ -22,28 +22,31 @@ Family = FinMap name_cmp (List (List ℕ))
 abbrev pub family_code : Coded Family
 family_code = map.code (coded_list coded_ℕ) (coded_list (coded_list coded_ℕ))
 
--- the needs of a name; one that was not put has none
-abbrev pub needs_or_none : Option (List (List ℕ)) → List (List ℕ)
-needs_or_none None = []
-needs_or_none (Some names) = names
-
 -- one name needs another; a name that was not put needs none
 abbrev pub Needs : Family → List ℕ → List ℕ → Type 0
-Needs family name need = Contains (needs_or_none (get family name)) need
+Needs family name need = Contains (unwrap_or (get family name) []) need
 
 -- one step or more lead from one to another
 pub data Leads {A : Type 0} (Step : A → A → Type 0) : A → A → Type 0 where
   last : {a b : A} → Step a b → Leads Step a b
   more : {a b c : A} → Step a b → Leads Step b c → Leads Step a c
 
+-- a step from one to another leads back: they are one, or steps lead from the other to the one
+abbrev pub LeadsBack : {A : Type 0} → (A → A → Type 0) → A → A → Type 0
+LeadsBack Step a b = (b ≡ a) ⊎ Leads Step b a
+
 -- one or more needs lead from one name to another
 abbrev pub Reaches : Family → List ℕ → List ℕ → Type 0
 Reaches family = Leads (Needs family)
 
+-- no name stands twice
+abbrev pub AreOnce : List (List ℕ) → Type 0
+AreOnce names = (i j : ℕ) (name : List ℕ) → slice_get names i ≡ Some name → slice_get names j ≡ Some name → i ≡ j
+
 -- each name that was put, once, and no other; each behind every put name that it needs
 pub record IsOrder (family : Family) (names : List (List ℕ)) : Type 0 where
   pub all : (name : List ℕ) → IsSome (get family name) ↔ Contains names name
-  pub once : (i j : ℕ) (name : List ℕ) → slice_get names i ≡ Some name → slice_get names j ≡ Some name → i ≡ j
+  pub once : AreOnce names
   pub behind : (i j : ℕ) (name need : List ℕ) → slice_get names i ≡ Some name → slice_get names j ≡ Some need → Needs family name need → j < i
 
 -- the first name in byte order that reaches itself

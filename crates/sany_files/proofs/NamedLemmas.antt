@@ -10,7 +10,8 @@ use Rattle.family_facts.specs.declared.verdict.File.{File}
 use Rattle.list_laws.proofs.Lists.{pushed-cases}
 use Rattle.tla_lexeme.specs.LexemeSets.{is_identifier}
 use Rattle.sany_files.specs.Files.{module_of_file, modules_of_listing, with_read}
-use Rattle.sany_files.specs.Reading.{AreNamed, AreNamesDistinct}
+use Rattle.name_graph.specs.Family.{AreOnce}
+use Rattle.sany_files.specs.Reading.{AreNamed}
 use Rattle.sany_files.proofs.DistinctLemmas.{file-name, filter_map-apart, sorted-apart}
 
 -- two files of one module are one
@@ -18,7 +19,7 @@ one-file : (a b name : List ℕ) → module_of_file a ≡ Some name → module_o
 one-file a b name is_a is_b = file-name is_identifier a name is_a ∙ sym (file-name is_identifier b name is_b)
 
 -- no module of a listing stands twice
-pub modules-distinct : (names : List (List ℕ)) → IsStrictlySortedBy (slice_cmp nat_cmp) names → AreNamesDistinct (modules_of_listing names)
+pub modules-distinct : (names : List (List ℕ)) → IsStrictlySortedBy (slice_cmp nat_cmp) names → AreOnce (modules_of_listing names)
 modules-distinct names sorted = filter_map-apart module_of_file one-file names (sorted-apart names sorted)
 
 module _ (files : List File) (names : List (List ℕ)) (i : ℕ) (name : List ℕ) (at : slice_get names i ≡ Some name) (named : AreNamed files names i) where
@@ -29,13 +30,13 @@ module _ (files : List File) (names : List (List ℕ)) (i : ℕ) (name : List �
       (pushed-cases files f g k e)
 
   -- a file that is there has another name
-  not-there : AreNamesDistinct names → (k : ℕ) (a : File) → slice_get files k ≡ Some a → a.name ≡ name → ⊥
+  not-there : AreOnce names → (k : ℕ) (a : File) → slice_get files k ≡ Some a → a.name ≡ name → ⊥
   not-there distinct k a e same =
       let w = named k a e in
       let one : w.0 ≡ i = distinct w.0 i name (w.2 ∙ ap (λ n. Some n) same) at in
       omega (arith, w.1, one)
 
-  distinct-file : (f : File) → f.name ≡ name → AreNamesDistinct names → AreDistinct files → AreDistinct (files ++ f ∷ [])
+  distinct-file : (f : File) → f.name ≡ name → AreOnce names → AreDistinct files → AreDistinct (files ++ f ∷ [])
   distinct-file f is distinct apart = λ k m a b e g same.
       ⊎_elim
       (λ old. ⊎_elim (λ old'. apart k m a b old old' same) (λ new. absurd (not-there distinct k a old (same ∙ (sym (ap (λ (x : File). x.name) new.1) ∙ is)))) (pushed-cases files f b m g))
@@ -46,7 +47,7 @@ module _ (files : List File) (names : List (List ℕ)) (i : ℕ) (name : List �
   named-read None = subst (λ fs. AreNamed fs names (i + 1)) (sym (append-nil files)) (λ k g e. let w = named k g e in (w.0, (omega arith), w.2))
   named-read (Some bytes) = named-file (record { name = name; bytes = bytes }) refl
 
-  distinct-read : (bytes : Option (List ℕ)) → AreNamesDistinct names → AreDistinct files → AreDistinct (files ++ with_read name bytes [])
+  distinct-read : (bytes : Option (List ℕ)) → AreOnce names → AreDistinct files → AreDistinct (files ++ with_read name bytes [])
   distinct-read None distinct apart = subst (λ fs. AreDistinct fs) (sym (append-nil files)) apart
   distinct-read (Some bytes) distinct apart = distinct-file (record { name = name; bytes = bytes }) refl distinct apart
 
@@ -59,7 +60,7 @@ pub named-more : (names : List (List ℕ)) (i : ℕ) (d name : List ℕ) (bytes 
 named-more names i d name bytes files files' lt isname isfiles named = subst (λ fs. AreNamed fs names (i + 1)) (sym isfiles) (named-read files names i name (name-at names i d name lt isname) named bytes)
 
 pub distinct-more : (names : List (List ℕ)) (i : ℕ) (d name : List ℕ) (bytes : Option (List ℕ)) (files files' : List File) → i < length names → name ≡ get_or names i d →
-    files' ≡ files ++ with_read name bytes [] → AreNamed files names i → AreNamesDistinct names → AreDistinct files → AreDistinct files'
+    files' ≡ files ++ with_read name bytes [] → AreNamed files names i → AreOnce names → AreDistinct files → AreDistinct files'
 distinct-more names i d name bytes files files' lt isname isfiles named distinct apart =
     subst (λ fs. AreDistinct fs) (sym isfiles) (distinct-read files names i name (name-at names i d name lt isname) named bytes distinct apart)
 

@@ -10,10 +10,6 @@ use Rattle.sany_files.specs.Calls.{after_calls, calls_of_folder, reads_made}
 abbrev pub modules_of_file : List ℕ → List (List ℕ)
 modules_of_file file = modules_of_listing (file ∷ [])
 
--- no name stands twice
-abbrev pub AreNamesDistinct : List (List ℕ) → Type 0
-AreNamesDistinct names = (i j : ℕ) (name : List ℕ) → slice_get names i ≡ Some name → slice_get names j ≡ Some name → i ≡ j
-
 -- the files are of the first so many names
 abbrev pub AreNamed : List File → List (List ℕ) → ℕ → Type 0
 AreNamed files names count = (i : ℕ) (f : File) → slice_get files i ≡ Some f → (at : ℕ) × (at < count) × (slice_get names at ≡ Some f.name)

@@ -7,6 +7,7 @@ ghost use Rattle.family_facts.specs.Verdicts.{AreDistinct};
 ghost use Rattle.sany_files.specs.Calls.{IsLeftAfter};
 ghost use Rattle.sany_files.specs.Calls as calls;
 ghost use Rattle.sany_files.specs.Files as files_in;
+ghost use Rattle.name_graph.specs.Family.{AreOnce};
 ghost use Rattle.sany_files.specs.Reading as reading;
 
 use family_facts::File;
@@ -112,7 +113,7 @@ pub fn read_files<F: Folder>(
     path: &str,
     names: &[Chars],
 ) -> Result<Option<List<File>>, IoFault>
-    requires { reading.AreNamesDistinct names.now }
+    requires { AreOnce names.now }
     ensures files { IfOk result (λ found. IfSome (F.told folder.old) (λ t. found
         ≡ reading.within (files_in.reads t path.now names.now))) }
     ensures distinct { IfOk result (λ found. IfSome found AreDistinct) }

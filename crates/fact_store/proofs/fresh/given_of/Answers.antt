@@ -1,7 +1,8 @@
+use Rattle.std.specs.Prelude.{unwrap_or, []}
 use Rattle.std.proofs.Common.{◌≡◌, ℕ, ◌≤◌, List, length, sym, ap, ◌∙◌, arith}
 use Rattle.fact_store.specs.declared.slot.Slot.{Slot}
 use Rattle.fact_values.specs.Names.{has}
-use Rattle.fact_values.specs.Values.{needs_or_none, gives, all_given, value}
+use Rattle.fact_values.specs.Values.{gives, all_given, value}
 use Rattle.fact_store.specs.Slots.{texts_of}
 use Rattle.fact_store.proofs.InputLemmas.{one_at}
 use Rattle.fact_store.proofs.Pairs.{has-read, all_given-more}
@@ -12,8 +13,8 @@ use Rattle.fact_store.proofs.fresh.given_of.Goals as goal
 pub input_of-requires-clause-need : goal.input_of-requires-clause-need
 input_of-requires-clause-need g c = λ slot at.
     let s = one_at c.args.slots.now c.args.index c.at.result.now slot c.at.ensures at in
-    ap (has (needs_or_none slot.needs)) c.as_str.ensures
-    ∙ ap (λ (ns : List (List ℕ)). has ns c.name-item.result) (sym (ap (λ (z : Slot g.row.D-Own.Denot g.row.D-Fact.Denot). needs_or_none z.needs) s) ∙ sym c.needed-name-items.ensures)
+    ap (has (unwrap_or slot.needs [])) c.as_str.ensures
+    ∙ ap (λ (ns : List (List ℕ)). has ns c.name-item.result) (sym (ap (λ (z : Slot g.row.D-Own.Denot g.row.D-Fact.Denot). unwrap_or z.needs []) s) ∙ sym c.needed-name-items.ensures)
     ∙ has-read c.needed-name-items.result.now c.loop-name.name-index c.name-item.result c.loop-name-test.true c.name-item.is
 
 pub loop-name-preserved : goal.loop-name-preserved
@@ -30,5 +31,5 @@ returns g c = λ slot at.
     c.loop-name.invariant slot at
     ∙ ap (all_given g.D.Derive.own_of g.D.Derive.needs_of g.D.Derive.fact_of (texts_of c.args.slots.now) (value g.D.Derive.own_of g.D.Derive.needs_of g.D.Derive.fact_of (texts_of c.args.slots.now)) slot.name)
     (take-all c.loop-name.name-index c.needed-name-items.result.now over ∙ c.needed-name-items.ensures
-    ∙ ap (λ (z : Slot g.row.D-Own.Denot g.row.D-Fact.Denot). needs_or_none z.needs) s
+    ∙ ap (λ (z : Slot g.row.D-Own.Denot g.row.D-Fact.Denot). unwrap_or z.needs []) s
     ∙ sym (needs_in-slot g.D.Derive.own_of g.D.Derive.needs_of g.D.Derive.fact_of c.args.slots.now c.requires.right.sound c.args.index slot at))

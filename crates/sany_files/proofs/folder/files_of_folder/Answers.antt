@@ -1,13 +1,13 @@
 use Rattle.std.proofs.Common.{length, ap, arith, sym, subst, ◌∙◌}
 use Rattle.sany_files.specs.Files.{modules_of_listing}
-use Rattle.sany_files.specs.Reading.{AreNamesDistinct}
+use Rattle.name_graph.specs.Family.{AreOnce}
 use Rattle.sany_files.proofs.CallLemmas.{on-err-map, part-few}
 use Rattle.sany_files.proofs.NamedLemmas.{modules-distinct}
 use Rattle.sany_files.proofs.folder.files_of_folder.Goals as goal
 
 pub read_files-requires : goal.read_files-requires
 read_files-requires g c =
-    subst AreNamesDistinct (sym (c.as_slice-2.ensures ∙ (c.in-Ok.ensures ∙ ap modules_of_listing c.as_slice.ensures)))
+    subst AreOnce (sym (c.as_slice-2.ensures ∙ (c.in-Ok.ensures ∙ ap modules_of_listing c.as_slice.ensures)))
     (modules-distinct c.in_ok-listed.listed c.in_ok-listed.ensures.order)
 
 pub returns-clause-part : goal.returns-clause-part
