@@ -21,7 +21,7 @@ use Rattle.tree_parts.proofs.Growing.{grows-same, grows-on}
 use Rattle.expr_stack.proofs.Stacking.{opens-read}
 
 -- the lexeme after a part
-pub opens-then : (nodes : List Arena.Node) (stack : Stack) (opening more : Opening) (t : Lexeme) (ps : List Tree) (a b : List Lexeme) (below : List Machine.Frame) → more ≡ record { first = opening.first; place = joined opening.place (Some t.span) } → Opens nodes stack opening ps (a ++ b) below → Opens nodes stack more ps (a ++ (b ++ t ∷ [])) below
+pub opens-then : (nodes : List Arena.Node) (stack : Stack) (opening more : Opening) (t : Lexeme) (ps : List Tree) (a b : List Lexeme) (below : List Machine.Frame) → more ≡ record { first = opening.first; span = joined opening.span (Some t.span) } → Opens nodes stack opening ps (a ++ b) below → Opens nodes stack more ps (a ++ (b ++ t ∷ [])) below
 opens-then nodes stack opening more t ps a b below m o =
     subst (λ z. Opens nodes stack more ps z below) (append_assoc a b (t ∷ []))
     (opens-read nodes stack opening more (Some t.span) ps (a ++ b) below (t ∷ []) m refl o)

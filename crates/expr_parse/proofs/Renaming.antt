@@ -17,9 +17,9 @@ use Rattle.expr_grammar.specs.Tables.{converted, shape, infix_shape, member_shap
 use Rattle.expr_grammar.specs.Counting.{made_name, made_names, made_bound, made_converted}
 use Rattle.expr_parse.specs.declared.convert.Operands.{Operands}
 use Rattle.tree_parts.specs.declared.part.Part.{Part}
-use Rattle.tree_parts.specs.Parts.{parts_of, place_of, joined, covered, IsPart}
+use Rattle.tree_parts.specs.Parts.{parts_of, span_of, joined, covered, IsPart}
 use Rattle.expr_parse.specs.TurnMeaning.{Becomes, Renamed, AreNames, AreOperands, AreTwo, Converts}
-use Rattle.tree_parts.proofs.Places.{place-append, covered-place}
+use Rattle.tree_parts.proofs.Spans.{span-append, covered-span}
 use Rattle.tree_parts.proofs.Growing.{grows-same, grows-one, grows-on, grows-length, map-grows, there-longer, tree_at-grows, node_at-grows, new-node, map-append, there-append}
 
 member-plain : (b : Bool) (n : Lexeme) → member_shape b ≡ Shape.Plain n → ⊥
@@ -138,13 +138,13 @@ bound-parts : (x y : Tree) (b : List Lexeme) → form x ≡ Form.Tuple → (boun
 bound-parts (Node Form.Tuple s ps) y b h = (refl, refl)
 bound-parts (Node _ s ps) y b h = cc
 
-new-built : (nodes more : List Arena.Node) (number : ℕ) (form : Form) (span : Option Span) (covers : Span) (ks : List ℕ) (ps : List Tree) (a : List Lexeme) → more ≡ nodes ++ record { form = form; span = covers; children = ks } ∷ [] → covers ≡ covered span → span ≡ place_of a → number ≡ length nodes → map (tree_at nodes) ks ≡ ps → (number < length more) × (tree_at more number ≡ built form (trees ps) a)
+new-built : (nodes more : List Arena.Node) (number : ℕ) (form : Form) (span : Option Span) (covers : Span) (ks : List ℕ) (ps : List Tree) (a : List Lexeme) → more ≡ nodes ++ record { form = form; span = covers; children = ks } ∷ [] → covers ≡ covered span → span ≡ span_of a → number ≡ length nodes → map (tree_at nodes) ks ≡ ps → (number < length more) × (tree_at more number ≡ built form (trees ps) a)
 new-built nodes more number form span covers ks ps a e v p n m =
     let t = new-node nodes more number form covers ks ps e n m in
-    (t.0, t.1 ∙ ap (λ z. Node form z (trees ps)) (v ∙ (ap covered p ∙ covered-place a)))
+    (t.0, t.1 ∙ ap (λ z. Node form z (trees ps)) (v ∙ (ap covered p ∙ covered-span a)))
 
 -- a bound of a name
-pub bound-named : (nodes more most : List Arena.Node) (left right name bound : ℕ) (span : Option Span) (covers : Span) (a : List Lexeme) → (form (tree_at nodes left) ≡ Form.Tuple → ⊥) → right < length nodes → Renamed nodes more name (name_of (tree_at nodes left)) (made_name (tree_at nodes left)) → most ≡ more ++ record { form = Form.Bound; span = covers; children = name ∷ right ∷ [] } ∷ [] → covers ≡ covered span → bound ≡ length more → span ≡ place_of a → Renamed nodes most bound (bound_of (tree_at nodes left) (tree_at nodes right) a) (made_bound (tree_at nodes left))
+pub bound-named : (nodes more most : List Arena.Node) (left right name bound : ℕ) (span : Option Span) (covers : Span) (a : List Lexeme) → (form (tree_at nodes left) ≡ Form.Tuple → ⊥) → right < length nodes → Renamed nodes more name (name_of (tree_at nodes left)) (made_name (tree_at nodes left)) → most ≡ more ++ record { form = Form.Bound; span = covers; children = name ∷ right ∷ [] } ∷ [] → covers ≡ covered span → bound ≡ length more → span ≡ span_of a → Renamed nodes most bound (bound_of (tree_at nodes left) (tree_at nodes right) a) (made_bound (tree_at nodes left))
 bound-named nodes more most left right name bound span covers a other there r e v n p =
     let y : tree_at more right ≡ tree_at nodes right = tree_at-grows nodes more right r.grows there in
     let t = new-built more most bound Form.Bound span covers (name ∷ right ∷ []) (name_of (tree_at nodes left) ∷ tree_at nodes right ∷ []) a e v p n (rw (r.is, y) refl) in
@@ -157,7 +157,7 @@ bound-named nodes more most left right name bound span covers a other there r e 
     }
 
 -- and of a tuple
-pub bound-tuple : (nodes more most : List Arena.Node) (left right bound : ℕ) (numbers numbers' : List ℕ) (span : Option Span) (covers : Span) (a : List Lexeme) → form (tree_at nodes left) ≡ Form.Tuple → right < length nodes → AreNames nodes more numbers (parts_of (tree_at nodes left)) → numbers' ≡ numbers ++ right ∷ [] → most ≡ more ++ record { form = Form.TupleBound; span = covers; children = numbers' } ∷ [] → covers ≡ covered span → bound ≡ length more → span ≡ place_of a → Renamed nodes most bound (bound_of (tree_at nodes left) (tree_at nodes right) a) (made_bound (tree_at nodes left))
+pub bound-tuple : (nodes more most : List Arena.Node) (left right bound : ℕ) (numbers numbers' : List ℕ) (span : Option Span) (covers : Span) (a : List Lexeme) → form (tree_at nodes left) ≡ Form.Tuple → right < length nodes → AreNames nodes more numbers (parts_of (tree_at nodes left)) → numbers' ≡ numbers ++ right ∷ [] → most ≡ more ++ record { form = Form.TupleBound; span = covers; children = numbers' } ∷ [] → covers ≡ covered span → bound ≡ length more → span ≡ span_of a → Renamed nodes most bound (bound_of (tree_at nodes left) (tree_at nodes right) a) (made_bound (tree_at nodes left))
 bound-tuple nodes more most left right bound numbers numbers' span covers a is there r w e v n p =
     let y : tree_at more right ≡ tree_at nodes right = tree_at-grows nodes more right r.grows there in
     let m : map (tree_at more) numbers' ≡ map (tree_at more) numbers ++ tree_at nodes right ∷ [] = rw w (map-append more numbers (right ∷ []) ∙ ap (λ z. map (tree_at more) numbers ++ z ∷ []) y) in
@@ -173,14 +173,14 @@ bound-tuple nodes more most left right bound numbers numbers' span covers a is t
       is = t.1 ∙ (ap (λ z. built Form.TupleBound z a) g ∙ sym q.0);
     }
 
-pub as-bound-is : (nodes more : List Arena.Node) (part bound : Part) (o : Operands) (e : Tree) (b : List Lexeme) → IsPart nodes part e b → AreOperands nodes (Some o) (tree_at nodes part.node) → bound.place ≡ part.place → Renamed nodes more bound.node (bound_of (tree_at nodes o.left) (tree_at nodes o.right) b) (made_bound (tree_at nodes o.left)) → Becomes nodes more bound (as_bound e b) b (made_converted Conversion.AsBound e)
+pub as-bound-is : (nodes more : List Arena.Node) (part bound : Part) (o : Operands) (e : Tree) (b : List Lexeme) → IsPart nodes part e b → AreOperands nodes (Some o) (tree_at nodes part.node) → bound.span ≡ part.span → Renamed nodes more bound.node (bound_of (tree_at nodes o.left) (tree_at nodes o.right) b) (made_bound (tree_at nodes o.left)) → Becomes nodes more bound (as_bound e b) b (made_converted Conversion.AsBound e)
 as-bound-is nodes more part bound o e b p a w r = record {
   grows = r.grows;
   few = subst (λ z. length more ≤ length nodes + z) (sym a.3 ∙ ap (λ z. made_converted Conversion.AsBound z) p.is) r.few;
   is = record {
     there = r.there;
     is = r.is ∙ (sym (a.2 b) ∙ ap (λ z. as_bound z b) p.is);
-    place = w ∙ p.place;
+    span = w ∙ p.span;
   };
 }
 
@@ -191,28 +191,28 @@ as-bound-stays nodes part e b p a = record {
   is = record {
     there = p.there;
     is = sym (a.0 b) ∙ ap (λ z. as_bound z b) p.is;
-    place = p.place;
+    span = p.span;
   };
 }
 
 -- a field's value
-pub as-field-is : (nodes more : List Arena.Node) (part : Part) (number : ℕ) (name mark : Lexeme) (span : Option Span) (covers : Span) (e : Tree) (b : List Lexeme) → more ≡ nodes ++ record { form = Form.Field name; span = covers; children = part.node ∷ [] } ∷ [] → covers ≡ covered span → span ≡ joined (Some name.span) (joined (Some mark.span) part.place) → number ≡ length nodes → IsPart nodes part e b → Becomes nodes more (record { node = number; place = part.place }) (built (Form.Field name) (one e) (name ∷ mark ∷ b)) b 1
+pub as-field-is : (nodes more : List Arena.Node) (part : Part) (number : ℕ) (name mark : Lexeme) (span : Option Span) (covers : Span) (e : Tree) (b : List Lexeme) → more ≡ nodes ++ record { form = Form.Field name; span = covers; children = part.node ∷ [] } ∷ [] → covers ≡ covered span → span ≡ joined (Some name.span) (joined (Some mark.span) part.span) → number ≡ length nodes → IsPart nodes part e b → Becomes nodes more (record { node = number; span = part.span }) (built (Form.Field name) (one e) (name ∷ mark ∷ b)) b 1
 as-field-is nodes more part number name mark span covers e b w v u n p =
-    let q : span ≡ place_of (name ∷ mark ∷ b) =
-    u ∙ (ap (λ z. joined (Some name.span) (joined (Some mark.span) z)) p.place ∙ (ap (λ z. joined (Some name.span) z) (sym (place-append (mark ∷ []) b)) ∙ sym (place-append (name ∷ []) (mark ∷ b))))
+    let q : span ≡ span_of (name ∷ mark ∷ b) =
+    u ∙ (ap (λ z. joined (Some name.span) (joined (Some mark.span) z)) p.span ∙ (ap (λ z. joined (Some name.span) z) (sym (span-append (mark ∷ []) b)) ∙ sym (span-append (name ∷ []) (mark ∷ b))))
     in
     let t = new-built nodes more number (Form.Field name) span covers (part.node ∷ []) (e ∷ []) (name ∷ mark ∷ b) w v q n (ap (λ z. z ∷ []) p.is) in
     record {
       grows = grows-one nodes more _ w;
       few = rw w (omega (arith, length-append nodes (record { form = Form.Field name; span = covers; children = part.node ∷ [] } ∷ [])));
-      is = record { there = t.0; is = t.1; place = p.place };
+      is = record { there = t.0; is = t.1; span = p.span };
     }
 
-pub name-is : (nodes more : List Arena.Node) (part : Part) (node : ℕ) (e : Tree) (b : List Lexeme) → IsPart nodes part e b → Renamed nodes more node (name_of (tree_at nodes part.node)) (made_name (tree_at nodes part.node)) → Becomes nodes more (record { node = node; place = part.place }) (name_of e) b (made_name e)
+pub name-is : (nodes more : List Arena.Node) (part : Part) (node : ℕ) (e : Tree) (b : List Lexeme) → IsPart nodes part e b → Renamed nodes more node (name_of (tree_at nodes part.node)) (made_name (tree_at nodes part.node)) → Becomes nodes more (record { node = node; span = part.span }) (name_of e) b (made_name e)
 name-is nodes more part node e b p r = record {
   grows = r.grows;
   few = subst (λ z. length more ≤ length nodes + made_name z) p.is r.few;
-  is = record { there = r.there; is = r.is ∙ ap name_of p.is; place = p.place };
+  is = record { there = r.there; is = r.is ∙ ap name_of p.is; span = p.span };
 }
 
 pub converts-by : (nodes more : List Arena.Node) (stack : _) (opening : _) (v w : Conversion.the_data) (ps : List Tree) (a b : List Lexeme) (below : _) (e : Tree) → v ≡ w → Converts nodes more stack opening (ps ++ converted w e b) (a ++ b) below (made_converted w e) → Converts nodes more stack opening (ps ++ converted v e b) (a ++ b) below (made_converted v e)

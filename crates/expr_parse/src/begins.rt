@@ -7,7 +7,7 @@ ghost use Rattle.expr_grammar.specs.Tables as tables;
 ghost use Rattle.expr_grammar.specs.Machine as machine;
 ghost use Rattle.expr_grammar.specs.Counting as counting;
 ghost use Rattle.expr_grammar.specs.declared.wait.MarkMove.TheVariants as MarkMove;
-ghost use Rattle.tree_parts.specs.Parts.{IsPart, IsThere, place_of};
+ghost use Rattle.tree_parts.specs.Parts.{IsPart, IsThere, span_of};
 ghost use Rattle.expr_stack.specs.StackMeaning.{IsOpen, Stands, Opens};
 ghost use Rattle.expr_parse.specs.TurnMeaning.{IsDue, IsTurn, Turns};
 
@@ -33,9 +33,9 @@ fn entry(wait: Wait) -> Wait
     }
 }
 
-// The place of the lexeme that a frame hands to its part.
+// The span of the lexeme that a frame hands to its part.
 fn handed(wait: Wait) -> Option<Span>
-    ensures { (part : tables.Child) → tables.child wait ≡ Some part → result ≡ place_of part.read }
+    ensures { (part : tables.Child) → tables.child wait ≡ Some part → result ≡ span_of part.read }
 {
     match wait {
         Wait::Handing(_, lexeme) => Some(lexeme.span),
@@ -104,7 +104,7 @@ fn take_leaf(
     let part = leaf(tree, form, name)?;
     let part = Part {
         node: part.node,
-        place: Some(lexeme.span),
+        span: Some(lexeme.span),
     };
     let opening = stack.hold(opening, part)?;
     let turn = goes_on(stack, wait, opening)?;

@@ -10,7 +10,7 @@ ghost use Rattle.expr_grammar.specs.Tables as tables;
 ghost use Rattle.expr_grammar.specs.Machine as machine;
 ghost use Rattle.expr_grammar.specs.Counting as counting;
 ghost use Rattle.expr_grammar.specs.declared.wait.Conversion.TheVariants as Conversion;
-ghost use Rattle.tree_parts.specs.Parts.{parts_of, IsPart, IsThere, place_of};
+ghost use Rattle.tree_parts.specs.Parts.{parts_of, IsPart, IsThere, span_of};
 ghost use Rattle.expr_stack.specs.StackMeaning.{IsOpen, Opens};
 ghost use Rattle.expr_parse.specs.TurnMeaning.{Becomes, Converts, Renamed, AreNames, AreOperands, AreTwo};
 
@@ -47,7 +47,7 @@ pub(crate) fn name_of(tree: &mut Tree, part: Part) -> Result<Part, Memory>
     let node = name_node(tree, part.node)?;
     Ok(Part {
         node,
-        place: part.place,
+        span: part.span,
     })
 }
 
@@ -111,11 +111,11 @@ fn bound_of(
     alloc: Global,
     tree: &mut Tree,
     operands: Operands,
-    place: Option<Span>,
+    span: Option<Span>,
 ) -> Result<u32, Memory>
     requires left { operands.left < length tree.old }
     requires right { operands.right < length tree.old }
-    ensures { IfOk result (λ bound. (spelled : List Lexeme) → place ≡ place_of spelled
+    ensures { IfOk result (λ bound. (spelled : List Lexeme) → span ≡ span_of spelled
         → Renamed tree.old tree.new bound
         (tables.bound_of (tree_at tree.old operands.left) (tree_at tree.old operands.right) spelled)
         (counting.made_bound (tree_at tree.old operands.left))) }
@@ -123,11 +123,11 @@ fn bound_of(
     if is_tuple(tree.form(operands.left)) {
         let mut parts = names_of(alloc, tree, operands.left)?;
         parts.push(operands.right)?;
-        let bound = add(tree, Form::TupleBound, parts.as_slice(), covered(place))?;
+        let bound = add(tree, Form::TupleBound, parts.as_slice(), covered(span))?;
         return Ok(bound);
     }
     let name = name_node(tree, operands.left)?;
-    let bound = add(tree, Form::Bound, &[name, operands.right], covered(place))?;
+    let bound = add(tree, Form::Bound, &[name, operands.right], covered(span))?;
     Ok(bound)
 }
 
@@ -148,10 +148,10 @@ fn as_bound(alloc: Global, tree: &mut Tree, part: Part) -> Result<Part, Memory>
     let Some(operands) = operands_of(tree, part.node) else {
         return Ok(part);
     };
-    let node = bound_of(alloc, tree, operands, part.place)?;
+    let node = bound_of(alloc, tree, operands, part.span)?;
     Ok(Part {
         node,
-        place: part.place,
+        span: part.span,
     })
 }
 
@@ -163,11 +163,11 @@ fn as_field(tree: &mut Tree, part: Part, name: Lexeme, mark: Lexeme) -> Result<P
         → Becomes tree.old tree.new field
         (built (Form.Field name) (one last) (name ∷ mark ∷ spelled)) spelled 1) }
 {
-    let place = joined(Some(name.span), joined(Some(mark.span), part.place));
-    let node = add(tree, Form::Field(name), &[part.node], covered(place))?;
+    let span = joined(Some(name.span), joined(Some(mark.span), part.span));
+    let node = add(tree, Form::Field(name), &[part.node], covered(span))?;
     Ok(Part {
         node,
-        place: part.place,
+        span: part.span,
     })
 }
 
@@ -192,7 +192,7 @@ pub(crate) fn convert(
             let more = stack.hold(opening, part)?;
             Ok(more)
         }
-        Conversion::Drop => Ok(opening.reads(part.place)),
+        Conversion::Drop => Ok(opening.reads(part.span)),
         Conversion::AsBound => {
             let bound = as_bound(stack.alloc(), tree, part)?;
             let more = stack.hold(opening, bound)?;

@@ -15,7 +15,7 @@ pub of-grows : (nodes more : List Node) (numbers : List ℕ) (span : _) (ps : Li
 of-grows nodes more numbers span ps a g o = record {
   there = there-longer 0 0 numbers nodes more (grows-length nodes more g) o.there;
   are = map-grows nodes more numbers g o.there ∙ o.are;
-  place = o.place;
+  span = o.span;
 }
 
 pub frames-grow : (nodes more : List Node) (hs : List Frame) (numbers : List ℕ) (fs : List Machine.Frame) → Grows nodes more → AreFrames nodes hs numbers fs → AreFrames more hs numbers fs

@@ -6,7 +6,7 @@ use Rattle.tla_tree.specs.Arena as Arena
 use Rattle.tla_tree.specs.Arena.{AreThere, tree_at}
 use Rattle.tla_tree.specs.Syntax.{Tree}
 use Rattle.tree_parts.specs.declared.part.Part.{Part}
-use Rattle.tree_parts.specs.Parts.{IsPart, Grows, place_of}
+use Rattle.tree_parts.specs.Parts.{IsPart, Grows, span_of}
 use Rattle.expr_grammar.specs.declared.wait.Wait.{Wait}
 use Rattle.expr_grammar.specs.Machine as Machine
 use Rattle.expr_grammar.specs.Machine.{inner}
@@ -14,11 +14,11 @@ use Rattle.expr_stack.specs.declared.stack.Opening.{Opening}
 use Rattle.expr_stack.specs.declared.stack.Frame.{Frame}
 use Rattle.expr_stack.specs.declared.stack.Stack.{Stack}
 
--- the numbers of a frame's parts are those of its trees, and its place that of the lexemes that it has read
-pub record IsOf (nodes : List Arena.Node) (numbers : List ℕ) (span : Option Span) (parts : List Tree) (read : List Lexeme) : Type 0 where
+-- the numbers of a frame's parts are those of its trees, and its span that of the lexemes that it has read
+pub record IsOf (nodes : List Arena.Node) (numbers : List ℕ) (stretch : Option Span) (parts : List Tree) (read : List Lexeme) : Type 0 where
   pub there : AreThere nodes numbers
   pub are : map (tree_at nodes) numbers ≡ parts
-  pub place : span ≡ place_of read
+  pub span : stretch ≡ span_of read
 
 -- the frames, the innermost first, and the numbers of the parts of all of them, the outermost first
 abbrev pub AreFrames : List Arena.Node → List Frame → List ℕ → List Machine.Frame → Type 0
@@ -27,7 +27,7 @@ AreFrames nodes (held ∷ rest) numbers (frame ∷ frames) =
     (held.wait ≡ frame.wait)
     × (held.inner ≡ inner (frame ∷ frames))
     × (held.opening.first ≤ length numbers)
-    × IsOf nodes (drop held.opening.first numbers) held.opening.place frame.parts frame.read
+    × IsOf nodes (drop held.opening.first numbers) held.opening.span frame.parts frame.read
     × AreFrames nodes rest (take held.opening.first numbers) frames
 AreFrames nodes _ numbers _ = ⊥
 
@@ -38,7 +38,7 @@ Stands nodes stack frames = AreFrames nodes (reverse stack.frames.items) stack.p
 -- above the frames of the stack another one opens: its parts are on the stack already
 pub record Opens (nodes : List Arena.Node) (stack : Stack) (opening : Opening) (parts : List Tree) (read : List Lexeme) (below : List Machine.Frame) : Type 0 where
   pub first : opening.first ≤ length stack.parts.items
-  pub own : IsOf nodes (drop opening.first stack.parts.items) opening.place parts read
+  pub own : IsOf nodes (drop opening.first stack.parts.items) opening.span parts read
   pub stands : AreFrames nodes (reverse stack.frames.items) (take opening.first stack.parts.items) below
 
 -- the frame that was taken from the stack, and the frames below

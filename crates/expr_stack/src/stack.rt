@@ -6,7 +6,7 @@ ghost use Rattle.tla_tree.specs.Syntax as syntax;
 ghost use Rattle.tla_tree.specs.Syntax.{trees};
 ghost use Rattle.tla_tree.specs.Lexemes.{built};
 ghost use Rattle.expr_grammar.specs.Machine as machine;
-ghost use Rattle.tree_parts.specs.Parts as places;
+ghost use Rattle.tree_parts.specs.Parts as spans;
 ghost use Rattle.tree_parts.specs.Parts.{IsPart, IsThere};
 ghost use Rattle.expr_stack.specs.StackMeaning.{IsOpen, AreFrames, Stands, Opens, IsTop, IsWait, Made};
 
@@ -18,12 +18,12 @@ use tla_tree::{Form, Tree};
 use tool_list::Memory;
 use tree_parts::{Part, add, covered, joined};
 
-/// What a frame has read: where its parts begin on the stack of parts, and the place of its
+/// What a frame has read: where its parts begin on the stack of parts, and the span of its
 /// lexemes, if there are any.
 #[derive(Clone, Copy)]
 pub struct Opening {
     first: usize,
-    place: Option<Span>,
+    span: Option<Span>,
 }
 
 /// A frame of the stack.
@@ -54,13 +54,13 @@ fn inside(wait: Wait, inner: u64) -> u64
 }
 
 impl Opening {
-    /// The frame reads the lexemes of one more place.
-    pub fn reads(self, place: Option<Span>) -> Opening
-        ensures { result ≡ record { first = self.first; place = places.joined self.place place } }
+    /// The frame reads the lexemes of one more span.
+    pub fn reads(self, span: Option<Span>) -> Opening
+        ensures { result ≡ record { first = self.first; span = spans.joined self.span span } }
     {
         Opening {
             first: self.first,
-            place: joined(self.place, place),
+            span: joined(self.span, span),
         }
     }
 }
@@ -123,15 +123,15 @@ impl Stack {
         self.frames.pop()
     }
 
-    /// A frame that has read the lexemes of the place, and no part.
-    pub fn opening(&self, place: Option<Span>) -> Opening
+    /// A frame that has read the lexemes of the span, and no part.
+    pub fn opening(&self, span: Option<Span>) -> Opening
         ensures { (nodes : List Node) → (frames : List machine.Frame) → (read : List Lexeme)
-            → Stands nodes self.now frames → place ≡ places.place_of read
+            → Stands nodes self.now frames → span ≡ spans.span_of read
             → Opens nodes self.now result [] read frames }
     {
         Opening {
             first: self.parts.len(),
-            place,
+            span,
         }
     }
 
@@ -164,7 +164,7 @@ impl Stack {
             → Opens nodes self.new more (parts ++ tree ∷ []) (read ++ spelled) below) }
     {
         self.parts.push(part.node)?;
-        Ok(opening.reads(part.place))
+        Ok(opening.reads(part.span))
     }
 
     /// The node of a frame that ends: it is no longer on the stack.
@@ -176,11 +176,11 @@ impl Stack {
             → Made tree.old tree.new self.new part (built form (trees parts) read) read below) }
     {
         let children = from(self.parts.as_slice(), opening.first);
-        let node = add(tree, form, children, covered(opening.place))?;
+        let node = add(tree, form, children, covered(opening.span))?;
         self.parts.truncate(opening.first);
         Ok(Part {
             node,
-            place: opening.place,
+            span: opening.span,
         })
     }
 

@@ -59,7 +59,7 @@ pub part-grows : (nodes more : List Node) (part : Part) (e : Tree) (b : List Lex
 part-grows nodes more part e b g p = record {
   there = omega (arith, p.there, grows-length nodes more g);
   is = tree_at-grows nodes more part.node g p.there ∙ p.is;
-  place = p.place;
+  span = p.span;
 }
 
 -- a new node, above nodes that are there
@@ -78,12 +78,12 @@ pub there-append : (nodes : List Node) (ks ls : List ℕ) → AreThere nodes ks 
 there-append nodes [] ls a b = b
 there-append nodes (k ∷ ks) ls a b = (a.0, there-append nodes ks ls a.1 b)
 
-pub leaf-is : (nodes more : List Node) (form : Form) (number : ℕ) (lexeme : Lexeme) → more ≡ nodes ++ record { form = form; span = lexeme.span; children = [] } ∷ [] → number ≡ length nodes → Adds nodes more (record { node = number; place = Rattle.std.proofs.Common.Some lexeme.span }) (built form Nil (lexeme ∷ [])) (lexeme ∷ [])
+pub leaf-is : (nodes more : List Node) (form : Form) (number : ℕ) (lexeme : Lexeme) → more ≡ nodes ++ record { form = form; span = lexeme.span; children = [] } ∷ [] → number ≡ length nodes → Adds nodes more (record { node = number; span = Rattle.std.proofs.Common.Some lexeme.span }) (built form Nil (lexeme ∷ [])) (lexeme ∷ [])
 leaf-is nodes more form number lexeme e n =
     let added : Node = record { form = form; span = lexeme.span; children = [] } in
     let t = new-node nodes more number form lexeme.span [] [] e n refl in
     record {
       grows = grows-one nodes more added e;
       one = rw e (length-append nodes (added ∷ []));
-      is = record { there = t.0; is = t.1; place = refl };
+      is = record { there = t.0; is = t.1; span = refl };
     }

@@ -8,10 +8,10 @@ use Rattle.tla_tree.specs.Lexemes.{place}
 use Rattle.tla_tree.specs.Syntax.{Tree, Trees, Node}
 use Rattle.tree_parts.specs.declared.part.Part.{Part}
 
--- the place of lexemes that were read in a row, if there are any
-abbrev pub place_of : List Lexeme → Option Span
-place_of [] = None
-place_of (t ∷ rest) = Some (place (t ∷ rest))
+-- the span of lexemes that were read in a row, if there are any
+abbrev pub span_of : List Lexeme → Option Span
+span_of [] = None
+span_of (t ∷ rest) = Some (place (t ∷ rest))
 
 -- of two stretches, the one behind the other
 abbrev pub joined : Option Span → Option Span → Option Span
@@ -24,11 +24,11 @@ abbrev pub covered : Option Span → Span
 covered None = record { start = 0; end = 0 }
 covered (Some span) = span
 
--- a part of the arena is a tree, and its place that of the lexemes that it spells
+-- a part of the arena is a tree, and its span that of the lexemes that it spells
 pub record IsPart (nodes : List Arena.Node) (part : Part) (tree : Tree) (spelled : List Lexeme) : Type 0 where
   pub there : part.node < length nodes
   pub is : tree_at nodes part.node ≡ tree
-  pub place : part.place ≡ place_of spelled
+  pub span : part.span ≡ span_of spelled
 
 -- it is some tree
 abbrev pub IsThere : List Arena.Node → Part → Type 0

@@ -1,4 +1,4 @@
-// Parts of a tree that is read, and the places of their lexemes.
+// Parts of a tree that is read, and the spans of their lexemes.
 ghost use Rattle.std.specs.Prelude.{◌≡◌, List, [], ◌∷◌, ◌++◌, IfOk, OnOk, length};
 ghost use Rattle.tla_tree.specs.Arena.{AreThere};
 ghost use Rattle.tla_tree.specs.Syntax.{Nil};
@@ -10,15 +10,15 @@ use tla_symbols::{Lexeme, Span};
 use tla_tree::{Form, Tree};
 use tool_list::Memory;
 
-/// A part that was read: its node, and the place of its lexemes.
+/// A part that was read: its node, and the span of its lexemes.
 #[derive(Clone, Copy)]
 pub struct Part {
     pub node: u32,
     /// From the first lexeme's first byte to the end of the last one, if the part has lexemes.
-    pub place: Option<Span>,
+    pub span: Option<Span>,
 }
 
-/// The place of two stretches of lexemes, the one behind the other.
+/// The span of two stretches of lexemes, the one behind the other.
 pub fn joined(first: Option<Span>, last: Option<Span>) -> Option<Span>
     ensures { result ≡ parts.joined first last }
 {
@@ -34,11 +34,11 @@ pub fn joined(first: Option<Span>, last: Option<Span>) -> Option<Span>
     }
 }
 
-/// The part of the text at a place; without one, the part of no byte at the text's start.
-pub fn covered(place: Option<Span>) -> Span
-    ensures { result ≡ parts.covered place }
+/// The part of the text in a span; without one, the part of no byte at the text's start.
+pub fn covered(span: Option<Span>) -> Span
+    ensures { result ≡ parts.covered span }
 {
-    match place {
+    match span {
         None => Span { start: 0, end: 0 },
         Some(span) => span,
     }
@@ -65,6 +65,6 @@ pub fn leaf(tree: &mut Tree, form: Form, lexeme: Lexeme) -> Result<Part, Memory>
     let node = add(tree, form, &[], lexeme.span)?;
     Ok(Part {
         node,
-        place: Some(lexeme.span),
+        span: Some(lexeme.span),
     })
 }

@@ -30,7 +30,7 @@ pub frame-grows : (nodes more : List Arena.Node) (held : Frame) (f : Machine.Fra
 frame-grows nodes more held f g i = record {
   wait = i.wait;
   parts = parts-grow nodes more held.parts f.parts g i.parts;
-  place = i.place;
+  span = i.span;
 }
 
 pub frames-grow : (nodes more : List Arena.Node) (hs : List Frame) (fs : List Machine.Frame) → Grows nodes more → AreFrames nodes hs fs → AreFrames more hs fs

@@ -5,7 +5,7 @@ use Rattle.tla_tree.specs.Arena as Arena
 use Rattle.tla_tree.specs.Arena.{AreThere, tree_at}
 use Rattle.tla_tree.specs.Syntax.{Tree, Trees, trees}
 use Rattle.tree_parts.specs.declared.part.Part.{Part}
-use Rattle.tree_parts.specs.Parts.{IsPart, Grows, place_of}
+use Rattle.tree_parts.specs.Parts.{IsPart, Grows, span_of}
 use Rattle.unit_grammar.specs.Units.{UnitTree}
 use Rattle.unit_grammar.specs.UnitNodes.{AreUnits}
 use Rattle.unit_machine.specs.Machine as Machine
@@ -23,7 +23,7 @@ pub record AreParts (nodes : List Arena.Node) (numbers : List ℕ) (parts : Tree
 pub record IsFrame (nodes : List Arena.Node) (held : Frame) (frame : Machine.Frame) : Type 0 where
   pub wait : held.wait ≡ frame.wait
   pub parts : AreParts nodes held.parts frame.parts
-  pub place : held.place ≡ place_of frame.read
+  pub span : held.span ≡ span_of frame.read
 
 -- frames, the innermost first
 abbrev pub AreFrames : List Arena.Node → List Frame → List Machine.Frame → Type 0

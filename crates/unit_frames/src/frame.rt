@@ -6,7 +6,7 @@ ghost use Rattle.tla_tree.specs.Syntax as syntax;
 ghost use Rattle.tla_tree.specs.Syntax.{Nil, Trees};
 ghost use Rattle.tla_tree.specs.Lexemes as lexemes;
 ghost use Rattle.tla_tree.specs.Lexemes.{built};
-ghost use Rattle.tree_parts.specs.Parts.{IsPart, parts_of, place_of};
+ghost use Rattle.tree_parts.specs.Parts.{IsPart, parts_of, span_of};
 ghost use Rattle.unit_machine.specs.Machine as machine;
 ghost use Rattle.unit_frames.specs.FrameMeaning.{AreParts, IsFrame, Makes, Takes};
 
@@ -17,13 +17,13 @@ use tool_list::{List, Memory};
 use tree_parts::{Part, add, covered, joined, leaf};
 use unit_machine::Wait;
 
-/// A part of a unit that is read: what it waits for, the nodes of its own parts, and the place of
+/// A part of a unit that is read: what it waits for, the nodes of its own parts, and the span of
 /// the lexemes that it has read, if there are any.
 #[derive(Drop)]
 pub struct Frame {
     pub wait: Wait,
     pub parts: List<u32>,
-    place: Option<Span>,
+    span: Option<Span>,
 }
 
 /// Numbers of nodes, and one more.
@@ -46,15 +46,15 @@ fn copied(alloc: Global, numbers: &[u32]) -> Result<List<u32>, Memory>
 }
 
 impl Frame {
-    /// A frame that has read the lexemes of the place, and no part.
-    pub fn new(alloc: Global, wait: Wait, place: Option<Span>) -> Frame
-        ensures { (nodes : List Node) → (read : List Lexeme) → place ≡ place_of read
+    /// A frame that has read the lexemes of the span, and no part.
+    pub fn new(alloc: Global, wait: Wait, span: Option<Span>) -> Frame
+        ensures { (nodes : List Node) → (read : List Lexeme) → span ≡ span_of read
             → IsFrame nodes result (machine.frame wait Nil read) }
     {
         Frame {
             wait,
             parts: List::new(alloc),
-            place,
+            span,
         }
     }
 
@@ -66,7 +66,7 @@ impl Frame {
         Frame {
             wait,
             parts: self.parts,
-            place: joined(self.place, Some(lexeme.span)),
+            span: joined(self.span, Some(lexeme.span)),
         }
     }
 
@@ -80,7 +80,7 @@ impl Frame {
     {
         self.parts.push(part.node)?;
         self.wait = wait;
-        self.place = joined(self.place, part.place);
+        self.span = joined(self.span, part.span);
         Ok(())
     }
 
@@ -101,7 +101,7 @@ impl Frame {
     {
         self.parts = copied(alloc, tree.children(part.node))?;
         self.wait = wait;
-        self.place = joined(self.place, part.place);
+        self.span = joined(self.span, part.span);
         Ok(())
     }
 
@@ -123,7 +123,7 @@ impl Frame {
         let part = leaf(tree, form, name)?;
         let part = Part {
             node: part.node,
-            place: Some(lexeme.span),
+            span: Some(lexeme.span),
         };
         self.takes(wait, part)
     }
@@ -134,10 +134,10 @@ impl Frame {
         ensures { IfOk result (λ part. (frame : machine.Frame) → IsFrame tree.old self.now frame
             → Makes tree.old tree.new part (machine.node form frame) frame.read) }
     {
-        let node = add(tree, form, self.parts.as_slice(), covered(self.place))?;
+        let node = add(tree, form, self.parts.as_slice(), covered(self.span))?;
         Ok(Part {
             node,
-            place: self.place,
+            span: self.span,
         })
     }
 

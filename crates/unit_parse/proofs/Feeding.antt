@@ -17,7 +17,7 @@ use Rattle.expr_parse.specs.Goals.{DerivesGoal, BeginsGoal, IsWhole}
 use Rattle.expr_parse.specs.Reading.{HasRead, IsAnswer, IsReady, start_of}
 use Rattle.tree_parts.specs.Parts.{Grows, joined, parts_of}
 use Rattle.expr_parse.proofs.Answering.{begins-of, begins-not}
-use Rattle.tree_parts.proofs.Places.{place-append}
+use Rattle.tree_parts.proofs.Spans.{span-append}
 use Rattle.unit_parse.specs.declared.reader.ExprReader.{ExprReader}
 use Rattle.unit_parse.specs.declared.reader.Fed.{Fed}
 use Rattle.unit_parse.specs.ReaderMeaning.{IsReading, IsUnfinished, IsWholeBefore, FeedsMore, Feeds}
@@ -47,7 +47,7 @@ run-more : (aim : Goal) (st : Expressions.State) (read : List Lexeme) (t : Lexem
 run-more aim st read t e = run-append read (t ∷ []) (Some (start_of aim)) ∙ ap (λ z. run z (t ∷ [])) e
 
 -- a lexeme that goes on with what is read
-pub feed-going : (nodes more : List Arena.Node) (reader reader' : ExprReader) (aim : Goal) (st : Expressions.State) (read : List Lexeme) (t : Lexeme) → reader'.machine.goal ≡ reader.machine.goal → reader'.place ≡ joined reader.place (Some t.span) → Grows nodes more → (i : IsReading nodes reader aim st read) → (step : Step) → step ≡ Step.Going → IsAnswer more reader'.machine i.before read t step → Feeds nodes more reader' aim st read t Fed.Going
+pub feed-going : (nodes more : List Arena.Node) (reader reader' : ExprReader) (aim : Goal) (st : Expressions.State) (read : List Lexeme) (t : Lexeme) → reader'.machine.goal ≡ reader.machine.goal → reader'.span ≡ joined reader.span (Some t.span) → Grows nodes more → (i : IsReading nodes reader aim st read) → (step : Step) → step ≡ Step.Going → IsAnswer more reader'.machine i.before read t step → Feeds nodes more reader' aim st read t Fed.Going
 feed-going nodes more reader reader' aim st read t g p grows i step q answer =
     let a : IsAnswer more reader'.machine i.before read t Step.Going = subst (IsAnswer more reader'.machine i.before read t) q answer in
     let goal : reader'.machine.goal ≡ aim = g ∙ i.goal in
@@ -70,7 +70,7 @@ feed-going nodes more reader reader' aim st read t g p grows i step q answer =
         before = i.before;
         has = has;
         runs = run-more aim st read t i.runs ∙ q;
-        place = p ∙ (ap (λ z. joined z (Some t.span)) i.place ∙ sym (place-append read (t ∷ [])));
+        span = p ∙ (ap (λ z. joined z (Some t.span)) i.span ∙ sym (span-append read (t ∷ [])));
       };
     }
 
@@ -90,7 +90,7 @@ feed-refused nodes more reader reader' aim st read t g grows i step q answer =
     by None q k = q
     by (Some st') q k = absurd (k (begins-of aim (read ++ t ∷ []) st' (run-more aim st read t i.runs ∙ q)))
 
-pub feed-done : (nodes more : List Arena.Node) (reader reader' : ExprReader) (node : ℕ) (aim : Goal) (st : Expressions.State) (read : List Lexeme) (t : Lexeme) → reader'.machine.goal ≡ reader.machine.goal → Grows nodes more → (i : IsReading nodes reader aim st read) → (step : Step) → step ≡ Step.Done node → IsAnswer more reader'.machine i.before read t step → Feeds nodes more reader' aim st read t (Fed.Done (record { node = node; place = reader.place }))
+pub feed-done : (nodes more : List Arena.Node) (reader reader' : ExprReader) (node : ℕ) (aim : Goal) (st : Expressions.State) (read : List Lexeme) (t : Lexeme) → reader'.machine.goal ≡ reader.machine.goal → Grows nodes more → (i : IsReading nodes reader aim st read) → (step : Step) → step ≡ Step.Done node → IsAnswer more reader'.machine i.before read t step → Feeds nodes more reader' aim st read t (Fed.Done (record { node = node; span = reader.span }))
 feed-done nodes more reader reader' node aim st read t g grows i step q answer =
     let a : IsAnswer more reader'.machine i.before read t (Step.Done node) = subst (IsAnswer more reader'.machine i.before read t) q answer in
     let goal : reader'.machine.goal ≡ aim = g ∙ i.goal in
@@ -98,6 +98,6 @@ feed-done nodes more reader reader' node aim st read t g grows i step q answer =
       grows = grows;
       is = (
         whole-done aim st read t (tree_at more node) i.runs (subst (λ z. IsWhole z read t) goal a.1) (subst (λ z. DerivesGoal z (tree_at more node) read t) goal a.2),
-        record { there = a.0; is = refl; place = i.place },
+        record { there = a.0; is = refl; span = i.span },
       );
     }

@@ -5,7 +5,7 @@ use Rattle.tla_symbols.specs.declared.lexeme.Lexeme.{Lexeme}
 use Rattle.tla_tree.specs.Arena as Arena
 use Rattle.tla_tree.specs.Arena.{tree_at}
 use Rattle.tla_tree.specs.Syntax.{Tree}
-use Rattle.tree_parts.specs.Parts.{IsPart, Grows, parts_of, place_of}
+use Rattle.tree_parts.specs.Parts.{IsPart, Grows, parts_of, span_of}
 use Rattle.expr_grammar.specs.Machine as Expressions
 use Rattle.expr_grammar.specs.Following.{done_before, bounds_done_before}
 use Rattle.expr_parse.specs.declared.goal.Goal.{Goal}
@@ -26,7 +26,7 @@ pub record IsReading (nodes : List Arena.Node) (reader : ExprReader) (aim : Goal
   pub before : ℕ
   pub has : HasRead nodes reader.machine before read
   pub runs : Expressions.run (Some (start_of aim)) read ≡ Some st
-  pub place : reader.place ≡ place_of read
+  pub span : reader.span ≡ span_of read
 
 -- what is read now
 abbrev pub IsFocus : List Arena.Node → State → Machine.Focus → ℕ → List UnitTree → Type 0

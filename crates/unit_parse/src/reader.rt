@@ -13,11 +13,11 @@ use tla_tree::Tree;
 use tool_list::Memory;
 use tree_parts::{Part, joined};
 
-/// An expression, or bounds, of which some lexemes were read, and their place, if there are any.
+/// An expression, or bounds, of which some lexemes were read, and their span, if there are any.
 #[derive(Drop)]
 pub(crate) struct ExprReader {
     pub(crate) machine: ExprMachine,
-    pub(crate) place: Option<Span>,
+    pub(crate) span: Option<Span>,
 }
 
 /// What a lexeme led to.
@@ -37,7 +37,7 @@ impl ExprReader {
     {
         ExprReader {
             machine: ExprMachine::new(alloc, goal),
-            place: None,
+            span: None,
         }
     }
 
@@ -50,12 +50,12 @@ impl ExprReader {
     {
         match self.machine.step(&lexeme, &lexeme, tree)? {
             Step::Going => {
-                self.place = joined(self.place, Some(lexeme.span));
+                self.span = joined(self.span, Some(lexeme.span));
                 Ok(Fed::Going)
             }
             Step::Done { node } => Ok(Fed::Done(Part {
                 node,
-                place: self.place,
+                span: self.span,
             })),
             Step::Refused => Ok(Fed::Refused),
         }

@@ -89,18 +89,18 @@ fn start(
         → IsMoved nodes moved (machine.started begins local depth us lexeme)) }
 {
     let alloc = reached.alloc;
-    let place = Some(lexeme.span);
+    let span = Some(lexeme.span);
     match begins {
         UnitStart::Goes(due) => Ok(Some(Next::At(Point::Stands(reached, due, List::new(alloc))))),
         UnitStart::Definition(wait) => Ok(Some(begin_part(
             reached,
             Begun::Definition(local),
-            Frame::new(alloc, wait, place),
+            Frame::new(alloc, wait, span),
         ))),
         UnitStart::Instance => Ok(Some(begin_part(
             reached,
             Begun::Instance(local),
-            Frame::new(alloc, Wait::InstanceName, place),
+            Frame::new(alloc, Wait::InstanceName, span),
         ))),
         UnitStart::Constants => Ok(Some(begin_part(
             reached,

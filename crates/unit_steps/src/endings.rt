@@ -37,7 +37,7 @@ fn form_ended(wait: Wait, lexeme: Lexeme) -> Option<Form>
     }
 }
 
-// Ends a frame: the one below takes its part and its place. The part, where there is none below.
+// Ends a frame: the one below takes its part and its span. The part, where there is none below.
 fn end_frame(
     below: &mut Vec<Frame>,
     frame: &mut Frame,

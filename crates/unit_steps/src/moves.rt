@@ -4,7 +4,7 @@ ghost use Rattle.tla_symbols.specs.declared.lexeme.Lexeme.{Lexeme};
 ghost use Rattle.tla_tree.specs.Arena as arena;
 ghost use Rattle.tla_tree.specs.Syntax.{Nil};
 ghost use Rattle.expr_grammar.specs.Machine as expressions;
-ghost use Rattle.tree_parts.specs.Parts.{place_of};
+ghost use Rattle.tree_parts.specs.Parts.{span_of};
 ghost use Rattle.unit_grammar.specs.Units as units;
 ghost use Rattle.unit_machine.specs.Machine as machine;
 ghost use Rattle.unit_machine.specs.declared.wait.Move.TheVariants as Move;
@@ -38,18 +38,18 @@ fn begin_expression(
     Ok(Some(Next::Begins(unfinished, lexeme)))
 }
 
-// A part begins, in a frame of its own that has read the lexemes of the place, and this one waits
+// A part begins, in a frame of its own that has read the lexemes of the span, and this one waits
 // for it.
 fn begin_part(
     unfinished: Unfinished,
     frame: Frame,
     wait: Wait,
-    place: Option<Span>,
+    span: Option<Span>,
 ) -> Result<Option<Next>, Memory>
     ensures { IfOk result (λ moved. (nodes : List arena.Node) → (depth : ℕ)
         → (us : List units.UnitTree) → (b : machine.Begun) → (fs : List machine.Frame)
         → (f : machine.Frame) → (read : List Lexeme) → IsUnder nodes unfinished b fs depth us
-        → IsFrame nodes frame f → place ≡ place_of read
+        → IsFrame nodes frame f → span ≡ span_of read
         → IsMoved nodes moved
         (Some (machine.state depth us (machine.Part b (machine.frame wait Nil read) (f ∷ fs))))) }
 {
@@ -57,7 +57,7 @@ fn begin_part(
     let Ok(()) = unfinished.under(frame) else {
         return Err(Memory);
     };
-    let frame = Frame::new(unfinished.reached.alloc, wait, place);
+    let frame = Frame::new(unfinished.reached.alloc, wait, span);
     Ok(Some(Next::At(Point::Part(unfinished, frame))))
 }
 

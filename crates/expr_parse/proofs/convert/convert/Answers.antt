@@ -20,7 +20,7 @@ returns-in-Drop c parts read below last spelled opens part =
       few = omega arith;
       opens =
           subst (λ ps. Opens c.args.tree.now c.args.stack.now c.reads.result ps (read ++ spelled) below) (sym (append-nil parts))
-          (opens-read c.args.tree.now c.args.stack.now c.args.opening _ c.args.part.place parts read below spelled c.reads.ensures part.place opens);
+          (opens-read c.args.tree.now c.args.stack.now c.args.opening _ c.args.part.span parts read below spelled c.reads.ensures part.span opens);
     })
 
 pub returns-in_ok-more-in-AsBound : goal.returns-in_ok-more-in-AsBound

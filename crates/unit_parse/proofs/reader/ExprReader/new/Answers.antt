@@ -2,4 +2,4 @@ use Rattle.std.proofs.Common.{length, refl}
 use Rattle.unit_parse.proofs.reader.ExprReader.new.Goals as goal
 
 pub returns : goal.returns
-returns c nodes = record { goal = c.new.ensures.goal; before = length nodes; has = c.new.ensures.read nodes; runs = refl; place = refl }
+returns c nodes = record { goal = c.new.ensures.goal; before = length nodes; has = c.new.ensures.read nodes; runs = refl; span = refl }
