@@ -1,7 +1,7 @@
 -- The lexemes of a text end once.
 use Rattle.std.proofs.Common.{◌≡◌, ℕ, ◌+◌, List, [], ◌∷◌, Bool, true, false, ◌⊎◌, Option, Some, None, inl, inr, refl, sym, ap, subst, ⊎_elim, take, drop, codes, if◌then◌else◌}
 use Rattle.std.specs.Prelude.{◌==◌}
-use Rattle.std.specs.Option.{option_map}
+use Rattle.std.specs.Option.{option_map, option_or}
 use Rattle.std.proofs.lemmas.Bool.{cases_Bool}
 use Rattle.tla_spelling.specs.Spellings.{word_of, op_of, mark_of}
 use Rattle.tla_symbols.specs.declared.op.Op.{Op}
@@ -10,7 +10,7 @@ use Rattle.tla_symbols.specs.declared.lexeme.Word.{Word}
 use Rattle.tla_symbols.specs.declared.lexeme.Mark.{Mark}
 use Rattle.tla_symbols.specs.declared.lexeme.Lexeme.{Lexeme}
 use Rattle.tla_lexeme.specs.declared.class.Class.{Class}
-use Rattle.tla_lexeme.specs.LexemeSets.{kind_of, table_kind, open_kind, or_else, is_name, is_number, is_string, is_long_run}
+use Rattle.tla_lexeme.specs.LexemeSets.{kind_of, table_kind, open_kind, is_name, is_number, is_string, is_long_run}
 use Rattle.tla_lexeme.specs.Lexing.{begins, char_len, comment_len, lexemes_after}
 use Rattle.tla_lexeme.specs.Longest.{IsClear, IsEnd, Lexes, NoneBegins, ReadsLongest}
 use Rattle.tla_lexeme.specs.ModulePart.{header_of, is_equals, is_module_word, module_part, part_from, up_to_close}
@@ -28,7 +28,7 @@ member-if : (b : Bool) (kind k : LexKind) (more : Option LexKind) → is_last ki
 member-if true kind k more this other e = let same : kind ≡ k = cc in subst (λ q. is_last q ≡ false) same this
 member-if false kind k more this other e = other e
 
-member-or : (o other : Option LexKind) (k : LexKind) → (o ≡ Some k → is_last k ≡ false) → (other ≡ Some k → is_last k ≡ false) → or_else o other ≡ Some k → is_last k ≡ false
+member-or : (o other : Option LexKind) (k : LexKind) → (o ≡ Some k → is_last k ≡ false) → (other ≡ Some k → is_last k ≡ false) → option_or o other ≡ Some k → is_last k ≡ false
 member-or None other k one two e = two e
 member-or (Some q) other k one two e = one e
 

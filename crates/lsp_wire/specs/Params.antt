@@ -1,5 +1,6 @@
 -- What the parameters of a message say. A member that is missing or of another type is none.
 use Rattle.std.specs.Prelude.{ℕ, ◌^◌, ◌==◌, nat_lt, Bool, true, false, if◌then◌else◌, List, [], ◌∷◌, Option, Some, None, option_map, option_and_then, unwrap_or, codes}
+use Rattle.std.specs.Option.{option_or}
 use Rattle.serde_json.specs.Data.{Data, null, boolean, number, string, array, object, Items, no_items, item}
 use Rattle.serde_json.specs.Find.{get, at, as_str, as_u64, as_number, as_bool, as_array}
 use Rattle.lsp_wire.specs.declared.types.Position.{Position}
@@ -87,11 +88,6 @@ abbrev pub with_declaration : Data → Option Bool
 with_declaration params =
     option_and_then as_bool (option_and_then (get (codes "includeDeclaration")) (get (codes "context") params))
 
--- the first of two that is there
-abbrev pub or_else : {A : Type 0} → Option A → Option A → Option A
-or_else (Some x) other = Some x
-or_else None other = other
-
 -- the URI of the first workspace folder
 abbrev pub folder_of : Data → Option (List ℕ)
 folder_of params =
@@ -99,4 +95,4 @@ folder_of params =
 
 -- that URI, else the root's
 abbrev pub root_of : Data → Option (List ℕ)
-root_of params = or_else (folder_of params) (text_at (codes "rootUri") params)
+root_of params = option_or (folder_of params) (text_at (codes "rootUri") params)

@@ -3,7 +3,7 @@ use Rattle.std.proofs.Common.{◌≡◌, ℕ, zero, suc, ◌<◌, ◌≤◌, Boo
 use Rattle.std.proofs.lemmas.Bool.{cases_Bool, cases_lt, and_parts, and_right, or_from, or_cases, both_ways, eqb-true, leb-true, lt-leb, ne_eqb, cond-true, cond-false}
 use Rattle.std.proofs.lemmas.Slice.Eq.{bytes_eq-Decides}
 use Rattle.std.specs.List.{list_all}
-use Rattle.std.specs.Option.{option_map}
+use Rattle.std.specs.Option.{option_map, option_or}
 use Rattle.std.specs.Str.{bytes_eq}
 use Rattle.tla_spelling.specs.Spellings.{Table, in_table, WORDS, SYMBOLS, MARKS, word_of, op_of, mark_of}
 use Rattle.tla_symbols.specs.declared.op.Op.{Op}
@@ -12,7 +12,7 @@ use Rattle.tla_symbols.specs.declared.lexeme.Mark.{Mark}
 use Rattle.tla_symbols.specs.declared.lexeme.LexKind.{LexKind}
 use Rattle.tla_lexeme.specs.declared.class.Class.{Class}
 use Rattle.tla_lexeme.specs.declared.class.Class.TheVariants.{WordChar, Digit, Binary, Octal, Hexadecimal, Dash, EqualSign, InLine, Escaped}
-use Rattle.tla_lexeme.specs.LexemeSets.{is_in, is_run, is_run_of, is_name, is_number, is_fraction, is_after_backslash, is_based, is_string, closes_string, is_long_run, or_else, table_kind, open_kind, kind_of}
+use Rattle.tla_lexeme.specs.LexemeSets.{is_in, is_run, is_run_of, is_name, is_number, is_fraction, is_after_backslash, is_based, is_string, closes_string, is_long_run, table_kind, open_kind, kind_of}
 
 -- the last byte of one byte and others
 abbrev pub last : ℕ → List ℕ → ℕ
@@ -113,7 +113,7 @@ last-long class k c cs low is h = omega (arith, low, is (last c cs) (last-all (i
 
 -- ---- what a kind comes from
 
-or-some : {G : Type 0} (o other : Option LexKind) (k : LexKind) → (o ≡ Some k → G) → (other ≡ Some k → G) → or_else o other ≡ Some k → G
+or-some : {G : Type 0} (o other : Option LexKind) (k : LexKind) → (o ≡ Some k → G) → (other ≡ Some k → G) → option_or o other ≡ Some k → G
 or-some None other k one two e = two e
 or-some (Some q) other k one two e = one e
 

@@ -1,27 +1,28 @@
 -- The kind of a spelling, by its first byte.
 use Rattle.std.proofs.Common.{◌≡◌, ℕ, zero, suc, ◌+◌, ◌<◌, ◌≤◌, true, false, ◌&&◌, eqb, cond, List, ◌∷◌, length, take, Option, Some, None, refl, ap, ◌∙◌, subst, arith}
+use Rattle.std.specs.Option.{option_or}
 use Rattle.std.proofs.lemmas.Bool.{and_left, and_right, or_from, both_ways, eqb-true, cond-true, cond-false, false_from_ne_true}
 use Rattle.std.specs.List.{list_all}
 use Rattle.tla_symbols.specs.declared.lexeme.LexKind.{LexKind}
 use Rattle.tla_symbols.specs.declared.lexeme.LexKind.TheVariants.{Name, Number, Str, Dashes, Equals}
 use Rattle.tla_lexeme.specs.declared.class.Class.{Class}
 use Rattle.tla_lexeme.specs.declared.class.Class.TheVariants.{WordChar, Digit, Dash, EqualSign}
-use Rattle.tla_lexeme.specs.LexemeSets.{is_in, is_run, is_name, is_number, is_fraction, is_based, is_string, is_long_run, table_kind, open_kind, kind_of, or_else, closes_string}
+use Rattle.tla_lexeme.specs.LexemeSets.{is_in, is_run, is_name, is_number, is_fraction, is_based, is_string, is_long_run, table_kind, open_kind, kind_of, closes_string}
 use Rattle.tla_lexeme.proofs.SetLemmas.{digits_len, point_len, fraction-le, run-le}
 
 pub from_suc : (P : ℕ → Type 0) (n : ℕ) → ((k : ℕ) → n < suc k → P (suc k)) → (m : ℕ) → n < m → P m
 from_suc P n f zero h = absurd (omega arith)
 from_suc P n f (suc k) h = f k h
 
-or_else-none : {A : Type 0} (o : Option A) → or_else o None ≡ o
-or_else-none None = refl
-or_else-none (Some x) = refl
+option_or-none : {A : Type 0} (o : Option A) → option_or o None ≡ o
+option_or-none None = refl
+option_or-none (Some x) = refl
 
 pub kind-open : (w : List ℕ) → table_kind w ≡ None → kind_of w ≡ open_kind w
-kind-open w h = ap (λ o. or_else o (open_kind w)) h
+kind-open w h = ap (λ o. option_or o (open_kind w)) h
 
 pub kind-table : (w : List ℕ) → open_kind w ≡ None → kind_of w ≡ table_kind w
-kind-table w h = ap (λ o. or_else (table_kind w) o) h ∙ or_else-none (table_kind w)
+kind-table w h = ap (λ o. option_or (table_kind w) o) h ∙ option_or-none (table_kind w)
 
 -- ---- the open sets, one after the other
 

@@ -1,5 +1,6 @@
 -- The longest lexeme at a letter, a digit or `_`.
 use Rattle.std.proofs.Common.{◌≡◌, ℕ, zero, suc, ◌+◌, ◌<◌, ◌≤◌, true, false, ◌&&◌, ◌||◌, eqb, leb, ltb, nat_eq, List, [], ◌∷◌, length, take, drop, slice_index, codes, Option, Some, None, unwrap_or, refl, sym, ap, ◌∙◌, subst, ⊎_elim, inl, inr, ◌⊎◌, arith, length-take, length-drop}
+use Rattle.std.specs.Option.{option_or}
 use Rattle.std.proofs.lemmas.Bool.{cases_Bool, cases_lt, and_parts, and_from, and_left, and_right, or_parts, or_from, or_left, or_right, or_cases, both_ways, eqb-true, leb-true, lt-leb, lt-ltb, le-ltb, cond-true, cond-false, not_from_true, not_from_false}
 use Rattle.std.proofs.lemmas.List.{take-take, length-take-le}
 use Rattle.std.proofs.lemmas.Slice.Eq.{bytes_eq-Decides}
@@ -10,7 +11,7 @@ use Rattle.tla_symbols.specs.declared.lexeme.Word.TheVariants.{WeakFair, StrongF
 use Rattle.tla_symbols.specs.declared.lexeme.Mark.TheVariants.{Underscore}
 use Rattle.tla_lexeme.specs.declared.begin.Member.{Member}
 use Rattle.tla_lexeme.specs.declared.class.Class.TheVariants.{Letter, WordChar, Digit}
-use Rattle.tla_lexeme.specs.LexemeSets.{is_in, is_name, is_number, is_fair, goes_beyond, table_kind, open_kind, kind_of, or_else}
+use Rattle.tla_lexeme.specs.LexemeSets.{is_in, is_name, is_number, is_fair, goes_beyond, table_kind, open_kind, kind_of}
 use Rattle.tla_lexeme.specs.Lexing.{lexeme_at, begins}
 use Rattle.tla_lexeme.specs.Lengths.{has_letter, bare_len, begins_fair, named_len, fraction_len}
 use Rattle.tla_lexeme.proofs.LongestLemmas.{longest_some}
@@ -152,9 +153,9 @@ named-none c cs word bare k lt le =
     let number = number-long (suc k) (c ∷ cs) le (omega (arith, size.2)) (based-first c (take k cs) (not-byte WordChar 92 c refl word)) in
     kind-open (take (suc k) (c ∷ cs)) (word-none (take (suc k) (c ∷ cs)) later.1) ∙ word-first c (take k cs) word later.0 number
 
-or_else-some : (o other : Option LexKind) (k : LexKind) → (o ≡ None → other ≡ Some k) → or_else o other ≡ Some (unwrap_or o k)
-or_else-some None other k h = h refl
-or_else-some (Some x) other k h = refl
+option_or-some : (o other : Option LexKind) (k : LexKind) → (o ≡ None → other ≡ Some k) → option_or o other ≡ Some (unwrap_or o k)
+option_or-some None other k h = h refl
+option_or-some (Some x) other k h = refl
 
 -- the longest prefix that is not cut short is a name where it is no reserved word
 named-kind : (c : ℕ) (cs : List ℕ) → is_in WordChar c ≡ true → bare_len (c ∷ cs) ≡ 0 → table_kind (take (named_len (c ∷ cs)) (c ∷ cs)) ≡ None → open_kind (take (named_len (c ∷ cs)) (c ∷ cs)) ≡ Some Name
@@ -182,7 +183,7 @@ named_cons c cs word bare =
     let size = named-size c cs word bare in
     let text : List ℕ = c ∷ cs in
     let n : ℕ = named_len text in
-    longest_some kind_of (length text) n text (unwrap_or (table_kind (take n text)) Name) size.0 size.1 (or_else-some (table_kind (take n text)) (open_kind (take n text)) Name (named-kind c cs word bare)) (from_suc (λ m. m ≤ length text → kind_of (take m text) ≡ None) n (λ k lt le. named-none c cs word bare k lt le))
+    longest_some kind_of (length text) n text (unwrap_or (table_kind (take n text)) Name) size.0 size.1 (option_or-some (table_kind (take n text)) (open_kind (take n text)) Name (named-kind c cs word bare)) (from_suc (λ m. m ≤ length text → kind_of (take m text) ≡ None) n (λ k lt le. named-none c cs word bare k lt le))
 
 pub named_is : (text : List ℕ) → is_in WordChar (slice_index text 0) ≡ true → bare_len text ≡ 0 → lexeme_at text ≡ Some (record { len = named_len text; kind = unwrap_or (table_kind (take (named_len text) text)) Name })
 named_is [] word bare = absurd (both_ways false refl word)

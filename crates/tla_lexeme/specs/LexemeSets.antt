@@ -3,7 +3,7 @@
 use Rattle.std.specs.Prelude.{ℕ, List, [], ◌∷◌, Bool, true, false, not, ◌&&◌, ◌||◌, ◌==◌, nat_eq, nat_le, nat_lt, Option, Some, None, if◌then◌else◌, codes, is_none, length}
 use Rattle.std.specs.List.{list_all, list_any, starts_with}
 use Rattle.std.specs.Char.{is_ascii_alphabetic, is_ascii_alphanumeric, is_ascii_digit, is_ascii_hexdigit}
-use Rattle.std.specs.Option.{option_map}
+use Rattle.std.specs.Option.{option_map, option_or}
 use Rattle.tla_spelling.specs.Spellings.{word_of, op_of, mark_of}
 use Rattle.tla_symbols.specs.declared.lexeme.LexKind.{LexKind}
 use Rattle.tla_symbols.specs.declared.lexeme.LexKind.TheVariants.{Name, Word, Number, Str, Sym, Mark, Dashes, Equals}
@@ -34,14 +34,9 @@ is_run class (c ∷ cs) = is_in class c && list_all (is_in class) cs
 
 -- ---- reserved words, symbols and marks
 
--- the first of two that is there
-abbrev pub or_else : {A : Type 0} → Option A → Option A → Option A
-or_else None other = other
-or_else (Some x) other = Some x
-
 -- the kind of a reserved word, a symbol or a mark
 abbrev pub table_kind : List ℕ → Option LexKind
-table_kind spelling = or_else (option_map Word (word_of spelling)) (or_else (option_map Sym (op_of spelling)) (option_map Mark (mark_of spelling)))
+table_kind spelling = option_or (option_map Word (word_of spelling)) (option_or (option_map Sym (op_of spelling)) (option_map Mark (mark_of spelling)))
 
 -- ---- names
 
@@ -132,4 +127,4 @@ open_kind spelling =
 
 -- the kind of a spelling, if it is a lexeme
 abbrev pub kind_of : List ℕ → Option LexKind
-kind_of spelling = or_else (table_kind spelling) (open_kind spelling)
+kind_of spelling = option_or (table_kind spelling) (open_kind spelling)
