@@ -1,0 +1,4 @@
+pub mod Relations
+pub mod Likeness
+pub mod Putting
+pub mod Unfolding

@@ -1,0 +1,4 @@
+pub mod ExpandedKind
+pub mod Substitution
+pub mod FlatModule
+pub mod Expansion
