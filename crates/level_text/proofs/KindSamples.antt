@@ -6,6 +6,10 @@ use Rattle.tla_symbols.specs.declared.level.Rule.{Rule}
 use Rattle.tla_symbols.specs.declared.level.Rule.TheVariants.{Plain, Boolean, Prime, Unchanged, Enabled, Always, Eventually, Leads, Compose, Square, Angle, Fair}
 use Rattle.order_rec.specs.Earlier.{within}
 use Rattle.kind_text.specs.FlatModule.{FlatModule, Form, Node}
+use Rattle.tla_symbols.specs.declared.lexeme.LexKind.TheVariants as LexKind
+use Rattle.tla_symbols.specs.declared.op.Op.TheVariants as Op
+use Rattle.tla_symbols.specs.declared.place.Fix.TheVariants as Fix
+use Rattle.level_text.specs.FormRules.{symbol_rule}
 use Rattle.level_text.specs.LevelFaults.{Place, Constant, Operator, Variable, Parameter, kind_at}
 
 -- ---- one form over operands of these kinds
@@ -232,3 +236,17 @@ old_value = refl
 let_box : of_form Constant Form.Let (BoxAction ∷ []) ≡ Some BoxAction
 unfolding within
 let_box = refl
+
+-- ---- the rules of forms
+
+always_is_always : symbol_rule Fix.Prefix (LexKind.Sym Op.Always) ≡ Some Always
+always_is_always = refl
+
+prime_is_prime : symbol_rule Fix.Postfix (LexKind.Sym Op.Prime) ≡ Some Prime
+prime_is_prime = refl
+
+plus_has_none : symbol_rule Fix.Infix (LexKind.Sym Op.Plus) ≡ None
+plus_has_none = refl
+
+minus_has_none : symbol_rule Fix.Prefix (LexKind.Sym Op.Minus) ≡ None
+minus_has_none = refl
