@@ -1,5 +1,5 @@
 -- The table of levels: which kinds each rule takes at each operand, and the kind that it gives.
-use Rattle.std.specs.Prelude.{◌≡◌, ℕ, ◌+◌, ◌⊎◌, Bool, true, false, not, ◌||◌, ◌==◌, if◌then◌else◌, nat_le, max, fold, List, [], ◌∷◌, Option, Some, None}
+use Rattle.std.specs.Prelude.{ℕ, ◌+◌, Bool, true, false, not, ◌||◌, ◌==◌, if◌then◌else◌, nat_le, max, fold, List, [], ◌∷◌, Option, Some, None}
 use Rattle.tla_symbols.specs.declared.level.Kind.{Kind}
 use Rattle.tla_symbols.specs.declared.level.Kind.TheVariants.{Const, State, Action, BoxAction, DiamondAction, Temporal}
 use Rattle.tla_symbols.specs.declared.level.Rule.{Rule}
@@ -82,18 +82,3 @@ applied rule kinds = unless (first_refused rule 0 kinds)
     unless : Option ℕ → Option Kind
     unless None = Some (given rule kinds)
     unless (Some place) = None
-
--- as many operands as the rule takes
-abbrev pub HasOperands : Rule → ℕ → Type 0
-HasOperands Plain n = Unit {0}
-HasOperands Boolean n = Unit {0}
-HasOperands Prime n = n ≡ 1
-HasOperands Unchanged n = n ≡ 1
-HasOperands Enabled n = n ≡ 1
-HasOperands Always n = n ≡ 1
-HasOperands Eventually n = n ≡ 1
-HasOperands Leads n = (n ≡ 1) ⊎ (n ≡ 2)
-HasOperands Compose n = n ≡ 2
-HasOperands Square n = n ≡ 2
-HasOperands Angle n = n ≡ 2
-HasOperands Fair n = n ≡ 2

@@ -4,7 +4,7 @@
 //! Knows nothing of trees, names or places in a text, and takes no memory.
 #![tactic(auto)]
 
-ghost use Rattle.std.specs.Prelude.{◌≡◌, Some, None, IfOk, IfErr, fold, max, length};
+ghost use Rattle.std.specs.Prelude.{◌≡◌, Some, None, IfOk, IfErr, fold, max};
 ghost use Rattle.level_rules.specs.Kinds as kinds;
 
 use tla_symbols::{Kind, Rule};
@@ -20,7 +20,6 @@ pub struct Breaks {
 /// `\EE`; `Square`, `Angle` and `Fair` take the action and then its subscript.
 /// `Breaks` comes exactly where the table refuses an operand, and names the first.
 pub fn apply(rule: Rule, operands: &[Kind]) -> Result<Kind, Breaks>
-    requires { kinds.HasOperands rule (length operands.now) }
     ensures kind { IfOk result (λ kind. kinds.applied rule operands.now ≡ Some kind) }
     ensures breaks { IfErr result (λ breaks. kinds.first_refused rule 0 operands.now
         ≡ Some breaks.operand) }
@@ -90,8 +89,8 @@ fn greatest(operands: &[Kind]) -> Kind
     plain(most)
 }
 
-// Constant 0, state 1, action 2, temporal 3.
-fn level(kind: Kind) -> u8
+/// Constant 0, state 1, action 2, temporal 3.
+pub fn level(kind: Kind) -> u8
     ensures { result ≡ kinds.level kind }
 {
     match kind {
