@@ -7,7 +7,7 @@ use Rattle.tla_symbols.specs.declared.place.Fix.{Fix}
 use Rattle.tla_symbols.specs.declared.place.Fix.TheVariants.{Prefix, Infix, Postfix}
 use Rattle.tla_symbols.specs.Symbols.{rule_of}
 use Rattle.tla_tree.specs.declared.form.Form.TheVariants as Form
-use Rattle.tla_tree.specs.Syntax.{Trees, Nil, Cons}
+use Rattle.kind_text.specs.ExpandedKind.{Operands, Nil, Cons}
 
 -- the rule of a symbol that is built in at a place
 abbrev pub symbol_rule : Fix → LexKind → Option Rule
@@ -46,6 +46,6 @@ form_rule (Form.FunctionDefinition l) = Some Plain
 form_rule form = None
 
 -- the operands in the order of the rule: `WF_` and `SF_` are written with the subscript first
-abbrev pub rule_operands : Form.the_data → Trees → Trees
+abbrev pub rule_operands : Form.the_data → Operands → Operands
 rule_operands (Form.Fairness l) (Cons subscript (Cons action Nil)) = Cons action (Cons subscript Nil)
-rule_operands form parts = parts
+rule_operands form operands = operands
