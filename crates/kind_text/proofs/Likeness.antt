@@ -9,13 +9,13 @@ use Rattle.kind_text.proofs.Relations.{Each, Related, AllRelated, IsKept, text-r
 abbrev pub SameKind : Expanded → Expanded → Type 0
 SameKind t u = kind t ≡ kind u
 
-each-kinds : (ts us : Operands) → Each SameKind ts us → kinds ts ≡ kinds us
+pub each-kinds : (ts us : Operands) → Each SameKind ts us → kinds ts ≡ kinds us
 each-kinds Nil Nil each = refl
 each-kinds Nil (Cons u us) each = absurd each
 each-kinds (Cons t ts) Nil each = absurd each
 each-kinds (Cons t ts) (Cons u us) each = let first = each.0 in let rest = each-kinds ts us each.1 in cc
 
-kinds-each : (ts us : Operands) → kinds ts ≡ kinds us → Each SameKind ts us
+pub kinds-each : (ts us : Operands) → kinds ts ≡ kinds us → Each SameKind ts us
 kinds-each Nil Nil same = tt
 kinds-each Nil (Cons u us) same = cc
 kinds-each (Cons t ts) Nil same = cc
@@ -23,20 +23,20 @@ kinds-each (Cons t ts) (Cons u us) same =
     let first : kind t ≡ kind u = cc in let rest : kinds ts ≡ kinds us = cc in
     (first, kinds-each ts us rest)
 
-kept : IsKept SameKind
+pub kept : IsKept SameKind
 kept = record {
   leaf = λ k. refl;
   rule = λ r ts us each. ap (ruled r) (each-kinds ts us each);
   guard = λ most a b t u same more. ap (λ o. guarded most o (kind t)) same ∙ ap (guarded most (kind b)) more;
 }
 
-related : (a b : Item) → Same a b → Related SameKind a b
+pub related : (a b : Item) → Same a b → Related SameKind a b
 related a b same = record { text = same.text; call = λ ts us each. same.call ts us (each-kinds ts us each) }
 
-same : (a b : Item) → Related SameKind a b → Same a b
+pub same : (a b : Item) → Related SameKind a b → Same a b
 same a b r = record { text = r.text; call = λ ts us e. r.call ts us (kinds-each ts us e) }
 
-all-related : (s u : List Item) → Alike s u → AllRelated SameKind s u
+pub all-related : (s u : List Item) → Alike s u → AllRelated SameKind s u
 all-related [] [] all = tt
 all-related [] (y ∷ ys) all = absurd all
 all-related (x ∷ xs) [] all = absurd all

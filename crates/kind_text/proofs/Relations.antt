@@ -34,46 +34,46 @@ module _ (E : Expanded → Expanded → Type 0) where
     pub guard : (most : ℕ) (a b t u : Expanded) → E a b → E t u → E (Guarded most a t) (Guarded most b u)
 
   module _ (kept : IsKept) where
-    expression-related : (t u : Expanded) → E t u → Related (expression t) (expression u)
+    pub expression-related : (t u : Expanded) → E t u → Related (expression t) (expression u)
     expression-related t u r = record { text = r; call = λ ts us each. kept.leaf None }
 
-    operator-related : (g h : Operands → Expanded) → ((ts us : Operands) → Each ts us → E (g ts) (h us)) → Related (operator g) (operator h)
+    pub operator-related : (g h : Operands → Expanded) → ((ts us : Operands) → Each ts us → E (g ts) (h us)) → Related (operator g) (operator h)
     operator-related g h r = record { text = kept.leaf None; call = r }
 
-    at-related : (s u : List Item) → AllRelated s u → (i : ℕ) → Related (at s i) (at u i)
+    pub at-related : (s u : List Item) → AllRelated s u → (i : ℕ) → Related (at s i) (at u i)
     at-related [] [] all i = expression-related _ _ (kept.leaf _)
     at-related [] (y ∷ ys) all i = absurd all
     at-related (x ∷ xs) [] all i = absurd all
     at-related (x ∷ xs) (y ∷ ys) all zero = all.0
     at-related (x ∷ xs) (y ∷ ys) all (suc i) = at-related xs ys all.1 i
 
-    take-related : (n : ℕ) (s u : List Item) → AllRelated s u → AllRelated (take n s) (take n u)
+    pub take-related : (n : ℕ) (s u : List Item) → AllRelated s u → AllRelated (take n s) (take n u)
     take-related zero s u all = tt
     take-related (suc n) [] [] all = tt
     take-related (suc n) [] (y ∷ ys) all = absurd all
     take-related (suc n) (x ∷ xs) [] all = absurd all
     take-related (suc n) (x ∷ xs) (y ∷ ys) all = (all.0, take-related n xs ys all.1)
 
-    drop-related : (n : ℕ) (s u : List Item) → AllRelated s u → AllRelated (drop n s) (drop n u)
+    pub drop-related : (n : ℕ) (s u : List Item) → AllRelated s u → AllRelated (drop n s) (drop n u)
     drop-related zero s u all = all
     drop-related (suc n) [] [] all = tt
     drop-related (suc n) [] (y ∷ ys) all = absurd all
     drop-related (suc n) (x ∷ xs) [] all = absurd all
     drop-related (suc n) (x ∷ xs) (y ∷ ys) all = drop-related n xs ys all.1
 
-    append-related : (s u p q : List Item) → AllRelated s u → AllRelated p q → AllRelated (s ++ p) (u ++ q)
+    pub append-related : (s u p q : List Item) → AllRelated s u → AllRelated p q → AllRelated (s ++ p) (u ++ q)
     append-related [] [] p q all more = more
     append-related [] (y ∷ ys) p q all more = absurd all
     append-related (x ∷ xs) [] p q all more = absurd all
     append-related (x ∷ xs) (y ∷ ys) p q all more = (all.0, append-related xs ys p q all.1 more)
 
-    expressions-related : (ts us : Operands) → Each ts us → AllRelated (expressions ts) (expressions us)
+    pub expressions-related : (ts us : Operands) → Each ts us → AllRelated (expressions ts) (expressions us)
     expressions-related Nil Nil each = tt
     expressions-related Nil (Cons u us) each = absurd each
     expressions-related (Cons t ts) Nil each = absurd each
     expressions-related (Cons t ts) (Cons u us) each = (expression-related t u each.0, expressions-related ts us each.1)
 
-    texts-related : (xs ys : List Item) → AllRelated xs ys → Each (texts xs) (texts ys)
+    pub texts-related : (xs ys : List Item) → AllRelated xs ys → Each (texts xs) (texts ys)
     texts-related [] [] all = tt
     texts-related [] (y ∷ ys) all = absurd all
     texts-related (x ∷ xs) [] all = absurd all
@@ -87,18 +87,18 @@ module _ (E : Expanded → Expanded → Type 0) where
     judged-related None x y r = r.text
     judged-related (Some n) x y r = r.call _ _ (leaves-related (replicate n (Some Const)))
 
-    bounded-related : (ts us : Operands) → Each ts us → E (bounded ts) (bounded us)
+    pub bounded-related : (ts us : Operands) → Each ts us → E (bounded ts) (bounded us)
     bounded-related Nil Nil each = kept.leaf None
     bounded-related Nil (Cons u us) each = absurd each
     bounded-related (Cons t ts) Nil each = absurd each
     bounded-related (Cons t ts) (Cons u us) each = kept.rule Boolean _ _ (each.0, (kept.rule Plain ts us each.1, tt))
 
     -- guards of the same bounds
-    record SameBound (g h : Guard) : Type 0 where
-      most : g.most ≡ h.most
-      replacement : E g.replacement h.replacement
+    pub record SameBound (g h : Guard) : Type 0 where
+      pub most : g.most ≡ h.most
+      pub replacement : E g.replacement h.replacement
 
-    abbrev Guards : List Guard → List Guard → Type 0
+    abbrev pub Guards : List Guard → List Guard → Type 0
     Guards = AllZip SameBound
 
     guards-append : (gs hs gs' hs' : List Guard) → Guards gs hs → Guards gs' hs' → Guards (gs ++ gs') (hs ++ hs')
@@ -107,7 +107,7 @@ module _ (E : Expanded → Expanded → Type 0) where
     guards-append (g ∷ gs) [] gs' hs' all more = absurd all
     guards-append (g ∷ gs) (h ∷ hs) gs' hs' all more = (all.0, guards-append gs hs gs' hs' all.1 more)
 
-    guard-related : (gs hs : List Guard) (t u : Expanded) → Guards gs hs → E t u → E (guard gs t) (guard hs u)
+    pub guard-related : (gs hs : List Guard) (t u : Expanded) → Guards gs hs → E t u → E (guard gs t) (guard hs u)
     guard-related [] [] t u all r = r
     guard-related [] (h ∷ hs) t u all r = absurd all
     guard-related (g ∷ gs) [] t u all r = absurd all
@@ -121,29 +121,29 @@ module _ (E : Expanded → Expanded → Type 0) where
     guarded_by-related None t u r = tt
     guarded_by-related (Some most) t u r = (record { most = refl; replacement = r }, tt)
 
-    record SameReached (a b : Reached) : Type 0 where
-      frame : AllRelated a.frame b.frame
-      guards : Guards a.guards b.guards
-      rest : AllRelated a.rest b.rest
+    pub record SameReached (a b : Reached) : Type 0 where
+      pub frame : AllRelated a.frame b.frame
+      pub guards : Guards a.guards b.guards
+      pub rest : AllRelated a.rest b.rest
 
     -- an expansion that keeps the relation
     abbrev pub Keeps : (List Item → Item) → Type 0
     Keeps x = (s u : List Item) → AllRelated s u → Related (x s) (x u)
 
     module _ (flat : FlatModule) (f : Earlier) (keeps : (j : ℕ) → Keeps (f j)) where
-      items-related : (is : List ℕ) (s u : List Item) → AllRelated s u → AllRelated (items f is s) (items f is u)
+      pub items-related : (is : List ℕ) (s u : List Item) → AllRelated s u → AllRelated (items f is s) (items f is u)
       items-related [] s u all = tt
       items-related (i ∷ is) s u all = (keeps i s u all, items-related is s u all)
 
-      first-related : (is : List ℕ) → Keeps (first_item f is)
+      pub first-related : (is : List ℕ) → Keeps (first_item f is)
       first-related [] s u all = expression-related _ _ (kept.leaf None)
       first-related (i ∷ is) s u all = keeps i s u all
 
-      body-related : (d : Option Definition) (p q : ℕ → List Item) → ((n : ℕ) → AllRelated (p n) (q n)) → E (body f d p) (body f d q)
+      pub body-related : (d : Option Definition) (p q : ℕ → List Item) → ((n : ℕ) → AllRelated (p n) (q n)) → E (body f d p) (body f d q)
       body-related None p q all = kept.leaf None
       body-related (Some d) p q all = (keeps d.root (p d.outer) (q d.outer) (all d.outer)).text
 
-      guards_of-related : (rs : List Replacement) (s u : List Item) → AllRelated s u → Guards (guards_of flat f rs s) (guards_of flat f rs u)
+      pub guards_of-related : (rs : List Replacement) (s u : List Item) → AllRelated s u → Guards (guards_of flat f rs s) (guards_of flat f rs u)
       guards_of-related [] s u all = tt
       guards_of-related (r ∷ rs) s u all =
           guards-append _ _ _ _
@@ -154,7 +154,7 @@ module _ (E : Expanded → Expanded → Type 0) where
       if-related true gs hs all = all
       if-related false gs hs all = tt
 
-      behind-related : (j : Instance) (s u : List Item) (a b : Reached) → AllRelated s u → SameReached a b → SameReached (behind flat f j s a) (behind flat f j u b)
+      pub behind-related : (j : Instance) (s u : List Item) (a b : Reached) → AllRelated s u → SameReached a b → SameReached (behind flat f j s a) (behind flat f j u b)
       behind-related j s u a b all same =
           record {
             frame = items-related (map (λ r. r.root) j.replacements) s u all;
@@ -162,24 +162,24 @@ module _ (E : Expanded → Expanded → Type 0) where
             rest = drop-related j.parameters _ _ same.rest;
           }
 
-      through-related : (j : Option Instance) (a b : Reached) → SameReached a b → SameReached (through flat f j a) (through flat f j b)
+      pub through-related : (j : Option Instance) (a b : Reached) → SameReached a b → SameReached (through flat f j a) (through flat f j b)
       through-related None a b same = same
       through-related (Some j) a b same =
           behind-related j _ _ a b (append-related _ _ _ _ (take-related j.outer _ _ same.frame) (take-related j.parameters _ _ same.rest)) same
 
-      path-related : (path : List ℕ) (a b : Reached) → SameReached a b → SameReached (along_path flat f path a) (along_path flat f path b)
+      pub path-related : (path : List ℕ) (a b : Reached) → SameReached a b → SameReached (along_path flat f path a) (along_path flat f path b)
       path-related [] a b same = same
       path-related (j ∷ path) a b same = path-related path _ _ (through-related (slice_get flat.instances j) a b same)
 
-      start-related : (s u xs ys : List Item) → AllRelated s u → AllRelated xs ys → SameReached (start s xs) (start u ys)
+      pub start-related : (s u xs ys : List Item) → AllRelated s u → AllRelated xs ys → SameReached (start s xs) (start u ys)
       start-related s u xs ys all more = record { frame = all; guards = tt; rest = more }
 
-      used-related : (a b : Reached) (d : ℕ) (xs ys : List Item) → SameReached a b → AllRelated xs ys → E (used flat f a d xs) (used flat f b d ys)
+      pub used-related : (a b : Reached) (d : ℕ) (xs ys : List Item) → SameReached a b → AllRelated xs ys → E (used flat f a d xs) (used flat f b d ys)
       used-related a b d xs ys same all =
           guard-related a.guards b.guards _ _ same.guards
           (body-related (slice_get flat.definitions d) _ _ (λ n. append-related _ _ xs ys (take-related n _ _ same.frame) all))
 
-      form-related : (form : Form) (is : List ℕ) → Keeps (form_item flat f form is)
+      pub form-related : (form : Form) (is : List ℕ) → Keeps (form_item flat f form is)
       form-related (Form.Leaf k) is s u all = expression-related _ _ (kept.leaf (Some k))
       form-related (Form.Parameter i) is s u all = at-related s u all i
       form-related (Form.Call i) is s u all = expression-related _ _ ((at-related s u all i).call _ _ (texts-related _ _ (items-related is s u all)))
