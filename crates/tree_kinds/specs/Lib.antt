@@ -1,0 +1,4 @@
+pub mod Standing
+pub mod Expanding
+pub mod TreeLevels
+pub mod TreeDepths

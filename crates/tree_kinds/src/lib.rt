@@ -1,0 +1,24 @@
+//! What an expression is where its names mean something: its expansion, its kind, and its depth.
+//!
+//! No code: the function states a law that definitions and proofs above cite. Knows nothing of where what
+//! stands for names comes from, and of how definitions are kept.
+#![tactic(auto)]
+
+ghost use Rattle.std.specs.Prelude.{◌≡◌, ℕ, List, None, if◌then◌else◌, map};
+ghost use Rattle.tla_symbols.specs.declared.lexeme.Lexeme.{Lexeme};
+ghost use Rattle.tla_model.specs.Entities.{Text};
+ghost use Rattle.module_model.specs.Exports.{Known};
+ghost use Rattle.kind_text.specs.ExpandedKind.{kind};
+ghost use Rattle.kind_text.specs.Expansion.{are_met};
+ghost use Rattle.tree_kinds.specs.Standing.{Outside, Steps};
+ghost use Rattle.tree_kinds.specs.Expanding.{Around, Replaced, behind_instance, guard_of, module_of, put_into};
+
+/// What stands behind an instance has the kind that it has with the replacements put in, where each of
+/// these is of a level that it may have, and else none.
+pub fn instance_is_put_in()
+    ensures { (text : Text) (known : Known) (named : List ℕ → Outside) (around : Around) (l : Lexeme)
+        (rs : List Replaced) (path : Steps)
+        → kind (behind_instance text known named around l rs path)
+        ≡ if are_met (map (guard_of (module_of text known named l).is_constant) rs)
+        then kind (put_into text known named around l rs path) else None }
+{}
