@@ -1,0 +1,2 @@
+pub mod Constancy
+pub mod ModuleKinds
