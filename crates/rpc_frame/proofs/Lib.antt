@@ -6,4 +6,5 @@ pub mod Headers
 pub mod Numbers
 pub mod OneReading
 pub mod Runs
+pub mod Streams
 pub mod Written

@@ -145,7 +145,7 @@ unfinished_not_bad : (bytes : List ℕ) (k : ℕ) → IsUnfinished bytes → IsB
 unfinished_not_bad bytes k u b =
     ⊎_elim (λ p. part_not_bad bytes k p b) (λ p. bad_unheaded bytes k b (headed_lacking bytes p)) u
 
-unfinished_some : (bytes : List ℕ) → bytes ≡ [] → IsUnfinished bytes → ⊥
+pub unfinished_some : (bytes : List ℕ) → bytes ≡ [] → IsUnfinished bytes → ⊥
 unfinished_some bytes e u =
     ⊎_elim (λ p. omega (arith, ap length e, p.some)) (λ p. empty_unheaded bytes e (headed_lacking bytes p)) u
 

@@ -6,6 +6,7 @@ ghost use Rattle.rpc_frame.specs.declared.framer.FrameNext.{FrameNext};
 ghost use Rattle.rpc_frame.specs.declared.framer.FrameNext.TheVariants.{Message, NotYet};
 ghost use Rattle.rpc_frame.specs.Frames.{IsFrame, IsUnfinished, IsTooLong, IsBad, HasFrames, HasNoFrame, frame_of};
 ghost use Rattle.rpc_frame.specs.Framing.{Held, IsNext, HasGiven};
+ghost use Rattle.rpc_frame.specs.Streams.{Rest, IsRest, IsApart, ComesApart};
 
 /// What waits in a framer has one answer. So each answer comes exactly where its meaning holds.
 pub fn one_answer()
@@ -19,6 +20,18 @@ pub fn one_stream()
         → HasFrames stream contents rest → HasNoFrame rest
         → HasFrames stream contents' rest' → HasNoFrame rest'
         → (contents ≡ contents') × (rest ≡ rest') }
+{}
+
+/// Each stream of bytes, whatever they are, comes apart into frames and a rest of one of four kinds:
+/// nothing, a frame that has begun, a header that says too much, or bytes that begin no header. And it
+/// does so in one way.
+pub fn each_stream()
+    ensures comes { (stream : List ℕ) → ComesApart stream }
+    ensures one { (stream rest rest' : List ℕ) (contents contents' : List (List ℕ))
+        (kind kind' : Rest) → IsApart stream contents rest kind
+        → IsApart stream contents' rest' kind'
+        → (contents ≡ contents') × (rest ≡ rest') × (kind ≡ kind') }
+    ensures none { (rest : List ℕ) (kind : Rest) → IsRest rest kind → HasNoFrame rest }
 {}
 
 /// Whatever the order in which a framer is fed and asked, the contents that it gave are those of
