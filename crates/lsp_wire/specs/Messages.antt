@@ -1,5 +1,6 @@
 -- The reading of a frame's content: JSON, then a message of JSON-RPC, then its method.
 use Rattle.std.specs.Prelude.{◌≡◌, ℕ, ℤ, ◌||◌, if◌then◌else◌, ◌⊎◌, List, Option, Some, None, is_some, option_and_then, codes, IsUtf8}
+use Rattle.std.specs.Str.{is_utf8}
 use Rattle.serde_json.specs.Data.{Data, null, boolean, number, string, array, object}
 use Rattle.serde_json.specs.Find.{get, as_str, as_number, as_integer, as_object}
 use Rattle.serde_json.specs.Read.{read}
@@ -70,3 +71,14 @@ pub record IsRead (content : List ℕ) (message : Incoming) : Type 0 where
 abbrev pub IsMessage : List ℕ → Incoming → Type 0
 IsMessage content message =
     IsRead content message ⊎ ((IsUtf8 content → read content ≡ None) × (message ≡ Invalid parse_error Null))
+
+-- ---- as a function
+
+-- the message of what was read, if something was
+abbrev pub read_as : Option Data → Incoming
+read_as None = Invalid parse_error Null
+read_as (Some value) = message_of value
+
+-- the message that a content is
+abbrev pub message_in : List ℕ → Incoming
+message_in content = if is_utf8 content then read_as (read content) else Invalid parse_error Null

@@ -7,6 +7,7 @@
 
 mod errors;
 mod frame;
+pub mod laws;
 mod method;
 mod notes;
 mod params;
