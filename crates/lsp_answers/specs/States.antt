@@ -33,11 +33,14 @@ pub record Named : Type 0 where
   pub name : List ℕ
   pub uri : List ℕ
 
+-- a root: its text, and the path of its folder where that was read, as the root's URI gave it
+pub record Root : Type 0 where
+  pub text : List ℕ
+  pub path : Option (List ℕ)
+
 -- nothing that is derived from texts is held
 pub record State : Type 0 where
-  -- the root's text, and whether its folder was read
-  pub root : Option (List ℕ)
-  pub listed : Bool
+  pub root : Option Root
   -- in byte order of names
   pub texts : List ModuleText
   pub opened : List Opened

@@ -1,6 +1,6 @@
 -- The meaning of the stand-in that tests use: no notes, null to every question, a notice for each document
 -- that is opened, and for changes the limit that their number is.
-use Rattle.std.specs.Prelude.{ℕ, List, [], length, false, Option, Some, None, option_map}
+use Rattle.std.specs.Prelude.{ℕ, List, [], length, Option, Some, None, option_map}
 use Rattle.lsp_wire.specs.declared.types.Reply.TheVariants.{Null}
 use Rattle.lsp_answers.specs.States.{State, Meaning, judged}
 
@@ -9,7 +9,6 @@ abbrev pub silent_state : Option (List ℕ) → State
 silent_state due =
     record {
       root = None;
-      listed = false;
       texts = [];
       opened = [];
       due = option_map (λ uri. record { name = uri; uri = uri }) due;
