@@ -11,17 +11,21 @@ ghost use Rattle.lsp_answers.specs.States.{IsAfter, IsQuestion, HasAnswerCause};
 use lsp_wire::{Call, Change, FileEvent, Note, Reply, Uri};
 use std::alloc::Global;
 use step_count::Steps;
+use thiserror::Error;
 use tool_list::{Chars, List, Memory};
 
 /// Why a call of [`Answers`] was refused. The value then answers no further call.
-#[derive(Clone, Copy, Debug, PartialEq, Eq)]
+#[derive(Clone, Copy, Debug, PartialEq, Eq, Error)]
 pub enum AnswerFault {
     /// The folder failed: its count rose by one in the call, or stands at its last value.
+    #[error("the folder failed")]
     Folder,
     /// The call would leave more than 1,024 modules or more than 2^25 bytes of texts, or a text
     /// passed 2^25 bytes within it: the number that is too large.
+    #[error("more modules or bytes of texts than may be held: {said}")]
     Limit { said: u64 },
     /// There was no room.
+    #[error("out of memory")]
     Memory,
 }
 

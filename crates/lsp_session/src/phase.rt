@@ -5,6 +5,7 @@ ghost use Rattle.lsp_session.specs.SessionOutput.{is_end, exit_status, fault_of,
 
 use lsp_answers::AnswerFault;
 use lsp_wire::Notice;
+use thiserror::Error;
 use tool_list::Memory;
 
 /// How a session goes on after a message.
@@ -16,15 +17,19 @@ pub enum Turn {
 }
 
 /// Why a message was not answered. The session is then spent.
-#[derive(Clone, Copy, Debug, PartialEq, Eq)]
+#[derive(Clone, Copy, Debug, PartialEq, Eq, Error)]
 pub enum SessionFault {
     /// The folder failed.
+    #[error("the folder failed")]
     Folder,
     /// The message meets a limit on modules or texts: the number that is too large.
+    #[error("more modules or bytes of texts than may be held: {said}")]
     Limit { said: u64 },
     /// There was no room.
+    #[error("out of memory")]
     Memory,
     /// The session had ended, or had failed.
+    #[error("the session had ended before")]
     Spent,
 }
 
