@@ -179,23 +179,42 @@ handled m phase s (Notice n) = notified m phase s n
 handled m phase s Dropped = wrote phase s []
 handled m phase s (Invalid code id) = wrote phase s (refused id code)
 
--- the folder tells, where the message may ask it
-abbrev pub Tells : State → Incoming → Type 0
-Tells s (Request id (Initialize root)) = IsSome s.folder
-Tells s (Request id Shutdown) = ⊤
-Tells s (Request id (Definition uri at)) = ⊤
-Tells s (Request id (References uri at declared)) = ⊤
-Tells s (Request id (Symbols uri)) = ⊤
-Tells s (Request id BadParams) = ⊤
-Tells s (Request id Unknown) = ⊤
-Tells s (Notice Exit) = ⊤
-Tells s (Notice (Open uri text)) = ⊤
-Tells s (Notice (Change uri changes)) = ⊤
-Tells s (Notice (Close uri)) = IsSome s.folder
-Tells s (Notice (Files events)) = IsSome s.folder
-Tells s (Notice Other) = ⊤
-Tells s Dropped = ⊤
-Tells s (Invalid code id) = ⊤
+-- the folder tells, where the answer to a request asks it
+abbrev pub TellsAnswered : State → Call → Type 0
+TellsAnswered s (Initialize root) = IsSome s.folder
+TellsAnswered s Shutdown = ⊤
+TellsAnswered s (Definition uri at) = ⊤
+TellsAnswered s (References uri at declared) = ⊤
+TellsAnswered s (Symbols uri) = ⊤
+TellsAnswered s BadParams = ⊤
+TellsAnswered s Unknown = ⊤
+
+-- no request asks it that is refused
+abbrev pub TellsRequested : Option ℤ → State → Call → Type 0
+TellsRequested None s call = TellsAnswered s call
+TellsRequested (Some code) s call = ⊤
+
+-- the folder tells, where a notification asks it while the server runs
+abbrev pub TellsRunning : State → told.Notice → Type 0
+TellsRunning s Exit = ⊤
+TellsRunning s (Open uri text) = ⊤
+TellsRunning s (Change uri changes) = ⊤
+TellsRunning s (Close uri) = IsSome s.folder
+TellsRunning s (Files events) = IsSome s.folder
+TellsRunning s Other = ⊤
+
+-- before and after that none asks it
+abbrev pub TellsNotified : Phase → State → told.Notice → Type 0
+TellsNotified Uninitialized s n = ⊤
+TellsNotified Running s n = TellsRunning s n
+TellsNotified Stopped s n = ⊤
+
+-- the folder tells, where the message asks it
+abbrev pub Tells : Phase → State → Incoming → Type 0
+Tells phase s (Request id call) = TellsRequested (refusal phase call) s call
+Tells phase s (Notice n) = TellsNotified phase s n
+Tells phase s Dropped = ⊤
+Tells phase s (Invalid code id) = ⊤
 
 -- of some bytes the first ones were appended, and the rest was not
 pub record IsCut (old new whole : List ℕ) : Type 0 where

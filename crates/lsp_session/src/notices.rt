@@ -3,11 +3,12 @@
 ghost use Rattle.std.specs.Prelude.{◌≡◌, ◌++◌, List, ℕ, IfErr, IsSome, OnOk, OnErr};
 ghost use Rattle.lsp_answers.specs.States.{judged, dues_of, after_dues};
 ghost use Rattle.lsp_session.specs.SessionOutput.{noticed, notified, notice_frames, told_running};
-ghost use Rattle.lsp_session.specs.SessionOutput.{Tells, IsCut, IsDone, HasSessionCause, Adds};
+ghost use Rattle.lsp_session.specs.SessionOutput.{TellsRunning, TellsNotified, IsCut, IsDone};
+ghost use Rattle.lsp_session.specs.SessionOutput.{HasSessionCause, Adds};
 
 use crate::phase::{Phase, SessionFault, fault_of};
 use lsp_answers::{Answers, Due};
-use lsp_wire::{Change, FileEvent, Incoming, Notice, Uri, write_notes};
+use lsp_wire::{Change, FileEvent, Notice, Uri, write_notes};
 use std::alloc::Global;
 use step_count::Steps;
 use tool_list::{Chars, List, Memory};
@@ -135,7 +136,7 @@ fn told_running<A: Answers, L>(
     out: &mut List<u8>,
     steps: &mut Steps<L>,
 ) -> Result<(), SessionFault>
-    ensures goes { Tells (A.state answers.old) (Incoming.Notice notice.now)
+    ensures goes { TellsRunning (A.state answers.old) notice.now
         → IsDone (told_running A.meaning (A.state answers.old) notice.now)
         out.old out.new (A.state answers.new) result }
     ensures cause { HasSessionCause (A.fault_count answers.old) (A.fault_count answers.new) result }
@@ -160,7 +161,7 @@ pub fn notification<A: Answers, L>(
     out: &mut List<u8>,
     steps: &mut Steps<L>,
 ) -> Result<(), SessionFault>
-    ensures goes { Tells (A.state answers.old) (Incoming.Notice notice.now)
+    ensures goes { TellsNotified phase (A.state answers.old) notice.now
         → IsDone (notified A.meaning phase (A.state answers.old) notice.now)
         out.old out.new (A.state answers.new) result }
     ensures cause { HasSessionCause (A.fault_count answers.old) (A.fault_count answers.new) result }

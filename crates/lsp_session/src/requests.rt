@@ -6,13 +6,14 @@ ghost use Rattle.lsp_wire.specs.Replies.{reply_content};
 ghost use Rattle.lsp_answers.specs.States.{IsQuestion};
 ghost use Rattle.lsp_session.specs.SessionOutput.{refusal, refused, initialized, questioned, answered};
 ghost use Rattle.lsp_session.specs.SessionOutput.{requested, phase_after, IsAnswered};
-ghost use Rattle.lsp_session.specs.SessionOutput.{Tells, IsDone, HasSessionCause, Adds};
+ghost use Rattle.lsp_session.specs.SessionOutput.{TellsAnswered, TellsRequested, IsDone};
+ghost use Rattle.lsp_session.specs.SessionOutput.{HasSessionCause, Adds};
 
 use crate::phase::{Phase, SessionFault, fault_of};
 use lsp_answers::Answers;
 use lsp_wire::{
-    Call, INVALID_PARAMS, INVALID_REQUEST, Id, Incoming, METHOD_NOT_FOUND, Reply,
-    SERVER_NOT_INITIALIZED, Uri, write_error, write_reply,
+    Call, INVALID_PARAMS, INVALID_REQUEST, Id, METHOD_NOT_FOUND, Reply, SERVER_NOT_INITIALIZED,
+    Uri, write_error, write_reply,
 };
 use std::alloc::Global;
 use step_count::Steps;
@@ -114,7 +115,7 @@ fn answer<A: Answers, L>(
     steps: &mut Steps<L>,
 ) -> Result<Phase, SessionFault>
     requires { IsAnswered call.now }
-    ensures goes { Tells (A.state answers.old) (Incoming.Request id.now call.now)
+    ensures goes { TellsAnswered (A.state answers.old) call.now
         → IsDone (answered A.meaning (A.state answers.old) id.now call.now)
         out.old out.new (A.state answers.new) result }
     ensures phase { IfOk result (λ phase. phase ≡ phase_after call.now) }
@@ -149,7 +150,7 @@ pub fn request<A: Answers, L>(
     out: &mut List<u8>,
     steps: &mut Steps<L>,
 ) -> Result<Phase, SessionFault>
-    ensures goes { Tells (A.state answers.old) (Incoming.Request id.now call.now)
+    ensures goes { TellsRequested (refusal phase call.now) (A.state answers.old) call.now
         → IsDone (requested A.meaning phase (A.state answers.old) id.now call.now)
         out.old out.new (A.state answers.new) result }
     ensures phase { IfOk result

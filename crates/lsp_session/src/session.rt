@@ -39,7 +39,7 @@ fn handle<A: Answers, L>(
     out: &mut List<u8>,
     steps: &mut Steps<L>,
 ) -> Result<Handled, SessionFault>
-    ensures goes { Tells (A.state answers.old) message.now
+    ensures goes { Tells phase (A.state answers.old) message.now
         → IsDone (handled A.meaning phase (A.state answers.old) message.now)
         out.old out.new (A.state answers.new) result }
     ensures after { IfOk result
@@ -91,7 +91,7 @@ fn read_and_handle<A: Answers, L>(
     steps: &mut Steps<L>,
 ) -> Result<Handled, SessionFault>
     ensures goes { (message : Incoming) → IsMessage content.now message
-        → Tells (A.state answers.old) message
+        → Tells phase (A.state answers.old) message
         → IsDone (handled A.meaning phase (A.state answers.old) message)
         out.old out.new (A.state answers.new) result }
     ensures after { (message : Incoming) → IsMessage content.now message → IfOk result
@@ -135,7 +135,7 @@ impl<A: Answers> Session<A> {
 
         // Any other does what the message asks, and goes on as it says.
         ensures goes { self.old.spent ≡ false → (message : Incoming) → IsMessage content.now message
-            → Tells (A.state self.old.answers) message
+            → Tells self.old.phase (A.state self.old.answers) message
             → IsDone (handled A.meaning self.old.phase (A.state self.old.answers) message)
             out.old out.new (A.state self.new.answers) result }
         ensures turn { self.old.spent ≡ false → (message : Incoming) → IsMessage content.now message
