@@ -85,6 +85,12 @@ pub record Meaning : Type 0 where
   pub notes_of : State → List ℕ → List Note
   pub reply_to : State → Call → Reply
 
+-- notes look at the texts alone, and a root that is taken opens and closes no document
+pub record LooksAtTexts (m : Meaning) : Type 0 where
+  pub notes : (s t : State) (name : List ℕ) → s.texts ≡ t.texts → m.notes_of s name ≡ m.notes_of t name
+  pub root_opened : (s : State) (root : Option (List ℕ)) → (m.after_root s root).state.opened ≡ s.opened
+  pub root_due : (s : State) (root : Option (List ℕ)) → (m.after_root s root).state.due ≡ s.due
+
 -- the answer to a call, and the state that it leaves where it is not refused
 abbrev pub IsAfter : After → Result ⊤ AnswerFault → State → Type 0
 IsAfter after (Ok _) new = (after.limit ≡ None) × (new ≡ after.state)

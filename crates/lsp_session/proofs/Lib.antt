@@ -1,3 +1,4 @@
 pub mod Frames
+pub mod Sent
 pub mod Spending
 pub mod Whole

@@ -1,1 +1,2 @@
+pub mod NotesSent
 pub mod SessionOutput
