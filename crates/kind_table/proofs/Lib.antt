@@ -1,0 +1,7 @@
+pub mod Unfolding
+pub mod Growth
+pub mod Equality
+pub mod Weighing
+pub mod Reading
+pub mod Firsts
+pub mod KindLists

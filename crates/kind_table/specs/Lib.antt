@@ -1,0 +1,4 @@
+pub mod Input
+pub mod Flattened
+pub mod Weights
+pub mod Table

@@ -1,0 +1,15 @@
+//! Definitions with their names resolved, as tables, and tables of what is put in for parameters.
+//!
+//! Numbers the arguments, so that equal ones have one number. Knows nothing of names and texts, and
+//! judges no node.
+#![tactic(auto)]
+
+mod argument;
+mod flat;
+mod kinds;
+mod numbers;
+
+pub use argument::{Arg, add_values, number, value, values};
+pub use flat::{Definition, FlatModule, Form, Instance, Node, Replacement, first_nodes};
+pub use kinds::{bounded_kind, is_at_most, ruled_kind};
+pub use numbers::{after, behind, constants, copied, first, number_at, pick};

@@ -1,0 +1,78 @@
+// Lists of numbers of arguments.
+ghost use Rattle.std.specs.Prelude.{◌≡◌, ◌++◌, IfOk, Some, drop, map, replicate, slice_index_or, take};
+ghost use Rattle.kind_table.specs.Table.{picked};
+
+use std::alloc::{AllocError, Global};
+use tla_symbols::Kind;
+
+/// The number at a place, and 0 past the end.
+pub fn number_at(numbers: &[usize], place: usize) -> usize
+    ensures { result ≡ slice_index_or numbers.now place 0 }
+{
+    match numbers.get(place) {
+        Some(number) => *number,
+        None => 0,
+    }
+}
+
+/// A list of its own of the same numbers.
+pub fn copied(alloc: Global, numbers: &[usize]) -> Result<Vec<usize>, AllocError>
+    ensures { IfOk result (λ v. v.items ≡ numbers.now) }
+{
+    numbers.iter().copied().collect(alloc)
+}
+
+/// The first numbers of a list, so many.
+pub fn first(alloc: Global, numbers: &[usize], count: usize) -> Result<Vec<usize>, AllocError>
+    ensures { IfOk result (λ v. v.items ≡ take count numbers.now) }
+{
+    numbers.iter().take(count).copied().collect(alloc)
+}
+
+/// The numbers of a list behind its first ones.
+pub fn after(alloc: Global, numbers: &[usize], count: usize) -> Result<Vec<usize>, AllocError>
+    ensures { IfOk result (λ v. v.items ≡ drop count numbers.now) }
+{
+    numbers.iter().skip(count).copied().collect(alloc)
+}
+
+/// The first numbers of a list, so many, and then those of another list.
+pub fn behind(
+    alloc: Global,
+    numbers: &[usize],
+    count: usize,
+    more: &[usize],
+) -> Result<Vec<usize>, AllocError>
+    ensures { IfOk result (λ v. v.items ≡ take count numbers.now ++ more.now) }
+{
+    let mut both = first(alloc, numbers, count)?;
+    both.extend_from_slice(more)?;
+    Ok(both)
+}
+
+/// The numbers that were found of these nodes, where the first one is of the node start.
+pub fn pick(
+    alloc: Global,
+    nodes: &[usize],
+    start: usize,
+    found: &[usize],
+) -> Result<Vec<usize>, AllocError>
+    ensures { IfOk result (λ v. v.items ≡ map (picked start found.now) nodes.now) }
+{
+    let mut numbers = Vec::new(alloc);
+    for node in nodes {
+        numbers.push(number_at(found, (*node).saturating_sub(start)))?;
+    }
+    Ok(numbers)
+}
+
+/// So many constant kinds.
+pub fn constants(alloc: Global, count: usize) -> Result<Vec<Option<Kind>>, AllocError>
+    ensures { IfOk result (λ v. v.items ≡ replicate count (Some Kind.Const)) }
+{
+    let mut kinds = Vec::new(alloc);
+    for _i in 0..count {
+        kinds.push(Some(Kind::Const))?;
+    }
+    Ok(kinds)
+}
