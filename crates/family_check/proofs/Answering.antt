@@ -1,5 +1,5 @@
 -- What is answered on the files of a family.
-use Rattle.std.proofs.Common.{◌≡◌, ◌<◌, ◌≤◌, ◌^◌, ◌-◌, min, ℕ, zero, suc, ◌+◌, List, [], ◌∷◌, Some, Result, Ok, Err, IfOk, refl, sym, ap, ◌∙◌, take, get_or, arith, subst}
+use Rattle.std.proofs.Common.{◌≡◌, ◌<◌, ◌≤◌, ◌^◌, ◌-◌, min, ℕ, zero, suc, ◌+◌, List, [], ◌∷◌, Some, Result, Ok, Err, IfOk, refl, sym, ap, ◌∙◌, true, take, get_or, arith, subst}
 use Rattle.std.specs.Prelude.{Contains, sum_by}
 use Rattle.std.specs.List.{All, AllZip}
 use Rattle.std.proofs.Math.Seq.{take-length}
@@ -14,11 +14,13 @@ use Rattle.front_laws.specs.Fronts.{Front, Tree, Fault, IsFront, read}
 use Rattle.unit_grammar.specs.Units.{ModuleUnits}
 use Rattle.unit_grammar.specs.UnitNodes.{module_of}
 use Rattle.module_facts.specs.Checks.{ImportStatus, all_faults}
-use Rattle.family_facts.specs.Family.{Member, Diagnosed}
+use Rattle.family_facts.specs.Family.{Member, Diagnosed, is_there}
+use Rattle.family_facts.specs.Facts.{texts_of}
+use Rattle.family_check.specs.Findings.{AreUseCounts, count_in, count_or_none, use_count_of}
 use Rattle.family_tables.specs.Modules.{Entry, IsEntry, IsReading, AreModules, tree_count}
 use Rattle.family_tables.specs.Outcomes.{AreOutcomes, IsSaid, IsSomeModule, Says, after_ticks, faults_of, trees_in}
 use Rattle.family_facts.specs.Fronts.{front_of}
-use Rattle.family_facts.specs.Verdicts.{AreVerdicts, IsVerdict, IsVerdictPlaced, after_checks, check_count, checks_of, family_of, member_of, text_of, verdicts_on}
+use Rattle.family_facts.specs.Verdicts.{AreVerdicts, IsUseCount, IsVerdict, IsVerdictPlaced, after_checks, check_count, checks_of, family_of, member_of, text_of, use_count_on, uses_on, verdicts_on}
 use Rattle.family_tables.specs.declared.outcome.Outcome.{Outcome}
 use Rattle.family_tables.specs.declared.outcome.Outcome.TheVariants as outcome
 use Rattle.family_tables.specs.declared.reading.Reading.TheVariants as reading
@@ -158,16 +160,36 @@ steps-are one files entries old new are few ticks =
 
 -- ---- answers
 
-pub verdicts-answer : (files : List File) → ((verdicts : List Verdict) → AreVerdicts files verdicts → verdicts ≡ verdicts_on files) → (outcomes : List (List ℕ × Outcome)) (r : Result (List Verdict) Memory) → AreOutcomes (family_of files) outcomes → IfOk r (AllZip (IsSaid outcomes) files) →
-    IfOk r (λ verdicts. verdicts ≡ verdicts_on files)
-verdicts-answer files one outcomes (Ok verdicts) are said = one verdicts (verdicts-are files outcomes verdicts are said)
-verdicts-answer files one outcomes (Err e) are said = tt
+pub verdicts-answer : (files : List File) → ((verdicts : List Verdict) → AreVerdicts files verdicts → verdicts ≡ verdicts_on files) → (outcomes : List (List ℕ × Outcome)) (verdicts : List Verdict) → AreOutcomes (family_of files) outcomes → AllZip (IsSaid outcomes) files verdicts →
+    verdicts ≡ verdicts_on files
+verdicts-answer files one outcomes verdicts are said = one verdicts (verdicts-are files outcomes verdicts are said)
 
-pub placed-answer : HasNoOther → FaultsInText → NodesInText → (files : List File) (entries : List Entry) (outcomes : List (List ℕ × Outcome)) (r : Result (List Verdict) Memory) → AreOneEach (family_of files) → AreModules (family_of files) entries → AreOutcomes (family_of files) outcomes →
-    IfOk r (AllZip (IsSaid outcomes) files) → IfOk r (All IsVerdictPlaced)
-placed-answer one law nodes files entries outcomes (Ok verdicts) distinct modules are said = verdicts-placed one law nodes files entries verdicts distinct modules (verdicts-are files outcomes verdicts are said)
-placed-answer one law nodes files entries outcomes (Err e) distinct modules are said = tt
+pub placed-answer : HasNoOther → FaultsInText → NodesInText → (files : List File) (entries : List Entry) (outcomes : List (List ℕ × Outcome)) (verdicts : List Verdict) → AreOneEach (family_of files) → AreModules (family_of files) entries → AreOutcomes (family_of files) outcomes →
+    AllZip (IsSaid outcomes) files verdicts → All IsVerdictPlaced verdicts
+placed-answer one law nodes files entries outcomes verdicts distinct modules are said = verdicts-placed one law nodes files entries verdicts distinct modules (verdicts-are files outcomes verdicts are said)
 
-pub steps-answer : HasNoOther → (files : List File) (entries : List Entry) (old new count : ℕ) (r : Result (List Verdict) Memory) → AreModules (family_of files) entries → count < 2 ^ 64 → count ≡ old → new ≡ after_ticks (trees_in entries) old → IfOk r (λ _. new ≡ after_checks (checks_of files) old)
-steps-answer one files entries old new count (Ok verdicts) are few is ticks = steps-are one files entries old new are (subst (λ n. n < 2 ^ 64) is few) ticks
-steps-answer one files entries old new count (Err e) are few is ticks = tt
+pub steps-answer : HasNoOther → (files : List File) (entries : List Entry) (old new count : ℕ) → AreModules (family_of files) entries → count < 2 ^ 64 → count ≡ old → new ≡ after_ticks (trees_in entries) old → new ≡ after_checks (checks_of files) old
+steps-answer one files entries old new count are few is ticks = steps-are one files entries old new are (subst (λ n. n < 2 ^ 64) is few) ticks
+
+-- ---- uses
+
+abbrev pub AreCounted : List File → Type 0
+AreCounted files = (file : File) → (count : ℕ) → IsUseCount (family_of files) file.name count → count ≡ use_count_on (texts_of (family_of files)) file
+
+module _ (files : List File) (counts : List (List ℕ × ℕ)) (are : AreUseCounts (family_of files) counts) (one : AreCounted files) where
+  count-answer : (f : File) → Contains files f → count_in counts f.name ≡ use_count_on (texts_of (family_of files)) f
+  count-answer f h =
+      let there : is_there (family_of files) f.name ≡ true = member-there (family_of files) f.name (member_of f) (file-there files f h) refl in
+      let count = are f.name there in
+      ap count_or_none count.1 ∙ one f count.0 count.2
+
+  counts-answer : (fs : List File) → ((f : File) → Contains fs f → Contains files f) → use_count_of counts fs ≡ sum_by (use_count_on (texts_of (family_of files))) fs
+  counts-answer [] of = refl
+  counts-answer (f ∷ fs) of =
+      let first = count-answer f (of f (here f fs)) in
+      let rest = counts-answer fs (λ x at. of x (behind f fs x at)) in
+      sum_by-cons (λ (x : File). count_in counts x.name) f fs ∙ ((λ i. first i + rest i) ∙ sym (sum_by-cons (use_count_on (texts_of (family_of files))) f fs))
+
+  -- the counts of all files together
+  pub uses-answer : use_count_of counts files ≡ uses_on files
+  uses-answer = counts-answer files (λ f at. at)

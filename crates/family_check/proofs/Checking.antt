@@ -19,7 +19,7 @@ use Rattle.unit_grammar.specs.UnitNodes.{module_of}
 use Rattle.tool_list.specs.declared.Memory.{Memory}
 use Rattle.module_facts.proofs.Inserting.{in-order}
 use Rattle.module_facts.specs.Ordered.{in_order}
-use Rattle.module_facts.specs.Checks.{ImportStatus, CheckedModule, IsChecked, all_faults, files_given, given_in}
+use Rattle.module_facts.specs.Checks.{ImportStatus, CheckedModule, IsChecked, all_faults, all_uses, files_given, given_in, unless_any}
 use Rattle.list_laws.proofs.Lists.{contains-map}
 use Rattle.list_laws.proofs.Texts.{same-text}
 use Rattle.family_facts.specs.Family as families
@@ -27,7 +27,7 @@ use Rattle.family_facts.specs.Family.{Member, Diagnosed, IsDiagnosed, IsGiven, f
 use Rattle.family_tables.specs.Modules.{Entry, IsEntry, AreModules, tree_count}
 use Rattle.family_tables.specs.Plans as plans
 use Rattle.family_tables.specs.Plans.{AreOnce, IsPlan}
-use Rattle.family_tables.specs.Outcomes.{AreImports, AreOutcomes, IsMember, IsOutcome, IsReady, IsSomeModule, Says, after_ticks, trees_in, trees_of}
+use Rattle.family_tables.specs.Outcomes.{AreImports, IsMember, IsOutcome, IsReady, IsSomeModule, Says, after_ticks, trees_in, trees_of}
 use Rattle.family_tables.specs.Tables.{entry_of, names_in}
 use Rattle.family_tables.specs.declared.order.Plan.{Plan}
 use Rattle.family_tables.specs.declared.outcome.Outcome.{Outcome}
@@ -42,37 +42,54 @@ use Rattle.family_tables.proofs.Indices.{at-taken, at-take, named-member}
 use Rattle.family_tables.proofs.Bridging.{own-needs, all-needs, cyclic-map}
 use Rattle.family_tables.proofs.Graphs.{same-entry}
 use Rattle.family_check.proofs.Sums.{sum-map, sum-members}
+use Rattle.family_check.specs.Findings.{IsFound}
 
 -- ---- one module
 
--- what is said of a module that was checked is found of it
-pub tree-outcome : (family : List Member) (name : List ℕ) (tree : ModuleTree) (needs : List (List ℕ)) (imports : Imports) (ch : CheckedModule) (r : Result outcome.the_data Memory) → IsMember family name (reading.Tree tree) needs → AreImports family name needs imports → IsChecked (given_in imports) tree.source (module_of tree) ch →
-    ((outside : ModuleView) → (ch.faults ≡ [] → face_outside ch.face ≡ outside) → IfOk r (Says ch.faults outside)) → IfOk r (IsOutcome family name)
-tree-outcome family name tree needs imports ch (Err e) h imported k says = tt
-tree-outcome family name tree needs imports ch (Ok o) h imported k says =
+-- what is found of a module that was checked
+abbrev found-in : (List ℕ → ImportStatus) → List ℕ → ModuleUnits → List Diagnostic → Diagnosed
+found-in given bytes units faults = record { faults = faults; uses = all_uses given bytes units; outside = outside_in (files_given given) bytes units }
+
+tree-diagnosed : (family : List Member) (name : List ℕ) (tree : ModuleTree) (needs : List (List ℕ)) (imports : Imports) (ch : CheckedModule) (h : IsMember family name (reading.Tree tree) needs) → AreImports family name needs imports → IsChecked (given_in imports) tree.source (module_of tree) ch →
+    IsDiagnosed family name (found-in (given_in imports) (h.member).bytes (module_of tree) ch.faults)
+tree-diagnosed family name tree needs imports ch h imported k =
     let m : Member = h.member in
     let units : ModuleUnits = module_of tree in
     let given : List ℕ → ImportStatus = given_in imports in
-    let outside : ModuleView = outside_in (files_given given) m.bytes units in
-    let found : Diagnosed = record { faults = ch.faults; outside = outside } in
     let front : IsFront m.name m.bytes (Tree units) = subst (λ n. IsFront n m.bytes (Tree units)) (sym h.named) h.is.front in
     let listed : ch.faults ≡ in_order (all_faults given m.bytes units) = k.faults ∙ ap (λ s. in_order (all_faults given s units)) h.is.source in
     let order : AreInOrder (all_faults given m.bytes units) ch.faults = subst (λ fs. AreInOrder (all_faults given m.bytes units) fs) (sym listed) (in-order (all_faults given m.bytes units)) in
     let gives : (need : List ℕ) → families.Needs family m.name need → IsGiven family m.name need (given need) =
     (λ need n. subst (λ x. IsGiven family x need (given need)) (sym h.named) (imported.given need (h.all need (subst (λ x. families.Needs family x need) h.named n)))) in
-    let diagnosed : IsDiagnosed family m.name found = checked h.there front gives (λ need n. imported.others need (λ c. n (subst (λ x. families.Needs family x need) (sym h.named) (h.own need c)))) order in
+    let diagnosed : IsDiagnosed family m.name (found-in given m.bytes units ch.faults) = checked h.there front gives (λ need n. imported.others need (λ c. n (subst (λ x. families.Needs family x need) (sym h.named) (h.own need c)))) order in
+    subst (λ x. IsDiagnosed family x (found-in given m.bytes units ch.faults)) h.named diagnosed
+
+-- what is said of it, and how many uses are shown
+pub tree-found : (family : List Member) (name : List ℕ) (tree : ModuleTree) (needs : List (List ℕ)) (imports : Imports) (ch : CheckedModule) (o : outcome.the_data) (count : ℕ) → IsMember family name (reading.Tree tree) needs → AreImports family name needs imports → IsChecked (given_in imports) tree.source (module_of tree) ch →
+    ((outside : ModuleView) → (ch.faults ≡ [] → face_outside ch.face ≡ outside) → Says ch.faults outside o) → count ≡ length (unless_any ch.faults ch.uses) → IsFound family name o count
+tree-found family name tree needs imports ch o count h imported k says counted =
+    let m : Member = h.member in
+    let units : ModuleUnits = module_of tree in
+    let given : List ℕ → ImportStatus = given_in imports in
+    let outside : ModuleView = outside_in (files_given given) m.bytes units in
+    let found : Diagnosed = found-in given m.bytes units ch.faults in
+    let diagnosed : IsDiagnosed family name found = tree-diagnosed family name tree needs imports ch h imported k in
     record {
-      found = found;
-      diagnosed = subst (λ x. IsDiagnosed family x found) h.named diagnosed;
-      says = says outside (λ e. k.outside e ∙ ap (λ s. outside_in (files_given given) s units) h.is.source);
+      outcome_is = record { found = found; diagnosed = diagnosed; says = says outside (λ e. k.outside e ∙ ap (λ s. outside_in (files_given given) s units) h.is.source) };
+      count_is = record { found = found; diagnosed = diagnosed; is = counted ∙ ap (λ uses. length (unless_any ch.faults uses)) (k.uses ∙ ap (λ s. all_uses given s units) h.is.source) };
     }
 
-pub fault-outcome : (family : List Member) (name : List ℕ) (fault : Diagnostic) (needs : List (List ℕ)) (faults : List Diagnostic) → IsMember family name (reading.Fault fault) needs → faults ≡ fault ∷ [] → IsOutcome family name (outcome.Refused faults)
-fault-outcome family name fault needs faults h e =
+-- the same of one with a front fault
+pub fault-found : (family : List Member) (name : List ℕ) (fault : Diagnostic) (needs : List (List ℕ)) (faults : List Diagnostic) → IsMember family name (reading.Fault fault) needs → faults ≡ fault ∷ [] → IsFound family name (outcome.Refused faults) 0
+fault-found family name fault needs faults h e =
     let m : Member = h.member in
-    let found : Diagnosed = record { faults = fault ∷ []; outside = nothing } in
-    let diagnosed : IsDiagnosed family m.name found = front_fault h.there (subst (λ n. IsFront n m.bytes (Fault fault)) (sym h.named) h.is.0) in
-    record { found = found; diagnosed = subst (λ x. IsDiagnosed family x found) h.named diagnosed; says = (e, λ k. cc) }
+    let found : Diagnosed = record { faults = fault ∷ []; uses = []; outside = nothing } in
+    let first : IsDiagnosed family m.name found = front_fault h.there (subst (λ n. IsFront n m.bytes (Fault fault)) (sym h.named) h.is.0) in
+    let diagnosed : IsDiagnosed family name found = subst (λ x. IsDiagnosed family x found) h.named first in
+    record {
+      outcome_is = record { found = found; diagnosed = diagnosed; says = (e, λ k. cc) };
+      count_is = record { found = found; diagnosed = diagnosed; is = refl };
+    }
 
 -- ---- the modules so far
 
@@ -87,7 +104,7 @@ module _ (modules : List Entry) (plan : Plan) (planned : IsPlan modules plan) (i
       let k : None ≡ Some s.0 = sym none ∙ s.1 in
       cc
 
-  pub ordered-fresh : (outcomes : List (List ℕ × Outcome)) → names_in outcomes ≡ take i plan.order → entry_of outcomes name ≡ None
+  pub ordered-fresh : {T : Type 0} (outcomes : List (List ℕ × T)) → names_in outcomes ≡ take i plan.order → entry_of outcomes name ≡ None
   ordered-fresh outcomes names = entry-none outcomes name (λ c.
       let k = contains-at (take i plan.order) name (subst (λ ns. Contains ns name) names c) in
       let at = at-taken i plan.order k.0 name k.1 in
@@ -95,9 +112,9 @@ module _ (modules : List Entry) (plan : Plan) (planned : IsPlan modules plan) (i
       let less : k.0 < i = at.1 in
       absurd (omega (arith, place, less)))
 
-  pub ordered-names : (outcomes outcomes' : List (List ℕ × Outcome)) (o : Outcome) → names_in outcomes ≡ take i plan.order → outcomes' ≡ outcomes ++ (name, o) ∷ [] → names_in outcomes' ≡ take (i + 1) plan.order
-  ordered-names outcomes outcomes' o names e =
-      ap names_in e ∙ (map-append (λ (x : List ℕ × Outcome). x.0) outcomes ((name, o) ∷ []) ∙ (ap (λ ns. ns ++ name ∷ []) names ∙ (ap (λ x. take i plan.order ++ x ∷ []) is ∙ sym (take_more plan.order i d l))))
+  pub ordered-names : {T : Type 0} (outcomes outcomes' : List (List ℕ × T)) (o : T) → names_in outcomes ≡ take i plan.order → outcomes' ≡ outcomes ++ (name, o) ∷ [] → names_in outcomes' ≡ take (i + 1) plan.order
+  ordered-names {T = T} outcomes outcomes' o names e =
+      ap names_in e ∙ (map-append (λ (x : List ℕ × T). x.0) outcomes ((name, o) ∷ []) ∙ (ap (λ ns. ns ++ name ∷ []) names ∙ (ap (λ x. take i plan.order ++ x ∷ []) is ∙ sym (take_more plan.order i d l))))
 
   module _ (one : HasNoOther) (family : List Member) (are : AreModules family modules) (outcomes : List (List ℕ × Outcome)) (names : names_in outcomes ≡ take i plan.order) where
     before-here : (need : List ℕ) → families.Needs family name need → (families.IsCyclic family name need → ⊥) → is_there family need ≡ true → IsSome (entry_of outcomes need)
@@ -112,19 +129,20 @@ module _ (modules : List Entry) (plan : Plan) (planned : IsPlan modules plan) (i
     pub ready-here : ((other : List ℕ) (o : Outcome) → entry_of outcomes other ≡ Some o → IsOutcome family other o) → IsReady family plan outcomes name
     ready-here found = record { entries = modules; planned = planned; own = own-needs one family modules are; all = all-needs one family modules are; found = found; before = before-here }
 
-pub found-more : (family : List Member) (outcomes outcomes' : List (List ℕ × Outcome)) (name : List ℕ) (o : Outcome) → entry_of outcomes name ≡ None → outcomes' ≡ outcomes ++ (name, o) ∷ [] → IsOutcome family name o →
-    ((other : List ℕ) (p : Outcome) → entry_of outcomes other ≡ Some p → IsOutcome family other p) → (other : List ℕ) (p : Outcome) → entry_of outcomes' other ≡ Some p → IsOutcome family other p
-found-more family outcomes outcomes' name o none e new found other p h =
-    let value : entry_of outcomes' other ≡ cond (bytes_eq other name) (Some o) (entry_of outcomes other) = ap (λ z. entry_of z other) e ∙ entry-append outcomes other name o none in
+-- what holds of each entry of a table and of one more holds of each behind it
+pub found-more : {T : Type 0} (P : List ℕ → T → Type 0) (entries entries' : List (List ℕ × T)) (name : List ℕ) (o : T) → entry_of entries name ≡ None → entries' ≡ entries ++ (name, o) ∷ [] → P name o →
+    ((other : List ℕ) (p : T) → entry_of entries other ≡ Some p → P other p) → (other : List ℕ) (p : T) → entry_of entries' other ≡ Some p → P other p
+found-more {T = T} P entries entries' name o none e new found other p h =
+    let value : entry_of entries' other ≡ cond (bytes_eq other name) (Some o) (entry_of entries other) = ap (λ z. entry_of z other) e ∙ entry-append entries other name o none in
     ⊎_elim
     (λ (t : bytes_eq other name ≡ true).
-    let s : ◌≡◌ {A = Option Outcome} (Some o) (Some p) = sym (ap (λ b. cond b (Some o) (entry_of outcomes other)) t) ∙ (sym value ∙ h) in
+    let s : ◌≡◌ {A = Option T} (Some o) (Some p) = sym (ap (λ b. cond b (Some o) (entry_of entries other)) t) ∙ (sym value ∙ h) in
     let same : o ≡ p = some-same o p s in
-    subst (λ x. IsOutcome family x p) (sym (same-text other name t)) (subst (λ x. IsOutcome family name x) same new))
-    (λ (f : bytes_eq other name ≡ false). found other p (sym (ap (λ b. cond b (Some o) (entry_of outcomes other)) f) ∙ (sym value ∙ h)))
+    subst (λ x. P x p) (sym (same-text other name t)) (subst (λ x. P name x) same new))
+    (λ (f : bytes_eq other name ≡ false). found other p (sym (ap (λ b. cond b (Some o) (entry_of entries other)) f) ∙ (sym value ∙ h)))
     (cases_Bool (bytes_eq other name))
   where
-    some-same : (x y : Outcome) → ◌≡◌ {A = Option Outcome} (Some x) (Some y) → x ≡ y
+    some-same : (x y : T) → ◌≡◌ {A = Option T} (Some x) (Some y) → x ≡ y
     some-same x y s = cc
 
 -- the module under a name is the member of that name
@@ -148,11 +166,13 @@ module-here modules name m all e =
 
 -- ---- all modules
 
-pub outcomes-all : (family : List Member) (modules : List Entry) (plan : Plan) (outcomes : List (List ℕ × Outcome)) → AreModules family modules → IsPlan modules plan → names_in outcomes ≡ plan.order → ((other : List ℕ) (o : Outcome) → entry_of outcomes other ≡ Some o → IsOutcome family other o) → AreOutcomes family outcomes
-outcomes-all family modules plan outcomes are planned names found name there =
+-- each module has an entry
+pub entries-all : {T : Type 0} (P : List ℕ → T → Type 0) (family : List Member) (modules : List Entry) (plan : Plan) (entries : List (List ℕ × T)) → AreModules family modules → IsPlan modules plan → names_in entries ≡ plan.order → ((other : List ℕ) (o : T) → entry_of entries other ≡ Some o → P other o) →
+    (name : List ℕ) → is_there family name ≡ true → (o : T) × (entry_of entries name ≡ Some o) × P name o
+entries-all P family modules plan entries are planned names found name there =
     let m = there-member family name there in
     let known : Contains (names_in modules) name = subst (λ x. Contains (names_in modules) x) m.2 (named-member family modules m.0 are m.1) in
-    let s = entry-some outcomes name (subst (λ ns. Contains ns name) (sym names) ((planned.order.all name).1 known)) in
+    let s = entry-some entries name (subst (λ ns. Contains ns name) (sym names) ((planned.order.all name).1 known)) in
     (s.0, s.1, found name s.0 s.1)
 
 pub ticks-more : (n : ℕ) (r : reading.the_data) (before old new : ℕ) → old ≡ after_ticks n before → new ≡ after_ticks (tree_count r) old → new ≡ after_ticks (n + tree_count r) before

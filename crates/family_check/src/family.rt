@@ -5,8 +5,9 @@ ghost use Rattle.family_tables.specs.Modules.{AreModules};
 ghost use Rattle.family_facts.specs.Verdicts as facts;
 ghost use Rattle.family_facts.specs.Verdicts.{AreDistinct, IsVerdictPlaced, after_checks, checks_of, family_of};
 
+use crate::counts::use_count_of;
 use crate::outcomes::check_all;
-use family_facts::{File, Verdict, verdicts_are};
+use family_facts::{File, Verdict, use_counts_are, verdicts_are};
 use family_read::read_family;
 use family_tables::{Module, Table, plan_of, verdicts_of};
 use module_facts::faults_stand_in_text;
@@ -15,45 +16,62 @@ use std::alloc::Global;
 use step_count::Steps;
 use tool_list::{List, Memory};
 
-// The verdicts on files whose family has these modules.
-fn verdicts_on<L>(
+/// What a check of a family found.
+#[derive(Drop)]
+pub struct FamilyCheck {
+    /// The verdicts on the files, in their order.
+    pub verdicts: List<Verdict>,
+    /// How many uses of names the accepted modules of the files have.
+    pub use_count: u64,
+}
+
+// What is found of files whose family has these modules.
+fn check_modules<L>(
     alloc: Global,
     files: &[File],
     modules: &Table<Module>,
     steps: &mut Steps<L>,
-) -> Result<List<Verdict>, Memory>
+) -> Result<FamilyCheck, Memory>
     requires distinct { AreDistinct files.now }
     requires small { sum_by (λ file. length file.bytes) files.now < 2 ^ 31 }
     requires modules { AreModules (family_of files.now) modules.now }
-    ensures verdicts { IfOk result (λ verdicts. verdicts ≡ facts.verdicts_on files.now) }
-    ensures placed { IfOk result (All IsVerdictPlaced) }
+    ensures verdicts { IfOk result (λ found. found.verdicts ≡ facts.verdicts_on files.now) }
+    ensures use_count { IfOk result (λ found. found.use_count ≡ facts.uses_on files.now) }
+    ensures placed { IfOk result (λ found. All IsVerdictPlaced found.verdicts) }
     ensures steps { IfOk result (λ _. steps.new ≡ after_checks (checks_of files.now) steps.old) }
 {
     front_laws::one_front();
     faults_stand_in_text();
     front_nodes_placed();
     verdicts_are();
+    use_counts_are();
     // The proof needs that a count is below 2^64.
     let _count = steps.count();
     let plan = plan_of(alloc, modules)?;
-    let outcomes = check_all(alloc, modules, &plan, steps)?;
-    verdicts_of(alloc, files, &outcomes)
+    let found = check_all(alloc, modules, &plan, steps)?;
+    let verdicts = verdicts_of(alloc, files, &found.outcomes)?;
+    let use_count = use_count_of(files, &found.use_counts)?;
+    Ok(FamilyCheck {
+        verdicts,
+        use_count,
+    })
 }
 
-/// The verdicts on files, in their order, over the built-in modules: a file hides the built-in module
-/// of its name. Each module without front fault is checked once, which is one step. `Memory` comes
-/// where there was no room.
+/// What is found of files over the built-in modules: a file hides the built-in module of its name. Each
+/// module without front fault is checked once, which is one step. `Memory` comes where there was no
+/// room.
 pub fn check_family<L>(
     alloc: Global,
     files: &[File],
     steps: &mut Steps<L>,
-) -> Result<List<Verdict>, Memory>
+) -> Result<FamilyCheck, Memory>
     requires distinct { AreDistinct files.now }
     requires small { sum_by (λ file. length file.bytes) files.now < 2 ^ 31 }
-    ensures verdicts { IfOk result (λ verdicts. verdicts ≡ facts.verdicts_on files.now) }
-    ensures placed { IfOk result (All IsVerdictPlaced) }
+    ensures verdicts { IfOk result (λ found. found.verdicts ≡ facts.verdicts_on files.now) }
+    ensures use_count { IfOk result (λ found. found.use_count ≡ facts.uses_on files.now) }
+    ensures placed { IfOk result (λ found. All IsVerdictPlaced found.verdicts) }
     ensures steps { IfOk result (λ _. steps.new ≡ after_checks (checks_of files.now) steps.old) }
 {
     let modules = read_family(alloc, files)?;
-    verdicts_on(alloc, files, &modules, steps)
+    check_modules(alloc, files, &modules, steps)
 }

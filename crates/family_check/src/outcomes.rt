@@ -1,10 +1,12 @@
 // What is found of the modules of a family, one after another.
-ghost use Rattle.std.specs.Prelude.{◌≡◌, ◌∷◌, [], ℕ, List as ListOf, None, IfOk};
+ghost use Rattle.std.specs.Prelude.{◌≡◌, ◌∷◌, [], ℕ, List as ListOf, None, IfOk, length};
 ghost use Rattle.module_model.specs.Exports.{ModuleView, face_outside};
 ghost use Rattle.module_model.specs.Given.{IsFaceOver};
 ghost use Rattle.module_model.specs.Imports.{Imports};
 ghost use Rattle.std.specs.List.{All};
 ghost use Rattle.family_facts.specs.Family.{Member};
+ghost use Rattle.module_facts.specs.Checks.{unless_any};
+ghost use Rattle.family_check.specs.Findings.{AreUseCounts, IsFound};
 ghost use Rattle.family_tables.specs.Agreement.{AreAgreed, AreFrom, IsAgreed};
 ghost use Rattle.family_tables.specs.Modules as modules_of;
 ghost use Rattle.family_tables.specs.Outcomes as outcomes_of;
@@ -20,6 +22,20 @@ use step_count::Steps;
 use tla_model::Diagnostic;
 use tla_tree::ModuleTree;
 use tool_list::{Chars, List, Memory};
+
+// What was found of a module, and how many uses are shown of it.
+#[derive(Drop)]
+struct Found {
+    outcome: Outcome,
+    use_count: usize,
+}
+
+/// What was found of modules, and how many uses are shown of them, under their names.
+#[derive(Drop)]
+pub struct Findings {
+    pub outcomes: Table<Outcome>,
+    pub use_counts: Table<usize>,
+}
 
 fn lone_fault(alloc: Global, fault: Diagnostic) -> Result<List<Diagnostic>, Memory>
     ensures { IfOk result (λ faults. faults ≡ fault ∷ []) }
@@ -45,6 +61,17 @@ fn outcome_of(alloc: Global, checked: &Checked) -> Result<Outcome, Memory>
     Ok(Outcome::Refused(copied(alloc, faults.as_slice())?))
 }
 
+// How many uses are shown of a module that was checked.
+fn shown_count(checked: &Checked) -> usize
+    ensures { result ≡ length (unless_any checked.now.faults checked.now.uses) }
+{
+    if checked.faults().is_empty() {
+        checked.uses().len()
+    } else {
+        0
+    }
+}
+
 // Checks a module without front fault, which is one step.
 fn check_tree<L>(
     alloc: Global,
@@ -54,19 +81,23 @@ fn check_tree<L>(
     tree: &ModuleTree,
     needs: &[Chars],
     steps: &mut Steps<L>,
-) -> Result<Outcome, Memory>
+) -> Result<Found, Memory>
     requires tree { (bytes : ListOf ℕ) × modules_of.IsTreeOf name.now bytes tree.now }
     requires agreed { AreAgreed outcomes.now }
     requires unfound { entry_of outcomes.now name.now ≡ None }
-    ensures outcome { (family : ListOf Member) → IsReady family plan.now outcomes.now name.now
+    ensures found { (family : ListOf Member) → IsReady family plan.now outcomes.now name.now
         → outcomes_of.IsMember family name.now (reading.Tree tree.now) needs.now
-        → IfOk result (outcomes_of.IsOutcome family name.now) }
-    ensures agreed { IfOk result (IsAgreed outcomes.now name.now) }
+        → IfOk result (λ found. IsFound family name.now found.outcome found.use_count) }
+    ensures agreed { IfOk result (λ found. IsAgreed outcomes.now name.now found.outcome) }
     ensures steps { IfOk result (λ _. steps.new ≡ outcomes_of.after_ticks 1 steps.old) }
 {
     let imported = imports_of(alloc, plan, outcomes, name, needs)?;
     let checked = check_module(alloc, name, tree, &imported, steps)?;
-    outcome_of(alloc, &checked)
+    let outcome = outcome_of(alloc, &checked)?;
+    Ok(Found {
+        outcome,
+        use_count: shown_count(&checked),
+    })
 }
 
 // What is found of a module behind what it needs.
@@ -77,24 +108,27 @@ fn check_one<L>(
     name: &str,
     module: &Module,
     steps: &mut Steps<L>,
-) -> Result<Outcome, Memory>
+) -> Result<Found, Memory>
     requires some { outcomes_of.IsSomeModule name.now module.now }
     requires agreed { AreAgreed outcomes.now }
     requires unfound { entry_of outcomes.now name.now ≡ None }
-    ensures outcome { (family : ListOf Member) → IsReady family plan.now outcomes.now name.now
+    ensures found { (family : ListOf Member) → IsReady family plan.now outcomes.now name.now
         → outcomes_of.IsMember family name.now module.now.reading module.now.needs
-        → IfOk result (outcomes_of.IsOutcome family name.now) }
-    ensures agreed { IfOk result (IsAgreed outcomes.now name.now) }
+        → IfOk result (λ found. IsFound family name.now found.outcome found.use_count) }
+    ensures agreed { IfOk result (λ found. IsAgreed outcomes.now name.now found.outcome) }
     ensures steps { IfOk result (λ _. steps.new
         ≡ outcomes_of.after_ticks (modules_of.tree_count module.now.reading) steps.old) }
 {
     match &module.reading {
         Reading::Tree(tree) => {
             let needs = module.needs.as_slice();
-            let outcome = check_tree(alloc, plan, outcomes, name, tree, needs, steps)?;
-            Ok(outcome)
+            let found = check_tree(alloc, plan, outcomes, name, tree, needs, steps)?;
+            Ok(found)
         }
-        Reading::Fault(fault) => Ok(Outcome::Refused(lone_fault(alloc, *fault)?)),
+        Reading::Fault(fault) => Ok(Found {
+            outcome: Outcome::Refused(lone_fault(alloc, *fault)?),
+            use_count: 0,
+        }),
     }
 }
 
@@ -105,24 +139,31 @@ pub fn check_all<L>(
     modules: &Table<Module>,
     plan: &Plan,
     steps: &mut Steps<L>,
-) -> Result<Table<Outcome>, Memory>
+) -> Result<Findings, Memory>
     requires once { AreOnce (names_in modules.now) }
     requires read { All (λ entry. outcomes_of.IsSomeModule entry.0 entry.1) modules.now }
     requires plan { IsPlan modules.now plan.now }
     ensures outcomes { (family : ListOf Member) → modules_of.AreModules family modules.now
-        → IfOk result (outcomes_of.AreOutcomes family) }
+        → IfOk result (λ found. outcomes_of.AreOutcomes family found.outcomes) }
+    ensures use_counts { (family : ListOf Member) → modules_of.AreModules family modules.now
+        → IfOk result (λ found. AreUseCounts family found.use_counts) }
     ensures steps { IfOk result (λ _. steps.new
         ≡ outcomes_of.after_ticks (outcomes_of.trees_in modules.now) steps.old) }
 {
     front_laws::one_front();
     let mut outcomes = Table::new(alloc);
+    let mut use_counts = Table::new(alloc);
     for name in plan.order.as_slice() {
         let name = name.as_str();
         let Some(module) = modules.get(name) else {
             unreachable!();
         };
-        let outcome = check_one(alloc, plan, &outcomes, name, module, steps)?;
-        outcomes.add(alloc, name, outcome)?;
+        let found = check_one(alloc, plan, &outcomes, name, module, steps)?;
+        outcomes.add(alloc, name, found.outcome)?;
+        use_counts.add(alloc, name, found.use_count)?;
     }
-    Ok(outcomes)
+    Ok(Findings {
+        outcomes,
+        use_counts,
+    })
 }

@@ -3,6 +3,7 @@ use Rattle.std.specs.Prelude.{◌≡◌, ◌≢◌, ◌⊎◌, ℕ, Bool, true, 
 use Rattle.std.specs.List.{list_any}
 use Rattle.std.specs.Str.{bytes_eq}
 use Rattle.tla_model.specs.declared.Diagnostic.{Diagnostic}
+use Rattle.tla_model.specs.declared.entity.Use.{Use}
 use Rattle.module_model.specs.Bindings.{AreInOrder}
 use Rattle.module_model.specs.Exports.{ModuleView, nothing}
 use Rattle.tla_model.specs.Lexemes.{spelled}
@@ -11,7 +12,7 @@ use Rattle.name_graph.specs.Family.{LeadsBack}
 use Rattle.module_graph.specs.Imports.{imports_of}
 use Rattle.front_laws.specs.Fronts.{IsFront, Tree, Fault}
 use Rattle.unit_grammar.specs.Units.{ModuleUnits}
-use Rattle.module_facts.specs.Checks.{ImportStatus, Unknown, Cyclic, Refused, Accepted, all_faults, files_given}
+use Rattle.module_facts.specs.Checks.{ImportStatus, Unknown, Cyclic, Refused, Accepted, all_faults, all_uses, files_given}
 
 -- a module's text under its name
 pub record Member : Type 0 where
@@ -32,9 +33,10 @@ over files built_in = files ++ filter (λ m. not (is_there files m.name)) built_
 abbrev pub AreMembersDistinct : List Member → Type 0
 AreMembersDistinct family = (i j : ℕ) (a b : Member) → slice_get family i ≡ Some a → slice_get family j ≡ Some b → a.name ≡ b.name → i ≡ j
 
--- all that is found of a module: its faults, and what it is to others where it has none
+-- all that is found of a module: its faults, the uses of its names, and what it is to others where it has no faults
 pub record Diagnosed : Type 0 where
   pub faults : List Diagnostic
+  pub uses : List Use
   pub outside : ModuleView
 
 module _ (family : List Member) where
@@ -63,10 +65,10 @@ module _ (family : List Member) where
     pub data IsDiagnosed : List ℕ → Diagnosed → Type 0 where
       front_fault : {member : Member} {fault : Diagnostic}
           → Contains family member → IsFront member.name member.bytes (Fault fault)
-          → IsDiagnosed member.name (record { faults = fault ∷ []; outside = nothing })
+          → IsDiagnosed member.name (record { faults = fault ∷ []; uses = []; outside = nothing })
       checked : {member : Member} {found : ModuleUnits} {given : List ℕ → ImportStatus} {faults : List Diagnostic}
           → Contains family member → IsFront member.name member.bytes (Tree found)
           → ((need : List ℕ) → Needs member.name need → IsGiven member.name need (given need))
           → ((need : List ℕ) → (Needs member.name need → ⊥) → given need ≡ Unknown)
           → AreInOrder (all_faults given member.bytes found) faults
-          → IsDiagnosed member.name (record { faults = faults; outside = outside_in (files_given given) member.bytes found })
+          → IsDiagnosed member.name (record { faults = faults; uses = all_uses given member.bytes found; outside = outside_in (files_given given) member.bytes found })

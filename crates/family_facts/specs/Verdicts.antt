@@ -1,7 +1,9 @@
 -- The verdicts on the files of a family, and what they take.
-use Rattle.std.specs.Prelude.{◌≡◌, ◌+◌, ◌-◌, ◌^◌, min, ℕ, List, [], ◌∷◌, Option, Some, None, map, slice_get, take, sum_by, codes, unwrap_or}
+use Rattle.std.specs.Prelude.{◌≡◌, ◌+◌, ◌-◌, ◌^◌, min, ℕ, List, [], ◌∷◌, Option, Some, None, length, map, slice_get, take, sum_by, codes, unwrap_or}
 use Rattle.std.specs.List.{All, AllZip}
 use Rattle.tla_lexeme.specs.Spans.{IsPlaced}
+use Rattle.tla_model.specs.declared.entity.Use.{Use}
+use Rattle.module_facts.specs.Checks.{unless_any}
 use Rattle.front_laws.specs.Fronts.{Front, Tree, Fault, readable_len}
 use Rattle.fact_values.specs.Names.{Texts}
 use Rattle.std_modules.specs.StdTexts.{std_text}
@@ -81,3 +83,23 @@ checks_of files = sum_by (λ (m : Member). check_count (front_of m.name m.bytes)
 -- a count after so many checks
 abbrev pub after_checks : ℕ → ℕ → ℕ
 after_checks n steps = min (steps + n) (2 ^ 64 - 1)
+
+-- ---- uses
+
+-- the uses that are shown of a module: all of one that is accepted, and none of another
+abbrev pub shown_uses : Diagnosed → List Use
+shown_uses found = unless_any found.faults found.uses
+
+-- how many uses are shown of a file of these texts
+abbrev pub use_count_on : Texts → File → ℕ
+use_count_on texts file = length (shown_uses (diagnosed texts file.name))
+
+-- how many uses are shown of all files, over the built-in modules
+abbrev pub uses_on : List File → ℕ
+uses_on files = sum_by (use_count_on (texts_of (family_of files))) files
+
+-- so many uses are shown of the module of a name
+pub record IsUseCount (family : List Member) (name : List ℕ) (count : ℕ) : Type 0 where
+  pub found : Diagnosed
+  pub diagnosed : IsDiagnosed family name found
+  pub is : count ≡ length (shown_uses found)

@@ -61,6 +61,14 @@ refused_count verdicts = count_by is_refused verdicts
 abbrev pub summary : ℕ → ℕ → List ℕ
 summary count refused = codes "modules=" ++ (decimal count ++ (codes " refused=" ++ (decimal refused ++ codes "\n")))
 
+-- the line on uses
+abbrev pub use_line : ℕ → List ℕ
+use_line count = codes "uses=" ++ (decimal count ++ codes "\n")
+
+-- the last line of the report on modules, and how many uses they have
+abbrev pub counts : List Verdict → ℕ → List ℕ
+counts verdicts use_count = summary (length verdicts) (refused_count verdicts) ++ use_line use_count
+
 -- the report on modules, in order of their names
 abbrev pub report : List Verdict → List ℕ
 report verdicts = lines_of verdicts ++ summary (length verdicts) (refused_count verdicts)

@@ -1,4 +1,5 @@
-//! The report on some modules: a line for each, the faults below those that are refused, and the counts.
+//! The report on some modules: a line for each, the faults below those that are refused, and the counts;
+//! or the counts alone, with that of their uses.
 //!
 //! Answers the report and the status that goes with it. Knows nothing of how verdicts are found, and of
 //! where a report is written.
@@ -6,4 +7,4 @@
 
 mod report;
 
-pub use report::{report_on, report_status};
+pub use report::{counts_of, report_on, report_status};

@@ -167,6 +167,21 @@ fn summary(alloc: Global, count: usize, refused: usize) -> Result<String, AllocE
     format!(in alloc; "modules={count} refused={refused}\n")
 }
 
+fn use_line(alloc: Global, count: u64) -> Result<String, AllocError>
+    ensures { IfOk result (λ line. string_bytes line ≡ report.use_line count) }
+{
+    format!(in alloc; "uses={count}\n")
+}
+
+/// The last line of the report on modules, and how many uses of names they have.
+pub fn counts_of(alloc: Global, verdicts: &[Verdict], use_count: u64) -> Result<String, AllocError>
+    ensures { IfOk result (λ text. string_bytes text ≡ report.counts verdicts.now use_count) }
+{
+    let mut text = summary(alloc, verdicts.len(), refused_count(verdicts))?;
+    text.push_str(use_line(alloc, use_count)?.as_str())?;
+    Ok(text)
+}
+
 /// The report on modules, in order of their names.
 pub fn report_on(alloc: Global, verdicts: &[Verdict]) -> Result<String, AllocError>
     requires { All IsVerdictPlaced verdicts.now }

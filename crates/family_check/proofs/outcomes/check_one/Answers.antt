@@ -1,9 +1,9 @@
 use Rattle.std.proofs.Common.{subst}
 use Rattle.family_tables.specs.Outcomes.{IsMember}
-use Rattle.family_check.proofs.Checking.{fault-outcome}
+use Rattle.family_check.proofs.Checking.{fault-found}
 use Rattle.family_check.proofs.outcomes.check_one.Goals as goal
 
-pub returns-in_ok-lone_fault-in-Fault-clause-outcome : goal.returns-in_ok-lone_fault-in-Fault-clause-outcome
-returns-in_ok-lone_fault-in-Fault-clause-outcome g c family ready member =
-    fault-outcome family c.args.name.now c.in-Fault.fault c.args.«module».now.needs c.in_ok-lone_fault-in-Fault.field-0
+pub returns-in_ok-lone_fault-in-Fault-clause-found : goal.returns-in_ok-lone_fault-in-Fault-clause-found
+returns-in_ok-lone_fault-in-Fault-clause-found g c family ready member =
+    fault-found family c.args.name.now c.in-Fault.fault c.args.«module».now.needs c.in_ok-lone_fault-in-Fault.field-0
     (subst (λ r. IsMember family c.args.name.now r c.args.«module».now.needs) c.in-Fault.is member) c.in_ok-lone_fault-in-Fault.ensures
