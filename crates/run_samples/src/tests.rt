@@ -265,6 +265,16 @@ fn counts_the_modules_that_are_checked(rt: HostRuntime) -> Result<(), Fail> {
 }
 
 #[test]
+fn counts_the_modules_that_are_made(rt: HostRuntime) -> Result<(), Fail> {
+    let alloc = rt.alloc();
+    let folder = folder_of(alloc, List::new(alloc), 0)?;
+    let output = MemorySink::new(alloc, 100, 7, List::new(alloc))?;
+    let ran = run_over(alloc, &["gen", "3"], folder, output)?;
+    assert_eq!(rt; ran.ticks, 11);
+    Ok(())
+}
+
+#[test]
 fn ends_as_its_devices_do(rt: HostRuntime) -> Result<(), Fail> {
     let alloc = rt.alloc();
     for (words, folder_fails, output_fails, room, status, written) in &devices::TRIALS {

@@ -9,7 +9,6 @@ use Rattle.family_facts.specs.declared.verdict.File.{File}
 use Rattle.sany_files.specs.Calls.{IsLeftAfter}
 use Rattle.sany_files.specs.Calls.{after_calls, calls_made, calls_of_folder, calls_of_request, next_len, read_len, reads_made, reads_of_listing}
 use Rattle.sany_files.specs.Files.{byte_count, file_of, module_names, modules_of_listing, reads, with_read, MOST, MOST_BYTES, MOST_MODULES}
-use Rattle.sany_files.specs.Words.{folder_of}
 use Rattle.sany_files.specs.Reading.{after_folder, after_reads}
 use Rattle.sany_files.proofs.ReadingLemmas.{count-read, reads-more, told-more, with_read-append}
 
@@ -160,10 +159,3 @@ part-few (Some t) between after path listed modules isbetween isnames ismodules 
 pub part-whole : (before after : Option Told) (path : List ℕ) → after ≡ option_map (after_folder path) before → IfSome before (λ t. IsLeftAfter 1 (calls_of_folder t path) t after)
 part-whole None after path isafter = tt
 part-whole (Some t) after path isafter = record { calls = calls_of_folder t path; many = omega arith; few = omega arith; left = isafter }
-
--- ---- the words
-
-pub part-words : (before after : Option Told) (words : List (List ℕ)) (path : List ℕ) → Some path ≡ folder_of words → IfSome before (λ t. IsLeftAfter 1 (calls_of_folder t path) t after) →
-    IfSome before (λ t. IsLeftAfter 1 (calls_made words t) t after)
-part-words None after words path named part = tt
-part-words (Some t) after words path named part = subst (λ request. IsLeftAfter 1 (calls_of_request t request) t after) named part

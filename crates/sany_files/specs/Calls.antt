@@ -1,7 +1,8 @@
 -- Which calls of the folder are made, and how they leave it.
 use Rattle.std.specs.Prelude.{◌≡◌, ◌≤◌, ℕ, zero, suc, ◌+◌, List, [], ◌∷◌, length, nat_lt, Option, Some, None, if◌then◌else◌}
 use Rattle.tool_io.specs.Folder.{Told, after_call, read_at}
-use Rattle.sany_files.specs.Words.{folder_of}
+use Rattle.sany_words.specs.Words.{request_of}
+use Rattle.sany_words.specs.declared.request.Request.{Request}
 use Rattle.sany_files.specs.Files.{file_of, module_names, MOST, MOST_BYTES, MOST_MODULES}
 
 -- what a folder holds after so many calls
@@ -32,18 +33,22 @@ reads_of_listing t folder names = if nat_lt MOST_MODULES (length names) then 0 e
 abbrev pub calls_of_folder : Told → List ℕ → ℕ
 calls_of_folder t folder = suc (reads_of_listing (after_call t) folder (module_names (after_call t) folder))
 
--- none where the words ask for nothing
-abbrev pub calls_of_request : Told → Option (List ℕ) → ℕ
-calls_of_request t None = 0
-calls_of_request t (Some folder) = calls_of_folder t folder
+-- the calls for what is asked for: none where that is no folder
+abbrev pub calls_of_request : Told → Option Request → ℕ
+calls_of_request t (Some (Request.Check folder)) = calls_of_folder t folder
+calls_of_request t _ = 0
 
 -- how many calls of the folder the program makes: none behind the one with which a limit is passed
 abbrev pub calls_made : List (List ℕ) → Told → ℕ
-calls_made words t = calls_of_request t (folder_of words)
+calls_made words t = calls_of_request t (request_of words)
+
+-- what the folder holds after what is asked for
+abbrev pub told_after_request : Option Request → Told → Told
+told_after_request request t = after_calls (calls_of_request t request) t
 
 -- what the folder holds after the program
 abbrev pub told_after : List (List ℕ) → Told → Told
-told_after words t = after_calls (calls_made words t) t
+told_after words t = told_after_request (request_of words) t
 
 -- a folder is left as some number of calls leaves it, not below the least and not above the most
 pub record IsLeftAfter (least most : ℕ) (t : Told) (new : Option Told) : Type 0 where

@@ -1,10 +1,12 @@
--- The module files of a folder, and those that the words ask to check.
+-- The module files of a folder, and those of what the words ask for.
 use Rattle.std.specs.Prelude.{ℕ, ◌+◌, ◌-◌, ◌^◌, List, [], ◌∷◌, ◌++◌, length, Bool, false, ◌||◌, ◌&&◌, nat_lt, nat_eq, Option, Some, None, if◌then◌else◌, codes, take, sum_by}
 use Rattle.std.specs.List.{filter_map, ends_with}
 use Rattle.tool_io.specs.Folder.{Told, after_call, names_at, read_at}
 use Rattle.tla_lexeme.specs.LexemeSets.{is_identifier}
 use Rattle.family_facts.specs.declared.verdict.File.{File}
-use Rattle.sany_files.specs.Words.{folder_of}
+use Rattle.gen_texts.specs.Generated.{generated}
+use Rattle.sany_words.specs.Words.{request_of}
+use Rattle.sany_words.specs.declared.request.Request.{Request}
 
 -- the module that a file stands for, by its name
 abbrev pub module_of_file : List ℕ → Option (List ℕ)
@@ -41,14 +43,15 @@ reads t folder (name ∷ names) = with_read name (read_at (after_call t) folder 
 abbrev pub files_of : Told → List ℕ → List File
 files_of t folder = reads (after_call t) folder (module_names (after_call t) folder)
 
--- the files of the folder that the words ask for, or none
-abbrev pub files_of_request : Told → Option (List ℕ) → List File
+-- the files that are asked for: those of a folder, those that are made, or none
+abbrev pub files_of_request : Told → Option Request → List File
 files_of_request t None = []
-files_of_request t (Some folder) = files_of t folder
+files_of_request t (Some (Request.Check folder)) = files_of t folder
+files_of_request t (Some (Request.Generate count)) = generated count
 
 -- the files that the words ask to check
 abbrev pub files_in : List (List ℕ) → Told → List File
-files_in words t = files_of_request t (folder_of words)
+files_in words t = files_of_request t (request_of words)
 
 -- ---- limits
 
@@ -68,11 +71,11 @@ byte_count files = sum_by (λ f. length f.bytes) files
 abbrev pub is_over_folder : Told → List ℕ → Bool
 is_over_folder t folder = nat_lt MOST_MODULES (length (module_names (after_call t) folder)) || nat_lt MOST_BYTES (byte_count (files_of t folder))
 
--- the words ask for a folder with too much in it
-abbrev pub is_over_request : Told → Option (List ℕ) → Bool
-is_over_request t None = false
-is_over_request t (Some folder) = is_over_folder t folder
+-- a folder is asked for with too much in it
+abbrev pub is_over_request : Told → Option Request → Bool
+is_over_request t (Some (Request.Check folder)) = is_over_folder t folder
+is_over_request t _ = false
 
 -- a limit is passed
 abbrev pub is_over : List (List ℕ) → Told → Bool
-is_over words t = is_over_request t (folder_of words)
+is_over words t = is_over_request t (request_of words)

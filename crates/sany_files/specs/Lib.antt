@@ -1,5 +1,3 @@
-pub mod Words
 pub mod Files
 pub mod Calls
 pub mod Reading
-pub mod Texts

@@ -1,5 +1,5 @@
 -- How a run answers.
-use Rattle.std.specs.Prelude.{◌≡◌, ◌≢◌, ℕ, List, ◌++◌, Bool, ◌||◌, ◌==◌, Option}
+use Rattle.std.specs.Prelude.{◌≡◌, ◌≢◌, ℕ, List, ◌++◌, Bool, ◌||◌, ◌==◌, Option, if◌then◌else◌}
 use Rattle.std.specs.Bool.{OnFalse}
 use Rattle.std.specs.Io.KnownBytes.{Appends}
 use Rattle.tool_io.specs.Causes.{Rose}
@@ -17,9 +17,21 @@ is_stopped status = status == 3 || status == 6
 abbrev pub is_done : ℕ → Bool
 is_done status = status == 0 || status == 1
 
+-- a status that comes where an outcome was to be written
+abbrev pub is_written : ℕ → Bool
+is_written status = is_done status || status == 5 || status == 6
+
+-- a status that comes where the words are a request
+abbrev pub is_answer : ℕ → Bool
+is_answer status = is_fault status || is_done status || status == 7
+
 -- a status that a run may end with
 abbrev pub is_status : ℕ → Bool
-is_status status = is_fault status || is_done status || status == 2 || status == 7
+is_status status = is_answer status || status == 2
+
+-- how many calls of the folder are made at least where they end early: one, if the folder failed
+abbrev pub least_calls : ℕ → ℕ
+least_calls status = if status == 3 then 1 else 0
 
 -- known bytes grow by some bytes from the front
 abbrev pub AppendsFront : Option (List ℕ) → Option (List ℕ) → List ℕ → Type 0

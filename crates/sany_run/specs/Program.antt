@@ -1,13 +1,16 @@
--- What the program writes and answers: for the folder that the words ask to check, the report on its module files, unless a limit is passed.
+-- What the program writes and answers: for the folder that the words ask to check, the report on its module files, unless a limit is
+-- passed; for modules that the words ask to make, the counts of their report and of their uses.
 use Rattle.std.specs.Prelude.{ℕ, List, [], Option, Some, None, if◌then◌else◌}
 use Rattle.tool_io.specs.Folder.{Told}
-use Rattle.family_facts.specs.Verdicts.{verdicts_on}
+use Rattle.family_facts.specs.Verdicts.{uses_on, verdicts_on}
 use Rattle.family_facts.specs.declared.verdict.File.{File}
 use Rattle.family_facts.specs.declared.verdict.Verdict.{Verdict}
 use Rattle.sany_run.specs.declared.check.Outcome.{Outcome}
-use Rattle.sany_files.specs.Words.{folder_of}
+use Rattle.gen_texts.specs.Generated.{generated}
+use Rattle.sany_words.specs.Words.{request_of}
+use Rattle.sany_words.specs.declared.request.Request.{Request}
 use Rattle.sany_files.specs.Files.{files_of, is_over_folder}
-use Rattle.sany_report.specs.Report.{report, report_status}
+use Rattle.sany_report.specs.Report.{counts, report, report_status}
 
 -- a status, and no bytes
 abbrev pub silent : ℕ → Outcome
@@ -33,11 +36,20 @@ outcome_of_files files = reported (verdicts_on files)
 abbrev pub outcome_of_folder : Told → List ℕ → Outcome
 outcome_of_folder t folder = if is_over_folder t folder then LIMIT else outcome_of_files (files_of t folder)
 
--- the outcome for the folder that is asked for, if one is
-abbrev pub outcome_of_request : Told → Option (List ℕ) → Outcome
+-- the counts are written, and the status is as with a report
+abbrev pub counted : List Verdict → ℕ → Outcome
+counted verdicts use_count = record { status = report_status verdicts; bytes = counts verdicts use_count }
+
+-- the outcome for so many modules that are made, over the built-in ones
+abbrev pub outcome_of_generated : ℕ → Outcome
+outcome_of_generated count = counted (verdicts_on (generated count)) (uses_on (generated count))
+
+-- the outcome for what is asked for
+abbrev pub outcome_of_request : Told → Option Request → Outcome
 outcome_of_request t None = USAGE
-outcome_of_request t (Some folder) = outcome_of_folder t folder
+outcome_of_request t (Some (Request.Check folder)) = outcome_of_folder t folder
+outcome_of_request t (Some (Request.Generate count)) = outcome_of_generated count
 
 -- What the program writes and answers for these words and a folder that tells this.
 abbrev pub program : List (List ℕ) → Told → Outcome
-program words t = outcome_of_request t (folder_of words)
+program words t = outcome_of_request t (request_of words)

@@ -53,8 +53,8 @@ fn outcome_of_files<L>(
     ensures ticks { IfOk result (λ _. steps.new
         ≡ after_checks (checks_of files.now) steps.old) }
 {
-    let verdicts = check_family(alloc, files, steps)?;
-    reported(alloc, verdicts.as_slice())
+    let found = check_family(alloc, files, steps)?;
+    reported(alloc, found.verdicts.as_slice())
 }
 
 /// The outcome for a folder. None where a limit is passed.

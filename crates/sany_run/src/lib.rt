@@ -4,6 +4,7 @@
 #![tactic(auto)]
 
 mod check;
+mod generate;
 mod output;
 mod program;
 mod slices;

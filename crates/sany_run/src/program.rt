@@ -4,22 +4,29 @@ ghost use Rattle.std.specs.Io.KnownBytes.{Appends};
 ghost use Rattle.std.specs.Bool.{OnFalse, OnTrue};
 ghost use Rattle.std.specs.Option.{option_map};
 ghost use Rattle.family_facts.specs.Verdicts.{after_checks, checks_of};
-ghost use Rattle.sany_run.specs.Answers.{Answers, TellsFault, is_status, is_stopped};
-ghost use Rattle.sany_files.specs.Calls.{IsLeftAfter};
-ghost use Rattle.sany_run.specs.Program.{program};
-ghost use Rattle.sany_files.specs.Calls.{calls_made, told_after};
-ghost use Rattle.sany_files.specs.Files.{files_in, is_over};
-ghost use Rattle.sany_files.specs.Words.{folder_of as folder_in};
-ghost use Rattle.sany_files.specs.Texts.{texts};
+ghost use Rattle.gen_texts.specs.Generated.{generated};
+ghost use Rattle.sany_files.specs.Calls.{IsLeftAfter, calls_made, calls_of_folder};
+ghost use Rattle.sany_files.specs.Calls.{calls_of_request, told_after, told_after_request};
+ghost use Rattle.sany_files.specs.Files.{files_in, files_of, files_of_request};
+ghost use Rattle.sany_files.specs.Files.{is_over, is_over_folder, is_over_request};
+ghost use Rattle.sany_files.specs.Reading.{after_folder};
+ghost use Rattle.sany_run.specs.Answers.{Answers, TellsFault, is_answer, is_done, is_status};
+ghost use Rattle.sany_run.specs.Answers.{is_stopped, is_written, least_calls};
+ghost use Rattle.sany_run.specs.Program.{outcome_of_folder, outcome_of_generated};
+ghost use Rattle.sany_run.specs.Program.{outcome_of_request, program};
+ghost use Rattle.sany_words.specs.Texts.{texts};
+ghost use Rattle.sany_words.specs.Words.{request_of as request_in};
 
-use crate::check::outcome_of_folder;
+use crate::check::{self, Outcome};
+use crate::generate;
 use crate::output::write_all;
-use sany_files::folder_of;
+use sany_words::{Request, request_of};
 use std::alloc::Global;
 use step_count::Steps;
 use tool_io::{Folder, IoFault, Sink, Source};
+use tool_list::Memory;
 
-// The words do not ask for anything.
+// The words ask for nothing.
 const USAGE: u8 = 2;
 
 // The folder failed.
@@ -34,6 +41,126 @@ const NO_MEMORY: u8 = 6;
 // A limit was passed.
 const LIMIT: u8 = 7;
 
+// Writes an outcome.
+fn status_of_outcome<K: Sink>(output: &mut K, outcome: &Outcome) -> u8
+    requires { is_done outcome.now.status ≡ true }
+    ensures answers { Answers outcome.now result (K.taken output.old) (K.taken output.new) }
+    ensures some { OnTrue (result == 5) (outcome.now.bytes ≢ []) }
+    ensures status { is_written result ≡ true }
+    ensures output_fault { TellsFault 5 result (K.fault_count output.old)
+        (K.fault_count output.new) }
+{
+    match write_all(output, outcome.bytes.as_slice()) {
+        Ok(()) => outcome.status,
+        Err(IoFault::Failed) => OUTPUT_FAULT,
+        Err(IoFault::Memory) => NO_MEMORY,
+    }
+}
+
+// Checks a folder.
+fn status_of_check<F: Folder, K: Sink, L>(
+    alloc: Global,
+    path: &str,
+    folder: &mut F,
+    output: &mut K,
+    steps: &mut Steps<L>,
+) -> u8
+    ensures answers { IfSome (F.told folder.old)
+        (λ t. Answers (outcome_of_folder t path.now) result (K.taken output.old)
+        (K.taken output.new)) }
+    ensures some { OnTrue (result == 5)
+        (IfSome (F.told folder.old) (λ t. (outcome_of_folder t path.now).bytes ≢ [])) }
+    ensures status { is_answer result ≡ true }
+    ensures folder_fault { TellsFault 3 result (F.fault_count folder.old)
+        (F.fault_count folder.new) }
+    ensures output_fault { TellsFault 5 result (K.fault_count output.old)
+        (K.fault_count output.new) }
+    ensures limit { IfSome (F.told folder.old) (λ t. OnFalse (is_stopped result) ((result ≡ 7)
+        ↔ (is_over_folder t path.now ≡ true))) }
+    ensures silent { OnTrue (result == 3 || result == 7)
+        (Appends (K.taken output.old) (K.taken output.new) []) }
+    ensures ticks { IfSome (F.told folder.old)
+        (λ t. OnTrue (nat_le result 1) (steps.new
+        ≡ after_checks (checks_of (files_of t path.now)) steps.old)) }
+    ensures told { OnFalse (is_stopped result) (F.told folder.new
+        ≡ option_map (after_folder path.now) (F.told folder.old)) }
+    ensures part { IfSome (F.told folder.old)
+        (λ t. OnTrue (is_stopped result)
+        (IsLeftAfter 1 (calls_of_folder t path.now) t (F.told folder.new))) }
+{
+    let outcome = match check::outcome_of_folder(alloc, folder, path, steps) {
+        Ok(Some(outcome)) => outcome,
+        Ok(None) => return LIMIT,
+        Err(IoFault::Failed) => return FOLDER_FAULT,
+        Err(IoFault::Memory) => return NO_MEMORY,
+    };
+    status_of_outcome(output, &outcome)
+}
+
+// Makes modules and checks them.
+fn status_of_generated<K: Sink, L>(
+    alloc: Global,
+    count: u16,
+    output: &mut K,
+    steps: &mut Steps<L>,
+) -> u8
+    ensures answers { Answers (outcome_of_generated count) result (K.taken output.old)
+        (K.taken output.new) }
+    ensures some { OnTrue (result == 5) ((outcome_of_generated count).bytes ≢ []) }
+    ensures status { is_written result ≡ true }
+    ensures output_fault { TellsFault 5 result (K.fault_count output.old)
+        (K.fault_count output.new) }
+    ensures ticks { OnTrue (nat_le result 1) (steps.new
+        ≡ after_checks (checks_of (generated count)) steps.old) }
+{
+    match generate::outcome_of_generated(alloc, count, steps) {
+        Ok(outcome) => status_of_outcome(output, &outcome),
+        Err(Memory) => NO_MEMORY,
+    }
+}
+
+// Does what is asked for.
+fn status_of_request<F: Folder, K: Sink, L>(
+    alloc: Global,
+    request: Option<Request>,
+    folder: &mut F,
+    output: &mut K,
+    steps: &mut Steps<L>,
+) -> u8
+    ensures answers { IfSome (F.told folder.old)
+        (λ t. Answers (outcome_of_request t request) result (K.taken output.old)
+        (K.taken output.new)) }
+    ensures some { OnTrue (result == 5)
+        (IfSome (F.told folder.old) (λ t. (outcome_of_request t request).bytes ≢ [])) }
+    ensures status { is_status result ≡ true }
+    ensures usage { OnFalse (result == 6) ((result ≡ 2) ↔ (request ≡ None)) }
+    ensures folder_fault { TellsFault 3 result (F.fault_count folder.old)
+        (F.fault_count folder.new) }
+    ensures output_fault { TellsFault 5 result (K.fault_count output.old)
+        (K.fault_count output.new) }
+    ensures limit { IfSome (F.told folder.old) (λ t. OnFalse (is_stopped result) ((result ≡ 7)
+        ↔ (is_over_request t request ≡ true))) }
+    ensures silent { OnTrue (result == 3 || result == 7)
+        (Appends (K.taken output.old) (K.taken output.new) []) }
+    ensures ticks { IfSome (F.told folder.old)
+        (λ t. OnTrue (nat_le result 1) (steps.new
+        ≡ after_checks (checks_of (files_of_request t request)) steps.old)) }
+    ensures told { OnFalse (is_stopped result) (F.told folder.new
+        ≡ option_map (told_after_request request) (F.told folder.old)) }
+    ensures part { IfSome (F.told folder.old)
+        (λ t. OnTrue (is_stopped result)
+        (IsLeftAfter (least_calls result) (calls_of_request t request) t (F.told folder.new))) }
+{
+    match request {
+        Some(Request::Check(path)) => {
+            status_of_check(alloc, path.as_str(), folder, output, steps)
+        }
+        Some(Request::Generate(count)) => status_of_generated(alloc, count, output, steps),
+        None => USAGE,
+    }
+}
+
+// Reads the words, and does what they ask for.
 fn status_of_run<F: Folder, K: Sink, L>(
     alloc: Global,
     words: &[String],
@@ -47,7 +174,7 @@ fn status_of_run<F: Folder, K: Sink, L>(
     ensures some { OnTrue (result == 5)
         (IfSome (F.told folder.old) (λ t. (program (texts words.now) t).bytes ≢ [])) }
     ensures status { is_status result ≡ true }
-    ensures usage { (result ≡ 2) ↔ (folder_in (texts words.now) ≡ None) }
+    ensures usage { OnFalse (result == 6) ((result ≡ 2) ↔ (request_in (texts words.now) ≡ None)) }
     ensures folder_fault { TellsFault 3 result (F.fault_count folder.old)
         (F.fault_count folder.new) }
     ensures output_fault { TellsFault 5 result (K.fault_count output.old)
@@ -63,21 +190,12 @@ fn status_of_run<F: Folder, K: Sink, L>(
         ≡ option_map (told_after (texts words.now)) (F.told folder.old)) }
     ensures part { IfSome (F.told folder.old)
         (λ t. OnTrue (is_stopped result)
-        (IsLeftAfter 1 (calls_made (texts words.now) t) t (F.told folder.new))) }
+        (IsLeftAfter (least_calls result) (calls_made (texts words.now) t) t
+        (F.told folder.new))) }
 {
-    let Some(path) = folder_of(words) else {
-        return USAGE;
-    };
-    let outcome = match outcome_of_folder(alloc, folder, path, steps) {
-        Ok(Some(outcome)) => outcome,
-        Ok(None) => return LIMIT,
-        Err(IoFault::Failed) => return FOLDER_FAULT,
-        Err(IoFault::Memory) => return NO_MEMORY,
-    };
-    match write_all(output, outcome.bytes.as_slice()) {
-        Ok(()) => outcome.status,
-        Err(IoFault::Failed) => OUTPUT_FAULT,
-        Err(IoFault::Memory) => NO_MEMORY,
+    match request_of(alloc, words) {
+        Ok(request) => status_of_request(alloc, request, folder, output, steps),
+        Err(Memory) => NO_MEMORY,
     }
 }
 
@@ -104,8 +222,9 @@ pub fn run<F: Folder, S: Source, K: Sink, L>(
         (IfSome (F.told folder) (λ t. (program (texts words.now) t).bytes ≢ [])) }
     ensures status { is_status result.0 ≡ true }
 
-    // When each status comes that is no verdict.
-    ensures usage { (result.0 ≡ 2) ↔ (folder_in (texts words.now) ≡ None) }
+    // When each status comes that is no verdict. What the words ask for takes memory to know.
+    ensures usage { OnFalse (result.0 == 6) ((result.0 ≡ 2)
+        ↔ (request_in (texts words.now) ≡ None)) }
     ensures folder_fault { TellsFault 3 result.0 (F.fault_count folder) (F.fault_count result.1) }
     ensures output_fault { TellsFault 5 result.0 (K.fault_count output.old)
         (K.fault_count output.new) }
@@ -113,12 +232,14 @@ pub fn run<F: Folder, S: Source, K: Sink, L>(
         ↔ (is_over (texts words.now) t ≡ true))) }
 
     // What it leaves. The folder is as the calls of the program leave it, and with 3 and 6 as the
-    // first ones of them do: none is made behind the one with which a limit is passed.
+    // first ones of them do, one at least with 3: none is made behind the one with which a limit is
+    // passed.
     ensures folder_after { OnFalse (is_stopped result.0) (F.told result.1
         ≡ option_map (told_after (texts words.now)) (F.told folder)) }
     ensures folder_part { IfSome (F.told folder)
         (λ t. OnTrue (is_stopped result.0)
-        (IsLeftAfter 1 (calls_made (texts words.now) t) t (F.told result.1))) }
+        (IsLeftAfter (least_calls result.0) (calls_made (texts words.now) t) t
+        (F.told result.1))) }
     ensures silent { OnTrue (result.0 == 3 || result.0 == 7)
         (Appends (K.taken output.old) (K.taken output.new) []) }
     ensures ticks { IfSome (F.told folder) (λ t. OnTrue (nat_le result.0 1) (steps.new
