@@ -1,0 +1,10 @@
+pub mod Likes
+pub mod Finding
+pub mod Lookups
+pub mod Operands
+pub mod Picking
+pub mod Stepping
+pub mod Calling
+pub mod Guards
+pub mod Paths
+pub mod Keeping

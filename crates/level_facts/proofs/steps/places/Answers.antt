@@ -1,0 +1,10 @@
+use Rattle.std.proofs.Common.{sym, ap}
+use Rattle.kind_text.specs.FlatModule.{places_of}
+use Rattle.level_facts.proofs.Lookups.{node_gone, node_got}
+use Rattle.level_facts.proofs.steps.places.Goals as goal
+
+pub returns-in-None : goal.returns-in-None
+returns-in-None c = sym (ap places_of (node_gone c.args.flat.now c.deref.result.now c.args.node c.deref.ensures.value c.in-None.ensures.lookup.3))
+
+pub returns-in-Some : goal.returns-in-Some
+returns-in-Some c = sym (ap places_of (node_got c.args.flat.now c.deref.result.now c.args.node c.in-Some.node.now c.deref.ensures.value c.in-Some.ensures.lookup.3.0 c.in-Some.ensures.lookup.1))

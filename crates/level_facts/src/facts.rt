@@ -1,0 +1,160 @@
+// What was found of kinds, and how callers ask for more.
+ghost use Rattle.std.specs.Prelude.{◌≡◌, ◌∷◌, [], IfOk, OnOk, length, map};
+ghost use Rattle.kind_text.specs.ExpandedKind.{kind};
+ghost use Rattle.kind_text.specs.Expansion.{text_of};
+ghost use Rattle.kind_text.specs.FlatModule.{IsOrdered};
+ghost use Rattle.kind_table.specs.Flattened.{flat_of};
+ghost use Rattle.kind_table.specs.Table.{Grows, IsArg, IsStored};
+ghost use Rattle.level_facts.specs.Facts.{AddsArguments, IsFacts, IsKept, argument_item};
+
+use crate::judging::kind_on;
+use indexmap::{IndexMap, IndexSet};
+use kind_table::{Arg, FlatModule, first_nodes};
+use std::alloc::{AllocError, Global};
+use tla_symbols::{Kind, Rule};
+
+/// What a caller puts in for a parameter.
+#[derive(Clone, Copy, Debug, PartialEq, Eq)]
+pub enum Argument {
+    /// An expression of a kind, or without one.
+    Value(Option<Kind>),
+    /// A parameter that stays, an expression or an operator.
+    Parameter,
+    /// An operator that is built in or declared.
+    BuiltIn(Rule),
+    /// A definition that stands in no other one, as an operator.
+    Operator(usize),
+}
+
+/// A definition with the numbers of what stands round it and of its arguments.
+#[derive(Drop, PartialEq, Eq, Hash)]
+pub struct Key {
+    pub definition: usize,
+    pub frame: Vec<usize>,
+}
+
+/// The arguments of a flat module by their numbers, and the kinds that were found.
+#[derive(Drop)]
+pub struct KindFacts {
+    pub(crate) firsts: Vec<usize>,
+    pub(crate) arguments: IndexSet<Arg>,
+    pub(crate) kept: IndexMap<Key, Option<Kind>>,
+}
+
+impl KindFacts {
+    /// Nothing is found yet of a flat module.
+    pub fn new(alloc: Global, flat: &FlatModule) -> Result<KindFacts, AllocError>
+        ensures { IfOk result (λ facts. IsFacts (flat_of flat.now) facts) }
+    {
+        Ok(KindFacts {
+            firsts: first_nodes(alloc, flat)?,
+            arguments: IndexSet::new(alloc),
+            kept: IndexMap::new(alloc),
+        })
+    }
+
+    /// The kind of a definition's expansion with these put in, for what stands round it and for
+    /// its parameters: none exactly where the expansion has none. Nothing is expanded. What was
+    /// found is kept, also where memory runs out.
+    pub fn kind_of(
+        &mut self,
+        alloc: Global,
+        flat: &FlatModule,
+        definition: usize,
+        arguments: &[Argument],
+    ) -> Result<Option<Kind>, AllocError>
+        requires ordered { IsOrdered (flat_of flat.now) }
+        requires facts { IsFacts (flat_of flat.now) self.old }
+        ensures facts { IsFacts (flat_of flat.now) self.new }
+        ensures kind { IfOk result (λ k. k ≡ kind (text_of (flat_of flat.now) definition
+            (map (argument_item (flat_of flat.now)) arguments.now))) }
+    {
+        let frame = numbers_of(alloc, flat, self, arguments)?;
+        let kind = kind_on(alloc, flat, self, definition, &frame)?;
+        Ok(kind)
+    }
+}
+
+// The numbers of these arguments.
+fn numbers_of(
+    alloc: Global,
+    flat: &FlatModule,
+    facts: &mut KindFacts,
+    arguments: &[Argument],
+) -> Result<Vec<usize>, AllocError>
+    requires facts { IsFacts (flat_of flat.now) facts.old }
+    ensures facts { IsFacts (flat_of flat.now) facts.new }
+    ensures added { IfOk result (λ v. AddsArguments (flat_of flat.now) facts.old.arguments.keys
+        facts.new.arguments.keys v.items arguments.now) }
+{
+    let mut numbers = Vec::new(alloc);
+    for argument in arguments {
+        let n = number_of(alloc, flat, facts, *argument)?;
+        numbers.push(n)?;
+    }
+    Ok(numbers)
+}
+
+// The number of an argument.
+fn number_of(
+    alloc: Global,
+    flat: &FlatModule,
+    facts: &mut KindFacts,
+    argument: Argument,
+) -> Result<usize, AllocError>
+    requires facts { IsFacts (flat_of flat.now) facts.old }
+    ensures facts { IsFacts (flat_of flat.now) facts.new }
+    ensures added { IfOk result (λ n. AddsArguments (flat_of flat.now) facts.old.arguments.keys
+        facts.new.arguments.keys (n ∷ []) (argument ∷ [])) }
+{
+    match argument {
+        Argument::Value(kind) => {
+            let n = number(flat, facts, Arg::Value(kind))?;
+            Ok(n)
+        }
+        Argument::Parameter => {
+            let n = number(flat, facts, Arg::Parameter)?;
+            Ok(n)
+        }
+        Argument::BuiltIn(rule) => {
+            let n = number(flat, facts, Arg::BuiltIn(rule))?;
+            Ok(n)
+        }
+        Argument::Operator(definition) => {
+            let n = number(flat, facts, Arg::Operator(definition, Vec::new(alloc)))?;
+            Ok(n)
+        }
+    }
+}
+
+/// The number of an argument, which is new or stands there already.
+pub(crate) fn number(
+    flat: &FlatModule,
+    facts: &mut KindFacts,
+    arg: Arg,
+) -> Result<usize, AllocError>
+    requires facts { IsFacts (flat_of flat.now) facts.old }
+    requires arg { IsArg (length facts.old.arguments.keys) arg }
+    ensures facts { IsFacts (flat_of flat.now) facts.new }
+    ensures stored { IfOk result (λ n. IsStored facts.new.arguments.keys n arg) }
+    ensures grows { OnOk result (Grows facts.old.arguments.keys facts.new.arguments.keys) }
+{
+    let n = kind_table::number(&mut facts.arguments, arg)?;
+    Ok(n)
+}
+
+/// Keeps a kind that was found.
+pub(crate) fn keep(
+    flat: &FlatModule,
+    facts: &mut KindFacts,
+    key: Key,
+    kind: Option<Kind>,
+) -> Result<(), AllocError>
+    requires facts { IsFacts (flat_of flat.now) facts.old }
+    requires kept { IsKept (flat_of flat.now) facts.old.arguments.keys key kind }
+    ensures facts { IsFacts (flat_of flat.now) facts.new }
+    ensures arguments { facts.new.arguments.keys ≡ facts.old.arguments.keys }
+{
+    facts.kept.insert(key, kind)?;
+    Ok(())
+}

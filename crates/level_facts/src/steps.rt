@@ -1,0 +1,159 @@
+// What of a node needs no other body.
+ghost use Rattle.std.specs.Prelude.{◌≡◌, IfOk, OnOk, true, length, map, slice_get};
+ghost use Rattle.kind_text.specs.ExpandedKind.{ruled};
+ghost use Rattle.kind_text.specs.FlatModule.{places_of};
+ghost use Rattle.kind_table.specs.Flattened.{flat_of};
+ghost use Rattle.kind_table.specs.Table.{AddsValues, AllWithin, bounded_kind as kind_over_sets, value_at};
+ghost use Rattle.level_facts.specs.Facts.{IsFacts};
+ghost use Rattle.level_facts.specs.Judged.{IsClosure, IsOperand, around_of};
+
+use crate::facts::{KindFacts, number};
+use indexmap::IndexSet;
+use kind_table::{
+    Arg, FlatModule, Instance, add_values, behind, bounded_kind, copied, first, ruled_kind, values,
+};
+use std::alloc::{AllocError, Global};
+use tla_symbols::{Kind, Rule};
+
+/// How far a path has led: what stands round what is defined there, the arguments that are left,
+/// and whether all guards are met.
+#[derive(Drop)]
+pub(crate) struct Reached {
+    pub(crate) frame: Vec<usize>,
+    pub(crate) rest: Vec<usize>,
+    pub(crate) met: bool,
+}
+
+/// Where a path begins: nothing is put in yet for its instances.
+pub(crate) fn start(
+    alloc: Global,
+    frame: &[usize],
+    numbers: &[usize],
+) -> Result<Reached, AllocError>
+    ensures frame { IfOk result (λ r. r.frame.items ≡ frame.now) }
+    ensures rest { IfOk result (λ r. r.rest.items ≡ numbers.now) }
+    ensures met { IfOk result (λ r. r.met ≡ true) }
+{
+    Ok(Reached {
+        frame: copied(alloc, frame)?,
+        rest: copied(alloc, numbers)?,
+        met: true,
+    })
+}
+
+/// What stands round what an instance is made of: what stands round its name, and its arguments.
+pub(crate) fn around(
+    alloc: Global,
+    instance: &Instance,
+    reached: &Reached,
+) -> Result<Vec<usize>, AllocError>
+    ensures { IfOk result (λ v. v.items ≡ around_of instance.now reached.now) }
+{
+    let arguments = first(alloc, &reached.rest, instance.parameters)?;
+    let round = behind(alloc, &reached.frame, instance.outer, &arguments)?;
+    Ok(round)
+}
+
+/// The kind that a rule gives on operands of these numbers.
+pub(crate) fn operation_kind(
+    alloc: Global,
+    arguments: &IndexSet<Arg>,
+    rule: Rule,
+    numbers: &[usize],
+) -> Result<Option<Kind>, AllocError>
+    ensures { IfOk result (λ k. k ≡ ruled rule (map (value_at arguments.now.keys) numbers.now)) }
+{
+    let kinds = values(alloc, arguments, numbers)?;
+    let kind = ruled_kind(alloc, rule, &kinds)?;
+    Ok(kind)
+}
+
+/// The kind of a quantifier over sets, where its body and the sets have these numbers.
+pub(crate) fn quantifier_kind(
+    alloc: Global,
+    arguments: &IndexSet<Arg>,
+    numbers: &[usize],
+) -> Result<Option<Kind>, AllocError>
+    ensures { IfOk result (λ k. k ≡ kind_over_sets (map (value_at arguments.now.keys)
+        numbers.now)) }
+{
+    let kinds = values(alloc, arguments, numbers)?;
+    let kind = bounded_kind(alloc, &kinds)?;
+    Ok(kind)
+}
+
+/// The number of what stands at a place of a frame. Past its end a constant stands.
+pub(crate) fn operand(
+    flat: &FlatModule,
+    facts: &mut KindFacts,
+    frame: &[usize],
+    place: usize,
+) -> Result<usize, AllocError>
+    requires facts { IsFacts (flat_of flat.now) facts.old }
+    requires frame { AllWithin facts.old.arguments.keys frame.now }
+    ensures facts { IsFacts (flat_of flat.now) facts.new }
+    ensures found { IfOk result (λ n. IsOperand (flat_of flat.now) facts.old.arguments.keys
+        facts.new.arguments.keys frame.now place n) }
+{
+    match frame.get(place) {
+        Some(n) => Ok(*n),
+        None => {
+            let n = number(flat, facts, Arg::Value(Some(Kind::Const)))?;
+            Ok(n)
+        }
+    }
+}
+
+/// The number of a definition as an operator, with what stands round it at a use.
+pub(crate) fn closure(
+    alloc: Global,
+    flat: &FlatModule,
+    facts: &mut KindFacts,
+    definition: usize,
+    frame: &[usize],
+) -> Result<usize, AllocError>
+    requires facts { IsFacts (flat_of flat.now) facts.old }
+    requires frame { AllWithin facts.old.arguments.keys frame.now }
+    ensures facts { IsFacts (flat_of flat.now) facts.new }
+    ensures found { IfOk result (λ n. IsClosure (flat_of flat.now) facts.old.arguments.keys
+        facts.new.arguments.keys definition frame.now n) }
+{
+    match flat.definitions.get(definition) {
+        None => {
+            let n = number(flat, facts, Arg::Value(None))?;
+            Ok(n)
+        }
+        Some(body) => {
+            let outer = first(alloc, frame, body.outer)?;
+            let n = number(flat, facts, Arg::Operator(definition, outer))?;
+            Ok(n)
+        }
+    }
+}
+
+/// The number of places of the bare operator that a node is.
+pub(crate) fn places(flat: &FlatModule, node: usize) -> Option<usize>
+    ensures { result ≡ places_of (slice_get (flat_of flat.now).nodes node) }
+{
+    match flat.nodes.get(node) {
+        None => None,
+        Some(node) => node.places,
+    }
+}
+
+/// Puts expressions of these kinds behind what stands in a frame.
+pub(crate) fn add_operands(
+    flat: &FlatModule,
+    facts: &mut KindFacts,
+    frame: &mut Vec<usize>,
+    kinds: &[Option<Kind>],
+) -> Result<(), AllocError>
+    requires facts { IsFacts (flat_of flat.now) facts.old }
+    requires frame { AllWithin facts.old.arguments.keys frame.old.items }
+    ensures facts { IsFacts (flat_of flat.now) facts.new }
+    ensures added { OnOk result (AddsValues facts.old.arguments.keys facts.new.arguments.keys
+        frame.old.items frame.new.items kinds.now) }
+{
+    add_values(&mut facts.arguments, frame, kinds)?;
+    Ok(())
+}
