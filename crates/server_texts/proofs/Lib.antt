@@ -1,0 +1,4 @@
+pub mod Ignoring
+pub mod Looking
+pub mod ModuleTexts
+pub mod Slashes

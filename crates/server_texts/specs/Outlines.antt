@@ -1,0 +1,164 @@
+-- What is answered to `documentSymbol`: the names that a module's text declares, by the text alone.
+use Rattle.std.specs.Prelude.{ℕ, ◌==◌, if◌then◌else◌, List, [], ◌∷◌, ◌++◌, map, Option, Some, None}
+use Rattle.tla_symbols.specs.declared.lexeme.Lexeme.{Lexeme}
+use Rattle.tla_symbols.specs.declared.lexeme.Span.{Span}
+use Rattle.tla_tree.specs.declared.form.Form.TheVariants as Form
+use Rattle.tla_tree.specs.Syntax.{Tree as Parsed, Trees, Node, Nil, Cons}
+use Rattle.tla_lexeme.specs.ModulePart.{module_part}
+use Rattle.tla_model.specs.Entities.{placed}
+use Rattle.tla_model.specs.Lexemes.{spelled}
+use Rattle.unit_grammar.specs.Units.{UnitTree, Variables, Constants, OperatorDefinition, FunctionDefinition, ModuleDefinition, Assumption, Theorem, ModuleBegin, ModuleEnd}
+use Rattle.front_laws.specs.Fronts.{Front, Tree, Fault}
+use Rattle.family_facts.specs.Fronts.{front_of}
+use Rattle.lsp_wire.specs.declared.types.Reply.{Reply}
+use Rattle.lsp_wire.specs.declared.types.Reply.TheVariants.{Symbols}
+use Rattle.lsp_wire.specs.declared.types.Symbol.{Symbol, roll-Symbol}
+use Rattle.lsp_answers.specs.States.{State, ModuleText}
+use Rattle.server_texts.specs.Answers.{module_at}
+use Rattle.server_texts.specs.Notes.{area_at}
+
+-- ---- kinds of symbols, by LSP's numbers
+
+-- `Module`: module definitions and nested modules
+abbrev pub module_kind : ℕ
+module_kind = 2
+
+-- `Function`: operators and functions with a name
+abbrev pub function_kind : ℕ
+function_kind = 12
+
+-- `Variable`
+abbrev pub variable_kind : ℕ
+variable_kind = 13
+
+-- `Constant`
+abbrev pub constant_kind : ℕ
+constant_kind = 14
+
+-- `Operator`: operators written with a symbol
+abbrev pub operator_kind : ℕ
+operator_kind = 25
+
+-- ---- one name
+
+-- from the start of one span to the end of another
+abbrev pub joined : Span → Span → Span
+joined first last = record { start = first.start; end = last.end }
+
+-- from the word LOCAL on, where it stands before
+abbrev pub from_local : Option Lexeme → Span → Span
+from_local None span = span
+from_local (Some word) span = joined word.span span
+
+-- a name of this kind, over this span of the text
+abbrev pub symbol : List ℕ → ℕ → Span → Lexeme → Symbol
+symbol text kind span name = roll-Symbol (record { name = spelled text name; kind = kind; area = area_at text span; name_area = area_at text name.span; children = None })
+
+-- a nested module over this span, with the names in it
+abbrev pub nested_symbol : List ℕ → Span → Lexeme → List Symbol → Symbol
+nested_symbol text span name inside = roll-Symbol (record { name = spelled text name; kind = module_kind; area = area_at text span; name_area = area_at text name.span; children = Some inside })
+
+-- ---- units
+
+-- a declared constant, with its places
+abbrev pub constant_symbols : List ℕ → Parsed → List Symbol
+constant_symbols text (Node form span parts) = map (λ name. symbol text constant_kind span name.0) (placed form)
+
+-- several of them
+abbrev pub constants_symbols : List ℕ → Trees → List Symbol
+constants_symbols text Nil = []
+constants_symbols text (Cons x rest) = constant_symbols text x ++ constants_symbols text rest
+
+-- a definition, by its form
+abbrev pub defined_symbol : List ℕ → Option Lexeme → Parsed → List Symbol
+defined_symbol text local (Node (Form.OperatorDefinition l) span parts) = symbol text function_kind (from_local local span) l ∷ []
+defined_symbol text local (Node (Form.PrefixDefinition l) span parts) = symbol text operator_kind (from_local local span) l ∷ []
+defined_symbol text local (Node (Form.InfixDefinition l) span parts) = symbol text operator_kind (from_local local span) l ∷ []
+defined_symbol text local (Node (Form.PostfixDefinition l) span parts) = symbol text operator_kind (from_local local span) l ∷ []
+defined_symbol text local (Node (Form.FunctionDefinition l) span parts) = symbol text function_kind (from_local local span) l ∷ []
+defined_symbol text local (Node (Form.ModuleDefinition l) span parts) = symbol text module_kind (from_local local span) l ∷ []
+defined_symbol text local _ = []
+
+-- an assumption or a theorem, where it has a name
+abbrev pub claimed_symbol : List ℕ → Lexeme → Option Lexeme → Parsed → List Symbol
+claimed_symbol text word None x = []
+claimed_symbol text word (Some name) (Node form span parts) = symbol text function_kind (joined word.span span) name ∷ []
+
+-- the names that a unit declares or defines; a begin or an end of a nested module has none of its own
+abbrev pub unit_symbols : List ℕ → UnitTree → List Symbol
+unit_symbols text (Variables names) = map (λ name. symbol text variable_kind name.span name) names
+unit_symbols text (Constants declarations) = constants_symbols text declarations
+unit_symbols text (OperatorDefinition local x) = defined_symbol text local x
+unit_symbols text (FunctionDefinition local x) = defined_symbol text local x
+unit_symbols text (ModuleDefinition local x) = defined_symbol text local x
+unit_symbols text (Assumption word name x) = claimed_symbol text word name x
+unit_symbols text (Theorem word name x) = claimed_symbol text word name x
+unit_symbols text _ = []
+
+-- ---- nested modules
+
+-- the dashes before the word MODULE that stands before a module's name, among the lexemes of a text
+abbrev pub dashes_before : Lexeme → List Lexeme → Span
+dashes_before name (dashes ∷ word ∷ l ∷ rest) = if l.span.start == name.span.start then dashes.span else dashes_before name (word ∷ l ∷ rest)
+dashes_before name _ = name.span
+
+-- where the lexemes of a module part stand, if there is one
+abbrev pub opening : Lexeme → Option (List Lexeme) → Span
+opening name None = name.span
+opening name (Some lexemes) = dashes_before name lexemes
+
+-- the names of a module as far as its units are read from the end, and the run of `=` that closes it
+pub record Level : Type 0 where
+  pub closing : Option Lexeme
+  pub symbols : List Symbol
+
+-- nothing of a module is read
+abbrev pub closed_by : Option Lexeme → Level
+closed_by closing = record { closing = closing; symbols = [] }
+
+-- from a module's dashes to the run that closes it
+abbrev pub module_span : List ℕ → Lexeme → Option Lexeme → Span
+module_span text name None = opening name (module_part text)
+module_span text name (Some closing) = joined (opening name (module_part text)) closing.span
+
+-- more names before those of the innermost module
+abbrev pub with_symbols : List Symbol → List Level → List Level
+with_symbols more [] = []
+with_symbols more (level ∷ round) = record { closing = level.closing; symbols = more ++ level.symbols } ∷ round
+
+-- the innermost module begins here: it is one name of the module round it
+abbrev pub begun : List ℕ → Lexeme → List Level → List Level
+begun text name [] = []
+begun text name (level ∷ round) = with_symbols (nested_symbol text (module_span text name level.closing) name level.symbols ∷ []) round
+
+-- one unit before those that are read
+abbrev pub before_unit : List ℕ → UnitTree → List Level → List Level
+before_unit text (ModuleEnd closing) levels = closed_by (Some closing) ∷ levels
+before_unit text (ModuleBegin name extends) levels = begun text name levels
+before_unit text unit levels = with_symbols (unit_symbols text unit) levels
+
+-- the names of these units, and of the modules round the first of them: the innermost first
+abbrev pub levels_of : List ℕ → List UnitTree → List Level
+levels_of text [] = closed_by None ∷ []
+levels_of text (unit ∷ units) = before_unit text unit (levels_of text units)
+
+-- the names of the module round all units
+abbrev pub outermost : List Level → List Symbol
+outermost [] = []
+outermost (level ∷ round) = level.symbols
+
+-- ---- replies
+
+-- the names of a front; one with a fault has none
+abbrev pub symbols_by : List ℕ → Front → List Symbol
+symbols_by text (Tree found) = outermost (levels_of text found.units)
+symbols_by text (Fault fault) = []
+
+-- the names of a module's text; without a text there are none
+abbrev pub symbols_in : Option ModuleText → List Symbol
+symbols_in None = []
+symbols_in (Some t) = symbols_by t.bytes (front_of t.name t.bytes)
+
+-- the reply to `documentSymbol` on a document
+abbrev pub symbols_reply : State → List ℕ → Reply
+symbols_reply s uri = Symbols (symbols_in (module_at s uri))
