@@ -1,1 +1,1 @@
-mod MadeNodes
+pub mod MadeNodes
