@@ -21,12 +21,12 @@ count-texts : (xs : List Item) → count (texts xs) ≡ length xs
 count-texts [] = refl
 count-texts (x ∷ xs) = ap suc (count-texts xs)
 
-append-append : (xs ys zs : List Item) → (xs ++ ys) ++ zs ≡ xs ++ (ys ++ zs)
+pub append-append : (xs ys zs : List Item) → (xs ++ ys) ++ zs ≡ xs ++ (ys ++ zs)
 append-append [] ys zs = refl
 append-append (x ∷ xs) ys zs = ap (λ us. x ∷ us) (append-append xs ys zs)
 
 -- the item behind those before it
-at-behind : (s : List Item) (x : Item) (xs : List Item) → at (s ++ (x ∷ xs)) (length s) ≡ x
+pub at-behind : (s : List Item) (x : Item) (xs : List Item) → at (s ++ (x ∷ xs)) (length s) ≡ x
 at-behind [] x xs = refl
 at-behind (y ∷ s) x xs = at-behind s x xs
 

@@ -1,3 +1,5 @@
 mod Reaching
 mod BuiltNodes
 mod Agreeing
+mod Definitions
+mod Instances

@@ -1,4 +1,5 @@
 -- What is known round a node of a flat module, when a frame agrees with what stands round a tree, and what a node means by that.
+use Rattle.tla_symbols.specs.declared.level.Rule.TheVariants.{Plain}
 use Rattle.std.specs.Prelude.{◌≡◌, ℕ, suc, ◌+◌, List, [], ◌∷◌, ◌++◌, Option, Some, None, if◌then◌else◌, length, map}
 use Rattle.tla_tree.specs.declared.form.Form.TheVariants as Form
 use Rattle.tla_tree.specs.Syntax.{Tree, Trees}
@@ -8,14 +9,14 @@ use Rattle.tla_model.specs.Entities.{Meaning, Text, meant, same_meaning}
 use Rattle.tla_model.specs.Contexts.{Context}
 use Rattle.tla_model.specs.Scopes.{behind, binders, definition, reserved, scope}
 use Rattle.module_model.specs.Exports.{Exports, Known}
-use Rattle.kind_text.specs.ExpandedKind.{Expanded}
-use Rattle.kind_text.specs.FlatModule.{FlatModule}
+use Rattle.kind_text.specs.ExpandedKind.{Expanded, Operands, Ruled}
+use Rattle.kind_text.specs.FlatModule.{FlatModule, Node as FlatNode}
 use Rattle.kind_text.specs.Expansion.{items as items_at, text as text_at}
 use Rattle.kind_text.specs.Substitution.{Item, texts}
 use Rattle.tree_kinds.specs.Standing.{Outside, Value, name_among, places as places_of}
-use Rattle.tree_kinds.specs.Expanding.{Around, expand, inner, places_at}
+use Rattle.tree_kinds.specs.Expanding.{Around, expand, inner, places_at, before_scope, in_scope, operands}
 use Rattle.flat_trees.specs.Stands.{AreStanding, IsStanding, Matches, Stand, Place, Brought}
-use Rattle.flat_trees.specs.Names.{order_by}
+use Rattle.flat_trees.specs.Names.{order_by, IsBuilt}
 
 -- ---- what stands for meanings
 
@@ -90,6 +91,19 @@ module _ (text : Text) where
         olds = layout.olds;
       }
 
+-- where `@` repeats what these nodes are
+abbrev pub layout_repeating : Layout → List ℕ → Layout
+layout_repeating layout olds = record layout { olds = olds }
+
+-- where `@` repeats this
+abbrev pub around_repeating : Around → Operands → Around
+around_repeating around old = record around { old = old }
+
+-- what the definition of a function gives
+abbrev pub function_text : Text → Known → (List ℕ → Outside) → Around → Form.the_data → Trees → Expanded
+function_text text known named around form parts =
+    Ruled Plain (operands text known named (before_scope text known named around form parts) (in_scope text known named around form parts) parts)
+
 -- ---- agreement
 
 module _ (flat : FlatModule) where
@@ -119,3 +133,9 @@ module _ (flat : FlatModule) where
     -- a node means the body among these parts, behind the definitions before it
     abbrev pub IsBody : Layout → ℕ → Trees → Type 0
     IsBody layout i parts = Gives layout i (λ around. (inner text known named around parts).text)
+
+    -- a node has the form of a tree, over parts that are what the tree is made of, for each frame that agrees
+    abbrev pub IsBuiltAt : Layout → FlatNode → Tree → Type 0
+    IsBuiltAt layout node x =
+        (frame more : List Item) (around : Around) → Agrees layout frame around
+        → IsBuilt text known named layout.stands around x node.form (items_at (text_at flat) node.parts (frame ++ more))

@@ -1,3 +1,4 @@
 pub mod Stands
 pub mod Names
 pub mod Layouts
+pub mod Instances

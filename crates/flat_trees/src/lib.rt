@@ -4,17 +4,33 @@
 //! modules are built.
 #![tactic(auto)]
 
-ghost use Rattle.std.specs.Prelude.{◌≡◌, ℕ, List, Option, Some, slice_get};
-ghost use Rattle.tla_tree.specs.Syntax.{Tree};
-ghost use Rattle.tla_model.specs.Entities.{Meaning, Text};
-ghost use Rattle.module_model.specs.Exports.{Known};
-ghost use Rattle.kind_text.specs.FlatModule.{FlatModule, IsOrdered, Node};
-ghost use Rattle.kind_text.specs.Substitution.{Item};
+ghost use Rattle.std.specs.Prelude.{◌≡◌, ℕ, true, false, List, [], ◌++◌, Option, Some, None, length, map};
+ghost use Rattle.std.specs.Prelude.{slice_get};
+ghost use Rattle.tla_symbols.specs.declared.lexeme.Lexeme.{Lexeme};
+ghost use Rattle.tla_symbols.specs.declared.lexeme.Span.{Span};
+ghost use Rattle.tla_tree.specs.declared.form.Form.TheVariants as Form;
+ghost use Rattle.tla_tree.specs.Forms.{helps};
+ghost use Rattle.tla_tree.specs.Syntax as tree;
+ghost use Rattle.tla_tree.specs.Syntax.{Tree, Trees};
+ghost use Rattle.tla_model.specs.Tables.{Named};
+ghost use Rattle.tla_model.specs.Entities.{Meaning, Operator, Text, defines};
+ghost use Rattle.module_model.specs.Exports.{Exports, Known};
+ghost use Rattle.kind_text.specs.ExpandedKind.{Operands};
+ghost use Rattle.kind_text.specs.FlatModule.{Definition, FlatModule, Instance, IsOrdered, Node};
+ghost use Rattle.kind_text.specs.Substitution.{Item, texts};
 ghost use Rattle.kind_text.specs.Expansion as expansion;
-ghost use Rattle.tree_kinds.specs.Standing.{Outside, Steps, applied_to, item_of};
-ghost use Rattle.tree_kinds.specs.Expanding.{Around, at_names, expand, places_at};
-ghost use Rattle.flat_trees.specs.Stands.{AreStanding, Matches, Stand};
+ghost use Rattle.tree_kinds.specs.Standing.{Outside, Steps, Value, applied_to, item_of};
+ghost use Rattle.tree_kinds.specs.Expanding.{Around, at_names, before_scope, behind_definition, bringing};
+ghost use Rattle.tree_kinds.specs.Expanding.{defined_value, expand, in_scope, module_of, places_at};
+ghost use Rattle.tree_kinds.specs.Expanding.{with_parameters};
+ghost use Rattle.flat_trees.specs.Stands.{AreStanding, Defined, Fits, IsStanding, Matches, Stand, Through};
 ghost use Rattle.flat_trees.specs.Names.{IsBuilt, IsPath, order_by};
+ghost use Rattle.flat_trees.specs.Layouts.{Agrees, Gives, IsBody, IsBuiltAt, IsMeant, Layout, Stands};
+ghost use Rattle.flat_trees.specs.Layouts.{around_repeating, function_text, layout_before, layout_behind};
+ghost use Rattle.flat_trees.specs.Layouts.{layout_in, layout_repeating, layout_with, order_of, parameters_of};
+ghost use Rattle.flat_trees.specs.Layouts.{with_brought};
+ghost use Rattle.flat_trees.specs.Instances.{IsLeafOf, IsMade, IsModule, IsPutIn, instance_in, symbols_of};
+ghost use Rattle.flat_trees.specs.Instances.{with_symbols};
 
 /// A node that is built of a written tree, over a frame where names stand for what they do round the
 /// tree, is what the tree expands to: the same expression, or the same operator on its operands. And a
@@ -36,4 +52,116 @@ pub fn built_nodes_are_expanded()
         (expansion.items (expansion.text flat) node.parts s)
         → Matches (order_by places) (expansion.text flat i s)
         (item_of places (λ more. at_names around (applied_to path more))) }
+{}
+
+/// A node that is built of a tree, for each frame that agrees with what stands round the tree, means the
+/// tree: it expands to what the tree expands to, by its order, and whatever more the frame has.
+pub fn built_nodes_are_meant()
+    ensures { (flat : FlatModule) (i : ℕ) (node : Node) (text : Text) (known : Known)
+        (named : List ℕ → Outside) (layout : Layout) (x : Tree) → IsOrdered flat
+        → slice_get flat.nodes i ≡ Some node → IsBuiltAt flat text known named layout node x
+        → IsMeant flat text known named layout i x }
+{}
+
+/// A node means a body where it means the expression, and behind a definition, where it means the rest
+/// with the name of the definition standing for what that gives.
+pub fn bodies_are_meant()
+    ensures expressions { (flat : FlatModule) (text : Text) (known : Known)
+        (named : List ℕ → Outside) (layout : Layout) (i : ℕ) (form : Form.the_data) (at : Span)
+        (parts rest : Trees) → helps form ≡ false
+        → places_at text known named layout.context (tree.Node form at parts) ≡ None
+        → IsMeant flat text known named layout i (tree.Node form at parts)
+        → IsBody flat text known named layout i (tree.Cons (tree.Node form at parts) rest) }
+    ensures definitions { (flat : FlatModule) (text : Text) (known : Known)
+        (named : List ℕ → Outside) (layout : Layout) (i : ℕ) (form : Form.the_data) (at : Span)
+        (parts rest : Trees) (stand : Stand) → helps form ≡ true
+        → Stands flat layout stand
+        (λ around. defined_value text known named around (tree.Node form at parts))
+        → IsBody flat text known named (layout_behind text layout (tree.Node form at parts) stand)
+        i rest
+        → IsBody flat text known named layout i (tree.Cons (tree.Node form at parts) rest) }
+{}
+
+/// The name of a definition stands for what the definition gives: of an operator, where the root means
+/// the body with the parameters at the next places; of a function, where the root gives the form; and of
+/// a module definition, where the instance puts in what replaces the symbols of the module, whose names
+/// stand so over these.
+pub fn definitions_stand()
+    ensures operators { (flat : FlatModule) (text : Text) (known : Known)
+        (named : List ℕ → Outside) (layout : Layout) (form : Form.the_data) (l : Lexeme) (at : Span)
+        (parts : Trees) (d : ℕ) (x : Definition) → defines form ≡ Operator l
+        → slice_get flat.definitions d ≡ Some x → x.outer ≡ layout.places
+        → IsBody flat text known named (layout_with text layout form parts) x.root parts
+        → Stands flat layout (Defined d (map order_of (parameters_of text form parts)))
+        (λ around. defined_value text known named around (tree.Node form at parts)) }
+    ensures functions { (flat : FlatModule) (text : Text) (known : Known)
+        (named : List ℕ → Outside) (layout : Layout) (l : Lexeme) (at : Span) (parts : Trees)
+        (d : ℕ) (x : Definition) → slice_get flat.definitions d ≡ Some x
+        → x.outer ≡ layout.places
+        → Gives flat layout x.root
+        (λ around. function_text text known named around (Form.FunctionDefinition l) parts)
+        → Stands flat layout (Defined d []) (λ around.
+        defined_value text known named around (tree.Node (Form.FunctionDefinition l) at parts)) }
+    ensures instances { (flat : FlatModule) (text : Text) (known : Known)
+        (named : List ℕ → Outside) (layout : Layout) (own : Lexeme) (at : Span) (parts : Trees)
+        (j : ℕ) (x : Instance) (l : Lexeme) (rights : Trees) (base : Meaning → Stand)
+        (inner : Named → Stand)
+        → IsMade flat layout j x
+        (length (parameters_of text (Form.ModuleDefinition own) parts)) true
+        → instance_in parts ≡ Some (l, rights)
+        → IsModule flat (with_symbols base (symbols_of (module_of text known named l)) 0)
+        (length (symbols_of (module_of text known named l))) inner (module_of text known named l)
+        → ((meaning : Meaning) → IsLeafOf (base meaning)
+        ((layout_with text layout (Form.ModuleDefinition own) parts).stands meaning))
+        → IsPutIn flat text known named (layout_with text layout (Form.ModuleDefinition own) parts)
+        x l rights
+        → Stands flat layout
+        (Through j (map order_of (parameters_of text (Form.ModuleDefinition own) parts)) inner)
+        (λ around.
+        defined_value text known named around (tree.Node (Form.ModuleDefinition own) at parts)) }
+{}
+
+/// A frame that agrees with what stands round a tree agrees in the scope of a form and before it; with
+/// items for its parameters behind it; behind a definition whose name stands for what it gives; and
+/// where `@` repeats other nodes. With what an INSTANCE without a name brings, names stand for what they
+/// do behind the instance.
+pub fn agreement_is_kept()
+    ensures scopes { (flat : FlatModule) (text : Text) (known : Known) (named : List ℕ → Outside)
+        (layout : Layout) (frame : List Item) (around : Around) (form : Form.the_data)
+        (parts : Trees) → Agrees flat layout frame around
+        → Agrees flat (layout_in text layout form parts) frame
+        (in_scope text known named around form parts) }
+    ensures before { (flat : FlatModule) (text : Text) (known : Known) (named : List ℕ → Outside)
+        (layout : Layout) (frame : List Item) (around : Around) (form : Form.the_data)
+        (parts : Trees) → Agrees flat layout frame around
+        → Agrees flat (layout_before text layout form parts) frame
+        (before_scope text known named around form parts) }
+    ensures parameters { (flat : FlatModule) (text : Text) (known : Known)
+        (named : List ℕ → Outside) (layout : Layout) (frame : List Item) (around : Around)
+        (form : Form.the_data) (parts : Trees) (made arguments : List Item)
+        → Agrees flat layout frame around
+        → Fits (map order_of (parameters_of text form parts)) made arguments
+        → Agrees flat (layout_with text layout form parts) (frame ++ made)
+        (with_parameters text known named around form parts arguments) }
+    ensures definitions { (flat : FlatModule) (text : Text) (known : Known)
+        (named : List ℕ → Outside) (layout : Layout) (frame : List Item) (around : Around)
+        (x : Tree) (stand : Stand) (value : Value) → Agrees flat layout frame around
+        → IsStanding flat frame [] stand value
+        → Agrees flat (layout_behind text layout x stand) frame
+        (behind_definition text known named around x value) }
+    ensures olds { (flat : FlatModule) (layout : Layout) (frame : List Item) (around : Around)
+        (olds : List ℕ) (old : Operands) → Agrees flat layout frame around
+        → ((more : List Item)
+        → texts (expansion.items (expansion.text flat) olds (frame ++ more)) ≡ old)
+        → Agrees flat (layout_repeating layout olds) frame (around_repeating around old) }
+    ensures brought { (flat : FlatModule) (text : Text) (known : Known) (named : List ℕ → Outside)
+        (layout : Layout) (frame : List Item) (around : Around) (j : ℕ) (x : Instance) (l : Lexeme)
+        (at : Span) (rights : Trees) (base : Meaning → Stand) (inner : Named → Stand)
+        (entries : Exports) → IsMade flat layout j x 0 false
+        → IsModule flat (with_symbols base (symbols_of (module_of text known named l)) 0)
+        (length (symbols_of (module_of text known named l))) inner (module_of text known named l)
+        → ((meaning : Meaning) → IsLeafOf (base meaning) (layout.stands meaning))
+        → IsPutIn flat text known named layout x l rights → Agrees flat layout frame around
+        → AreStanding flat frame (with_brought layout.stands entries j inner)
+        (bringing text known named around entries (tree.Node (Form.Instance l) at rights)) }
 {}

@@ -1,0 +1,195 @@
+-- Instances of a flat module stand for what is behind the written ones.
+use Rattle.std.proofs.Common.{◌≡◌, ℕ, zero, suc, ◌<◌, ◌≤◌, Bool, true, false, cond, List, [], ◌∷◌, ◌++◌, Option, Some, None, map, refl, sym, ap, ◌∙◌, subst, take, length, nat_eq, arith}
+use Rattle.std.proofs.lemmas.Bool.Decides.{nat_tests}
+use Rattle.std.proofs.lemmas.List.{length-append}
+use mathlib.Core.Path.{fun_ext}
+use Rattle.tla_symbols.specs.declared.lexeme.Lexeme.{Lexeme}
+use Rattle.tla_symbols.specs.declared.lexeme.Span.{Span}
+use Rattle.tla_tree.specs.declared.form.Form.TheVariants as Form
+use Rattle.tla_tree.specs.Syntax.{Trees, Node, Nil, Cons}
+use Rattle.tla_model.specs.declared.names.Meaning.TheVariants.{BuiltIn, Declared}
+use Rattle.tla_model.specs.Tables.{Named}
+use Rattle.tla_model.specs.Entities.{Meaning, Text}
+use Rattle.module_model.specs.Exports.{Exports, Known}
+use Rattle.kind_text.specs.ExpandedKind.{Expanded, Given, Guarded}
+use Rattle.kind_text.specs.FlatModule.{FlatModule, Instance, Replacement}
+use Rattle.kind_text.specs.Expansion.{Guard, guard, guarded_by, guards_of, items as items_at, judged_at, text as text_at}
+use Rattle.kind_text.specs.Substitution.{Item, at, constants, judged, leaves}
+use Rattle.tree_kinds.specs.Standing.{Environment, Outside, Steps, Value, operator_places, places as places_in, value_of}
+use Rattle.tree_kinds.specs.Expanding.{Around, Replaced, Written, behind_instance, bringing, defined_value, guard_of, module_of, replaced_by, replacements, right_sides, through, unguarded, with_parameters, with_replaced, written_for}
+use Rattle.flat_trees.specs.Stands.{AreStanding, IsItem, IsStanding, Matches, Stand, Unsaid, Leaf, Place, Defined, Through, Brought, count, passed}
+use Rattle.flat_trees.specs.Layouts.{Agrees, Layout, Stands, layout_with, order_of, parameters_of, with_brought}
+use Rattle.flat_trees.specs.Instances.{AreReplaced, IsLeafOf, IsMade, IsModule, IsPutIn, exported_value, instance_in, symbols_of, with_symbols}
+use Rattle.flat_trees.proofs.Agreeing.{append-append, at-behind, brought-stand, item-value, map-length, with-agrees, with-stand-stands}
+use Rattle.flat_trees.proofs.Definitions.{take-all}
+use Rattle.flat_trees.proofs.Reaching.{append-nil}
+
+abbrev guard-with : ℕ → Expanded → Guard
+guard-with most t = record { most = most; replacement = t }
+
+guard-append : (gs hs : List Guard) (t : Expanded) → guard (gs ++ hs) t ≡ guard gs (guard hs t)
+guard-append [] hs t = refl
+guard-append (g ∷ gs) hs t = ap (Guarded g.most g.replacement) (guard-append gs hs t)
+
+guards-nil : (gs : List Guard) → gs ++ [] ≡ gs
+guards-nil [] = refl
+guards-nil (g ∷ gs) = ap (λ hs. g ∷ hs) (guards-nil gs)
+
+guards-append : (fs gs hs : List Guard) → (fs ++ gs) ++ hs ≡ fs ++ (gs ++ hs)
+guards-append [] gs hs = refl
+guards-append (f ∷ fs) gs hs = ap (λ us. f ∷ us) (guards-append fs gs hs)
+
+item-guarded : (n : ℕ) (x : Item) (gs hs : List Guard) (value : Value) → IsItem n x hs value → IsItem n x (gs ++ hs) (λ arguments path. guard gs (value arguments path))
+item-guarded zero x gs hs value holds = ap (guard gs) holds ∙ sym (guard-append gs hs x.text)
+item-guarded (suc n) x gs hs value holds = λ arguments many. ap (guard gs) (holds arguments many) ∙ sym (guard-append gs hs _)
+
+count-constants : (n : ℕ) → count (constants n) ≡ n
+count-constants zero = refl
+count-constants (suc n) = ap suc (count-constants n)
+
+judged-order : (n : ℕ) (a b : Item) → Matches n a b → judged (cond (nat_eq n 0) None (Some n)) a ≡ judged (cond (nat_eq n 0) None (Some n)) b
+judged-order zero a b same = same
+judged-order (suc n) a b same =
+    let some : nat_eq (suc n) 0 ≡ false = grind (arith, nat_tests) in
+    subst (λ zero_places. judged (cond zero_places None (Some (suc n))) a ≡ judged (cond zero_places None (Some (suc n))) b) (sym some) (same (constants (suc n)) (count-constants (suc n)))
+
+judged-match : (m : Meaning) (a b : Item) → Matches (order_of m) a b → judged (operator_places (Some m)) a ≡ judged (operator_places (Some m)) b
+judged-match BuiltIn a b same = same
+judged-match (Declared e callee) a b same = judged-order (places_in e) a b same
+
+module _ (flat : FlatModule) where
+  guarded : (s : List Item) (gs hs : List Guard) (stand : Stand) (value : Value) → IsStanding flat s hs stand value → IsStanding flat s (gs ++ hs) stand (λ arguments path. guard gs (value arguments path))
+  guarded s gs hs Unsaid value holds = tt
+  guarded s gs hs (Leaf kind) value holds = ap (guard gs) holds ∙ sym (guard-append gs hs (Given (Some kind)))
+  guarded s gs hs (Place place order) value holds = (holds.0, item-guarded order (at s place) gs hs value holds.1)
+  guarded s gs hs (Defined d orders) value (x, there, room, holds) =
+      (x, there, room, λ made arguments fits. ap (guard gs) (holds made arguments fits) ∙ sym (guard-append gs hs _))
+  guarded s gs hs (Through j orders inner) value (x, is, holds) = (
+    x,
+    is,
+    λ made arguments fits name.
+        let own = cond x.guards (guards_of flat (text_at flat) x.replacements (take x.outer s ++ made)) [] in
+        let behind : Value = λ more path. value arguments (record { name = name; arguments = more } ∷ path) in
+        subst (λ g. IsStanding flat (passed flat x s hs made).frame g (inner name) (λ more path. guard gs (behind more path))) (sym (guards-append gs hs own))
+        (guarded (passed flat x s hs made).frame gs (hs ++ own) (inner name) behind (holds made arguments fits name)),
+  )
+  guarded s gs hs (Brought j inner) value (x, is, holds) = (
+    x,
+    is,
+    let own = cond x.guards (guards_of flat (text_at flat) x.replacements (take x.outer s ++ [])) [] in
+        subst (λ g. IsStanding flat (passed flat x s hs []).frame g inner (λ arguments path. guard gs (value arguments path))) (sym (guards-append gs hs own))
+        (guarded (passed flat x s hs []).frame gs (hs ++ own) inner value holds),
+  )
+
+  guards-met : (constant : Bool) (s : List Item) (made : List Replacement) (rs : List Replaced) → AreReplaced flat constant s made rs → guards_of flat (text_at flat) made s ≡ map (guard_of constant) rs
+  guards-met constant s [] [] all = refl
+  guards-met constant s [] (r ∷ rs) all = absurd all
+  guards-met constant s (a ∷ made) [] all = absurd all
+  guards-met constant s (a ∷ made) (r ∷ rs) all =
+      ap (λ most. guarded_by most (judged_at flat (text_at flat) a.root s) ++ guards_of flat (text_at flat) made s) all.0.most
+      ∙ ap (λ t. guard-with (guard_of constant r).most t ∷ guards_of flat (text_at flat) made s)
+      (ap (λ o. judged o (text_at flat a.root s)) all.0.places ∙ judged-match r.parameter _ _ all.0.item)
+      ∙ ap (λ gs. guard_of constant r ∷ gs) (guards-met constant s made rs all.1)
+
+  leaf-stands : (s frame : List Item) (leaf here : Stand) (value : Value) → IsLeafOf leaf here → IsStanding flat s [] here value → IsStanding flat frame [] leaf value
+  leaf-stands s frame Unsaid here value is holds = tt
+  leaf-stands s frame (Leaf kind) here value is holds = subst (λ stand. IsStanding flat s [] stand value) is holds
+  leaf-stands s frame (Place place order) here value is holds = absurd is
+  leaf-stands s frame (Defined d orders) here value is holds = absurd is
+  leaf-stands s frame (Through j orders inner) here value is holds = absurd is
+  leaf-stands s frame (Brought j inner) here value is holds = absurd is
+
+  -- over the frame behind an instance, symbols stand for what replaces them
+  symbols-stand : (constant : Bool) (s before : List Item) (made : List Replacement) (rs : List Replaced) (base : Meaning → Stand) (standing : Environment) → AreReplaced flat constant s made rs → ((frame : List Item) → AreStanding flat frame base standing) → AreStanding flat (before ++ items_at (text_at flat) (map (λ (r : Replacement). r.root) made) s) (with_symbols base (map (λ (r : Replaced). r.parameter) rs) (length before)) (with_replaced standing rs)
+  symbols-stand constant s before [] [] base standing all leaves = leaves (before ++ [])
+  symbols-stand constant s before [] (r ∷ rs) base standing all leaves = absurd all
+  symbols-stand constant s before (a ∷ made) [] base standing all leaves = absurd all
+  symbols-stand constant s before (a ∷ made) (r ∷ rs) base standing all leaves =
+      let x = text_at flat a.root s in
+      let xs = items_at (text_at flat) (map (λ (r : Replacement). r.root) made) s in
+      let room : length before < length (before ++ (x ∷ xs)) = let e = length-append before (x ∷ xs) in omega (arith, e) in
+      let next : length (before ++ (x ∷ [])) ≡ suc (length before) = let e = length-append before (x ∷ []) in omega (arith, e) in
+      let others = symbols-stand constant s (before ++ (x ∷ [])) made rs base standing all.1 leaves in
+      with-stand-stands flat (before ++ (x ∷ xs)) (with_symbols base (map (λ (r : Replaced). r.parameter) rs) (suc (length before))) (with_replaced standing rs) r.parameter (Place (length before) (order_of r.parameter)) (value_of r.item)
+      (subst (λ place. AreStanding flat (before ++ (x ∷ xs)) (with_symbols base (map (λ (r : Replaced). r.parameter) rs) place) (with_replaced standing rs)) next
+      (subst (λ t. AreStanding flat t (with_symbols base (map (λ (r : Replaced). r.parameter) rs) (length (before ++ (x ∷ [])))) (with_replaced standing rs)) (append-append before (x ∷ []) xs) others))
+      (room, subst (λ z. IsItem (order_of r.parameter) z [] (value_of r.item)) (sym (at-behind before x xs)) (item-value (order_of r.parameter) x r.item all.0.item))
+
+  replaced-length : (constant : Bool) (s : List Item) (made : List Replacement) (rs : List Replaced) → AreReplaced flat constant s made rs → length (items_at (text_at flat) (map (λ (r : Replacement). r.root) made) s) ≡ length rs
+  replaced-length constant s [] [] all = refl
+  replaced-length constant s [] (r ∷ rs) all = absurd all
+  replaced-length constant s (a ∷ made) [] all = absurd all
+  replaced-length constant s (a ∷ made) (r ∷ rs) all = ap suc (replaced-length constant s made rs all.1)
+
+  module _ (text : Text) (known : Known) (named : List ℕ → Outside) where
+    parameter-of : (around : Around) (l : Lexeme) (p : Named × Meaning) (o : Option Written) → (replaced_by around l p o).parameter ≡ p.1
+    parameter-of around l p None = refl
+    parameter-of around l p (Some right) = refl
+
+    parameters-of : (around : Around) (l : Lexeme) (rights : List Written) (ps : Exports) → map (λ (r : Replaced). r.parameter) (map (λ (p : Named × Meaning). replaced_by around l p (written_for rights p.0)) ps) ≡ map (λ (p : Named × Meaning). p.1) ps
+    parameters-of around l rights [] = refl
+    parameters-of around l rights (p ∷ ps) =
+        ap (λ m. m ∷ map (λ (r : Replaced). r.parameter) (map (λ (p : Named × Meaning). replaced_by around l p (written_for rights p.0)) ps)) (parameter-of around l p (written_for rights p.0))
+        ∙ ap (λ ms. p.1 ∷ ms) (parameters-of around l rights ps)
+
+    abbrev by-found : Around → Steps → Option (Lexeme × Trees) → Expanded
+    by-found around path None = Given None
+    by-found around path (Some found) = behind_instance text known named around found.0 (replacements text known named around found.0 (right_sides text known named around found.1)) path
+
+    through-found : (around : Around) (parts : Trees) (path : Steps) → through text known named around parts path ≡ by-found around path (instance_in parts)
+    through-found around Nil path = refl
+    through-found around (Cons (Node (Form.Instance l) s parts) rest) path = refl
+    through-found around (Cons (Node form s parts) rest) path = through-found around rest path
+
+    through-first : (around : Around) (parts : Trees) (l : Lexeme) (rights : Trees) (path : Steps) → instance_in parts ≡ Some (l, rights) → through text known named around parts path ≡ behind_instance text known named around l (replacements text known named around l (right_sides text known named around rights)) path
+    through-first around parts l rights path e = through-found around parts path ∙ ap (by-found around path) e
+
+    -- what a module exports, over the frame behind an instance
+    exports-stand : (layout : Layout) (s : List Item) (around : Around) (x : Instance) (l : Lexeme) (rights : Trees) (base : Meaning → Stand) (inner : Named → Stand) → AreStanding flat s layout.stands around.standing → ((meaning : Meaning) → IsLeafOf (base meaning) (layout.stands meaning)) → IsModule flat (with_symbols base (symbols_of (module_of text known named l)) 0) (length (symbols_of (module_of text known named l))) inner (module_of text known named l) → AreReplaced flat (module_of text known named l).is_constant s x.replacements (replacements text known named around l (right_sides text known named around rights)) → (name : Named) → IsStanding flat (items_at (text_at flat) (map (λ (r : Replacement). r.root) x.replacements) s) [] (inner name) (exported_value (module_of text known named l) (with_replaced around.standing (replacements text known named around l (right_sides text known named around rights))) name)
+    exports-stand layout s around x l rights base inner standing leaves kept all name =
+        let rs = replacements text known named around l (right_sides text known named around rights) in
+        let names = parameters-of around l (right_sides text known named around rights) (module_of text known named l).view.parameters in
+        kept (items_at (text_at flat) (map (λ (r : Replacement). r.root) x.replacements) s) (with_replaced around.standing rs)
+        (replaced-length (module_of text known named l).is_constant s x.replacements rs all ∙ sym (map-length (λ (r : Replaced). r.parameter) rs) ∙ ap length names)
+        (subst (λ ms. AreStanding flat (items_at (text_at flat) (map (λ (r : Replacement). r.root) x.replacements) s) (with_symbols base ms 0) (with_replaced around.standing rs)) names
+        (symbols-stand (module_of text known named l).is_constant s [] x.replacements rs base around.standing all (λ frame meaning. leaf-stands s frame (base meaning) (layout.stands meaning) (around.standing meaning) (leaves meaning) (standing meaning))))
+        name
+
+    pub instance-stands : (layout : Layout) (own : Lexeme) (sp : Span) (parts : Trees) (j : ℕ) (x : Instance) (l : Lexeme) (rights : Trees) (base : Meaning → Stand) (inner : Named → Stand) → IsMade flat layout j x (length (parameters_of text (Form.ModuleDefinition own) parts)) true → instance_in parts ≡ Some (l, rights) → IsModule flat (with_symbols base (symbols_of (module_of text known named l)) 0) (length (symbols_of (module_of text known named l))) inner (module_of text known named l) → ((meaning : Meaning) → IsLeafOf (base meaning) ((layout_with text layout (Form.ModuleDefinition own) parts).stands meaning)) → IsPutIn flat text known named (layout_with text layout (Form.ModuleDefinition own) parts) x l rights → Stands flat layout (Through j (map order_of (parameters_of text (Form.ModuleDefinition own) parts)) inner) (λ around. defined_value text known named around (Node (Form.ModuleDefinition own) sp parts))
+    instance-stands layout own sp parts j x l rights base inner is first kept leaves put frame around agrees =
+        let room : x.outer ≤ length frame = let outer = is.outer in let e = agrees.places in omega (arith, e, outer) in (
+          x,
+          (is.there, is.parameters ∙ sym (map-length order_of (parameters_of text (Form.ModuleDefinition own) parts)), room),
+          λ made arguments fits name.
+              let scoped = with_parameters text known named around (Form.ModuleDefinition own) parts arguments in
+              let more = layout_with text layout (Form.ModuleDefinition own) parts in
+              let agrees-on = with-agrees flat text known named layout frame around agrees (Form.ModuleDefinition own) parts made arguments fits in
+              let constant = (module_of text known named l).is_constant in
+              let rs = replacements text known named scoped l (right_sides text known named scoped rights) in
+              let all = put (frame ++ made) scoped agrees-on in
+              let behind = items_at (text_at flat) (map (λ (r : Replacement). r.root) x.replacements) (frame ++ made) in
+              let value = exported_value (module_of text known named l) (with_replaced scoped.standing rs) name in
+              let gs = map (guard_of constant) rs in
+              let guarded-value : Value = λ others path. guard gs (value others path) in
+              let whole : Value = λ others path. through text known named scoped parts (record { name = name; arguments = others } ∷ path) in
+              let plain = exports-stand more (frame ++ made) scoped x l rights base inner agrees-on.standing leaves kept all name in
+              let under = subst (λ g. IsStanding flat behind g (inner name) guarded-value) (guards-nil gs) (guarded behind gs [] (inner name) value plain) in
+              let own-guards = subst (λ g. IsStanding flat behind g (inner name) guarded-value) (sym (guards-met constant (frame ++ made) x.replacements rs all)) under in
+              let same : guarded-value ≡ whole = fun_ext (λ others. fun_ext (λ path. sym (through-first scoped parts l rights (record { name = name; arguments = others } ∷ path) first))) in
+              let as-whole = subst (λ v. IsStanding flat behind (guards_of flat (text_at flat) x.replacements (frame ++ made)) (inner name) v) same own-guards in
+              subst (λ t. IsStanding flat (items_at (text_at flat) (map (λ (r : Replacement). r.root) x.replacements) (t ++ made)) (cond x.guards (guards_of flat (text_at flat) x.replacements (t ++ made)) []) (inner name) whole) (sym (take-all x.outer frame (agrees.places ∙ sym is.outer)))
+              (subst (λ b. IsStanding flat behind (cond b (guards_of flat (text_at flat) x.replacements (frame ++ made)) []) (inner name) whole) (sym is.guards) as-whole),
+        )
+
+    pub brought-agrees : (layout : Layout) (frame : List Item) (around : Around) (j : ℕ) (x : Instance) (l : Lexeme) (sp : Span) (rights : Trees) (base : Meaning → Stand) (inner : Named → Stand) (entries : Exports) → IsMade flat layout j x 0 false → IsModule flat (with_symbols base (symbols_of (module_of text known named l)) 0) (length (symbols_of (module_of text known named l))) inner (module_of text known named l) → ((meaning : Meaning) → IsLeafOf (base meaning) (layout.stands meaning)) → IsPutIn flat text known named layout x l rights → Agrees flat layout frame around → AreStanding flat frame (with_brought layout.stands entries j inner) (bringing text known named around entries (Node (Form.Instance l) sp rights))
+    brought-agrees layout frame around j x l sp rights base inner entries is kept leaves put agrees =
+        let room : x.outer ≤ length frame = let outer = is.outer in let e = agrees.places in omega (arith, e, outer) in
+        let rs = replacements text known named around l (right_sides text known named around rights) in
+        brought-stand flat frame layout.stands around.standing entries j inner (unguarded text known named around (Node (Form.Instance l) sp rights)) agrees.standing (λ name.
+        let value = exported_value (module_of text known named l) (with_replaced around.standing rs) name in
+        let plain = exports-stand layout frame around x l rights base inner agrees.standing leaves kept (put frame around agrees) name in (
+          x,
+          (is.there, is.parameters, room),
+          subst (λ t. IsStanding flat (items_at (text_at flat) (map (λ (r : Replacement). r.root) x.replacements) t) (cond x.guards (guards_of flat (text_at flat) x.replacements t) []) (inner name) value) (sym (append-nil (take x.outer frame) ∙ take-all x.outer frame (agrees.places ∙ sym is.outer)))
+              (subst (λ b. IsStanding flat (items_at (text_at flat) (map (λ (r : Replacement). r.root) x.replacements) frame) (cond b (guards_of flat (text_at flat) x.replacements frame) []) (inner name) value) (sym is.guards) plain),
+        ))

@@ -1,0 +1,25 @@
+use Rattle.flat_trees.proofs.Agreeing.{before-agrees, behind-agrees, scope-agrees, with-agrees}
+use Rattle.flat_trees.proofs.Instances.{brought-agrees}
+use Rattle.flat_trees.proofs.agreement_is_kept.Goals as goal
+
+pub returns-clause-scopes : goal.returns-clause-scopes
+returns-clause-scopes c flat text known named layout frame around form parts agrees = scope-agrees flat text known named layout frame around agrees form parts
+
+pub returns-clause-before : goal.returns-clause-before
+returns-clause-before c flat text known named layout frame around form parts agrees = before-agrees flat text known named layout frame around agrees form parts
+
+pub returns-clause-parameters : goal.returns-clause-parameters
+returns-clause-parameters c flat text known named layout frame around form parts made arguments agrees fits =
+    with-agrees flat text known named layout frame around agrees form parts made arguments fits
+
+pub returns-clause-definitions : goal.returns-clause-definitions
+returns-clause-definitions c flat text known named layout frame around x stand value agrees stands =
+    behind-agrees flat text known named layout frame around agrees x stand value stands
+
+pub returns-clause-olds : goal.returns-clause-olds
+returns-clause-olds c flat layout frame around olds old agrees same =
+    record { context = agrees.context; places = agrees.places; standing = agrees.standing; old = same }
+
+pub returns-clause-brought : goal.returns-clause-brought
+returns-clause-brought c flat text known named layout frame around j x l at rights base inner entries made kept leaves put agrees =
+    brought-agrees flat text known named layout frame around j x l at rights base inner entries made kept leaves put agrees

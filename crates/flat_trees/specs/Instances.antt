@@ -1,0 +1,72 @@
+-- When an instance of a flat module is one of a written module, its replacements put in.
+use Rattle.std.specs.Prelude.{◌≡◌, ℕ, suc, Bool, List, [], ◌∷◌, Option, Some, None, length, map, slice_get}
+use Rattle.tla_symbols.specs.declared.lexeme.Lexeme.{Lexeme}
+use Rattle.tla_tree.specs.declared.form.Form.TheVariants as Form
+use Rattle.tla_tree.specs.Syntax.{Trees, Node, Nil, Cons}
+use Rattle.tla_model.specs.Tables.{Named}
+use Rattle.tla_model.specs.Entities.{Meaning, Text}
+use Rattle.module_model.specs.Exports.{Known}
+use Rattle.kind_text.specs.FlatModule.{FlatModule, Instance, Replacement, places_of}
+use Rattle.kind_text.specs.Expansion.{text as text_at}
+use Rattle.kind_text.specs.Substitution.{Item}
+use Rattle.tree_kinds.specs.Standing.{Environment, Outside, Value, operator_places}
+use Rattle.tree_kinds.specs.Expanding.{Around, Replaced, greatest_level, module_of, replacements, right_sides}
+use Rattle.flat_trees.specs.Stands.{AreStanding, IsStanding, Matches, Stand, Unsaid, Leaf, Place}
+use Rattle.flat_trees.specs.Layouts.{Agrees, Layout, order_of, with_stand}
+
+-- the symbols of a module, at places from this one on; the first of equal ones counts
+abbrev pub with_symbols : (Meaning → Stand) → List Meaning → ℕ → Meaning → Stand
+with_symbols stands [] place = stands
+with_symbols stands (meaning ∷ rest) place = with_stand (with_symbols stands rest (suc place)) meaning (Place place (order_of meaning))
+
+-- a leaf that a name stands for here too, or nothing is said of it
+abbrev pub IsLeafOf : Stand → Stand → Type 0
+IsLeafOf Unsaid here = Unit {0}
+IsLeafOf (Leaf kind) here = here ≡ Leaf kind
+IsLeafOf _ here = ⊥
+
+-- the symbols that INSTANCE replaces
+abbrev pub symbols_of : Outside → List Meaning
+symbols_of outside = map (λ parameter. parameter.1) outside.view.parameters
+
+-- the name of the module after the first INSTANCE among these, with its replacements
+abbrev pub instance_in : Trees → Option (Lexeme × Trees)
+instance_in Nil = None
+instance_in (Cons (Node (Form.Instance l) s parts) rest) = Some (l, parts)
+instance_in (Cons x rest) = instance_in rest
+
+-- what stands at names behind an environment, as a value of the first of them
+abbrev pub exported_value : Outside → Environment → Named → Value
+exported_value outside standing name arguments path = outside.standing standing (record { name = name; arguments = arguments } ∷ path)
+
+module _ (flat : FlatModule) where
+  -- the names of a module stand so, over each frame that has its symbols and wherever these stand for what an environment has
+  abbrev pub IsModule : (Meaning → Stand) → ℕ → (Named → Stand) → Outside → Type 0
+  IsModule stands places inner outside =
+      (frame : List Item) (standing : Environment) → length frame ≡ places → AreStanding flat frame stands standing
+      → (name : Named) → IsStanding flat frame [] (inner name) (exported_value outside standing name)
+
+  -- a replacement is what replaces a symbol, by whether the module is constant
+  pub record IsReplaced (constant : Bool) (frame : List Item) (made : Replacement) (replaced : Replaced) : Type 0 where
+    pub most : made.most ≡ Some (greatest_level constant replaced.parameter)
+    pub places : places_of (slice_get flat.nodes made.root) ≡ operator_places (Some replaced.parameter)
+    pub item : Matches (order_of replaced.parameter) (text_at flat made.root frame) replaced.item
+
+  -- the same of each, in order
+  abbrev pub AreReplaced : Bool → List Item → List Replacement → List Replaced → Type 0
+  AreReplaced constant frame [] [] = Unit {0}
+  AreReplaced constant frame (made ∷ others) (replaced ∷ rest) = IsReplaced constant frame made replaced × AreReplaced constant frame others rest
+  AreReplaced constant frame _ _ = ⊥
+
+  -- an instance puts in what replaces the symbols of the module of a name, over each frame that agrees
+  abbrev pub IsPutIn : Text → Known → (List ℕ → Outside) → Layout → Instance → Lexeme → Trees → Type 0
+  IsPutIn text known named layout x l rights =
+      (frame : List Item) (around : Around) → Agrees flat layout frame around
+      → AreReplaced (module_of text known named l).is_constant frame x.replacements (replacements text known named around l (right_sides text known named around rights))
+
+  -- an instance with so many parameters and all places round it, and whether it guards
+  pub record IsMade (layout : Layout) (j : ℕ) (x : Instance) (count : ℕ) (guarding : Bool) : Type 0 where
+    pub there : slice_get flat.instances j ≡ Some x
+    pub outer : x.outer ≡ layout.places
+    pub parameters : x.parameters ≡ count
+    pub guards : x.guards ≡ guarding
