@@ -1,11 +1,11 @@
 //! When a flat module means what the written trees mean that it is built of.
 //!
-//! No code: each function states a law that definitions and proofs above cite. Knows nothing of how flat
-//! modules are built.
+//! No code: each function states a law that definitions and proofs above cite. Knows nothing of how
+//! flat modules are built.
 #![tactic(auto)]
 
-ghost use Rattle.std.specs.Prelude.{◌≡◌, ℕ, true, false, List, [], ◌++◌, Option, Some, None, length, map};
-ghost use Rattle.std.specs.Prelude.{slice_get};
+ghost use Rattle.std.specs.Prelude.{◌≡◌, ℕ, true, false, List, [], ◌++◌, Option, Some, None};
+ghost use Rattle.std.specs.Prelude.{length, map, slice_get};
 ghost use Rattle.tla_symbols.specs.declared.lexeme.Lexeme.{Lexeme};
 ghost use Rattle.tla_symbols.specs.declared.lexeme.Span.{Span};
 ghost use Rattle.tla_tree.specs.declared.form.Form.TheVariants as Form;
@@ -19,22 +19,24 @@ ghost use Rattle.kind_text.specs.ExpandedKind.{Operands};
 ghost use Rattle.kind_text.specs.FlatModule.{Definition, FlatModule, Instance, IsOrdered, Node};
 ghost use Rattle.kind_text.specs.Substitution.{Item, texts};
 ghost use Rattle.kind_text.specs.Expansion as expansion;
-ghost use Rattle.tree_kinds.specs.Standing.{Outside, Steps, Value, applied_to, item_of};
-ghost use Rattle.tree_kinds.specs.Expanding.{Around, at_names, before_scope, behind_definition, bringing};
-ghost use Rattle.tree_kinds.specs.Expanding.{defined_value, expand, in_scope, module_of, places_at};
-ghost use Rattle.tree_kinds.specs.Expanding.{with_parameters};
-ghost use Rattle.flat_trees.specs.Stands.{AreStanding, Defined, Fits, IsStanding, Matches, Stand, Through};
+ghost use Rattle.tree_kinds.specs.Standing.{Environment, Outside, Steps, Value, applied_to};
+ghost use Rattle.tree_kinds.specs.Standing.{item_of};
+ghost use Rattle.tree_kinds.specs.Expanding.{Around, at_names, before_scope, behind_definition};
+ghost use Rattle.tree_kinds.specs.Expanding.{bringing, defined_value, expand, in_scope, module_of};
+ghost use Rattle.tree_kinds.specs.Expanding.{places_at, with_parameters};
+ghost use Rattle.flat_trees.specs.Stands.{AreStanding, Defined, Fits, IsStanding, Matches, Stand};
+ghost use Rattle.flat_trees.specs.Stands.{Through};
 ghost use Rattle.flat_trees.specs.Names.{IsBuilt, IsPath, order_by};
-ghost use Rattle.flat_trees.specs.Layouts.{Agrees, Gives, IsBody, IsBuiltAt, IsMeant, Layout, Stands};
-ghost use Rattle.flat_trees.specs.Layouts.{around_repeating, function_text, layout_before, layout_behind};
-ghost use Rattle.flat_trees.specs.Layouts.{layout_in, layout_repeating, layout_with, order_of, parameters_of};
-ghost use Rattle.flat_trees.specs.Layouts.{with_brought};
-ghost use Rattle.flat_trees.specs.Instances.{IsLeafOf, IsMade, IsModule, IsPutIn, instance_in, symbols_of};
-ghost use Rattle.flat_trees.specs.Instances.{with_symbols};
+ghost use Rattle.flat_trees.specs.Layouts.{Agrees, Gives, IsBody, IsBuiltAt, IsMeant, Layout};
+ghost use Rattle.flat_trees.specs.Layouts.{Stands, around_repeating, function_text, layout_before};
+ghost use Rattle.flat_trees.specs.Layouts.{layout_behind, layout_in, layout_repeating, layout_with};
+ghost use Rattle.flat_trees.specs.Layouts.{order_of, parameters_of, with_brought};
+ghost use Rattle.flat_trees.specs.Instances.{IsLeafOf, IsMade, IsModule, IsPutIn, instance_in};
+ghost use Rattle.flat_trees.specs.Instances.{symbols_of, with_symbols};
 
-/// A node that is built of a written tree, over a frame where names stand for what they do round the
-/// tree, is what the tree expands to: the same expression, or the same operator on its operands. And a
-/// node that is built of a path of names is what stands there.
+/// A node that is built of a written tree, over a frame where names stand for what they do round
+/// the tree, is what the tree expands to: the same expression, or the same operator on its
+/// operands. And a node that is built of a path of names is what stands there.
 pub fn built_nodes_are_expanded()
     ensures trees { (flat : FlatModule) (i : ℕ) (node : Node) (s : List Item) (text : Text)
         (known : Known) (named : List ℕ → Outside) (stands : Meaning → Stand) (around : Around)
@@ -54,8 +56,9 @@ pub fn built_nodes_are_expanded()
         (item_of places (λ more. at_names around (applied_to path more))) }
 {}
 
-/// A node that is built of a tree, for each frame that agrees with what stands round the tree, means the
-/// tree: it expands to what the tree expands to, by its order, and whatever more the frame has.
+/// A node that is built of a tree, for each frame that agrees with what stands round the tree,
+/// means the tree: it expands to what the tree expands to, by its order, and whatever more the
+/// frame has.
 pub fn built_nodes_are_meant()
     ensures { (flat : FlatModule) (i : ℕ) (node : Node) (text : Text) (known : Known)
         (named : List ℕ → Outside) (layout : Layout) (x : Tree) → IsOrdered flat
@@ -63,8 +66,8 @@ pub fn built_nodes_are_meant()
         → IsMeant flat text known named layout i x }
 {}
 
-/// A node means a body where it means the expression, and behind a definition, where it means the rest
-/// with the name of the definition standing for what that gives.
+/// A node means a body where it means the expression, and behind a definition, where it means the
+/// rest with the name of the definition standing for what that gives.
 pub fn bodies_are_meant()
     ensures expressions { (flat : FlatModule) (text : Text) (known : Known)
         (named : List ℕ → Outside) (layout : Layout) (i : ℕ) (form : Form.the_data) (at : Span)
@@ -82,10 +85,10 @@ pub fn bodies_are_meant()
         → IsBody flat text known named layout i (tree.Cons (tree.Node form at parts) rest) }
 {}
 
-/// The name of a definition stands for what the definition gives: of an operator, where the root means
-/// the body with the parameters at the next places; of a function, where the root gives the form; and of
-/// a module definition, where the instance puts in what replaces the symbols of the module, whose names
-/// stand so over these.
+/// The name of a definition stands for what the definition gives: of an operator, where the root
+/// means the body with the parameters at the next places; of a function, where the root gives the
+/// form; and of a module definition, where the instance puts in what replaces the symbols of the
+/// module, whose names stand so over these.
 pub fn definitions_stand()
     ensures operators { (flat : FlatModule) (text : Text) (known : Known)
         (named : List ℕ → Outside) (layout : Layout) (form : Form.the_data) (l : Lexeme) (at : Span)
@@ -121,10 +124,10 @@ pub fn definitions_stand()
         defined_value text known named around (tree.Node (Form.ModuleDefinition own) at parts)) }
 {}
 
-/// A frame that agrees with what stands round a tree agrees in the scope of a form and before it; with
-/// items for its parameters behind it; behind a definition whose name stands for what it gives; and
-/// where `@` repeats other nodes. With what an INSTANCE without a name brings, names stand for what they
-/// do behind the instance.
+/// A frame that agrees with what stands round a tree agrees in the scope of a form and before it;
+/// with items for its parameters behind it; behind a definition whose name stands for what it
+/// gives; and where `@` repeats other nodes. What names stand for over a frame they stand for over
+/// a longer one, and with what an INSTANCE without a name brings, for what stands behind it.
 pub fn agreement_is_kept()
     ensures scopes { (flat : FlatModule) (text : Text) (known : Known) (named : List ℕ → Outside)
         (layout : Layout) (frame : List Item) (around : Around) (form : Form.the_data)
@@ -154,6 +157,9 @@ pub fn agreement_is_kept()
         → ((more : List Item)
         → texts (expansion.items (expansion.text flat) olds (frame ++ more)) ≡ old)
         → Agrees flat (layout_repeating layout olds) frame (around_repeating around old) }
+    ensures longer { (flat : FlatModule) (frame more : List Item) (stands : Meaning → Stand)
+        (standing : Environment) → AreStanding flat frame stands standing
+        → AreStanding flat (frame ++ more) stands standing }
     ensures brought { (flat : FlatModule) (text : Text) (known : Known) (named : List ℕ → Outside)
         (layout : Layout) (frame : List Item) (around : Around) (j : ℕ) (x : Instance) (l : Lexeme)
         (at : Span) (rights : Trees) (base : Meaning → Stand) (inner : Named → Stand)

@@ -1,4 +1,4 @@
-use Rattle.flat_trees.proofs.Agreeing.{before-agrees, behind-agrees, scope-agrees, with-agrees}
+use Rattle.flat_trees.proofs.Agreeing.{all-grown, before-agrees, behind-agrees, scope-agrees, with-agrees}
 use Rattle.flat_trees.proofs.Instances.{brought-agrees}
 use Rattle.flat_trees.proofs.agreement_is_kept.Goals as goal
 
@@ -23,3 +23,6 @@ returns-clause-olds c flat layout frame around olds old agrees same =
 pub returns-clause-brought : goal.returns-clause-brought
 returns-clause-brought c flat text known named layout frame around j x l at rights base inner entries made kept leaves put agrees =
     brought-agrees flat text known named layout frame around j x l at rights base inner entries made kept leaves put agrees
+
+pub returns-clause-longer : goal.returns-clause-longer
+returns-clause-longer c flat frame more stands standing all = all-grown flat frame more stands standing all
