@@ -16,6 +16,7 @@ use module_graph::{lexemes_lie_names, named_modules};
 use module_model::{Bound, Face, Imported, in_order};
 use std::alloc::Global;
 use std::marker::Model;
+use std::mem;
 use std::sync::Arc;
 use step_count::Steps;
 use symbol_scope::{Resolved, resolve};
@@ -25,12 +26,23 @@ use tool_list::{List, Memory};
 
 /// What a check of a module found. Only `check_module` makes one. Contracts see its faults, uses and
 /// declarations, and its face.
-#[derive(Drop)]
 pub struct Checked {
     faults: List<Diagnostic>,
     uses: List<Use>,
     decls: List<Decl>,
     face: Arc<Face>,
+}
+
+// By hand, so that a proof meets one call wherever a value ends.
+impl Drop for Checked {
+    fn drop(self) {
+        let Checked {
+            faults: _,
+            uses: _,
+            decls: _,
+            face: _,
+        } = self;
+    }
 }
 
 impl Model for Checked {
@@ -97,16 +109,17 @@ fn refused(alloc: Global, name: &str, faults: List<Diagnostic>) -> Result<Checke
 }
 
 // A module with what its names stand for, and its face.
-fn with_names(bound: Bound, face: Arc<Face>) -> Checked
+fn with_names(alloc: Global, bound: Bound, face: Arc<Face>) -> Checked
     ensures faults { result.faults ≡ bound.faults }
     ensures uses { result.uses ≡ bound.uses }
     ensures decls { result.decls ≡ bound.decls }
     ensures face { result.face ≡ arc_value face }
 {
+    let mut bound = bound;
     Checked {
-        faults: bound.faults,
-        uses: bound.uses,
-        decls: bound.decls,
+        faults: mem::replace(&mut bound.faults, List::new(alloc)),
+        uses: mem::replace(&mut bound.uses, List::new(alloc)),
+        decls: mem::replace(&mut bound.decls, List::new(alloc)),
         face,
     }
 }
@@ -130,29 +143,18 @@ fn face_unless(faults: &List<Diagnostic>, face: Option<Face>) -> Option<Face>
 }
 
 // What names stand for, with faults of arities among those of names.
-fn with_arities(found: Resolved, arities: List<Diagnostic>) -> Result<Resolved, Memory>
+fn with_arities(
+    alloc: Global,
+    found: Resolved,
+    arities: List<Diagnostic>,
+) -> Result<Resolved, Memory>
     ensures { IfOk result
         (λ judged. IsWithArities arities found.bound found.face judged.bound judged.face) }
 {
-    let Resolved { bound, face } = found;
+    let Resolved { mut bound, face } = found;
     let face = face_unless(&arities, face);
-    let Bound {
-        uses,
-        entities,
-        callees,
-        implied,
-        decls,
-        faults,
-    } = bound;
-    let faults = joined(faults, arities)?;
-    let bound = Bound {
-        uses,
-        entities,
-        callees,
-        implied,
-        decls,
-        faults,
-    };
+    let faults = mem::replace(&mut bound.faults, List::new(alloc));
+    bound.faults = joined(faults, arities)?;
     Ok(Resolved { bound, face })
 }
 
@@ -166,7 +168,7 @@ fn judged(alloc: Global, tree: &ModuleTree, imported: &Imported) -> Result<Resol
 {
     let found = resolve(alloc, tree, imported)?;
     let arities = check_arity(alloc, tree, &found.bound)?;
-    with_arities(found, arities)
+    with_arities(alloc, found, arities)
 }
 
 // A module whose imports are accepted.
@@ -187,7 +189,7 @@ fn resolved(
     let found = judged(alloc, tree, imported)?;
     let Resolved { bound, face } = found;
     let face = shared_face(alloc, name, face)?;
-    Ok(with_names(bound, face))
+    Ok(with_names(alloc, bound, face))
 }
 
 /// Checks a module over the modules that it names, which is one step. Its face holds what its exports

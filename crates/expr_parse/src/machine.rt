@@ -37,11 +37,21 @@ enum Stage {
 /// A machine that reads an expression, or the bounds in the head of a function's definition, lexeme
 /// by lexeme, into a tree (*Specifying Systems*, chapters 15 and 16). It calls nothing that calls
 /// itself, however deep what it reads is nested.
-#[derive(Drop)]
 pub struct ExprMachine {
     goal: Goal,
     stack: Stack,
     stage: Stage,
+}
+
+// By hand, so that a proof meets one call wherever a value ends.
+impl Drop for ExprMachine {
+    fn drop(self) {
+        let ExprMachine {
+            goal: _,
+            stack: _,
+            stage: _,
+        } = self;
+    }
 }
 
 // What a lexeme leads to.

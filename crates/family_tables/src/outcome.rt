@@ -8,10 +8,18 @@ use tla_model::Diagnostic;
 use tool_list::{List, Memory};
 
 /// What was found of a module: its faults, or else what it exports.
-#[derive(Drop)]
 pub enum Outcome {
     Refused(List<Diagnostic>),
     Accepted(Arc<Face>),
+}
+
+// By hand, so that a proof meets one call wherever a value ends.
+impl Drop for Outcome {
+    fn drop(self) {
+        match self {
+            Outcome::Refused(_) | Outcome::Accepted(_) => {}
+        }
+    }
 }
 
 /// The same faults.

@@ -39,7 +39,6 @@ use tree_scope::walk;
 use tree_tasks::Held;
 
 /// The modules and the instances that are known while a text is read.
-#[derive(Drop)]
 pub struct Scope<'a> {
     // The name of the module of the text.
     pub title: &'a str,
@@ -52,6 +51,20 @@ pub struct Scope<'a> {
     pub words: Starts,
     // Where the paths through instances begin in the text.
     pub paths: Starts,
+}
+
+// By hand, so that a proof meets one call wherever a value ends.
+impl<'a> Drop for Scope<'a> {
+    fn drop(self) {
+        let Scope {
+            title: _,
+            imported: _,
+            nested: _,
+            known: _,
+            words: _,
+            paths: _,
+        } = self;
+    }
 }
 
 impl<'a> Scope<'a> {

@@ -5,7 +5,6 @@ use tool_list::List;
 
 /// A replacement of an INSTANCE that is not written: a parameter of the module is replaced by the
 /// symbol that has its name where the INSTANCE stands.
-#[derive(Drop)]
 pub struct Implied {
     /// Where the module's name stands in the INSTANCE, in bytes.
     pub at: Span,
@@ -17,8 +16,19 @@ pub struct Implied {
     pub callee: Callee,
 }
 
+// By hand, so that a proof meets one call wherever a value ends.
+impl Drop for Implied {
+    fn drop(self) {
+        let Implied {
+            at: _,
+            parameter: _,
+            symbol: _,
+            callee: _,
+        } = self;
+    }
+}
+
 /// What the names of a module stand for.
-#[derive(Drop)]
 pub struct Bound {
     /// The uses that are resolved, in the order of the text.
     pub uses: List<Use>,
@@ -32,4 +42,18 @@ pub struct Bound {
     pub decls: List<Decl>,
     /// The faults of names and of instances.
     pub faults: List<Diagnostic>,
+}
+
+// By hand, so that a proof meets one call wherever a value ends.
+impl Drop for Bound {
+    fn drop(self) {
+        let Bound {
+            uses: _,
+            entities: _,
+            callees: _,
+            implied: _,
+            decls: _,
+            faults: _,
+        } = self;
+    }
 }

@@ -37,7 +37,6 @@ pub struct Mark {
 ///
 /// The words of a module that is extended can be taken over as they stand, behind those that are there.
 /// Then they are not looked up one by one. Those of a longer table can take their place.
-#[derive(Drop)]
 pub struct Context<'a> {
     // The first words, before those that were taken over.
     before: IndexMap<&'a str, Option<Meaning>>,
@@ -48,6 +47,19 @@ pub struct Context<'a> {
     words: IndexMap<&'a str, Option<Meaning>>,
     // There are few symbols, so they are looked through.
     symbols: Vec<(Op, Option<Meaning>)>,
+}
+
+// By hand, so that a proof meets one call wherever a value ends.
+impl<'a> Drop for Context<'a> {
+    fn drop(self) {
+        let Context {
+            before: _,
+            taken: _,
+            shared_len: _,
+            words: _,
+            symbols: _,
+        } = self;
+    }
 }
 
 // What was found, to be looked at.

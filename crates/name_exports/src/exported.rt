@@ -22,12 +22,22 @@ use tool_list::{List, Memory};
 
 /// The names that a module exports so far, each once, with what they mean outside it. The words of a
 /// module that it extends may stand before its own as they were taken over.
-#[derive(Drop)]
 pub struct Exported<'a> {
     taken: Option<&'a NameTable>,
     words: IndexMap<&'a str, Meaning>,
     // There are few symbols, so they are looked through.
     symbols: Vec<(Op, Meaning)>,
+}
+
+// By hand, so that a proof meets one call wherever a value ends.
+impl<'a> Drop for Exported<'a> {
+    fn drop(self) {
+        let Exported {
+            taken: _,
+            words: _,
+            symbols: _,
+        } = self;
+    }
 }
 
 impl<'a> Model for Exported<'a> {
@@ -377,10 +387,19 @@ impl<'a> Exported<'a> {
 }
 
 /// The names of a module that is read.
-#[derive(Drop)]
 pub struct Names<'a> {
     pub context: Context<'a>,
     pub exports: Exported<'a>,
+}
+
+// By hand, so that a proof meets one call wherever a value ends.
+impl<'a> Drop for Names<'a> {
+    fn drop(self) {
+        let Names {
+            context: _,
+            exports: _,
+        } = self;
+    }
 }
 
 // Puts a name among those that are exported, unless it is LOCAL.

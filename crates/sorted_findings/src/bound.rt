@@ -59,9 +59,9 @@ fn push_declared(
 fn push_meaning(bound: &mut Bound, at: Lexeme, meaning: Meaning) -> Result<(), Memory>
     ensures { OnOk result (HasMore (bindings.meant_by at meaning) [] [] bound.old bound.new) }
 {
-    match meaning {
-        Meaning::BuiltIn => Ok(()),
-        Meaning::Declared { entity, callee } => push_declared(bound, at, entity, callee),
+    match meaning.into_declared() {
+        None => Ok(()),
+        Some((entity, callee)) => push_declared(bound, at, entity, callee),
     }
 }
 
@@ -86,12 +86,9 @@ fn push_replaced(
         → implied.new
         ≡ implied.old ++ bindings.replaced_by at (means.Declared parameter callee) meaning) }
 {
-    match meaning {
-        Meaning::BuiltIn => Ok(()),
-        Meaning::Declared {
-            entity: symbol,
-            callee,
-        } => implied.push(Implied {
+    match meaning.into_declared() {
+        None => Ok(()),
+        Some((symbol, callee)) => implied.push(Implied {
             at: at.span,
             parameter,
             symbol,
@@ -109,9 +106,9 @@ fn push_implied(
 ) -> Result<(), Memory>
     ensures { OnOk result (implied.new ≡ implied.old ++ bindings.replaced_by at parameter meaning) }
 {
-    match parameter {
-        Meaning::BuiltIn => Ok(()),
-        Meaning::Declared { entity, .. } => push_replaced(implied, at, entity, meaning),
+    match parameter.into_declared() {
+        None => Ok(()),
+        Some((entity, _)) => push_replaced(implied, at, entity, meaning),
     }
 }
 

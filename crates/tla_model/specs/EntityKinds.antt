@@ -1,8 +1,14 @@
 -- Kinds of entities: what INSTANCE replaces, what can be named behind an instance, and behind what something stands.
-use Rattle.std.specs.Prelude.{ℕ, Bool, true, false, List, filter}
+use Rattle.std.specs.Prelude.{ℕ, Bool, true, false, List, Option, Some, None, filter}
 use Rattle.tla_model.specs.declared.entity.Entity.TheVariants as entity
 use Rattle.tla_model.specs.declared.names.Meaning.TheVariants.{BuiltIn, Declared}
+use Rattle.tla_model.specs.declared.ids.Callee.{Callee}
 use Rattle.tla_model.specs.Entities.{Entity, Meaning}
+
+-- what a name means that is declared so; one that is not declared is built in
+abbrev pub declared_as : Option (Entity × Callee) → Meaning
+declared_as (Some (entity, callee)) = Declared entity callee
+declared_as None = BuiltIn
 
 -- what INSTANCE replaces
 abbrev pub stands_for_parameter : Entity → Bool

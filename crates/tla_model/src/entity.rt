@@ -7,7 +7,6 @@ use tool_list::{Chars, Memory, SharedList};
 
 /// What a name stands for. Orders are those of the parameters of a definition or of an instance: 0 for
 /// an expression, and the number of its places for an operator.
-#[derive(Drop)]
 pub enum Entity {
     /// A declared constant, by its number of places.
     Constant { arity: u32 },
@@ -23,6 +22,21 @@ pub enum Entity {
     Bound { state: bool },
     /// A nested module. It is in no context, and stands among declarations alone.
     Module,
+}
+
+// By hand, so that a proof meets one call wherever a value ends.
+impl Drop for Entity {
+    fn drop(self) {
+        match self {
+            Entity::Constant { arity: _ }
+            | Entity::Variable
+            | Entity::Definition { orders: _ }
+            | Entity::Instance { orders: _ }
+            | Entity::Parameter { arity: _ }
+            | Entity::Bound { state: _ }
+            | Entity::Module => {}
+        }
+    }
 }
 
 impl Entity {
@@ -58,7 +72,6 @@ pub enum Level {
 }
 
 /// A name that a text declares, and what it stands for.
-#[derive(Drop)]
 pub struct Decl {
     pub id: DeclId,
     /// Where the name stands, in bytes.
@@ -66,8 +79,18 @@ pub struct Decl {
     pub entity: Entity,
 }
 
+// By hand, so that a proof meets one call wherever a value ends.
+impl Drop for Decl {
+    fn drop(self) {
+        let Decl {
+            id: _,
+            name: _,
+            entity: _,
+        } = self;
+    }
+}
+
 /// A use of a name or of a symbol, with the declaration that it resolves to.
-#[derive(Drop)]
 pub struct Use {
     /// Where the name stands, in bytes.
     pub name: Span,
@@ -77,4 +100,16 @@ pub struct Use {
     pub place: u32,
     /// The level of the use where its module is accepted, and else `Constant`.
     pub level: Level,
+}
+
+// By hand, so that a proof meets one call wherever a value ends.
+impl Drop for Use {
+    fn drop(self) {
+        let Use {
+            name: _,
+            module: _,
+            place: _,
+            level: _,
+        } = self;
+    }
 }

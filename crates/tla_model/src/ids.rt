@@ -4,12 +4,21 @@ ghost use Rattle.std.specs.Prelude.{◌≡◌, IfOk};
 use tool_list::{Chars, Memory, SharedList};
 
 /// A declaration: a declaring name in the text of a module.
-#[derive(Drop)]
 pub struct DeclId {
     /// The module whose text declares the name.
     pub module: Chars,
     /// How many declaring names stand before it in that text.
     pub place: u32,
+}
+
+// By hand, so that a proof meets one call wherever a value ends.
+impl Drop for DeclId {
+    fn drop(self) {
+        let DeclId {
+            module: _,
+            place: _,
+        } = self;
+    }
 }
 
 impl DeclId {
@@ -25,12 +34,21 @@ impl DeclId {
 }
 
 /// An INSTANCE in the text of a module.
-#[derive(Drop)]
 pub struct UnitId {
     /// The module whose text it stands in.
     pub module: Chars,
     /// How many words INSTANCE stand before it in that text.
     pub place: u32,
+}
+
+// By hand, so that a proof meets one call wherever a value ends.
+impl Drop for UnitId {
+    fn drop(self) {
+        let UnitId {
+            module: _,
+            place: _,
+        } = self;
+    }
 }
 
 impl UnitId {
@@ -46,7 +64,6 @@ impl UnitId {
 }
 
 /// A module, or a module that is nested in one.
-#[derive(Drop)]
 pub struct ModuleId {
     /// The module whose text it is, or stands in.
     pub module: Chars,
@@ -54,8 +71,17 @@ pub struct ModuleId {
     pub nested: Option<u32>,
 }
 
+// By hand, so that a proof meets one call wherever a value ends.
+impl Drop for ModuleId {
+    fn drop(self) {
+        let ModuleId {
+            module: _,
+            nested: _,
+        } = self;
+    }
+}
+
 /// What a name or a symbol calls.
-#[derive(Drop)]
 pub struct Callee {
     /// The number of the prefix that is written before the last `!` of the name, in the order of the
     /// text, from 1. It is 0 where there is none, and for each segment that is not the last.
@@ -64,6 +90,17 @@ pub struct Callee {
     pub decl: DeclId,
     /// The INSTANCE units without a name through which the declaration came, in order.
     pub via: SharedList<UnitId>,
+}
+
+// By hand, so that a proof meets one call wherever a value ends.
+impl Drop for Callee {
+    fn drop(self) {
+        let Callee {
+            instance: _,
+            decl: _,
+            via: _,
+        } = self;
+    }
 }
 
 impl Callee {

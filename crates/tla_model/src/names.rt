@@ -8,12 +8,24 @@ use tla_symbols::Lexeme;
 use tool_list::Memory;
 
 /// What a name means.
-#[derive(Drop)]
 pub enum Meaning {
     /// TRUE, FALSE, BOOLEAN or STRING.
     BuiltIn,
     /// A declaration, as the entity that it is.
     Declared { entity: Entity, callee: Callee },
+}
+
+// By hand, so that a proof meets one call wherever a value ends.
+impl Drop for Meaning {
+    fn drop(self) {
+        match self {
+            Meaning::BuiltIn
+            | Meaning::Declared {
+                entity: _,
+                callee: _,
+            } => {}
+        }
+    }
 }
 
 impl Meaning {
@@ -27,6 +39,16 @@ impl Meaning {
                 entity: entity.copied()?,
                 callee: callee.copied()?,
             }),
+        }
+    }
+
+    /// The declaration, if it is one: what it is as an entity, and what it calls.
+    pub fn into_declared(self) -> Option<(Entity, Callee)>
+        ensures { self ≡ kinds.declared_as result }
+    {
+        match self {
+            Meaning::BuiltIn => None,
+            Meaning::Declared { entity, callee } => Some((entity, callee)),
         }
     }
 

@@ -21,13 +21,23 @@ use tool_list::{List, Memory};
 /// The words stand in stretches that tables share, each of them at least twice as long as the next.
 /// So along a chain of tables, each with some words behind those of the one before, a word is copied
 /// few times, and it is looked up in few stretches.
-#[derive(Drop)]
 pub struct NameTable {
     stretches: List<Arc<Stretch>>,
     // How many words there are.
     len: usize,
     // There are few symbols, so they are copied.
     symbols: List<(Op, Meaning)>,
+}
+
+// By hand, so that a proof meets one call wherever a value ends.
+impl Drop for NameTable {
+    fn drop(self) {
+        let NameTable {
+            stretches: _,
+            len: _,
+            symbols: _,
+        } = self;
+    }
 }
 
 impl Model for NameTable {

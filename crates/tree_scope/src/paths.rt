@@ -81,12 +81,12 @@ fn through(callee: Callee, number: u32) -> Callee
 fn last_called(number: u32, meaning: Option<Meaning>) -> Option<Meaning>
     ensures { result ≡ walking.called true number meaning }
 {
-    match meaning {
-        Some(Meaning::Declared { entity, callee }) => Some(Meaning::Declared {
+    match meaning?.into_declared() {
+        Some((entity, callee)) => Some(Meaning::Declared {
             entity,
             callee: through(callee, number),
         }),
-        other => other,
+        None => Some(Meaning::BuiltIn),
     }
 }
 

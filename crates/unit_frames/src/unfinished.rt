@@ -24,11 +24,21 @@ pub enum Begun {
 }
 
 /// A unit that is read after others, and its frames that wait for their parts, the innermost last.
-#[derive(Drop)]
 pub struct Unfinished {
     pub reached: Reached,
     pub begun: Begun,
     pub below: Vec<Frame>,
+}
+
+// By hand, so that a proof meets one call wherever a value ends.
+impl Drop for Unfinished {
+    fn drop(self) {
+        let Unfinished {
+            reached: _,
+            begun: _,
+            below: _,
+        } = self;
+    }
 }
 
 impl Unfinished {
@@ -43,16 +53,29 @@ impl Unfinished {
         Ok(())
     }
 
+    /// What was read, and what the unit began with.
+    pub fn into_begun(self) -> (Reached, Begun)
+        ensures { result ≡ (self.reached, self.begun) }
+    {
+        let Unfinished {
+            reached,
+            begun,
+            below: _,
+        } = self;
+        (reached, begun)
+    }
+
     /// No frame waits below.
     pub fn alone(self) -> Unfinished
         ensures { (nodes : List arena.Node) → (depth : ℕ) → (us : List units.UnitTree)
             → (b : machine.Begun) → (fs : List machine.Frame) → IsUnder nodes self b fs depth us
             → IsUnder nodes result b [] depth us }
     {
-        let below = Vec::new(self.reached.alloc);
+        let (reached, begun) = self.into_begun();
+        let below = Vec::new(reached.alloc);
         Unfinished {
-            reached: self.reached,
-            begun: self.begun,
+            reached,
+            begun,
             below,
         }
     }

@@ -14,10 +14,19 @@ use tool_list::Memory;
 use tree_parts::{Part, joined};
 
 /// An expression, or bounds, of which some lexemes were read, and their span, if there are any.
-#[derive(Drop)]
 pub(crate) struct ExprReader {
     pub(crate) machine: ExprMachine,
     pub(crate) span: Option<Span>,
+}
+
+// By hand, so that a proof meets one call wherever a value ends.
+impl Drop for ExprReader {
+    fn drop(self) {
+        let ExprReader {
+            machine: _,
+            span: _,
+        } = self;
+    }
 }
 
 /// What a lexeme led to.

@@ -28,12 +28,22 @@ pub struct Outer<'a> {
 }
 
 /// The module that is read, those round it, and what is known of modules and instances.
-#[derive(Drop)]
 pub struct Nesting<'a> {
     pub here: Reading<'a>,
     // The innermost one is the last.
     pub round: Vec<Outer<'a>>,
     pub scope: Scope<'a>,
+}
+
+// By hand, so that a proof meets one call wherever a value ends.
+impl<'a> Drop for Nesting<'a> {
+    fn drop(self) {
+        let Nesting {
+            here: _,
+            round: _,
+            scope: _,
+        } = self;
+    }
 }
 
 impl<'a> Nesting<'a> {

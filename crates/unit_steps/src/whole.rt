@@ -106,13 +106,8 @@ pub(crate) fn finish(
         → IsPart tree.now part x spelled
         → IsMoved tree.now moved (machine.finished b x depth us lexeme)) }
 {
-    finished(
-        unfinished.reached,
-        unfinished.begun,
-        tree,
-        part.node,
-        lexeme,
-    )
+    let (reached, begun) = unfinished.into_begun();
+    finished(reached, begun, tree, part.node, lexeme)
 }
 
 // A whole part of a unit that was read after others, with its last lexeme: declarations of
@@ -145,7 +140,8 @@ pub(crate) fn shut(unfinished: Unfinished, part: Part) -> Result<Option<Next>, M
 {
     let mut unfinished = unfinished;
     let Some(mut frame) = unfinished.below.pop() else {
-        return conclude(unfinished.reached, unfinished.begun, part.node);
+        let (reached, begun) = unfinished.into_begun();
+        return conclude(reached, begun, part.node);
     };
     let wait = after_part(frame.wait);
     let Ok(()) = frame.takes(wait, part) else {

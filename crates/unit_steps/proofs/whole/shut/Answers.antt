@@ -1,5 +1,6 @@
-use Rattle.std.proofs.Common.{refl, arith}
+use Rattle.std.proofs.Common.{refl, arith, subst, sym}
 use Rattle.std.proofs.lemmas.Result.{IfOk-weaker}
+use Rattle.unit_frames.specs.FrameMeaning.{IsBegun, IsReached}
 use Rattle.unit_frames.specs.declared.unfinished.Unfinished.{Unfinished}
 use Rattle.unit_frames.proofs.Popping.{popped, nothing-left}
 use Rattle.unit_steps.proofs.Concluding.{shut-none, shut-frame}
@@ -9,7 +10,9 @@ pub returns-in_default : goal.returns-in_default
 returns-in_default c =
     let none = nothing-left c.args.unfinished.below.items (omega (arith, c.in_default.ensures.cases.0)) in
     IfOk-weaker c.conclude.result _ _
-    (λ moved h nodes d us b fs x spelled u p. shut-none nodes c.args.unfinished b fs x spelled d us moved none u (h nodes d us b x spelled c.args.part u.reached u.begun refl p))
+    (λ moved h nodes d us b fs x spelled u p. shut-none nodes c.args.unfinished b fs x spelled d us moved none u (h nodes d us b x spelled c.args.part
+    (subst (λ whole. IsReached nodes whole.0 d us) (sym c.into_begun-reached.ensures) u.reached)
+    (subst (λ whole. IsBegun nodes whole.1 b) (sym c.into_begun-reached.ensures) u.begun) refl p))
     c.conclude.ensures
 
 pub returns : goal.returns
