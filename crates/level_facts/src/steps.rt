@@ -17,11 +17,21 @@ use tla_symbols::{Kind, Rule};
 
 /// How far a path has led: what stands round what is defined there, the arguments that are left,
 /// and whether all guards are met.
-#[derive(Drop)]
 pub(crate) struct Reached {
     pub(crate) frame: Vec<usize>,
     pub(crate) rest: Vec<usize>,
     pub(crate) met: bool,
+}
+
+// By hand, so that a proof meets one call wherever a value ends.
+impl Drop for Reached {
+    fn drop(self) {
+        let Reached {
+            frame: _,
+            rest: _,
+            met: _,
+        } = self;
+    }
 }
 
 /// Where a path begins: nothing is put in yet for its instances.
