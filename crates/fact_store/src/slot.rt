@@ -8,7 +8,6 @@ use std::sync::Arc;
 use tool_list::{Chars, List};
 
 /// A fact with what it was made from.
-#[derive(Drop)]
 pub struct Kept<F: Drop> {
     /// The bytes, where they are not those that the slot has now.
     pub from: Option<List<u8>>,
@@ -16,14 +15,55 @@ pub struct Kept<F: Drop> {
     pub fact: Arc<F>,
 }
 
+// By hand, so that a proof meets one call wherever a value ends.
+impl<F: Drop> Drop for Kept<F> {
+    fn drop(self) {
+        let Kept {
+            from: _,
+            given: _,
+            fact: _,
+        } = self;
+    }
+}
+
 /// A text with its parts, and the fact that was last made from a text of that name.
-#[derive(Drop)]
 pub struct Slot<O: Drop, F: Drop> {
     pub name: Chars,
     pub bytes: List<u8>,
     pub own: O,
     pub needs: Option<List<Chars>>,
     pub kept: Option<Kept<F>>,
+}
+
+// By hand, so that a proof meets one call wherever a value ends.
+impl<O: Drop, F: Drop> Drop for Slot<O, F> {
+    fn drop(self) {
+        let Slot {
+            name: _,
+            bytes: _,
+            own: _,
+            needs: _,
+            kept: _,
+        } = self;
+    }
+}
+
+impl<O: Drop, F: Drop> Slot<O, F> {
+    /// The text, its own part and its needs.
+    pub fn into_text(self) -> (List<u8>, O, Option<List<Chars>>)
+        ensures bytes { result.0 ≡ self.bytes }
+        ensures own { result.1 ≡ self.own }
+        ensures needs { result.2 ≡ self.needs }
+    {
+        let Slot {
+            name: _,
+            bytes,
+            own,
+            needs,
+            kept: _,
+        } = self;
+        (bytes, own, needs)
+    }
 }
 
 /// Whether two names, or two texts, are the same.
@@ -48,14 +88,9 @@ fn source_after(from: Option<List<u8>>, before: List<u8>, bytes: &[u8]) -> Optio
 fn kept_after<F: Drop>(kept: Option<Kept<F>>, before: List<u8>, bytes: &[u8]) -> Option<Kept<F>>
     ensures { result ≡ slots_of.kept_after kept before bytes.now }
 {
-    match kept {
-        Some(Kept { from, given, fact }) => Some(Kept {
-            from: source_after(from, before, bytes),
-            given,
-            fact,
-        }),
-        None => None,
-    }
+    let mut kept = kept?;
+    kept.from = source_after(kept.from.take(), before, bytes);
+    Some(kept)
 }
 
 /// Gives a slot another text with its parts.

@@ -47,12 +47,7 @@ fn replace<O: Drop, F: Drop>(
         }) }
     ensures plan { HoldsPlan slots.new plan.new }
 {
-    let Slot {
-        bytes,
-        own,
-        needs,
-        ..
-    } = slot;
+    let (bytes, own, needs) = slot.into_text();
     if !same_names(&slots.at(index).needs, &needs) {
         *plan = None;
     }

@@ -17,5 +17,5 @@ returns-clause-plan g c =
       | else-not-same_names w ↦
           to c.args.plan.now _ w.plan-is
           (subst (λ (ss : List (Slot g.row.O.Denot g.row.F.Denot)). HoldsPlan ss c.args.plan.now) (sym written)
-          (HoldsPlan-set slots index x (with_text x c.args.slot.bytes c.args.slot.own c.args.slot.needs) c.args.plan.now c.at.ensures refl (sym (c.same_names.ensures w.if-not-same_names.false)) c.requires.plan))
+          (HoldsPlan-set slots index x (with_text x c.into_text-bytes.result.0 c.into_text-bytes.result.1 c.into_text-bytes.result.2) c.args.plan.now c.at.ensures refl (sym (c.same_names.ensures w.if-not-same_names.false)) c.requires.plan))
     ]
