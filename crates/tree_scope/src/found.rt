@@ -81,49 +81,30 @@ fn perform<'a, S: Surround<'a>>(
         (stack tasks.old.items) (stack tasks.new.items)) }
 {
     match next {
-        Task::Visit { node } => {
-            visit(alloc, text, around, tree, node, context, findings, tasks)?;
-            Ok(())
-        }
-        Task::Symbol { at } => {
-            use_symbol(context, at, findings)?;
-            Ok(())
-        }
+        Task::Visit { node } => visit(alloc, text, around, tree, node, context, findings, tasks),
+        Task::Symbol { at } => use_symbol(context, at, findings),
         Task::Path {
             node,
             from,
             number,
             held,
-        } => {
-            go_on(
-                text, around, tree, node, from, number, held, findings, tasks,
-            )?;
-            Ok(())
-        }
+        } => go_on(
+            text, around, tree, node, from, number, held, findings, tasks,
+        ),
         Task::Replace {
             left,
             module,
             again,
-        } => {
-            replace(text, around, left, module, again, findings)?;
-            Ok(())
-        }
+        } => replace(text, around, left, module, again, findings),
         Task::Imply { node, module } => {
-            imply(alloc, text, around, tree, node, module, context, findings)?;
-            Ok(())
+            imply(alloc, text, around, tree, node, module, context, findings)
         }
         Task::Bind { node } => {
             bind_names(alloc, text, tree, node, context, findings)?;
             Ok(())
         }
-        Task::Define { node } => {
-            define(alloc, text, tree, node, context)?;
-            Ok(())
-        }
-        Task::Function { name } => {
-            bind_function(alloc, text, context, name)?;
-            Ok(())
-        }
+        Task::Define { node } => define(alloc, text, tree, node, context),
+        Task::Function { name } => bind_function(alloc, text, context, name),
         Task::Leave { mark } => {
             context.cut(mark);
             Ok(())

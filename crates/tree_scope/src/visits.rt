@@ -69,39 +69,19 @@ pub fn visit<'a, S: Surround<'a>>(
     let children = tree.children(node);
     let mark = context.mark()?;
     match naming_of(tree.form(node)) {
-        Naming::Path => {
-            begin_path(text, around, tree, node, context, findings, tasks)?;
-            Ok(())
-        }
-        Naming::Bare(at) => {
-            use_symbol(context, at, findings)?;
-            Ok(())
-        }
+        Naming::Path => begin_path(text, around, tree, node, context, findings, tasks),
+        Naming::Bare(at) => use_symbol(context, at, findings),
         Naming::Prefix(at) => {
             use_prefix(context, at, findings)?;
-            push_each(tasks, children)?;
-            Ok(())
+            push_each(tasks, children)
         }
-        Naming::Infix(at) => {
-            push_between(tasks, children, at)?;
-            Ok(())
-        }
-        Naming::Postfix(at) => {
-            push_behind(tasks, children, at)?;
-            Ok(())
-        }
-        Naming::InOrder => {
-            push_definitions(tasks, children, mark)?;
-            Ok(())
-        }
-        Naming::BoundsLast => {
-            push_image(alloc, tasks, tree, node, children, mark)?;
-            Ok(())
-        }
+        Naming::Infix(at) => push_between(tasks, children, at),
+        Naming::Postfix(at) => push_behind(tasks, children, at),
+        Naming::InOrder => push_definitions(tasks, children, mark),
+        Naming::BoundsLast => push_image(alloc, tasks, tree, node, children, mark),
         Naming::Function(name) => {
             begin(alloc, text, tree, node, children, context, findings)?;
-            push_function(alloc, tasks, tree, node, name, children, mark)?;
-            Ok(())
+            push_function(alloc, tasks, tree, node, name, children, mark)
         }
         Naming::Instance(module) => {
             push_instance(alloc, text, tasks, tree, node, module)?;
@@ -109,8 +89,7 @@ pub fn visit<'a, S: Surround<'a>>(
         }
         Naming::BoundsFirst => {
             begin(alloc, text, tree, node, children, context, findings)?;
-            push_scope(alloc, tasks, tree, node, children, mark)?;
-            Ok(())
+            push_scope(alloc, tasks, tree, node, children, mark)
         }
     }
 }

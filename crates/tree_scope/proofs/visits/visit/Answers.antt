@@ -1,5 +1,6 @@
 use Rattle.std.proofs.Common.{◌<◌, ◌∙◌, ◌∷◌, ◌++◌, ap, refl, subst, sym}
 use Rattle.std.specs.List.{AllByRecursion}
+use Rattle.std.proofs.lemmas.Result.{on_ok_weaker}
 use Rattle.tla_tree.specs.Arena.{node_at}
 use Rattle.tla_tree.proofs.Nodes.{before-there}
 use Rattle.name_context.specs.AsTables.{context_of, mark_of}
@@ -32,8 +33,8 @@ begin-requires-clause-there g c = before-there c.args.tree.now c.args.node c.chi
 pub begin-requires-in-BoundsFirst-clause-there : goal.begin-requires-in-BoundsFirst-clause-there
 begin-requires-in-BoundsFirst-clause-there g c = before-there c.args.tree.now c.args.node c.children-children.result.now c.requires.node.there c.children-children.ensures.before
 
-pub returns-in_ok-begin_path-in-Path : goal.returns-in_ok-begin_path-in-Path
-returns-in_ok-begin_path-in-Path g c =
+pub returns-in-Path : goal.returns-in-Path
+returns-in-Path g c =
     let nodes = c.args.tree.now in
     let node = c.args.node in
     let kids = c.children-children.ensures.children in
@@ -41,8 +42,9 @@ returns-in_ok-begin_path-in-Path g c =
     let whole = tree-at nodes node c.requires.node.there below in
     let there = before-there nodes node (node_at nodes node).children c.requires.node.there below in
     let named = sym (ap naming c.form.ensures) ∙ sym c.naming_of.ensures ∙ c.in-Path.is in
+    on_ok_weaker c.begin_path.result (λ fact.
     path-done c.args.text.now (g.S.Surround.around c.args.around.now) (g.S.Surround.held c.args.around.now) nodes node c.requires.node whole there (context_of c.args.context.now) c.args.findings.now c.begin_path.new.findings (stack c.args.tasks.now.items) (stack c.begin_path.new.tasks.items) named c.requires.tasks
-    c.in_ok-begin_path-in-Path.ensures
+    fact) c.begin_path.ensures
 
 pub returns-in_ok-push_instance-in-Instance : goal.returns-in_ok-push_instance-in-Instance
 returns-in_ok-push_instance-in-Instance g c =
@@ -56,8 +58,8 @@ returns-in_ok-push_instance-in-Instance g c =
     instance-done c.args.text.now (g.S.Surround.around c.args.around.now) (g.S.Surround.held c.args.around.now) nodes node c.requires.node whole there c.in-Instance.«module» (context_of c.args.context.now) c.args.findings.now (stack c.args.tasks.now.items) (stack c.push_instance.new.tasks.items) named
     (instance-lies c.args.text.now (form_at nodes node) c.in-Instance.«module» named (held-lies c.args.text.now.source nodes node c.requires.node.there c.requires.node.lie)) c.requires.tasks c.in_ok-push_instance-in-Instance.ensures.whole c.in_ok-push_instance-in-Instance.ensures.due
 
-pub returns-in_ok-use_symbol-in-Bare : goal.returns-in_ok-use_symbol-in-Bare
-returns-in_ok-use_symbol-in-Bare g c =
+pub returns-in-Bare : goal.returns-in-Bare
+returns-in-Bare g c =
     let nodes = c.args.tree.now in
     let node = c.args.node in
     let kids = c.children-children.ensures.children in
@@ -65,10 +67,11 @@ returns-in_ok-use_symbol-in-Bare g c =
     let whole = tree-at nodes node c.requires.node.there below in
     let there = before-there nodes node (node_at nodes node).children c.requires.node.there below in
     let named = sym (ap naming c.form.ensures) ∙ sym c.naming_of.ensures ∙ c.in-Bare.is in
-    bare-done c.args.text.now (g.S.Surround.around c.args.around.now) (g.S.Surround.held c.args.around.now) nodes node c.requires.node whole there c.in-Bare.at (context_of c.args.context.now) c.args.findings.now c.use_symbol.new.findings (stack c.args.tasks.now.items) named c.requires.tasks c.in_ok-use_symbol-in-Bare.ensures
+    on_ok_weaker c.use_symbol.result (λ fact.
+    bare-done c.args.text.now (g.S.Surround.around c.args.around.now) (g.S.Surround.held c.args.around.now) nodes node c.requires.node whole there c.in-Bare.at (context_of c.args.context.now) c.args.findings.now c.use_symbol.new.findings (stack c.args.tasks.now.items) named c.requires.tasks fact) c.use_symbol.ensures
 
-pub returns-in_ok-push_each-in-Prefix : goal.returns-in_ok-push_each-in-Prefix
-returns-in_ok-push_each-in-Prefix g c =
+pub returns-in_ok-use_prefix-in-Prefix : goal.returns-in_ok-use_prefix-in-Prefix
+returns-in_ok-use_prefix-in-Prefix g c =
     let nodes = c.args.tree.now in
     let node = c.args.node in
     let kids = c.children-children.ensures.children in
@@ -76,11 +79,12 @@ returns-in_ok-push_each-in-Prefix g c =
     let whole = tree-at nodes node c.requires.node.there below in
     let there = before-there nodes node (node_at nodes node).children c.requires.node.there below in
     let named = sym (ap naming c.form.ensures) ∙ sym c.naming_of.ensures ∙ c.in-Prefix.is in
+    on_ok_weaker c.push_each.result (λ fact.
     before-done c.args.text.now (g.S.Surround.around c.args.around.now) (g.S.Surround.held c.args.around.now) nodes node c.requires.node whole there c.in-Prefix.at (context_of c.args.context.now) c.args.findings.now c.use_prefix.new.findings (stack c.args.tasks.now.items) (stack c.push_each.new.tasks.items) named c.requires.tasks c.in_ok-use_prefix-in-Prefix.ensures
-    (c.in_ok-push_each-in-Prefix.ensures ∙ ap (λ z. visits z ++ stack c.args.tasks.now.items) kids)
+    (fact ∙ ap (λ z. visits z ++ stack c.args.tasks.now.items) kids)) c.push_each.ensures
 
-pub returns-in_ok-push_between-in-Infix : goal.returns-in_ok-push_between-in-Infix
-returns-in_ok-push_between-in-Infix g c =
+pub returns-in-Infix : goal.returns-in-Infix
+returns-in-Infix g c =
     let nodes = c.args.tree.now in
     let node = c.args.node in
     let kids = c.children-children.ensures.children in
@@ -88,11 +92,12 @@ returns-in_ok-push_between-in-Infix g c =
     let whole = tree-at nodes node c.requires.node.there below in
     let there = before-there nodes node (node_at nodes node).children c.requires.node.there below in
     let named = sym (ap naming c.form.ensures) ∙ sym c.naming_of.ensures ∙ c.in-Infix.is in
+    on_ok_weaker c.push_between.result (λ fact.
     between-done c.args.text.now (g.S.Surround.around c.args.around.now) (g.S.Surround.held c.args.around.now) nodes node c.requires.node whole there c.in-Infix.at (context_of c.args.context.now) c.args.findings.now (stack c.args.tasks.now.items) (stack c.push_between.new.tasks.items) named c.requires.tasks
-    (c.in_ok-push_between-in-Infix.ensures ∙ ap (λ z. between_tasks c.in-Infix.at z (stack c.args.tasks.now.items)) kids)
+    (fact ∙ ap (λ z. between_tasks c.in-Infix.at z (stack c.args.tasks.now.items)) kids)) c.push_between.ensures
 
-pub returns-in_ok-push_behind-in-Postfix : goal.returns-in_ok-push_behind-in-Postfix
-returns-in_ok-push_behind-in-Postfix g c =
+pub returns-in-Postfix : goal.returns-in-Postfix
+returns-in-Postfix g c =
     let nodes = c.args.tree.now in
     let node = c.args.node in
     let kids = c.children-children.ensures.children in
@@ -100,11 +105,12 @@ returns-in_ok-push_behind-in-Postfix g c =
     let whole = tree-at nodes node c.requires.node.there below in
     let there = before-there nodes node (node_at nodes node).children c.requires.node.there below in
     let named = sym (ap naming c.form.ensures) ∙ sym c.naming_of.ensures ∙ c.in-Postfix.is in
+    on_ok_weaker c.push_behind.result (λ fact.
     behind-done c.args.text.now (g.S.Surround.around c.args.around.now) (g.S.Surround.held c.args.around.now) nodes node c.requires.node whole there c.in-Postfix.at (context_of c.args.context.now) c.args.findings.now (stack c.args.tasks.now.items) (stack c.push_behind.new.tasks.items) named c.requires.tasks
-    (c.in_ok-push_behind-in-Postfix.ensures ∙ ap (λ z. visits z ++ (used c.in-Postfix.at ∷ stack c.args.tasks.now.items)) kids)
+    (fact ∙ ap (λ z. visits z ++ (used c.in-Postfix.at ∷ stack c.args.tasks.now.items)) kids)) c.push_behind.ensures
 
-pub returns-in_ok-push_definitions-in-InOrder : goal.returns-in_ok-push_definitions-in-InOrder
-returns-in_ok-push_definitions-in-InOrder g c =
+pub returns-in-InOrder : goal.returns-in-InOrder
+returns-in-InOrder g c =
     let nodes = c.args.tree.now in
     let node = c.args.node in
     let kids = c.children-children.ensures.children in
@@ -112,11 +118,12 @@ returns-in_ok-push_definitions-in-InOrder g c =
     let whole = tree-at nodes node c.requires.node.there below in
     let there = before-there nodes node (node_at nodes node).children c.requires.node.there below in
     let named = sym (ap naming c.form.ensures) ∙ sym c.naming_of.ensures ∙ c.in-InOrder.is in
+    on_ok_weaker c.push_definitions.result (λ fact.
     order-done c.args.text.now (g.S.Surround.around c.args.around.now) (g.S.Surround.held c.args.around.now) nodes node c.requires.node whole there (context_of c.args.context.now) c.args.findings.now (stack c.args.tasks.now.items) (stack c.push_definitions.new.tasks.items) named c.requires.tasks
-    (c.in_ok-push_definitions-in-InOrder.ensures ∙ ap (λ m. chain c.children-children.result.now ++ (leave m ∷ stack c.args.tasks.now.items)) c.in_ok-mark.ensures ∙ ap (λ z. chain z ++ (leave (mark_of (context_of c.args.context.now)) ∷ stack c.args.tasks.now.items)) kids)
+    (fact ∙ ap (λ m. chain c.children-children.result.now ++ (leave m ∷ stack c.args.tasks.now.items)) c.in_ok-mark.ensures ∙ ap (λ z. chain z ++ (leave (mark_of (context_of c.args.context.now)) ∷ stack c.args.tasks.now.items)) kids)) c.push_definitions.ensures
 
-pub returns-in_ok-push_image-in-BoundsLast : goal.returns-in_ok-push_image-in-BoundsLast
-returns-in_ok-push_image-in-BoundsLast g c =
+pub returns-in-BoundsLast : goal.returns-in-BoundsLast
+returns-in-BoundsLast g c =
     let nodes = c.args.tree.now in
     let node = c.args.node in
     let kids = c.children-children.ensures.children in
@@ -124,11 +131,12 @@ returns-in_ok-push_image-in-BoundsLast g c =
     let whole = tree-at nodes node c.requires.node.there below in
     let there = before-there nodes node (node_at nodes node).children c.requires.node.there below in
     let named = sym (ap naming c.form.ensures) ∙ sym c.naming_of.ensures ∙ c.in-BoundsLast.is in
+    on_ok_weaker c.push_image.result (λ fact.
     image-done c.args.text.now (g.S.Surround.around c.args.around.now) (g.S.Surround.held c.args.around.now) nodes node c.requires.node whole there (context_of c.args.context.now) c.args.findings.now (stack c.args.tasks.now.items) (stack c.push_image.new.tasks.items) named c.requires.tasks
-    (c.in_ok-push_image-in-BoundsLast.ensures ∙ ap (λ m. image_tasks nodes node c.children-children.result.now m (stack c.args.tasks.now.items)) c.in_ok-mark.ensures ∙ ap (λ z. image_tasks nodes node z (mark_of (context_of c.args.context.now)) (stack c.args.tasks.now.items)) kids)
+    (fact ∙ ap (λ m. image_tasks nodes node c.children-children.result.now m (stack c.args.tasks.now.items)) c.in_ok-mark.ensures ∙ ap (λ z. image_tasks nodes node z (mark_of (context_of c.args.context.now)) (stack c.args.tasks.now.items)) kids)) c.push_image.ensures
 
-pub returns-in_ok-push_function-in-Function : goal.returns-in_ok-push_function-in-Function
-returns-in_ok-push_function-in-Function g c =
+pub returns-in_ok-begin-in-Function : goal.returns-in_ok-begin-in-Function
+returns-in_ok-begin-in-Function g c =
     let nodes = c.args.tree.now in
     let node = c.args.node in
     let kids = c.children-children.ensures.children in
@@ -136,12 +144,13 @@ returns-in_ok-push_function-in-Function g c =
     let whole = tree-at nodes node c.requires.node.there below in
     let there = before-there nodes node (node_at nodes node).children c.requires.node.there below in
     let named = sym (ap naming c.form.ensures) ∙ sym c.naming_of.ensures ∙ c.in-Function.is in
+    on_ok_weaker c.push_function.result (λ fact.
     function-done c.args.text.now (g.S.Surround.around c.args.around.now) (g.S.Surround.held c.args.around.now) nodes node c.requires.node whole there c.in-Function.name (context_of c.args.context.now) (context_of c.begin.new.context) c.args.findings.now c.begin.new.findings (stack c.args.tasks.now.items) (stack c.push_function.new.tasks.items) named
     (function-lies c.args.text.now (form_at nodes node) c.in-Function.name named (held-lies c.args.text.now.source nodes node c.requires.node.there c.requires.node.lie)) c.requires.tasks c.in_ok-begin-in-Function.ensures.context c.in_ok-begin-in-Function.ensures.findings
-    (c.in_ok-push_function-in-Function.ensures ∙ ap (λ m. function_tasks nodes node c.in-Function.name c.children-children.result.now m (stack c.args.tasks.now.items)) c.in_ok-mark.ensures ∙ ap (λ z. function_tasks nodes node c.in-Function.name z (mark_of (context_of c.args.context.now)) (stack c.args.tasks.now.items)) kids)
+    (fact ∙ ap (λ m. function_tasks nodes node c.in-Function.name c.children-children.result.now m (stack c.args.tasks.now.items)) c.in_ok-mark.ensures ∙ ap (λ z. function_tasks nodes node c.in-Function.name z (mark_of (context_of c.args.context.now)) (stack c.args.tasks.now.items)) kids)) c.push_function.ensures
 
-pub returns-in_ok-push_scope-in-BoundsFirst : goal.returns-in_ok-push_scope-in-BoundsFirst
-returns-in_ok-push_scope-in-BoundsFirst g c =
+pub returns-in_ok-begin-in-BoundsFirst : goal.returns-in_ok-begin-in-BoundsFirst
+returns-in_ok-begin-in-BoundsFirst g c =
     let nodes = c.args.tree.now in
     let node = c.args.node in
     let kids = c.children-children.ensures.children in
@@ -149,6 +158,7 @@ returns-in_ok-push_scope-in-BoundsFirst g c =
     let whole = tree-at nodes node c.requires.node.there below in
     let there = before-there nodes node (node_at nodes node).children c.requires.node.there below in
     let named = sym (ap naming c.form.ensures) ∙ sym c.naming_of.ensures ∙ c.in-BoundsFirst.is in
+    on_ok_weaker c.push_scope.result (λ fact.
     plain-done c.args.text.now (g.S.Surround.around c.args.around.now) (g.S.Surround.held c.args.around.now) nodes node c.requires.node whole there (context_of c.args.context.now) (context_of c.begin-in-BoundsFirst.new.context) c.args.findings.now c.begin-in-BoundsFirst.new.findings (stack c.args.tasks.now.items) (stack c.push_scope.new.tasks.items) named
     c.requires.tasks c.in_ok-begin-in-BoundsFirst.ensures.context c.in_ok-begin-in-BoundsFirst.ensures.findings
-    (c.in_ok-push_scope-in-BoundsFirst.ensures ∙ ap (λ m. scope_tasks nodes node c.children-children.result.now m (stack c.args.tasks.now.items)) c.in_ok-mark.ensures ∙ ap (λ z. scope_tasks nodes node z (mark_of (context_of c.args.context.now)) (stack c.args.tasks.now.items)) kids)
+    (fact ∙ ap (λ m. scope_tasks nodes node c.children-children.result.now m (stack c.args.tasks.now.items)) c.in_ok-mark.ensures ∙ ap (λ z. scope_tasks nodes node z (mark_of (context_of c.args.context.now)) (stack c.args.tasks.now.items)) kids)) c.push_scope.ensures
