@@ -1,6 +1,6 @@
 // The command whose words are read.
 ghost use Rattle.std.specs.Prelude.{◌≡◌, IfOk};
-ghost use Rattle.clap.specs.Words.{app_of, rule_of};
+ghost use Rattle.clap.specs.Words.{app_of, with_rule};
 ghost use Rattle.sany_words.specs.Words as words_of;
 
 use clap::{Arg, ArgAction, Command};
@@ -25,14 +25,38 @@ fn bare<'a>(alloc: Global) -> Command<'a>
         .disable_version_flag(true)
 }
 
+// With COMMAND, which is required.
+fn with_name<'a>(alloc: Global, command: Command<'a>) -> Result<Command<'a>, AllocError>
+    ensures { IfOk result
+        (λ more. app_of more ≡ with_rule (app_of command.entry) words_of.name_rule) }
+{
+    command.arg(Arg::new(alloc, COMMAND).required(true))
+}
+
+// With ARG.
+fn with_argument<'a>(alloc: Global, command: Command<'a>) -> Result<Command<'a>, AllocError>
+    ensures { IfOk result
+        (λ more. app_of more ≡ with_rule (app_of command.entry) words_of.argument_rule) }
+{
+    command.arg(Arg::new(alloc, ARGUMENT))
+}
+
+// With the flag `--facts`.
+fn with_facts<'a>(alloc: Global, command: Command<'a>) -> Result<Command<'a>, AllocError>
+    ensures { IfOk result
+        (λ more. app_of more ≡ with_rule (app_of command.entry) words_of.facts_rule) }
+{
+    let facts = Arg::new(alloc, FACTS)
+        .long(FACTS)
+        .action(ArgAction::SetTrue);
+    command.arg(facts)
+}
+
 /// The command: a required COMMAND, an optional ARG, and the flag `--facts`.
 pub fn command<'a>(alloc: Global) -> Result<Command<'a>, AllocError>
     ensures { IfOk result (λ command. app_of command ≡ words_of.command) }
 {
-    let name = Arg::new(alloc, COMMAND).required(true);
-    let argument = Arg::new(alloc, ARGUMENT);
-    let facts = Arg::new(alloc, FACTS)
-        .long(FACTS)
-        .action(ArgAction::SetTrue);
-    bare(alloc).arg(name)?.arg(argument)?.arg(facts)
+    let named = with_name(alloc, bare(alloc))?;
+    let both = with_argument(alloc, named)?;
+    with_facts(alloc, both)
 }
