@@ -5,6 +5,7 @@ use Rattle.std.specs.List.{AllByRecursion}
 use Rattle.tla_symbols.specs.declared.level.Rule.TheVariants.{Boolean}
 use Rattle.order_rec.specs.Earlier.{before}
 use Rattle.order_rec.proofs.Order.{along-step, along-same, along-holds, before-lt}
+use Rattle.kind_text.proofs.Zips.{zip-append}
 use Rattle.kind_text.specs.ExpandedKind.{Expanded, Operands, Given, kind, kinds, ruled}
 use Rattle.kind_text.specs.Substitution.{Item, Same, Alike, expression, expressions, operator}
 use Rattle.kind_text.specs.FlatModule.{Definition, FlatModule}
@@ -71,12 +72,6 @@ same-expression t u e = record { text = e; call = λ ts us h. refl }
 pub same-operator : (f g : Operands → Expanded) → ((ts us : Operands) → kinds ts ≡ kinds us → kind (f ts) ≡ kind (g us)) → Same (operator f) (operator g)
 same-operator f g h = record { text = refl; call = h }
 
-pub alike-append : (s u p q : List Item) → Alike s u → Alike p q → Alike (s ++ p) (u ++ q)
-alike-append [] [] p q h k = k
-alike-append [] (y ∷ ys) p q h k = absurd h
-alike-append (x ∷ xs) [] p q h k = absurd h
-alike-append (x ∷ xs) (y ∷ ys) p q h k = (h.0, alike-append xs ys p q h.1 k)
-
 pub alike-expressions : (ts us : Operands) → kinds ts ≡ kinds us → Alike (expressions ts) (expressions us)
 alike-expressions Operands.Nil Operands.Nil e = tt
 alike-expressions Operands.Nil (Operands.Cons u us) e = cc
@@ -103,7 +98,7 @@ same-meaning flat table i = along-holds (λ x. Same x x) (expression (Given None
     by_arg f h (Some Parameter) = record { text = refl; call = λ ts us e. ap (ruled Boolean) e }
     by_arg f h (Some (BuiltIn r)) = same-operator _ _ (λ ts us e. ap (ruled r) e)
     by_arg f h (Some (Operator d ns)) = same-operator _ _ (λ ts us e.
-        same-body flat (slice_get flat.definitions d) _ _ (λ n. alike-append _ _ _ _ (reflexive f h ns.items) (alike-expressions ts us e)))
+        same-body flat (slice_get flat.definitions d) _ _ (λ n. zip-append Same _ _ _ _ (reflexive f h ns.items) (alike-expressions ts us e)))
 
 pub alike-meanings : (flat : FlatModule) (table : List Arg) (ns : List ℕ) → Alike (meanings flat table ns) (meanings flat table ns)
 alike-meanings flat table ns = reflexive (meaning flat table) (same-meaning flat table) ns

@@ -1,3 +1,4 @@
+pub mod Zips
 pub mod Relations
 pub mod Likeness
 pub mod Putting

@@ -10,6 +10,7 @@ use Rattle.order_rec.proofs.Order.{along-holds}
 use Rattle.kind_text.specs.ExpandedKind.{Expanded, Operands, Given, Ruled, Guarded, Nil, Cons}
 use Rattle.kind_text.specs.Substitution.{Item, at, expression, expressions, judged, leaves, operator, texts}
 use Rattle.kind_text.specs.FlatModule.{Definition, FlatModule, Form, Instance, Node, Replacement, places_of}
+use Rattle.kind_text.proofs.Zips.{zip-append, zip-drop, zip-take}
 use Rattle.kind_text.specs.Expansion.{Earlier, Guard, Reached, nothing, items, first_item, body, bounded, guard, guarded_by, start, guards_of, behind, through, along_path, used, form_item, node_item, text}
 
 module _ (E : Expanded → Expanded → Type 0) where
@@ -47,26 +48,6 @@ module _ (E : Expanded → Expanded → Type 0) where
     at-related (x ∷ xs) (y ∷ ys) all zero = all.0
     at-related (x ∷ xs) (y ∷ ys) all (suc i) = at-related xs ys all.1 i
 
-    pub take-related : (n : ℕ) (s u : List Item) → AllRelated s u → AllRelated (take n s) (take n u)
-    take-related zero s u all = tt
-    take-related (suc n) [] [] all = tt
-    take-related (suc n) [] (y ∷ ys) all = absurd all
-    take-related (suc n) (x ∷ xs) [] all = absurd all
-    take-related (suc n) (x ∷ xs) (y ∷ ys) all = (all.0, take-related n xs ys all.1)
-
-    pub drop-related : (n : ℕ) (s u : List Item) → AllRelated s u → AllRelated (drop n s) (drop n u)
-    drop-related zero s u all = all
-    drop-related (suc n) [] [] all = tt
-    drop-related (suc n) [] (y ∷ ys) all = absurd all
-    drop-related (suc n) (x ∷ xs) [] all = absurd all
-    drop-related (suc n) (x ∷ xs) (y ∷ ys) all = drop-related n xs ys all.1
-
-    pub append-related : (s u p q : List Item) → AllRelated s u → AllRelated p q → AllRelated (s ++ p) (u ++ q)
-    append-related [] [] p q all more = more
-    append-related [] (y ∷ ys) p q all more = absurd all
-    append-related (x ∷ xs) [] p q all more = absurd all
-    append-related (x ∷ xs) (y ∷ ys) p q all more = (all.0, append-related xs ys p q all.1 more)
-
     pub expressions-related : (ts us : Operands) → Each ts us → AllRelated (expressions ts) (expressions us)
     expressions-related Nil Nil each = tt
     expressions-related Nil (Cons u us) each = absurd each
@@ -100,12 +81,6 @@ module _ (E : Expanded → Expanded → Type 0) where
 
     abbrev pub Guards : List Guard → List Guard → Type 0
     Guards = AllZip SameBound
-
-    guards-append : (gs hs gs' hs' : List Guard) → Guards gs hs → Guards gs' hs' → Guards (gs ++ gs') (hs ++ hs')
-    guards-append [] [] gs' hs' all more = more
-    guards-append [] (h ∷ hs) gs' hs' all more = absurd all
-    guards-append (g ∷ gs) [] gs' hs' all more = absurd all
-    guards-append (g ∷ gs) (h ∷ hs) gs' hs' all more = (all.0, guards-append gs hs gs' hs' all.1 more)
 
     pub guard-related : (gs hs : List Guard) (t u : Expanded) → Guards gs hs → E t u → E (guard gs t) (guard hs u)
     guard-related [] [] t u all r = r
@@ -146,7 +121,7 @@ module _ (E : Expanded → Expanded → Type 0) where
       pub guards_of-related : (rs : List Replacement) (s u : List Item) → AllRelated s u → Guards (guards_of flat f rs s) (guards_of flat f rs u)
       guards_of-related [] s u all = tt
       guards_of-related (r ∷ rs) s u all =
-          guards-append _ _ _ _
+          zip-append SameBound _ _ _ _
           (guarded_by-related r.most _ _ (judged-related (places_of (slice_get flat.nodes r.root)) _ _ (keeps r.root s u all)))
           (guards_of-related rs s u all)
 
@@ -158,14 +133,14 @@ module _ (E : Expanded → Expanded → Type 0) where
       behind-related j s u a b all same =
           record {
             frame = items-related (map (λ r. r.root) j.replacements) s u all;
-            guards = guards-append _ _ _ _ same.guards (if-related j.guards _ _ (guards_of-related j.replacements s u all));
-            rest = drop-related j.parameters _ _ same.rest;
+            guards = zip-append SameBound _ _ _ _ same.guards (if-related j.guards _ _ (guards_of-related j.replacements s u all));
+            rest = zip-drop Related j.parameters _ _ same.rest;
           }
 
       pub through-related : (j : Option Instance) (a b : Reached) → SameReached a b → SameReached (through flat f j a) (through flat f j b)
       through-related None a b same = same
       through-related (Some j) a b same =
-          behind-related j _ _ a b (append-related _ _ _ _ (take-related j.outer _ _ same.frame) (take-related j.parameters _ _ same.rest)) same
+          behind-related j _ _ a b (zip-append Related _ _ _ _ (zip-take Related j.outer _ _ same.frame) (zip-take Related j.parameters _ _ same.rest)) same
 
       pub path-related : (path : List ℕ) (a b : Reached) → SameReached a b → SameReached (along_path flat f path a) (along_path flat f path b)
       path-related [] a b same = same
@@ -177,7 +152,7 @@ module _ (E : Expanded → Expanded → Type 0) where
       pub used-related : (a b : Reached) (d : ℕ) (xs ys : List Item) → SameReached a b → AllRelated xs ys → E (used flat f a d xs) (used flat f b d ys)
       used-related a b d xs ys same all =
           guard-related a.guards b.guards _ _ same.guards
-          (body-related (slice_get flat.definitions d) _ _ (λ n. append-related _ _ xs ys (take-related n _ _ same.frame) all))
+          (body-related (slice_get flat.definitions d) _ _ (λ n. zip-append Related _ _ xs ys (zip-take Related n _ _ same.frame) all))
 
       pub form-related : (form : Form) (is : List ℕ) → Keeps (form_item flat f form is)
       form-related (Form.Leaf k) is s u all = expression-related _ _ (kept.leaf (Some k))

@@ -1,11 +1,12 @@
 -- Kinds of bodies and of operators, from what was found.
 use Rattle.std.proofs.Common.{Vec, Global, ◌≡◌, ℕ, ◌<◌, List, [], ◌∷◌, ◌++◌, Option, Some, None, sym, ap, ◌∙◌, subst, length, arith}
 use Rattle.std.specs.Prelude.{slice_get}
+use Rattle.std.proofs.lemmas.List.Elements.{AllZip-push}
 use Rattle.tla_symbols.specs.declared.level.Kind.{Kind}
 use Rattle.tla_symbols.specs.declared.level.Rule.{Rule}
 use Rattle.tla_symbols.specs.declared.level.Rule.TheVariants.{Boolean}
 use Rattle.kind_text.specs.ExpandedKind.{kind, ruled}
-use Rattle.kind_text.specs.Substitution.{Alike, Item, expressions, leaves, operator}
+use Rattle.kind_text.specs.Substitution.{Alike, Item, Same, expressions, leaves, operator}
 use Rattle.kind_text.specs.FlatModule.{Definition, FlatModule}
 use Rattle.kind_text.specs.Expansion.{body, items, text, text_of}
 use Rattle.kind_table.specs.declared.argument.Arg.{Arg}
@@ -15,7 +16,7 @@ use Rattle.kind_table.specs.Weights.{node_cost, weight}
 use Rattle.kind_table.proofs.Unfolding.{kind-meaning, meaning-step}
 use Rattle.kind_table.proofs.Growth.{grows_on, heaviest-push, kinds-leaves, load_on, meaning_on, meanings-push, meanings_on, within-push, within_on}
 use Rattle.level_facts.specs.Judged.{Evaluates, EvaluatesAll, IsFound}
-use Rattle.level_facts.proofs.Likes.{alike-push, items-push}
+use Rattle.level_facts.proofs.Likes.{items-push}
 
 module _ (flat : FlatModule) where
   -- a definition's kind is that of its body
@@ -53,7 +54,7 @@ module _ (flat : FlatModule) where
   pub evaluates_more : {a b c : List Arg} {is frame ns : List ℕ} (i n : ℕ) → AllWithin a frame → EvaluatesAll flat a b is frame ns → Evaluates flat b c i frame n → EvaluatesAll flat a c (is ++ i ∷ []) frame (ns ++ n ∷ [])
   evaluates_more {a} {b} {c} {is} {frame} {ns} i n h e one =
       let k = evaluates_all_on (within_on e.grows frame h) e one.grows in
-      let s = alike-push _ _ _ _ k.same one.found.same in
+      let s = AllZip-push Same _ _ _ _ k.same one.found.same in
       let p = subst (λ x. Alike x (items (text flat) is (meanings flat c frame) ++ text flat i (meanings flat c frame) ∷ [])) (sym (meanings-push flat c ns n)) s in
       let w = heaviest-push (weight flat c) ns n in let ws = heaviest-push (node_cost flat) is i in
       record {

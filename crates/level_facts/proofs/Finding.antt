@@ -5,6 +5,7 @@ use Rattle.std.specs.List.{AllByRecursion}
 use Rattle.std.proofs.lemmas.Option.{slice_get_within}
 use Rattle.tla_symbols.specs.declared.level.Kind.{Kind}
 use Rattle.tla_symbols.specs.declared.level.Rule.{Rule}
+use Rattle.kind_text.proofs.Zips.{zip-append, zip-take}
 use Rattle.kind_text.specs.ExpandedKind.{Expanded, Given, Ruled, kind, kinds, ruled}
 use Rattle.kind_text.specs.Substitution.{Alike, Item, Same, at, expression, expressions, leaves, operator, texts}
 use Rattle.kind_text.specs.FlatModule.{FlatModule, Form, IsOrdered, Node, UsesDefinition, UsesEarlier}
@@ -20,13 +21,13 @@ use Rattle.kind_table.specs.declared.flat.FlatModule as tables
 use Rattle.kind_table.specs.Flattened.{flat_of, form_of, node_of}
 use Rattle.kind_table.specs.Table.{AllWithin, Grows, IsStored, bounded_kind, meaning, meanings, value_at}
 use Rattle.kind_table.specs.Weights.{body_cost, longest, node_cost, path_length, times, weight}
-use Rattle.kind_table.proofs.Unfolding.{alike-append, alike-expressions, alike-meanings, meaning-step, same-body, same-expression, same-meaning, same-operator, weight-step}
+use Rattle.kind_table.proofs.Unfolding.{alike-expressions, alike-meanings, meaning-step, same-body, same-expression, same-meaning, same-operator, weight-step}
 use Rattle.kind_table.proofs.Growth.{grows_on, kinds-leaves, kinds-meanings, load_on, longer, meaning_on, meanings_on, weight_on}
 use Rattle.kind_table.proofs.Weighing.{cost-split, longest-at, times-most}
 use Rattle.kind_table.proofs.Reading.{node-read}
 use Rattle.level_facts.specs.declared.steps.Reached.{Reached}
 use Rattle.level_facts.specs.Judged.{IsClosure, IsFound, IsOperand, Picked, ReachesPath, lower_cost_of, use_kind_of}
-use Rattle.level_facts.proofs.Likes.{alike-take, kind-bounded, kinds-texts, reached-same, rest-same, same-trans, used-same}
+use Rattle.level_facts.proofs.Likes.{kind-bounded, kinds-texts, reached-same, rest-same, same-trans, used-same}
 
 -- what was found stays found
 pub found_on : (flat : FlatModule) {a b : List Arg} (i : ℕ) (frame : List ℕ) (n : ℕ) → Grows a b → AllWithin a frame → IsFound flat a i frame n → IsFound flat b i frame n
@@ -150,7 +151,7 @@ module _ (flat : FlatModule) (ordered : IsOrdered flat) {i : ℕ} {parts : List 
       record {
         within = o.within;
         same = subst (λ x. Same (meaning flat new n) x) (sym it) (same-trans _ _ _ o.same (same-operator _ _ (λ ts us e.
-            same-body flat (slice_get flat.definitions d) _ _ (λ outer. alike-append _ _ _ _ (alike-take outer _ _ frames) (alike-expressions ts us e))
+            same-body flat (slice_get flat.definitions d) _ _ (λ outer. zip-append Same _ _ _ _ (zip-take Same outer _ _ frames) (alike-expressions ts us e))
             ∙ sym (ap (λ b. cond b (kind (body (text flat) (slice_get flat.definitions d) (λ outer. take outer from.frame ++ expressions us))) None) all_met)
             ∙ sym (named us))));
         light = omega (arith, o.light, c.0, c.1, c.2, l, lo, t, h.light, p.light);

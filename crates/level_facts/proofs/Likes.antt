@@ -19,26 +19,6 @@ alike-trans (x ∷ xs) [] zs p q = absurd p
 alike-trans (x ∷ xs) (y ∷ ys) [] p q = absurd q
 alike-trans (x ∷ xs) (y ∷ ys) (z ∷ zs) p q = (same-trans x y z p.0 q.0, alike-trans xs ys zs p.1 q.1)
 
-pub alike-take : (n : ℕ) (s u : List Item) → Alike s u → Alike (take n s) (take n u)
-alike-take zero s u h = tt
-alike-take (suc n) [] [] h = tt
-alike-take (suc n) [] (y ∷ ys) h = absurd h
-alike-take (suc n) (x ∷ xs) [] h = absurd h
-alike-take (suc n) (x ∷ xs) (y ∷ ys) h = (h.0, alike-take n xs ys h.1)
-
-pub alike-drop : (n : ℕ) (s u : List Item) → Alike s u → Alike (drop n s) (drop n u)
-alike-drop zero s u h = h
-alike-drop (suc n) [] [] h = tt
-alike-drop (suc n) [] (y ∷ ys) h = absurd h
-alike-drop (suc n) (x ∷ xs) [] h = absurd h
-alike-drop (suc n) (x ∷ xs) (y ∷ ys) h = alike-drop n xs ys h.1
-
-pub alike-push : (xs ys : List Item) (x y : Item) → Alike xs ys → Same x y → Alike (xs ++ x ∷ []) (ys ++ y ∷ [])
-alike-push [] [] x y h s = (s, tt)
-alike-push [] (b ∷ ys) x y h s = absurd h
-alike-push (a ∷ xs) [] x y h s = absurd h
-alike-push (a ∷ xs) (b ∷ ys) x y h s = (h.0, alike-push xs ys x y h.1 s)
-
 pub items-push : (f : ℕ → List Item → Item) (is : List ℕ) (i : ℕ) (s : List Item) → items f (is ++ i ∷ []) s ≡ items f is s ++ f i s ∷ []
 items-push f [] i s = refl
 items-push f (j ∷ is) i s = ap (λ xs. f j s ∷ xs) (items-push f is i s)

@@ -3,6 +3,7 @@ use Rattle.std.proofs.Common.{Vec, Global, ◌≡◌, ℕ, ◌+◌, ◌<◌, ◌
 use Rattle.std.specs.Prelude.{slice_get}
 use Rattle.std.proofs.lemmas.Option.{slice_get_within}
 use Rattle.tla_symbols.specs.declared.level.Kind.TheVariants.{Const}
+use Rattle.kind_text.proofs.Zips.{zip-append, zip-take}
 use Rattle.kind_text.specs.ExpandedKind.{Given, kind}
 use Rattle.kind_text.specs.Substitution.{Alike, Same, expression, expressions, operator}
 use Rattle.kind_text.specs.FlatModule.{Definition, FlatModule}
@@ -11,11 +12,10 @@ use Rattle.kind_table.specs.declared.argument.Arg.{Arg}
 use Rattle.kind_table.specs.declared.argument.Arg.TheVariants.{Value, Operator}
 use Rattle.kind_table.specs.Table.{AllWithin, Grows, IsStored, IsTable, meaning, meanings}
 use Rattle.kind_table.specs.Weights.{body_cost, load, weight}
-use Rattle.kind_table.proofs.Unfolding.{alike-append, alike-expressions, alike-meanings, meaning-step, same-body, same-operator, weight-step}
+use Rattle.kind_table.proofs.Unfolding.{alike-expressions, alike-meanings, meaning-step, same-body, same-operator, weight-step}
 use Rattle.kind_table.proofs.Growth.{grows_not}
 use Rattle.kind_table.proofs.Weighing.{at-map, at-past, load-at, load-take, lower-at, map-take}
 use Rattle.level_facts.specs.Judged.{IsClosure, IsOperand}
-use Rattle.level_facts.proofs.Likes.{alike-take}
 
 module _ (flat : FlatModule) where
   -- the number that stands there
@@ -47,14 +47,14 @@ module _ (flat : FlatModule) where
       let v : weight flat new n ≡ load flat new e.0.items + body_cost flat (slice_get flat.definitions d) = weight-step flat new n (Operator d e.0) g.table e.1 in
       let l = ap (load flat new) items_are in let t = load-take (weight flat new) x.outer frame in
       let frames : Alike (meanings flat new e.0.items) (take x.outer (meanings flat new frame)) =
-      subst (λ y. Alike y (take x.outer (meanings flat new frame))) (sym (ap (meanings flat new) items_are ∙ map-take (meaning flat new) x.outer frame)) (alike-take x.outer _ _ (alike-meanings flat new frame)) in
+      subst (λ y. Alike y (take x.outer (meanings flat new frame))) (sym (ap (meanings flat new) items_are ∙ map-take (meaning flat new) x.outer frame)) (zip-take Same x.outer _ _ (alike-meanings flat new frame)) in
       record {
         grows = g;
         within = slice_get_within new n _ e.1;
         same = subst (λ y. Same y (operator (λ ts. body (text flat) (slice_get flat.definitions d) (λ outer. take outer (meanings flat new frame) ++ expressions ts)))) (sym m)
             (same-operator _ _ (λ ts us q.
             ap (λ o. kind (body (text flat) o (λ outer. meanings flat new e.0.items ++ expressions ts))) at_d
-            ∙ same-body flat (Some x) (λ outer. meanings flat new e.0.items ++ expressions ts) (λ outer. take x.outer (meanings flat new frame) ++ expressions us) (λ outer. alike-append _ _ _ _ frames (alike-expressions ts us q))
+            ∙ same-body flat (Some x) (λ outer. meanings flat new e.0.items ++ expressions ts) (λ outer. take x.outer (meanings flat new frame) ++ expressions us) (λ outer. zip-append Same _ _ _ _ frames (alike-expressions ts us q))
             ∙ sym (ap (λ o. kind (body (text flat) o (λ outer. take outer (meanings flat new frame) ++ expressions us))) at_d)));
         light = omega (arith, v, l, t);
       }

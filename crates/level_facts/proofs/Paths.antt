@@ -5,8 +5,9 @@ use Rattle.std.specs.List.{AllByRecursion}
 use Rattle.std.proofs.lemmas.List.{length-map, length_push}
 use Rattle.std.proofs.lemmas.Option.{slice_get_read, slice_get_within}
 use Rattle.tla_symbols.specs.declared.level.Kind.{Kind}
+use Rattle.kind_text.proofs.Zips.{zip-append, zip-drop, zip-take}
 use Rattle.kind_text.specs.ExpandedKind.{kind}
-use Rattle.kind_text.specs.Substitution.{Alike, Item}
+use Rattle.kind_text.specs.Substitution.{Alike, Item, Same}
 use Rattle.kind_text.specs.FlatModule.{Definition, FlatModule, UsesDefinition, UsesInstance}
 use Rattle.kind_text.specs.FlatModule as flat
 use Rattle.kind_text.specs.Expansion as expansion
@@ -19,13 +20,13 @@ use Rattle.kind_table.specs.declared.flat.FlatModule as tables
 use Rattle.kind_table.specs.Flattened.{flat_of, instance_of, replacement_of}
 use Rattle.kind_table.specs.Table.{AllWithin, Grows, IsTable, meaning, meanings}
 use Rattle.kind_table.specs.Weights.{body_cost, heaviest, load, longest, node_cost, times, weight}
-use Rattle.kind_table.proofs.Unfolding.{alike-append, alike-meanings, same-body}
+use Rattle.kind_table.proofs.Unfolding.{alike-meanings, same-body}
 use Rattle.kind_table.proofs.Growth.{grows_not, grows_on, load_on, meanings_on, within_on}
 use Rattle.kind_table.proofs.Reading.{definition-there, instance-there}
 use Rattle.kind_table.proofs.Weighing.{heaviest-lower, load-append, load-drop, load-take, map-append, map-drop, map-take, times-more, times-most, within-append, within-drop, within-take}
 use Rattle.level_facts.specs.declared.steps.Reached.{Reached}
 use Rattle.level_facts.specs.Judged.{EvaluatesAll, IsReached, LeadsThrough, MeetsGuards, Reaches, ReachesPath, UsesPath, around_of, lower_cost_of, use_kind_of}
-use Rattle.level_facts.proofs.Likes.{alike-drop, alike-items, alike-take, alike-trans, met-append}
+use Rattle.level_facts.proofs.Likes.{alike-items, alike-trans, met-append}
 use Rattle.level_facts.proofs.Finding.{closure_cost}
 use Rattle.level_facts.proofs.Guards.{roots-same, roots_of}
 
@@ -89,7 +90,7 @@ module _ (flat : FlatModule) where
   round_alike table frame rest round outer parameters s xs is h k =
       let m = meaning flat table in
       subst (λ y. Alike y (take outer s ++ take parameters xs)) (sym (ap (map m) is ∙ map-append m (take outer frame) (take parameters rest) ∙ ap (λ y. y ++ map m (take parameters rest)) (map-take m outer frame) ∙ ap (λ y. take outer (map m frame) ++ y) (map-take m parameters rest)))
-      (alike-append _ _ _ _ (alike-take outer _ _ h) (alike-take parameters _ _ k))
+      (zip-append Same _ _ _ _ (zip-take Same outer _ _ h) (zip-take Same parameters _ _ k))
 
   -- what stands round an instance is there
   pub around_within : (table : List Arg) (x : Instance) (r : Reached) (round : List ℕ) → IsReached table r → round ≡ around_of x r → AllWithin table round
@@ -145,7 +146,7 @@ module _ (flat : FlatModule) where
           let frames : Alike (meanings flat mid next.frame.items) (items (text flat) roots s) = alike-trans _ _ _ (subst (λ z. Alike (meanings flat mid next.frame.items) (items (text flat) z (meanings flat mid round))) (roots-same x.replacements.items) e.same) (alike-items flat roots _ _ at_mid) in
           let all = grows_on e.grows g.grows in
           let rests : Alike (meanings flat new next.rest.items) (drop x.parameters y.rest) =
-          subst (λ z. Alike z (drop x.parameters y.rest)) (sym (meanings_on flat all next.rest.items w_rest ∙ ap (map (meaning flat old)) rest_is ∙ map-drop (meaning flat old) x.parameters r.rest.items)) (alike-drop x.parameters _ _ h.rest) in
+          subst (λ z. Alike z (drop x.parameters y.rest)) (sym (meanings_on flat all next.rest.items w_rest ∙ ap (map (meaning flat old)) rest_is ∙ map-drop (meaning flat old) x.parameters r.rest.items)) (zip-drop Same x.parameters _ _ h.rest) in
           let new_frames : Alike (meanings flat new next.frame.items) (items (text flat) roots s) = subst (λ z. Alike z (items (text flat) roots s)) (sym (meanings_on flat g.grows next.frame.items e.within)) frames in
           let meets = met_is ∙ ap (λ b. b && met) h.met ∙ ap (λ b. are_met y.guards && b) (g.is s frames) ∙ sym (met-append y.guards (cond x.guards (guards_of flat (text flat) (instance_of x).replacements s) [])) in
           subst (λ o. Reaches flat new next (through flat (text flat) o y)) (sym at.here) (record { frame = new_frames; rest = rests; met = meets })
@@ -216,7 +217,7 @@ module _ (flat : FlatModule) where
       let w = used_within node path x frame ns round r h round_is in
       let frames : Alike (meanings flat mid round) (take x.outer from.frame ++ from.rest) =
       subst (λ y. Alike y (take x.outer from.frame ++ from.rest)) (sym (ap (map m) round_is ∙ map-append m (take x.outer r.frame.items) r.rest.items ∙ ap (λ y. y ++ map m r.rest.items) (map-take m x.outer r.frame.items)))
-      (alike-append _ _ _ _ (alike-take x.outer _ _ h.reaches.frame) h.reaches.rest) in
+      (zip-append Same _ _ _ _ (zip-take Same x.outer _ _ h.reaches.frame) h.reaches.rest) in
       is ∙ ap (λ s. kind (text_of flat d s)) (meanings_on flat g round w)
       ∙ ap (λ o. kind (body (text flat) o (λ outer. meanings flat mid round))) at_d
       ∙ same-body flat (Some x) (λ outer. meanings flat mid round) (λ outer. take x.outer from.frame ++ from.rest) (λ n. frames)
