@@ -139,7 +139,8 @@ old_of_what_is_put_in : kinds olds (Parameter ∷ Constant ∷ []) (5 ∷ 10 ∷
 unfolding within
 old_of_what_is_put_in = refl
 
--- VARIABLE x | D0 == x' | D1 == D0 /\ D0 | D2 == D1 /\ D1, and so on: the nodes and the definitions of so many more
+-- a variable x, Next == x', and then definitions of which each is a conjunction of two uses of the one before it: the nodes and the
+-- definitions of so many of these
 abbrev doubled : ℕ → ℕ → List Node
 doubled k zero = []
 doubled k (suc n) = use_of k [] ∷ use_of k [] ∷ node (Form.Operation Boolean) ((3 * k + 2) ∷ (3 * k + 3) ∷ []) ∷ doubled (suc k) n
