@@ -12,12 +12,12 @@ use Rattle.tla_model.specs.Scopes.{prefixed, itself as as_spelled}
 use Rattle.module_model.specs.Exports.{Known}
 use Rattle.kind_text.specs.ExpandedKind.{Operands, Ruled}
 use Rattle.kind_text.specs.FlatModule.{FlatModule, Form as NodeForm}
-use Rattle.kind_text.specs.Expansion.{Earlier, bounded, first_item, form_item, items as items_at}
+use Rattle.kind_text.specs.Expansion.{Earlier, bounded, form_item, items as items_at}
 use Rattle.kind_text.specs.Substitution.{Item, expression, expressions, operator, texts}
 use Rattle.level_text.specs.FormRules.{form_rule, rule_operands, symbol_rule}
 use Rattle.tree_kinds.specs.Standing.{Outside}
-use Rattle.tree_kinds.specs.Expanding.{Around, bare_rule, before_scope, changed, expand, in_scope, inner, items, operands, ruled_text, symbol_name, symbol_text}
-use Rattle.tree_kinds.specs.Making.{IsBody, IsMade, IsOperation, IsSymbol}
+use Rattle.tree_kinds.specs.Expanding.{Around, bare_rule, before_scope, changed, expand, in_scope, items, operands, ruled_text, symbol_name, symbol_text}
+use Rattle.tree_kinds.specs.Making.{IsMade, IsOperation, IsSymbol}
 
 texts-expressions : (ts : Operands) → texts (expressions ts) ≡ ts
 texts-expressions Operands.Nil = refl
@@ -37,13 +37,6 @@ module _ (flat : FlatModule) (f : Earlier) (form : NodeForm) (is : List ℕ) (s 
   bare-symbol around (Some rule) name made =
       ap (λ g. form_item flat f g is s) made ∙ ap operator (fun_ext (λ ts. sym (ap (Ruled rule) (texts-expressions ts))))
 
-  body : (x : Item) → IsBody x form (items_at f is s) → form_item flat f form is s ≡ x
-  body x made = ap (λ g. form_item flat f g is s) made.1 ∙ first is made.2
-    where
-      first : (js : List ℕ) → items_at f js s ≡ x ∷ made.0 → first_item f js s ≡ x
-      first [] e = cc
-      first (j ∷ js) e = cc
-
   module _ (text : Text) (known : Known) (named : List ℕ → Outside) (around : Around) where
     pub made-form : (x : Tree) → IsMade text known named around x form (items_at f is s) → form_item flat f form is s ≡ expand text known named around x
     made-form (Node Form.Identifier sp parts) made = absurd made
@@ -54,8 +47,8 @@ module _ (flat : FlatModule) (f : Earlier) (form : NodeForm) (is : List ℕ) (s 
     made-form (Node (Form.Prefix l) sp parts) made = symbol-operation around (symbol_rule Prefix l.kind) (symbol_name prefixed l.kind) (items text known named around parts) made
     made-form (Node (Form.Infix l) sp parts) made = symbol-operation around (symbol_rule Infix l.kind) (symbol_name as_spelled l.kind) (items text known named around parts) made
     made-form (Node (Form.Postfix l) sp parts) made = symbol-operation around (symbol_rule Postfix l.kind) (symbol_name as_spelled l.kind) (items text known named around parts) made
-    made-form (Node Form.Parentheses sp parts) made = body (inner text known named around parts) made
-    made-form (Node Form.Let sp parts) made = body (inner text known named around parts) made
+    made-form (Node Form.Parentheses sp parts) made = absurd made
+    made-form (Node Form.Let sp parts) made = absurd made
     made-form (Node Form.Except sp parts) made = operation (Some Plain) (changed text known named around parts) made
     made-form (Node (Form.BoundedQuantifier l) sp parts) made = ap (λ g. form_item flat f g is s) made.0 ∙ ap (λ ts. expression (bounded ts)) made.1
     made-form (Node written sp parts) made =

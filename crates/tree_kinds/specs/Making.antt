@@ -1,5 +1,6 @@
 -- When a node of a flat module has the form of a written tree, over parts that are what the tree is made of. Of names, and of
--- symbols that are defined, nothing is said here: these are made by what stands for them.
+-- symbols that are defined, nothing is said here: these are made by what stands for them. Nor is it of parentheses and of LET,
+-- which are made by what they are round.
 use Rattle.std.specs.Prelude.{◌≡◌, ℕ, List, ◌∷◌, Option, Some, None}
 use Rattle.tla_symbols.specs.declared.level.Kind.TheVariants.{Const}
 use Rattle.tla_symbols.specs.declared.level.Rule.{Rule}
@@ -30,10 +31,6 @@ abbrev pub IsSymbol : Option Rule → Made
 IsSymbol None form parts = ⊥
 IsSymbol (Some rule) form parts = form ≡ NodeForm.Symbol rule
 
--- parentheses or a LET round this item; further parts do not count
-abbrev pub IsBody : Item → Made
-IsBody x form parts = (rest : List Item) × (form ≡ NodeForm.Let) × (parts ≡ x ∷ rest)
-
 module _ (text : Text) (known : Known) (named : List ℕ → Outside) where
   -- the node has the form of a written tree, over parts that are what the tree is made of
   abbrev pub IsMade : Around → Tree → Made
@@ -45,8 +42,8 @@ module _ (text : Text) (known : Known) (named : List ℕ → Outside) where
   IsMade around (Node (Form.Prefix l) s parts) form made = IsOperation (symbol_rule Prefix l.kind) (texts (items text known named around parts)) form made
   IsMade around (Node (Form.Infix l) s parts) form made = IsOperation (symbol_rule Infix l.kind) (texts (items text known named around parts)) form made
   IsMade around (Node (Form.Postfix l) s parts) form made = IsOperation (symbol_rule Postfix l.kind) (texts (items text known named around parts)) form made
-  IsMade around (Node Form.Parentheses s parts) form made = IsBody (inner text known named around parts) form made
-  IsMade around (Node Form.Let s parts) form made = IsBody (inner text known named around parts) form made
+  IsMade around (Node Form.Parentheses s parts) form made = ⊥
+  IsMade around (Node Form.Let s parts) form made = ⊥
   IsMade around (Node Form.Except s parts) form made = IsOperation (Some Plain) (changed text known named around parts) form made
   IsMade around (Node (Form.BoundedQuantifier l) s parts) form made =
       (form ≡ NodeForm.Bounded)
