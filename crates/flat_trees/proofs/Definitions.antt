@@ -1,5 +1,5 @@
 -- Definitions in a flat module stand for what the written ones give.
-use Rattle.std.proofs.Common.{◌≡◌, ℕ, ◌≤◌, true, false, List, [], ◌∷◌, ◌++◌, Some, None, map, refl, sym, ap, ◌∙◌, subst, take, length, arith}
+use Rattle.std.proofs.Common.{◌≡◌, ℕ, ◌≤◌, Bool, true, false, List, [], ◌∷◌, ◌++◌, Some, None, map, refl, sym, ap, ◌∙◌, subst, take, length, arith}
 use Rattle.std.specs.Prelude.{slice_get}
 use Rattle.std.proofs.Math.Seq.{take-length}
 use mathlib.Core.Path.{fun_ext}
@@ -66,61 +66,12 @@ module _ (flat : FlatModule) (text : Text) (known : Known) (named : List ℕ →
       subst (λ value. IsStanding flat frame [] (Defined d (map order_of (parameters_of text form parts))) value) (fun_ext (λ arguments. fun_ext (λ path. operator-value around form l sp parts arguments path e)))
       (operator-stands form parts d x there outer body frame around agrees)
 
-  inner-behind : (around : Around) (form : Form.the_data) (sp : Span) (parts rest : Trees) → helps form ≡ true → inner text known named around (Cons (Node form sp parts) rest) ≡ inner text known named (behind_definition text known named around (Node form sp parts) (defined_value text known named around (Node form sp parts))) rest
-  inner-behind around (Form.Segment name) sp parts rest help = refl
-  inner-behind around (Form.Name name) sp parts rest help = refl
-  inner-behind around Form.Names sp parts rest help = refl
-  inner-behind around Form.TupleNames sp parts rest help = refl
-  inner-behind around Form.Bound sp parts rest help = refl
-  inner-behind around Form.TupleBound sp parts rest help = refl
-  inner-behind around Form.Bounds sp parts rest help = refl
-  inner-behind around (Form.Field name) sp parts rest help = refl
-  inner-behind around Form.Update sp parts rest help = refl
-  inner-behind around (Form.FieldStep name) sp parts rest help = refl
-  inner-behind around Form.IndexStep sp parts rest help = refl
-  inner-behind around Form.Arm sp parts rest help = refl
-  inner-behind around Form.OtherArm sp parts rest help = refl
-  inner-behind around (Form.OperatorDefinition name) sp parts rest help = refl
-  inner-behind around (Form.PrefixDefinition name) sp parts rest help = refl
-  inner-behind around (Form.InfixDefinition name) sp parts rest help = refl
-  inner-behind around (Form.PostfixDefinition name) sp parts rest help = refl
-  inner-behind around (Form.FunctionDefinition name) sp parts rest help = refl
-  inner-behind around (Form.ModuleDefinition name) sp parts rest help = refl
-  inner-behind around (Form.Instance name) sp parts rest help = refl
-  inner-behind around (Form.Replacement name) sp parts rest help = refl
-  inner-behind around (Form.OperatorParameter name places) sp parts rest help = refl
-  inner-behind around (Form.PrefixParameter name) sp parts rest help = refl
-  inner-behind around (Form.InfixParameter name) sp parts rest help = refl
-  inner-behind around (Form.PostfixParameter name) sp parts rest help = refl
-  inner-behind around form sp parts rest help = cc
-
-  inner-itself : (around : Around) (form : Form.the_data) (sp : Span) (parts rest : Trees) → helps form ≡ false → inner text known named around (Cons (Node form sp parts) rest) ≡ expand text known named around (Node form sp parts)
-  inner-itself around (Form.Segment name) sp parts rest help = cc
-  inner-itself around (Form.Name name) sp parts rest help = cc
-  inner-itself around Form.Names sp parts rest help = cc
-  inner-itself around Form.TupleNames sp parts rest help = cc
-  inner-itself around Form.Bound sp parts rest help = cc
-  inner-itself around Form.TupleBound sp parts rest help = cc
-  inner-itself around Form.Bounds sp parts rest help = cc
-  inner-itself around (Form.Field name) sp parts rest help = cc
-  inner-itself around Form.Update sp parts rest help = cc
-  inner-itself around (Form.FieldStep name) sp parts rest help = cc
-  inner-itself around Form.IndexStep sp parts rest help = cc
-  inner-itself around Form.Arm sp parts rest help = cc
-  inner-itself around Form.OtherArm sp parts rest help = cc
-  inner-itself around (Form.OperatorDefinition name) sp parts rest help = cc
-  inner-itself around (Form.PrefixDefinition name) sp parts rest help = cc
-  inner-itself around (Form.InfixDefinition name) sp parts rest help = cc
-  inner-itself around (Form.PostfixDefinition name) sp parts rest help = cc
-  inner-itself around (Form.FunctionDefinition name) sp parts rest help = cc
-  inner-itself around (Form.ModuleDefinition name) sp parts rest help = cc
-  inner-itself around (Form.Instance name) sp parts rest help = cc
-  inner-itself around (Form.Replacement name) sp parts rest help = cc
-  inner-itself around (Form.OperatorParameter name places) sp parts rest help = cc
-  inner-itself around (Form.PrefixParameter name) sp parts rest help = cc
-  inner-itself around (Form.InfixParameter name) sp parts rest help = cc
-  inner-itself around (Form.PostfixParameter name) sp parts rest help = cc
-  inner-itself around form sp parts rest help = refl
+  -- the body of forms that define, and of those that do not, by what the form is
+  inner-by : (around : Around) (form : Form.the_data) (sp : Span) (parts rest : Trees) (help : Bool) → helps form ≡ help → inner text known named around (Cons (Node form sp parts) rest) ≡ elim help [
+    | true ↦ inner text known named (behind_definition text known named around (Node form sp parts) (defined_value text known named around (Node form sp parts))) rest
+    | false ↦ expand text known named around (Node form sp parts)
+  ]
+  inner-by around form sp parts rest help e = cc
 
   -- a body behind a definition
   pub body-behind : (i : ℕ) (form : Form.the_data) (sp : Span) (parts rest : Trees) (stand : Stand) → helps form ≡ true → Stands flat layout stand (λ around. defined_value text known named around (Node form sp parts)) → IsBody flat text known named (layout_behind text layout (Node form sp parts) stand) i rest → IsBody flat text known named layout i (Cons (Node form sp parts) rest)
@@ -128,13 +79,13 @@ module _ (flat : FlatModule) (text : Text) (known : Known) (named : List ℕ →
       let value = defined_value text known named around (Node form sp parts) in
       let behind = behind_definition text known named around (Node form sp parts) value in
       body frame more behind (behind-agrees flat text known named layout frame around agrees (Node form sp parts) stand value (stands frame around agrees))
-      ∙ sym (ap (λ (x : Item). x.text) (inner-behind around form sp parts rest help))
+      ∙ sym (ap (λ (x : Item). x.text) (inner-by around form sp parts rest true help))
 
   -- the body itself
   pub body-itself : (i : ℕ) (form : Form.the_data) (sp : Span) (parts rest : Trees) → helps form ≡ false → places_at text known named layout.context (Node form sp parts) ≡ None → IsMeant flat text known named layout i (Node form sp parts) → IsBody flat text known named layout i (Cons (Node form sp parts) rest)
   body-itself i form sp parts rest help plain meant frame more around agrees =
       subst (λ o. Matches (order_by o) (text_at flat i (frame ++ more)) (expand text known named around (Node form sp parts))) plain (meant frame more around agrees)
-      ∙ sym (ap (λ (x : Item). x.text) (inner-itself around form sp parts rest help))
+      ∙ sym (ap (λ (x : Item). x.text) (inner-by around form sp parts rest false help))
 
   -- a node that is built of a tree over each frame that agrees
   pub node-meant : (i : ℕ) (node : FlatNode) (x : Tree) → IsOrdered flat → slice_get flat.nodes i ≡ Some node → IsBuiltAt flat text known named layout node x → IsMeant flat text known named layout i x

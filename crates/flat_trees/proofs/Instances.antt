@@ -19,7 +19,7 @@ use Rattle.tree_kinds.specs.Standing.{Environment, Outside, Steps, Value, operat
 use Rattle.tree_kinds.specs.Expanding.{Around, Replaced, Written, behind_instance, bringing, defined_value, guard_of, module_of, replaced_by, replacements, right_sides, through, unguarded, with_parameters, with_replaced, written_for}
 use Rattle.flat_trees.specs.Stands.{AreStanding, IsItem, IsStanding, Matches, Stand, Unsaid, Leaf, Place, Defined, Through, Brought, count, passed}
 use Rattle.flat_trees.specs.Layouts.{Agrees, Layout, Stands, layout_with, order_of, parameters_of, with_brought}
-use Rattle.flat_trees.specs.Instances.{AreReplaced, IsLeafOf, IsMade, IsModule, IsPutIn, exported_value, instance_in, symbols_of, with_symbols}
+use Rattle.flat_trees.specs.Instances.{AreReplaced, IsLeafOf, IsMadeInstance, IsModule, IsPutIn, exported_value, instance_in, symbols_of, with_symbols}
 use Rattle.flat_trees.proofs.Agreeing.{append-append, at-behind, brought-stand, item-value, map-length, with-agrees, with-stand-stands}
 use Rattle.flat_trees.proofs.Definitions.{take-all}
 use Rattle.flat_trees.proofs.Reaching.{append-nil}
@@ -155,7 +155,7 @@ module _ (flat : FlatModule) where
         (symbols-stand (module_of text known named l).is_constant s [] x.replacements rs base around.standing all (λ frame meaning. leaf-stands s frame (base meaning) (layout.stands meaning) (around.standing meaning) (leaves meaning) (standing meaning))))
         name
 
-    pub instance-stands : (layout : Layout) (own : Lexeme) (sp : Span) (parts : Trees) (j : ℕ) (x : Instance) (l : Lexeme) (rights : Trees) (base : Meaning → Stand) (inner : Named → Stand) → IsMade flat layout j x (length (parameters_of text (Form.ModuleDefinition own) parts)) true → instance_in parts ≡ Some (l, rights) → IsModule flat (with_symbols base (symbols_of (module_of text known named l)) 0) (length (symbols_of (module_of text known named l))) inner (module_of text known named l) → ((meaning : Meaning) → IsLeafOf (base meaning) ((layout_with text layout (Form.ModuleDefinition own) parts).stands meaning)) → IsPutIn flat text known named (layout_with text layout (Form.ModuleDefinition own) parts) x l rights → Stands flat layout (Through j (map order_of (parameters_of text (Form.ModuleDefinition own) parts)) inner) (λ around. defined_value text known named around (Node (Form.ModuleDefinition own) sp parts))
+    pub instance-stands : (layout : Layout) (own : Lexeme) (sp : Span) (parts : Trees) (j : ℕ) (x : Instance) (l : Lexeme) (rights : Trees) (base : Meaning → Stand) (inner : Named → Stand) → IsMadeInstance flat layout j x (length (parameters_of text (Form.ModuleDefinition own) parts)) true → instance_in parts ≡ Some (l, rights) → IsModule flat (with_symbols base (symbols_of (module_of text known named l)) 0) (length (symbols_of (module_of text known named l))) inner (module_of text known named l) → ((meaning : Meaning) → IsLeafOf (base meaning) ((layout_with text layout (Form.ModuleDefinition own) parts).stands meaning)) → IsPutIn flat text known named (layout_with text layout (Form.ModuleDefinition own) parts) x l rights → Stands flat layout (Through j (map order_of (parameters_of text (Form.ModuleDefinition own) parts)) inner) (λ around. defined_value text known named around (Node (Form.ModuleDefinition own) sp parts))
     instance-stands layout own sp parts j x l rights base inner is first kept leaves put frame around agrees =
         let room : x.outer ≤ length frame = let outer = is.outer in let e = agrees.places in omega (arith, e, outer) in (
           x,
@@ -181,7 +181,7 @@ module _ (flat : FlatModule) where
               (subst (λ b. IsStanding flat behind (cond b (guards_of flat (text_at flat) x.replacements (frame ++ made)) []) (inner name) whole) (sym is.guards) as-whole),
         )
 
-    pub brought-agrees : (layout : Layout) (frame : List Item) (around : Around) (j : ℕ) (x : Instance) (l : Lexeme) (sp : Span) (rights : Trees) (base : Meaning → Stand) (inner : Named → Stand) (entries : Exports) → IsMade flat layout j x 0 false → IsModule flat (with_symbols base (symbols_of (module_of text known named l)) 0) (length (symbols_of (module_of text known named l))) inner (module_of text known named l) → ((meaning : Meaning) → IsLeafOf (base meaning) (layout.stands meaning)) → IsPutIn flat text known named layout x l rights → Agrees flat layout frame around → AreStanding flat frame (with_brought layout.stands entries j inner) (bringing text known named around entries (Node (Form.Instance l) sp rights))
+    pub brought-agrees : (layout : Layout) (frame : List Item) (around : Around) (j : ℕ) (x : Instance) (l : Lexeme) (sp : Span) (rights : Trees) (base : Meaning → Stand) (inner : Named → Stand) (entries : Exports) → IsMadeInstance flat layout j x 0 false → IsModule flat (with_symbols base (symbols_of (module_of text known named l)) 0) (length (symbols_of (module_of text known named l))) inner (module_of text known named l) → ((meaning : Meaning) → IsLeafOf (base meaning) (layout.stands meaning)) → IsPutIn flat text known named layout x l rights → Agrees flat layout frame around → AreStanding flat frame (with_brought layout.stands entries j inner) (bringing text known named around entries (Node (Form.Instance l) sp rights))
     brought-agrees layout frame around j x l sp rights base inner entries is kept leaves put agrees =
         let room : x.outer ≤ length frame = let outer = is.outer in let e = agrees.places in omega (arith, e, outer) in
         let rs = replacements text known named around l (right_sides text known named around rights) in

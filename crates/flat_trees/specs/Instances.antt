@@ -65,7 +65,7 @@ module _ (flat : FlatModule) where
       → AreReplaced (module_of text known named l).is_constant frame x.replacements (replacements text known named around l (right_sides text known named around rights))
 
   -- an instance with so many parameters and all places round it, and whether it guards
-  pub record IsMade (layout : Layout) (j : ℕ) (x : Instance) (count : ℕ) (guarding : Bool) : Type 0 where
+  pub record IsMadeInstance (layout : Layout) (j : ℕ) (x : Instance) (count : ℕ) (guarding : Bool) : Type 0 where
     pub there : slice_get flat.instances j ≡ Some x
     pub outer : x.outer ≡ layout.places
     pub parameters : x.parameters ≡ count

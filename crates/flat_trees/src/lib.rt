@@ -31,7 +31,7 @@ ghost use Rattle.flat_trees.specs.Layouts.{Agrees, Gives, IsBody, IsBuiltAt, IsM
 ghost use Rattle.flat_trees.specs.Layouts.{Stands, around_repeating, function_text, layout_before};
 ghost use Rattle.flat_trees.specs.Layouts.{layout_behind, layout_in, layout_repeating, layout_with};
 ghost use Rattle.flat_trees.specs.Layouts.{order_of, parameters_of, with_brought};
-ghost use Rattle.flat_trees.specs.Instances.{IsLeafOf, IsMade, IsModule, IsPutIn, instance_in};
+ghost use Rattle.flat_trees.specs.Instances.{IsLeafOf, IsMadeInstance, IsModule, IsPutIn, instance_in};
 ghost use Rattle.flat_trees.specs.Instances.{symbols_of, with_symbols};
 
 /// A node that is built of a written tree, over a frame where names stand for what they do round
@@ -109,7 +109,7 @@ pub fn definitions_stand()
         (named : List ℕ → Outside) (layout : Layout) (own : Lexeme) (at : Span) (parts : Trees)
         (j : ℕ) (x : Instance) (l : Lexeme) (rights : Trees) (base : Meaning → Stand)
         (inner : Named → Stand)
-        → IsMade flat layout j x
+        → IsMadeInstance flat layout j x
         (length (parameters_of text (Form.ModuleDefinition own) parts)) true
         → instance_in parts ≡ Some (l, rights)
         → IsModule flat (with_symbols base (symbols_of (module_of text known named l)) 0)
@@ -163,7 +163,7 @@ pub fn agreement_is_kept()
     ensures brought { (flat : FlatModule) (text : Text) (known : Known) (named : List ℕ → Outside)
         (layout : Layout) (frame : List Item) (around : Around) (j : ℕ) (x : Instance) (l : Lexeme)
         (at : Span) (rights : Trees) (base : Meaning → Stand) (inner : Named → Stand)
-        (entries : Exports) → IsMade flat layout j x 0 false
+        (entries : Exports) → IsMadeInstance flat layout j x 0 false
         → IsModule flat (with_symbols base (symbols_of (module_of text known named l)) 0)
         (length (symbols_of (module_of text known named l))) inner (module_of text known named l)
         → ((meaning : Meaning) → IsLeafOf (base meaning) (layout.stands meaning))
