@@ -3,3 +3,4 @@ mod BuiltNodes
 mod Agreeing
 mod Definitions
 mod Instances
+mod Growing

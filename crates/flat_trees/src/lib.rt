@@ -4,7 +4,7 @@
 //! flat modules are built.
 #![tactic(auto)]
 
-ghost use Rattle.std.specs.Prelude.{◌≡◌, ℕ, true, false, List, [], ◌++◌, Option, Some, None};
+ghost use Rattle.std.specs.Prelude.{◌≡◌, ℕ, ◌<◌, true, false, List, [], ◌++◌, Option, Some, None};
 ghost use Rattle.std.specs.Prelude.{length, map, slice_get};
 ghost use Rattle.tla_symbols.specs.declared.lexeme.Lexeme.{Lexeme};
 ghost use Rattle.tla_symbols.specs.declared.lexeme.Span.{Span};
@@ -15,8 +15,9 @@ ghost use Rattle.tla_tree.specs.Syntax.{Tree, Trees};
 ghost use Rattle.tla_model.specs.Tables.{Named};
 ghost use Rattle.tla_model.specs.Entities.{Meaning, Operator, Text, defines};
 ghost use Rattle.module_model.specs.Exports.{Exports, Known};
-ghost use Rattle.kind_text.specs.ExpandedKind.{Operands};
-ghost use Rattle.kind_text.specs.FlatModule.{Definition, FlatModule, Instance, IsOrdered, Node};
+ghost use Rattle.kind_text.specs.ExpandedKind.{Expanded, Operands};
+ghost use Rattle.kind_text.specs.FlatModule.{Definition, Extends, FlatModule, Instance, IsOrdered};
+ghost use Rattle.kind_text.specs.FlatModule.{Node};
 ghost use Rattle.kind_text.specs.Substitution.{Item, texts};
 ghost use Rattle.kind_text.specs.Expansion as expansion;
 ghost use Rattle.tree_kinds.specs.Standing.{Environment, Outside, Steps, Value, applied_to};
@@ -33,6 +34,7 @@ ghost use Rattle.flat_trees.specs.Layouts.{layout_behind, layout_in, layout_repe
 ghost use Rattle.flat_trees.specs.Layouts.{order_of, parameters_of, with_brought};
 ghost use Rattle.flat_trees.specs.Instances.{IsLeafOf, IsMadeInstance, IsModule, IsPutIn, instance_in};
 ghost use Rattle.flat_trees.specs.Instances.{symbols_of, with_symbols};
+ghost use Rattle.flat_trees.specs.Growing.{IsLayoutWithin, IsWithin};
 
 /// A node that is built of a written tree, over a frame where names stand for what they do round
 /// the tree, is what the tree expands to: the same expression, or the same operator on its
@@ -170,4 +172,29 @@ pub fn agreement_is_kept()
         → IsPutIn flat text known named layout x l rights → Agrees flat layout frame around
         → AreStanding flat frame (with_brought layout.stands entries j inner)
         (bringing text known named around entries (tree.Node (Form.Instance l) at rights)) }
+{}
+
+/// What a flat module has means the same in one that has more, where what stands round a node is
+/// there already: nodes mean the same trees and give the same expressions, names stand for the
+/// same, and the names of modules stand so over their symbols.
+pub fn meaning_is_kept()
+    ensures trees { (flat more : FlatModule) (text : Text) (known : Known)
+        (named : List ℕ → Outside) (layout : Layout) (i : ℕ) (x : Tree) → Extends flat more
+        → IsOrdered flat → IsLayoutWithin flat layout → i < length flat.nodes
+        → IsMeant flat text known named layout i x → IsMeant more text known named layout i x }
+    ensures expressions { (flat more : FlatModule) (layout : Layout) (i : ℕ)
+        (gives : Around → Expanded) → Extends flat more → IsOrdered flat
+        → IsLayoutWithin flat layout → i < length flat.nodes
+        → Gives flat layout i gives → Gives more layout i gives }
+    ensures names { (flat more : FlatModule) (layout : Layout) (stand : Stand)
+        (value : Around → Value) → Extends flat more → IsOrdered flat
+        → IsLayoutWithin flat layout → IsWithin flat stand
+        → Stands flat layout stand value → Stands more layout stand value }
+    ensures modules { (flat more : FlatModule) (stands : Meaning → Stand) (places : ℕ)
+        (inner : Named → Stand) (outside : Outside) → Extends flat more → IsOrdered flat
+        → ((meaning : Meaning) → IsWithin flat (stands meaning))
+        → ((name : Named) → IsWithin flat (inner name))
+        → IsModule flat stands places inner outside → IsModule more stands places inner outside }
+    ensures within { (flat more : FlatModule) (layout : Layout) → Extends flat more
+        → IsLayoutWithin flat layout → IsLayoutWithin more layout }
 {}

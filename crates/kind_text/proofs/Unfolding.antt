@@ -36,7 +36,7 @@ module _ (flat more : FlatModule) (extends : Extends flat more) (f g : Earlier) 
       ∙ ap (λ x. guarded_by r.most (judged (places_of (slice_get more.nodes r.root)) (x s)) ++ guards_of flat f rs s) (agree r.root all.0)
       ∙ ap (λ gs. guarded_by r.most (judged_at more g r.root s) ++ gs) (guards-agree rs s all.1)
 
-  behind-agree : (x : Instance) (s : List Item) (reached : Reached) → AllByRecursion (λ r. r.root < i) x.replacements → behind flat f x s reached ≡ behind more g x s reached
+  pub behind-agree : (x : Instance) (s : List Item) (reached : Reached) → AllByRecursion (λ r. r.root < i) x.replacements → behind flat f x s reached ≡ behind more g x s reached
   behind-agree x s reached all =
       ap (λ frame. record { frame = frame; guards = reached.guards ++ cond x.guards (guards_of flat f x.replacements s) []; rest = drop x.parameters reached.rest }) (roots-agree x.replacements s all)
       ∙ ap (λ gs. record { frame = items g (map (λ r. r.root) x.replacements) s; guards = reached.guards ++ cond x.guards gs []; rest = drop x.parameters reached.rest }) (guards-agree x.replacements s all)
@@ -51,7 +51,7 @@ module _ (flat more : FlatModule) (extends : Extends flat more) (f g : Earlier) 
   path-agree [] reached all = refl
   path-agree (j ∷ path) reached all = ap (along_path flat f path) (through-agree j reached all.0) ∙ path-agree path _ all.1
 
-  body-agree : (d : ℕ) → UsesDefinition flat i d → body f (slice_get flat.definitions d) ≡ body g (slice_get more.definitions d)
+  pub body-agree : (d : ℕ) → UsesDefinition flat i d → body f (slice_get flat.definitions d) ≡ body g (slice_get more.definitions d)
   body-agree d u =
       ap (body f) u.1 ∙ ap (λ x. λ (frame : ℕ → List Item). (x (frame u.0.outer)).text) (agree u.0.root u.2) ∙ sym (ap (body g) (extends.definitions d u.0 u.1))
 
