@@ -2,3 +2,4 @@ mod LineLemmas
 mod PlaceLemmas
 mod ColumnLemmas
 mod FurtherLemmas
+mod OffsetLemmas

@@ -109,7 +109,8 @@ scalars_back : (xs ys : List ℕ) → scalars (xs ++ ys) ≡ true → scalars ys
 scalars_back [] ys h = h
 scalars_back (x ∷ xs) ys h = scalars_back xs ys (and_parts (scalar x) (scalars (xs ++ ys)) h).1
 
-utf8_back : (before rest : List ℕ) → scalars (before ++ rest) ≡ true → IsUtf8 (encodes rest)
+-- what stands behind some characters of a text is a text
+pub utf8_back : (before rest : List ℕ) → scalars (before ++ rest) ≡ true → IsUtf8 (encodes rest)
 utf8_back before rest h = (rest, (scalars_back before rest h, refl))
 
 -- the part of a text from the start of an offset's line up to the offset

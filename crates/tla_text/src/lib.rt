@@ -216,9 +216,11 @@ impl Text {
 
     /// The offset of a line and a number of UTF-16 units in it. A unit past the line's end means the
     /// line's end, before the characters that end it. A line past the last means the text's end. A
-    /// place inside a surrogate pair means the pair's start.
+    /// place inside a surrogate pair means the pair's start. The offset is at most the length and
+    /// stands at a character.
     pub fn offset_utf16(&self, line: u32, unit: u32) -> u32
-        ensures { result ≡ offset_of_unit self.now line unit }
+        ensures value { result ≡ offset_of_unit self.now line unit }
+        ensures at_char { IsCharBoundary self.now result }
     {
         if line as usize > self.starts.as_slice().len() {
             return self.bytes().len() as u32;
