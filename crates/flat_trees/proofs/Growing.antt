@@ -3,6 +3,7 @@ use Rattle.std.proofs.Common.{◌≡◌, ℕ, zero, suc, ◌<◌, ◌≤◌, Lis
 use Rattle.std.specs.Prelude.{slice_get}
 use Rattle.std.specs.List.{AllByRecursion}
 use Rattle.std.proofs.lemmas.Option.{slice_get_within}
+use Rattle.list_laws.proofs.Lists.{item-at}
 use Rattle.tla_tree.specs.Syntax.{Tree}
 use Rattle.tla_model.specs.Tables.{Named}
 use Rattle.tla_model.specs.Entities.{Meaning, Text}
@@ -11,7 +12,7 @@ use Rattle.kind_text.specs.ExpandedKind.{Expanded}
 use Rattle.kind_text.specs.FlatModule.{Definition, Extends, FlatModule, Instance, IsOrdered, Node, Replacement, UsesDefinition, UsesInstance, places_of}
 use Rattle.kind_text.specs.Expansion.{Guard, Reached, behind, guard, items as items_at, text as text_at}
 use Rattle.kind_text.specs.Substitution.{Item, texts}
-use Rattle.kind_text.proofs.Unfolding.{behind-agree, read-at, text-kept}
+use Rattle.kind_text.proofs.Unfolding.{behind-agree, text-kept}
 use Rattle.tree_kinds.specs.Standing.{Environment, Outside, Value}
 use Rattle.tree_kinds.specs.Expanding.{Around, expand, places_at}
 use Rattle.flat_trees.specs.Stands.{AreStanding, Fits, IsStanding, Matches, Stand, Unsaid, Leaf, Place, Defined, Through, Brought, passed}
@@ -23,7 +24,7 @@ use Rattle.flat_trees.specs.Growing.{IsLayoutWithin, IsWithin}
 -- what is there
 module _ (flat more : FlatModule) (extends : Extends flat more) where
   longer : length flat.nodes ≤ length more.nodes
-  longer = by_all (length flat.nodes) (read-at flat.nodes)
+  longer = by_all (length flat.nodes) (item-at flat.nodes)
     where
       by_all : (n : ℕ) → ((i : ℕ) → i < n → (x : Node) × (slice_get flat.nodes i ≡ Some x)) → n ≤ length more.nodes
       by_all zero read = omega arith
@@ -63,7 +64,7 @@ module _ (flat more : FlatModule) (extends : Extends flat more) (ordered : IsOrd
   kept = text-kept flat more extends ordered
 
   places-kept : (i : ℕ) → i < length flat.nodes → places_of (slice_get flat.nodes i) ≡ places_of (slice_get more.nodes i)
-  places-kept i here = by_node (read-at flat.nodes i here)
+  places-kept i here = by_node (item-at flat.nodes i here)
     where
       by_node : (node : Node) × (slice_get flat.nodes i ≡ Some node) → places_of (slice_get flat.nodes i) ≡ places_of (slice_get more.nodes i)
       by_node read = ap places_of read.1 ∙ sym (ap places_of (extends.nodes i read.0 read.1))

@@ -4,6 +4,7 @@ use Rattle.std.specs.Prelude.{◌&&◌, slice_get}
 use Rattle.std.specs.List.{AllByRecursion}
 use mathlib.Core.Path.{fun_ext}
 use Rattle.tla_symbols.specs.declared.level.Rule.TheVariants.{Boolean}
+use Rattle.list_laws.proofs.Lists.{item-at}
 use Rattle.order_rec.specs.Earlier.{before}
 use Rattle.order_rec.proofs.Order.{along-step, before-lt}
 use Rattle.kind_text.specs.ExpandedKind.{Expanded, Ruled, guarded, is_at_most, kind}
@@ -51,7 +52,7 @@ module _ (flat more : FlatModule) (extends : Extends flat more) (f g : Earlier) 
   path-agree [] reached all = refl
   path-agree (j ∷ path) reached all = ap (along_path flat f path) (through-agree j reached all.0) ∙ path-agree path _ all.1
 
-  pub body-agree : (d : ℕ) → UsesDefinition flat i d → body f (slice_get flat.definitions d) ≡ body g (slice_get more.definitions d)
+  body-agree : (d : ℕ) → UsesDefinition flat i d → body f (slice_get flat.definitions d) ≡ body g (slice_get more.definitions d)
   body-agree d u =
       ap (body f) u.1 ∙ ap (λ x. λ (frame : ℕ → List Item). (x (frame u.0.outer)).text) (agree u.0.root u.2) ∙ sym (ap (body g) (extends.definitions d u.0 u.1))
 
@@ -86,16 +87,11 @@ text-step flat i node s ordered e =
     ∙ form-agree flat flat (extends-itself flat) (before nothing (text flat) i) (text flat) i (λ j l. before-lt nothing (text flat) i j l) (λ j l. refl)
     node.form node.parts s earlier.parts earlier.uses
 
-pub read-at : {A : Type 0} (xs : List A) (i : ℕ) → i < length xs → (x : A) × (slice_get xs i ≡ Some x)
-read-at [] i l = absurd (omega (arith, l))
-read-at (x ∷ xs) zero l = (x, refl)
-read-at (x ∷ xs) (suc i) l = read-at xs i (omega (arith, l))
-
 module _ (flat more : FlatModule) (extends : Extends flat more) (ordered : IsOrdered flat) where
   -- with more definitions a node's expansion is the same; n is above it
   same-below : (n i : ℕ) → i < n → i < length flat.nodes → text flat i ≡ text more i
   same-below zero i under here = absurd (omega arith)
-  same-below (suc n) i under here = by_node (λ j l. same-below n j (omega (arith, l, under)) (omega (arith, l, here))) (read-at flat.nodes i here)
+  same-below (suc n) i under here = by_node (λ j l. same-below n j (omega (arith, l, under)) (omega (arith, l, here))) (item-at flat.nodes i here)
     where
       by_node : ((j : ℕ) → j < i → text flat j ≡ text more j) → (node : Node) × (slice_get flat.nodes i ≡ Some node) → text flat i ≡ text more i
       by_node below read =
@@ -105,7 +101,7 @@ module _ (flat more : FlatModule) (extends : Extends flat more) (ordered : IsOrd
           ∙ fun_ext (λ s.
           form-agree flat more extends (before nothing (text flat) i) (before nothing (text more) i) i
           (λ j l. before-lt nothing (text flat) i j l ∙ below j l ∙ sym (before-lt nothing (text more) i j l))
-          (λ j l. places-same j (read-at flat.nodes j (omega (arith, l, here))))
+          (λ j l. places-same j (item-at flat.nodes j (omega (arith, l, here))))
           read.0.form read.0.parts s earlier.parts earlier.uses)
           ∙ sym (ap (node_item more (before nothing (text more) i)) (extends.nodes i read.0 read.1))
           ∙ sym (along-step nothing (λ j f. node_item more f (slice_get more.nodes j)) i)

@@ -4,8 +4,9 @@ use Rattle.std.specs.Prelude.{is_some, slice_get}
 use Rattle.std.specs.List.{AllByRecursion}
 use Rattle.order_rec.specs.Earlier.{before}
 use Rattle.order_rec.proofs.Order.{along-step, before-lt}
+use Rattle.list_laws.proofs.Lists.{item-at}
 use Rattle.kind_text.specs.FlatModule.{Extends, FlatModule, Form, IsOrdered, Node, Replacement, UsesDefinition, UsesEarlier, UsesInstance, places_of}
-use Rattle.kind_text.proofs.Unfolding.{extends-itself, read-at}
+use Rattle.kind_text.proofs.Unfolding.{extends-itself}
 use Rattle.level_text.specs.Depth.{greatest, inner_depth, depth_of, replaced_depth, parameters_of, operator_depth, parameters_on, replaced_on, added_depth, use_depth, form_depth, node_depth, depth}
 
 all-take : (P : ℕ → Type 0) (n : ℕ) (is : List ℕ) → AllByRecursion P is → AllByRecursion P (take n is)
@@ -95,7 +96,7 @@ module _ (flat more : FlatModule) (extends : Extends flat more) (ordered : IsOrd
   -- with more definitions a node's depth is the same; n is above it
   same-below : (n i : ℕ) → i < n → i < length flat.nodes → depth flat i ≡ depth more i
   same-below zero i under here = absurd (omega arith)
-  same-below (suc n) i under here = by_node (λ j l. same-below n j (omega (arith, l, under)) (omega (arith, l, here))) (read-at flat.nodes i here)
+  same-below (suc n) i under here = by_node (λ j l. same-below n j (omega (arith, l, under)) (omega (arith, l, here))) (item-at flat.nodes i here)
     where
       by_node : ((j : ℕ) → j < i → depth flat j ≡ depth more j) → (node : Node) × (slice_get flat.nodes i ≡ Some node) → depth flat i ≡ depth more i
       by_node below read =
@@ -104,7 +105,7 @@ module _ (flat more : FlatModule) (extends : Extends flat more) (ordered : IsOrd
           ∙ ap (node_depth flat (before 0 (depth flat) i)) read.1
           ∙ form-agree flat more extends (before 0 (depth flat) i) (before 0 (depth more) i) i
           (λ j l. before-lt 0 (depth flat) i j l ∙ below j l ∙ sym (before-lt 0 (depth more) i j l))
-          (λ j l. places-same j (read-at flat.nodes j (omega (arith, l, here))))
+          (λ j l. places-same j (item-at flat.nodes j (omega (arith, l, here))))
           read.0.form read.0.parts earlier.parts earlier.uses
           ∙ sym (ap (node_depth more (before 0 (depth more) i)) (extends.nodes i read.0 read.1))
           ∙ sym (along-step 0 (λ j f. node_depth more f (slice_get more.nodes j)) i)
