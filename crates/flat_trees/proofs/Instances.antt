@@ -2,6 +2,8 @@
 use Rattle.std.proofs.Common.{◌≡◌, ℕ, zero, suc, ◌<◌, ◌≤◌, Bool, true, false, cond, List, [], ◌∷◌, ◌++◌, Option, Some, None, map, refl, sym, ap, ◌∙◌, subst, take, length, nat_eq, arith}
 use Rattle.std.proofs.lemmas.Bool.Decides.{nat_tests}
 use Rattle.std.proofs.lemmas.List.{length-append}
+use Rattle.std.proofs.lemmas.Option.{slice_get_within}
+use Rattle.std.specs.Prelude.{slice_get}
 use mathlib.Core.Path.{fun_ext}
 use Rattle.tla_symbols.specs.declared.lexeme.Lexeme.{Lexeme}
 use Rattle.tla_symbols.specs.declared.lexeme.Span.{Span}
@@ -9,17 +11,18 @@ use Rattle.tla_tree.specs.declared.form.Form.TheVariants as Form
 use Rattle.tla_tree.specs.Syntax.{Trees, Node, Nil, Cons}
 use Rattle.tla_model.specs.declared.names.Meaning.TheVariants.{BuiltIn, Declared}
 use Rattle.tla_model.specs.Tables.{Named}
-use Rattle.tla_model.specs.Entities.{Meaning, Text}
+use Rattle.tla_model.specs.Entities.{Meaning, Text, same_meaning}
 use Rattle.module_model.specs.Exports.{Exports, Known}
 use Rattle.kind_text.specs.ExpandedKind.{Expanded, Given, Guarded}
-use Rattle.kind_text.specs.FlatModule.{FlatModule, Instance, Replacement}
-use Rattle.kind_text.specs.Expansion.{Guard, guard, guarded_by, guards_of, items as items_at, judged_at, text as text_at}
+use Rattle.kind_text.specs.FlatModule.{FlatModule, Form as NodeForm, Instance, IsOrdered, Node as FlatNode, Replacement}
+use Rattle.kind_text.proofs.Unfolding.{text-step}
+use Rattle.kind_text.specs.Expansion.{Guard, form_item, guard, guarded_by, guards_of, items as items_at, judged_at, text as text_at}
 use Rattle.kind_text.specs.Substitution.{Item, at, constants, judged, leaves}
-use Rattle.tree_kinds.specs.Standing.{Environment, Outside, Steps, Value, operator_places, places as places_in, value_of}
+use Rattle.tree_kinds.specs.Standing.{Environment, Outside, Steps, Value, operator_places, places as places_in, value_of, with_entries}
 use Rattle.tree_kinds.specs.Expanding.{Around, Replaced, Written, behind_instance, bringing, defined_value, guard_of, module_of, replaced_by, replacements, right_sides, through, unguarded, with_parameters, with_replaced, written_for}
 use Rattle.flat_trees.specs.Stands.{AreStanding, IsItem, IsStanding, Matches, Stand, Unsaid, Leaf, Place, Defined, Through, Brought, count, passed}
 use Rattle.flat_trees.specs.Layouts.{Agrees, Layout, Stands, layout_with, order_of, parameters_of, with_brought}
-use Rattle.flat_trees.specs.Instances.{AreReplaced, IsLeafOf, IsMadeInstance, IsModule, IsPutIn, exported_value, instance_in, symbols_of, with_symbols}
+use Rattle.flat_trees.specs.Instances.{AllStay, AreReplaced, IsLeafOf, IsMadeInstance, IsModule, IsPutIn, IsStaying, StaysIn, exported_value, instance_in, symbols_of, with_symbols}
 use Rattle.flat_trees.proofs.Agreeing.{append-append, at-behind, brought-stand, item-value, map-length, with-agrees, with-stand-stands}
 use Rattle.flat_trees.proofs.Definitions.{take-all}
 use Rattle.flat_trees.proofs.Reaching.{append-nil}
@@ -91,6 +94,33 @@ module _ (flat : FlatModule) where
       (ap (λ o. judged o (text_at flat a.root s)) all.0.places ∙ judged-match r.parameter _ _ all.0.item)
       ∙ ap (λ gs. guard_of constant r ∷ gs) (guards-met constant s made rs all.1)
 
+  -- the replacements that an instance puts in, over a frame
+  abbrev pub put-items : List Replacement → List Item → List Item
+  put-items made s = items_at (text_at flat) (map (λ (r : Replacement). r.root) made) s
+
+  pub put-length : (s : List Item) (made : List Replacement) → length (put-items made s) ≡ length made
+  put-length s [] = refl
+  put-length s (a ∷ made) = ap suc (put-length s made)
+
+  put-within : (s : List Item) (made : List Replacement) (i : ℕ) (r : Replacement) → slice_get made i ≡ Some r → i < length (put-items made s)
+  put-within s made i r e = let l = slice_get_within made i r e in let same = put-length s made in omega (arith, l, same)
+
+  put-at : (s : List Item) (made : List Replacement) (i : ℕ) (r : Replacement) → slice_get made i ≡ Some r → at (put-items made s) i ≡ text_at flat r.root s
+  put-at s [] i r e = cc
+  put-at s (a ∷ made) zero r e = let same : a ≡ r = cc in ap (λ (z : Replacement). text_at flat z.root s) same
+  put-at s (a ∷ made) (suc i) r e = put-at s made i r e
+
+  -- what stays stands so where these are put in
+  pub stays-stand : (s : List Item) (made : List Replacement) (behind here : Stand) (value : Value) → StaysIn flat made behind here → IsStanding flat s [] here value → IsStanding flat (put-items made s) [] behind value
+  stays-stand s made Unsaid here value stays holds = tt
+  stays-stand s made (Leaf kind) here value stays holds = subst (λ stand. IsStanding flat s [] stand value) stays holds
+  stays-stand s made (Place place order) here value (r, now, there, staying, same) holds =
+      let placed : IsStanding flat s [] (Place now order) value = subst (λ stand. IsStanding flat s [] stand value) same holds in
+      (put-within s made place r there, subst (λ x. IsItem order x [] value) (sym (put-at s made place r there ∙ staying s)) placed.1)
+  stays-stand s made (Defined d orders) here value stays holds = absurd stays
+  stays-stand s made (Through j orders inner) here value stays holds = absurd stays
+  stays-stand s made (Brought j inner) here value stays holds = absurd stays
+
   leaf-stands : (s frame : List Item) (leaf here : Stand) (value : Value) → IsLeafOf leaf here → IsStanding flat s [] here value → IsStanding flat frame [] leaf value
   leaf-stands s frame Unsaid here value is holds = tt
   leaf-stands s frame (Leaf kind) here value is holds = subst (λ stand. IsStanding flat s [] stand value) is holds
@@ -115,11 +145,44 @@ module _ (flat : FlatModule) where
       (subst (λ t. AreStanding flat t (with_symbols base (map (λ (r : Replaced). r.parameter) rs) (length (before ++ (x ∷ [])))) (with_replaced standing rs)) (append-append before (x ∷ []) xs) others))
       (room, subst (λ z. IsItem (order_of r.parameter) z [] (value_of r.item)) (sym (at-behind before x xs)) (item-value (order_of r.parameter) x r.item all.0.item))
 
-  replaced-length : (constant : Bool) (s : List Item) (made : List Replacement) (rs : List Replaced) → AreReplaced flat constant s made rs → length (items_at (text_at flat) (map (λ (r : Replacement). r.root) made) s) ≡ length rs
+  replaced-length : (constant : Bool) (s : List Item) (made : List Replacement) (rs : List Replaced) → AreReplaced flat constant s made rs → length (put-items made s) ≡ length rs
   replaced-length constant s [] [] all = refl
   replaced-length constant s [] (r ∷ rs) all = absurd all
   replaced-length constant s (a ∷ made) [] all = absurd all
   replaced-length constant s (a ∷ made) (r ∷ rs) all = ap suc (replaced-length constant s made rs all.1)
+
+  -- entries stand for what stands so behind an instance that guards nothing
+  unguarded-stand : (layout : Layout) (frame : List Item) (standing : Environment) (j : ℕ) (x : Instance) (inner : Named → Stand) (entries : Exports) (from : Steps → Expanded) → IsMadeInstance flat layout j x 0 false → length frame ≡ layout.places → AreStanding flat frame layout.stands standing → ((name : Named) → IsStanding flat (put-items x.replacements frame) [] (inner name) (λ arguments path. from (record { name = name; arguments = arguments } ∷ path))) → AreStanding flat frame (with_brought layout.stands entries j inner) (with_entries standing entries from)
+  unguarded-stand layout frame standing j x inner entries from is places stands each =
+      let room : x.outer ≤ length frame = let outer = is.outer in omega (arith, places, outer) in
+      brought-stand flat frame layout.stands standing entries j inner from stands (λ name.
+      let value : Value = λ arguments path. from (record { name = name; arguments = arguments } ∷ path) in (
+        x,
+        (is.there, is.parameters, room),
+        subst (λ t. IsStanding flat (put-items x.replacements t) (cond x.guards (guards_of flat (text_at flat) x.replacements t) []) (inner name) value) (sym (append-nil (take x.outer frame) ∙ take-all x.outer frame (places ∙ sym is.outer)))
+            (subst (λ b. IsStanding flat (put-items x.replacements frame) (cond b (guards_of flat (text_at flat) x.replacements frame) []) (inner name) value) (sym is.guards) (each name)),
+      ))
+
+  -- what an extended module brings
+  pub extended-stand : (layout : Layout) (frame : List Item) (standing parameters : Environment) (j : ℕ) (x : Instance) (outside : Outside) (stands here : Meaning → Stand) (places : ℕ) (inner : Named → Stand) (entries : Exports) → IsMadeInstance flat layout j x 0 false → length x.replacements ≡ places → IsModule flat stands places inner outside → ((meaning : Meaning) → StaysIn flat x.replacements (stands meaning) (here meaning)) → length frame ≡ layout.places → AreStanding flat frame here parameters → AreStanding flat frame layout.stands standing → AreStanding flat frame (with_brought layout.stands entries j inner) (with_entries standing entries (outside.standing parameters))
+  extended-stand layout frame standing parameters j x outside stands here places inner entries is many kept stays room symbols others =
+      unguarded-stand layout frame standing j x inner entries (outside.standing parameters) is room others (λ name.
+      kept (put-items x.replacements frame) parameters (put-length frame x.replacements ∙ many)
+      (λ meaning. stays-stand frame x.replacements (stands meaning) (here meaning) (parameters meaning) (stays meaning) (symbols meaning)) name)
+
+  -- a node that is a parameter is the item at its place
+  pub parameter-stays : (r : Replacement) (node : FlatNode) (place : ℕ) → IsOrdered flat → slice_get flat.nodes r.root ≡ Some node → node.form ≡ NodeForm.Parameter place → IsStaying flat r place
+  parameter-stays r node place ordered there form s =
+      text-step flat r.root node s ordered there ∙ ap (λ g. form_item flat (text_at flat) g node.parts s) form
+
+  -- symbols that stay
+  pub symbols-stay : (made : List Replacement) (base here : Meaning → Stand) (symbols : List Meaning) (number : ℕ) → ((meaning : Meaning) → StaysIn flat made (base meaning) (here meaning)) → AllStay flat made here symbols number → (meaning : Meaning) → StaysIn flat made (with_symbols base symbols number meaning) (here meaning)
+  symbols-stay made base here [] number leaves all other = leaves other
+  symbols-stay made base here (meaning ∷ rest) number leaves all other = by_sameness (symbols-stay made base here rest (suc number) leaves all.1 other) (same_meaning other meaning) refl
+    where
+      by_sameness : StaysIn flat made (with_symbols base rest (suc number) other) (here other) → (b : Bool) → same_meaning other meaning ≡ b → StaysIn flat made (cond b (Place number (order_of meaning)) (with_symbols base rest (suc number) other)) (here other)
+      by_sameness others true e = all.0 other e
+      by_sameness others false e = others
 
   module _ (text : Text) (known : Known) (named : List ℕ → Outside) where
     parameter-of : (around : Around) (l : Lexeme) (p : Named × Meaning) (o : Option Written) → (replaced_by around l p o).parameter ≡ p.1

@@ -3,4 +3,5 @@ mod BuiltNodes
 mod Agreeing
 mod Definitions
 mod Instances
+mod Meanings
 mod Growing

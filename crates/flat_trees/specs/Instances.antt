@@ -1,14 +1,14 @@
 -- When an instance of a flat module is one of a written module, its replacements put in.
-use Rattle.std.specs.Prelude.{◌≡◌, ℕ, suc, Bool, List, [], ◌∷◌, Option, Some, None, length, map, slice_get}
+use Rattle.std.specs.Prelude.{◌≡◌, ℕ, suc, Bool, true, List, [], ◌∷◌, Option, Some, None, length, map, slice_get}
 use Rattle.tla_symbols.specs.declared.lexeme.Lexeme.{Lexeme}
 use Rattle.tla_tree.specs.declared.form.Form.TheVariants as Form
 use Rattle.tla_tree.specs.Syntax.{Trees, Node, Nil, Cons}
 use Rattle.tla_model.specs.Tables.{Named}
-use Rattle.tla_model.specs.Entities.{Meaning, Text}
+use Rattle.tla_model.specs.Entities.{Meaning, Text, same_meaning}
 use Rattle.module_model.specs.Exports.{Known}
 use Rattle.kind_text.specs.FlatModule.{FlatModule, Instance, Replacement, places_of}
 use Rattle.kind_text.specs.Expansion.{text as text_at}
-use Rattle.kind_text.specs.Substitution.{Item}
+use Rattle.kind_text.specs.Substitution.{Item, at}
 use Rattle.tree_kinds.specs.Standing.{Environment, Outside, Value, operator_places}
 use Rattle.tree_kinds.specs.Expanding.{Around, Replaced, greatest_level, module_of, replacements, right_sides}
 use Rattle.flat_trees.specs.Stands.{AreStanding, IsStanding, Matches, Stand, Unsaid, Leaf, Place}
@@ -45,6 +45,23 @@ module _ (flat : FlatModule) where
   IsModule stands places inner outside =
       (frame : List Item) (standing : Environment) → length frame ≡ places → AreStanding flat frame stands standing
       → (name : Named) → IsStanding flat frame [] (inner name) (exported_value outside standing name)
+
+  -- a replacement is the item at a place, over each frame: a symbol that stays
+  abbrev pub IsStaying : Replacement → ℕ → Type 0
+  IsStaying made place = (frame : List Item) → text_at flat made.root frame ≡ at frame place
+
+  -- where these are put in, a name stands for what it stands for here: a leaf, or a symbol that stays; or nothing is said of it
+  abbrev pub StaysIn : List Replacement → Stand → Stand → Type 0
+  StaysIn made Unsaid here = Unit {0}
+  StaysIn made (Leaf kind) here = here ≡ Leaf kind
+  StaysIn made (Place place order) here = (r : Replacement) × (now : ℕ) × (slice_get made place ≡ Some r) × IsStaying r now × (here ≡ Place now order)
+  StaysIn made _ here = ⊥
+
+  -- these symbols stay, from the replacement with this number on: whatever means the same stands for one place here
+  abbrev pub AllStay : List Replacement → (Meaning → Stand) → List Meaning → ℕ → Type 0
+  AllStay made here [] number = Unit {0}
+  AllStay made here (meaning ∷ rest) number =
+      ((other : Meaning) → same_meaning other meaning ≡ true → StaysIn made (Place number (order_of meaning)) (here other)) × AllStay made here rest (suc number)
 
   -- a replacement is what replaces a symbol, by whether the module is constant
   pub record IsReplaced (constant : Bool) (frame : List Item) (made : Replacement) (replaced : Replaced) : Type 0 where

@@ -4,7 +4,8 @@
 //! flat modules are built.
 #![tactic(auto)]
 
-ghost use Rattle.std.specs.Prelude.{◌≡◌, ℕ, ◌<◌, true, false, List, [], ◌++◌, Option, Some, None};
+ghost use Rattle.std.specs.Prelude.{◌≡◌, ℕ, ◌<◌, true, false, List, [], ◌∷◌, ◌++◌};
+ghost use Rattle.std.specs.Prelude.{Option, Some, None};
 ghost use Rattle.std.specs.Prelude.{length, map, slice_get};
 ghost use Rattle.tla_symbols.specs.declared.lexeme.Lexeme.{Lexeme};
 ghost use Rattle.tla_symbols.specs.declared.lexeme.Span.{Span};
@@ -13,27 +14,28 @@ ghost use Rattle.tla_tree.specs.Forms.{helps};
 ghost use Rattle.tla_tree.specs.Syntax as tree;
 ghost use Rattle.tla_tree.specs.Syntax.{Tree, Trees};
 ghost use Rattle.tla_model.specs.Tables.{Named};
-ghost use Rattle.tla_model.specs.Entities.{Meaning, Operator, Text, defines};
+ghost use Rattle.tla_model.specs.Entities.{Meaning, Operator, Text, defines, same_meaning};
 ghost use Rattle.module_model.specs.Exports.{Exports, Known};
 ghost use Rattle.kind_text.specs.ExpandedKind.{Expanded, Operands};
-ghost use Rattle.kind_text.specs.FlatModule.{Definition, Extends, FlatModule, Instance, IsOrdered};
-ghost use Rattle.kind_text.specs.FlatModule.{Node};
+ghost use Rattle.kind_text.specs.FlatModule.{Definition, Extends, FlatModule, Form as NodeForm};
+ghost use Rattle.kind_text.specs.FlatModule.{Instance, IsOrdered, Node, Replacement};
 ghost use Rattle.kind_text.specs.Substitution.{Item, texts};
 ghost use Rattle.kind_text.specs.Expansion as expansion;
 ghost use Rattle.tree_kinds.specs.Standing.{Environment, Outside, Steps, Value, applied_to};
-ghost use Rattle.tree_kinds.specs.Standing.{item_of};
+ghost use Rattle.tree_kinds.specs.Standing.{item_of, with_entries};
 ghost use Rattle.tree_kinds.specs.Expanding.{Around, at_names, before_scope, behind_definition};
 ghost use Rattle.tree_kinds.specs.Expanding.{bringing, defined_value, expand, in_scope, module_of};
 ghost use Rattle.tree_kinds.specs.Expanding.{places_at, with_parameters};
-ghost use Rattle.flat_trees.specs.Stands.{AreStanding, Defined, Fits, IsStanding, Matches, Stand};
-ghost use Rattle.flat_trees.specs.Stands.{Through};
+ghost use Rattle.flat_trees.specs.Stands.{AreStanding, Defined, Fits, IsStanding, Matches};
+ghost use Rattle.flat_trees.specs.Stands.{Stand, Through};
 ghost use Rattle.flat_trees.specs.Names.{IsBuilt, IsPath, order_by};
 ghost use Rattle.flat_trees.specs.Layouts.{Agrees, Gives, IsBody, IsBuiltAt, IsMeant, Layout};
 ghost use Rattle.flat_trees.specs.Layouts.{Stands, around_repeating, function_text, layout_before};
 ghost use Rattle.flat_trees.specs.Layouts.{layout_behind, layout_in, layout_repeating, layout_with};
 ghost use Rattle.flat_trees.specs.Layouts.{order_of, parameters_of, with_brought};
-ghost use Rattle.flat_trees.specs.Instances.{IsLeafOf, IsMadeInstance, IsModule, IsPutIn, instance_in};
-ghost use Rattle.flat_trees.specs.Instances.{symbols_of, with_symbols};
+ghost use Rattle.flat_trees.specs.Instances.{AllStay, IsLeafOf, IsMadeInstance, IsModule, IsPutIn};
+ghost use Rattle.flat_trees.specs.Instances.{IsStaying, StaysIn, instance_in, symbols_of};
+ghost use Rattle.flat_trees.specs.Instances.{with_symbols};
 ghost use Rattle.flat_trees.specs.Growing.{IsLayoutWithin, IsWithin};
 
 /// A node that is built of a written tree, over a frame where names stand for what they do round
@@ -129,7 +131,8 @@ pub fn definitions_stand()
 /// A frame that agrees with what stands round a tree agrees in the scope of a form and before it;
 /// with items for its parameters behind it; behind a definition whose name stands for what it
 /// gives; and where `@` repeats other nodes. What names stand for over a frame they stand for over
-/// a longer one, and with what an INSTANCE without a name brings, for what stands behind it.
+/// a longer one. With what an INSTANCE without a name brings, they stand for what stands behind it,
+/// and with what an extended module brings, for what stands in that.
 pub fn agreement_is_kept()
     ensures scopes { (flat : FlatModule) (text : Text) (known : Known) (named : List ℕ → Outside)
         (layout : Layout) (frame : List Item) (around : Around) (form : Form.the_data)
@@ -172,6 +175,33 @@ pub fn agreement_is_kept()
         → IsPutIn flat text known named layout x l rights → Agrees flat layout frame around
         → AreStanding flat frame (with_brought layout.stands entries j inner)
         (bringing text known named around entries (tree.Node (Form.Instance l) at rights)) }
+    ensures extended { (flat : FlatModule) (layout : Layout) (frame : List Item)
+        (standing parameters : Environment) (j : ℕ) (x : Instance) (outside : Outside)
+        (stands here : Meaning → Stand) (places : ℕ) (inner : Named → Stand) (entries : Exports)
+        → IsMadeInstance flat layout j x 0 false → length x.replacements ≡ places
+        → IsModule flat stands places inner outside
+        → ((meaning : Meaning) → StaysIn flat x.replacements (stands meaning) (here meaning))
+        → length frame ≡ layout.places → AreStanding flat frame here parameters
+        → AreStanding flat frame layout.stands standing
+        → AreStanding flat frame (with_brought layout.stands entries j inner)
+        (with_entries standing entries (outside.standing parameters)) }
+{}
+
+/// The symbols of a module stay in an instance of it whose replacements are parameters for them: a
+/// node that is a parameter is the item at its place; symbols that are so put in, in their order,
+/// stand for what they do here; and those that mean the same stand for the same.
+pub fn symbols_stay()
+    ensures nodes { (flat : FlatModule) (r : Replacement) (node : Node) (place : ℕ)
+        → IsOrdered flat → slice_get flat.nodes r.root ≡ Some node
+        → node.form ≡ NodeForm.Parameter place → IsStaying flat r place }
+    ensures symbols { (flat : FlatModule) (made : List Replacement) (base here : Meaning → Stand)
+        (symbols : List Meaning) (number : ℕ)
+        → ((meaning : Meaning) → StaysIn flat made (base meaning) (here meaning))
+        → AllStay flat made here symbols number → (meaning : Meaning)
+        → StaysIn flat made (with_symbols base symbols number meaning) (here meaning) }
+    ensures same { (base : Meaning → Stand) (symbols : List Meaning) (place : ℕ) (a b : Meaning)
+        → same_meaning a b ≡ true → base a ≡ base b
+        → with_symbols base symbols place a ≡ with_symbols base symbols place b }
 {}
 
 /// What a flat module has means the same in one that has more, where what stands round a node is

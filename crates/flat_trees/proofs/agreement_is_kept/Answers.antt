@@ -1,5 +1,5 @@
 use Rattle.flat_trees.proofs.Agreeing.{all-grown, before-agrees, behind-agrees, scope-agrees, with-agrees}
-use Rattle.flat_trees.proofs.Instances.{brought-agrees}
+use Rattle.flat_trees.proofs.Instances.{brought-agrees, extended-stand}
 use Rattle.flat_trees.proofs.agreement_is_kept.Goals as goal
 
 pub returns-clause-scopes : goal.returns-clause-scopes
@@ -26,3 +26,7 @@ returns-clause-brought c flat text known named layout frame around j x l at righ
 
 pub returns-clause-longer : goal.returns-clause-longer
 returns-clause-longer c flat frame more stands standing all = all-grown flat frame more stands standing all
+
+pub returns-clause-extended : goal.returns-clause-extended
+returns-clause-extended c flat layout frame standing parameters j x outside stands here places inner entries is many kept stays room symbols others =
+    extended-stand flat layout frame standing parameters j x outside stands here places inner entries is many kept stays room symbols others

@@ -1,0 +1,51 @@
+-- Meanings that are the same, and what stands for them.
+use Rattle.std.proofs.Common.{◌≡◌, ℕ, suc, Bool, true, cond, List, [], ◌∷◌, refl, ap, ◌∙◌}
+use Rattle.std.specs.Prelude.{◌&&◌, nat_eq}
+use Rattle.std.specs.Str.{bytes_eq}
+use Rattle.std.proofs.lemmas.Bool.{and_parts}
+use Rattle.std.proofs.lemmas.Bool.Decides.{Decides-eqb}
+use Rattle.std.proofs.lemmas.Slice.Eq.{bytes_eq-Decides}
+use Rattle.tla_model.specs.declared.names.Meaning.TheVariants.{BuiltIn, Declared}
+use Rattle.tla_model.specs.declared.ids.DeclId.{DeclId}
+use Rattle.tla_model.specs.declared.ids.UnitId.{UnitId}
+use Rattle.tla_model.specs.Entities.{Meaning, same_decl, same_meaning, same_units}
+use Rattle.flat_trees.specs.Stands.{Stand, Place}
+use Rattle.flat_trees.specs.Layouts.{order_of}
+use Rattle.flat_trees.specs.Instances.{with_symbols}
+
+decl-equal : (a b : DeclId) → same_decl a b ≡ true → a ≡ b
+decl-equal a b same =
+    let parts = and_parts (bytes_eq a.«module» b.«module») (nat_eq a.place b.place) same in
+    let names : a.«module» ≡ b.«module» = (bytes_eq-Decides a.«module» b.«module»).0 parts.0 in
+    let places : a.place ≡ b.place = (Decides-eqb a.place b.place).0 parts.1 in
+    λ i. record { «module» = names i; place = places i }
+
+units-equal : (a b : List UnitId) → same_units a b ≡ true → a ≡ b
+units-equal [] [] same = refl
+units-equal [] (y ∷ b) same = cc
+units-equal (x ∷ a) [] same = cc
+units-equal (x ∷ a) (y ∷ b) same =
+    let parts = and_parts (bytes_eq x.«module» y.«module» && nat_eq x.place y.place) (same_units a b) same in
+    let first = and_parts (bytes_eq x.«module» y.«module») (nat_eq x.place y.place) parts.0 in
+    let names : x.«module» ≡ y.«module» = (bytes_eq-Decides x.«module» y.«module»).0 first.0 in
+    let places : x.place ≡ y.place = (Decides-eqb x.place y.place).0 first.1 in
+    let rest = units-equal a b parts.1 in
+    λ i. record { «module» = names i; place = places i } ∷ rest i
+
+-- what is the same is the same as the same others
+pub same-alike : (a b c : Meaning) → same_meaning a b ≡ true → same_meaning a c ≡ same_meaning b c
+same-alike BuiltIn BuiltIn c same = refl
+same-alike BuiltIn (Declared f y) c same = cc
+same-alike (Declared e x) BuiltIn c same = cc
+same-alike (Declared e x) (Declared f y) BuiltIn same = refl
+same-alike (Declared e x) (Declared f y) (Declared g z) same =
+    let parts = and_parts (same_decl x.decl y.decl) (same_units x.via y.via) same in
+    ap (λ d. same_decl d z.decl && same_units x.via z.via) (decl-equal x.decl y.decl parts.0)
+    ∙ ap (λ via. same_decl y.decl z.decl && same_units via z.via) (units-equal x.via y.via parts.1)
+
+-- symbols that are the same stand for the same
+pub symbols-same : (base : Meaning → Stand) (symbols : List Meaning) (place : ℕ) (a b : Meaning) → same_meaning a b ≡ true → base a ≡ base b → with_symbols base symbols place a ≡ with_symbols base symbols place b
+symbols-same base [] place a b same alike = alike
+symbols-same base (meaning ∷ rest) place a b same alike =
+    ap (λ (t : Bool). cond t (Place place (order_of meaning)) (with_symbols base rest (suc place) a)) (same-alike a b meaning same)
+    ∙ ap (λ (stand : Stand). cond (same_meaning b meaning) (Place place (order_of meaning)) stand) (symbols-same base rest (suc place) a b same alike)
