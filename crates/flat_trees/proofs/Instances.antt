@@ -1,9 +1,10 @@
 -- Instances of a flat module stand for what is behind the written ones.
-use Rattle.std.proofs.Common.{◌≡◌, ℕ, zero, suc, ◌<◌, ◌≤◌, Bool, true, false, cond, List, [], ◌∷◌, ◌++◌, Option, Some, None, map, refl, sym, ap, ◌∙◌, subst, take, length, nat_eq, arith}
+use Rattle.std.proofs.Common.{◌≡◌, ℕ, zero, suc, ◌+◌, ◌<◌, ◌≤◌, Bool, true, false, cond, List, [], ◌∷◌, ◌++◌, Option, Some, None, map, refl, sym, ap, ◌∙◌, subst, take, length, nat_eq, arith}
 use Rattle.std.proofs.lemmas.Bool.Decides.{nat_tests}
 use Rattle.std.proofs.lemmas.List.{length-append}
 use Rattle.std.proofs.lemmas.Option.{slice_get_within}
 use Rattle.std.specs.Prelude.{slice_get}
+use Rattle.std.specs.List.{AllByRecursion}
 use mathlib.Core.Path.{fun_ext}
 use Rattle.tla_symbols.specs.declared.lexeme.Lexeme.{Lexeme}
 use Rattle.tla_symbols.specs.declared.lexeme.Span.{Span}
@@ -22,8 +23,8 @@ use Rattle.tree_kinds.specs.Standing.{Environment, Outside, Steps, Value, operat
 use Rattle.tree_kinds.specs.Expanding.{Around, Replaced, Written, behind_instance, bringing, defined_value, guard_of, module_of, replaced_by, replacements, right_sides, through, unguarded, with_parameters, with_replaced, written_for}
 use Rattle.flat_trees.specs.Stands.{AreStanding, IsItem, IsStanding, Matches, Stand, Unsaid, Leaf, Place, Defined, Through, Brought, count, passed}
 use Rattle.flat_trees.specs.Layouts.{Agrees, Layout, Stands, layout_with, order_of, parameters_of, with_brought}
-use Rattle.flat_trees.specs.Instances.{AllStay, AreReplaced, IsLeafOf, IsMadeInstance, IsModule, IsPutIn, IsStaying, StaysIn, exported_value, instance_in, symbols_of, with_symbols}
-use Rattle.flat_trees.proofs.Agreeing.{append-append, at-behind, brought-stand, item-value, map-length, with-agrees, with-stand-stands}
+use Rattle.flat_trees.specs.Instances.{AllStay, AreReplaced, ArePutIn, IsMadeInstance, IsModule, IsModuleBehind, IsStaying, PutsInBehind, StaysIn, exported_value, instance_in, symbols_of, with_symbols}
+use Rattle.flat_trees.proofs.Agreeing.{all-grown, append-append, at-behind, brought-stand, item-value, map-length, with-agrees, with-stand-stands}
 use Rattle.flat_trees.proofs.Definitions.{take-all}
 use Rattle.flat_trees.proofs.Reaching.{append-nil}
 
@@ -98,6 +99,10 @@ module _ (flat : FlatModule) where
   abbrev pub put-items : List Replacement → List Item → List Item
   put-items made s = items_at (text_at flat) (map (λ (r : Replacement). r.root) made) s
 
+  put-append : (s : List Item) (made more : List Replacement) → put-items (made ++ more) s ≡ put-items made s ++ put-items more s
+  put-append s [] more = refl
+  put-append s (a ∷ made) more = ap (λ xs. text_at flat a.root s ∷ xs) (put-append s made more)
+
   pub put-length : (s : List Item) (made : List Replacement) → length (put-items made s) ≡ length made
   put-length s [] = refl
   put-length s (a ∷ made) = ap suc (put-length s made)
@@ -121,28 +126,26 @@ module _ (flat : FlatModule) where
   stays-stand s made (Through j orders inner) here value stays holds = absurd stays
   stays-stand s made (Brought j inner) here value stays holds = absurd stays
 
-  leaf-stands : (s frame : List Item) (leaf here : Stand) (value : Value) → IsLeafOf leaf here → IsStanding flat s [] here value → IsStanding flat frame [] leaf value
-  leaf-stands s frame Unsaid here value is holds = tt
-  leaf-stands s frame (Leaf kind) here value is holds = subst (λ stand. IsStanding flat s [] stand value) is holds
-  leaf-stands s frame (Place place order) here value is holds = absurd is
-  leaf-stands s frame (Defined d orders) here value is holds = absurd is
-  leaf-stands s frame (Through j orders inner) here value is holds = absurd is
-  leaf-stands s frame (Brought j inner) here value is holds = absurd is
+  guards-behind : (s : List Item) (staying made : List Replacement) → AllByRecursion (λ (r : Replacement). r.most ≡ None) staying → guards_of flat (text_at flat) (staying ++ made) s ≡ guards_of flat (text_at flat) made s
+  guards-behind s [] made all = refl
+  guards-behind s (r ∷ staying) made all =
+      ap (λ most. guarded_by most (judged_at flat (text_at flat) r.root s) ++ guards_of flat (text_at flat) (staying ++ made) s) all.0 ∙ guards-behind s staying made all.1
 
-  -- over the frame behind an instance, symbols stand for what replaces them
-  symbols-stand : (constant : Bool) (s before : List Item) (made : List Replacement) (rs : List Replaced) (base : Meaning → Stand) (standing : Environment) → AreReplaced flat constant s made rs → ((frame : List Item) → AreStanding flat frame base standing) → AreStanding flat (before ++ items_at (text_at flat) (map (λ (r : Replacement). r.root) made) s) (with_symbols base (map (λ (r : Replaced). r.parameter) rs) (length before)) (with_replaced standing rs)
-  symbols-stand constant s before [] [] base standing all leaves = leaves (before ++ [])
-  symbols-stand constant s before [] (r ∷ rs) base standing all leaves = absurd all
-  symbols-stand constant s before (a ∷ made) [] base standing all leaves = absurd all
-  symbols-stand constant s before (a ∷ made) (r ∷ rs) base standing all leaves =
+  -- over the frame behind an instance, symbols stand for what replaces them, behind those that stay
+  symbols-stand : (constant : Bool) (s before : List Item) (made : List Replacement) (rs : List Replaced) (base : Meaning → Stand) (standing : Environment) → AreReplaced flat constant s made rs → AreStanding flat (before ++ put-items made s) base standing → AreStanding flat (before ++ put-items made s) (with_symbols base (map (λ (r : Replaced). r.parameter) rs) (length before)) (with_replaced standing rs)
+  symbols-stand constant s before [] [] base standing all stays = stays
+  symbols-stand constant s before [] (r ∷ rs) base standing all stays = absurd all
+  symbols-stand constant s before (a ∷ made) [] base standing all stays = absurd all
+  symbols-stand constant s before (a ∷ made) (r ∷ rs) base standing all stays =
       let x = text_at flat a.root s in
-      let xs = items_at (text_at flat) (map (λ (r : Replacement). r.root) made) s in
+      let xs = put-items made s in
       let room : length before < length (before ++ (x ∷ xs)) = let e = length-append before (x ∷ xs) in omega (arith, e) in
       let next : length (before ++ (x ∷ [])) ≡ suc (length before) = let e = length-append before (x ∷ []) in omega (arith, e) in
-      let others = symbols-stand constant s (before ++ (x ∷ [])) made rs base standing all.1 leaves in
+      let moved : (before ++ (x ∷ [])) ++ xs ≡ before ++ (x ∷ xs) = append-append before (x ∷ []) xs in
+      let others = symbols-stand constant s (before ++ (x ∷ [])) made rs base standing all.1 (subst (λ t. AreStanding flat t base standing) (sym moved) stays) in
       with-stand-stands flat (before ++ (x ∷ xs)) (with_symbols base (map (λ (r : Replaced). r.parameter) rs) (suc (length before))) (with_replaced standing rs) r.parameter (Place (length before) (order_of r.parameter)) (value_of r.item)
       (subst (λ place. AreStanding flat (before ++ (x ∷ xs)) (with_symbols base (map (λ (r : Replaced). r.parameter) rs) place) (with_replaced standing rs)) next
-      (subst (λ t. AreStanding flat t (with_symbols base (map (λ (r : Replaced). r.parameter) rs) (length (before ++ (x ∷ [])))) (with_replaced standing rs)) (append-append before (x ∷ []) xs) others))
+      (subst (λ t. AreStanding flat t (with_symbols base (map (λ (r : Replaced). r.parameter) rs) (length (before ++ (x ∷ [])))) (with_replaced standing rs)) moved others))
       (room, subst (λ z. IsItem (order_of r.parameter) z [] (value_of r.item)) (sym (at-behind before x xs)) (item-value (order_of r.parameter) x r.item all.0.item))
 
   replaced-length : (constant : Bool) (s : List Item) (made : List Replacement) (rs : List Replaced) → AreReplaced flat constant s made rs → length (put-items made s) ≡ length rs
@@ -208,51 +211,58 @@ module _ (flat : FlatModule) where
     through-first around parts l rights path e = through-found around parts path ∙ ap (by-found around path) e
 
     -- what a module exports, over the frame behind an instance
-    exports-stand : (layout : Layout) (s : List Item) (around : Around) (x : Instance) (l : Lexeme) (rights : Trees) (base : Meaning → Stand) (inner : Named → Stand) → AreStanding flat s layout.stands around.standing → ((meaning : Meaning) → IsLeafOf (base meaning) (layout.stands meaning)) → IsModule flat (with_symbols base (symbols_of (module_of text known named l)) 0) (length (symbols_of (module_of text known named l))) inner (module_of text known named l) → AreReplaced flat (module_of text known named l).is_constant s x.replacements (replacements text known named around l (right_sides text known named around rights)) → (name : Named) → IsStanding flat (items_at (text_at flat) (map (λ (r : Replacement). r.root) x.replacements) s) [] (inner name) (exported_value (module_of text known named l) (with_replaced around.standing (replacements text known named around l (right_sides text known named around rights))) name)
-    exports-stand layout s around x l rights base inner standing leaves kept all name =
+    exports-stand : (layout : Layout) (s : List Item) (around : Around) (staying made : List Replacement) (l : Lexeme) (rights : Trees) (base : Meaning → Stand) (inner : Named → Stand) → AreStanding flat s layout.stands around.standing → ((meaning : Meaning) → StaysIn flat staying (base meaning) (layout.stands meaning)) → IsModuleBehind flat base (length staying) inner (module_of text known named l) → AreReplaced flat (module_of text known named l).is_constant s made (replacements text known named around l (right_sides text known named around rights)) → (name : Named) → IsStanding flat (put-items staying s ++ put-items made s) [] (inner name) (exported_value (module_of text known named l) (with_replaced around.standing (replacements text known named around l (right_sides text known named around rights))) name)
+    exports-stand layout s around staying made l rights base inner standing stays kept all name =
         let rs = replacements text known named around l (right_sides text known named around rights) in
-        let names = parameters-of around l (right_sides text known named around rights) (module_of text known named l).view.parameters in
-        kept (items_at (text_at flat) (map (λ (r : Replacement). r.root) x.replacements) s) (with_replaced around.standing rs)
-        (replaced-length (module_of text known named l).is_constant s x.replacements rs all ∙ sym (map-length (λ (r : Replaced). r.parameter) rs) ∙ ap length names)
-        (subst (λ ms. AreStanding flat (items_at (text_at flat) (map (λ (r : Replacement). r.root) x.replacements) s) (with_symbols base ms 0) (with_replaced around.standing rs)) names
-        (symbols-stand (module_of text known named l).is_constant s [] x.replacements rs base around.standing all (λ frame meaning. leaf-stands s frame (base meaning) (layout.stands meaning) (around.standing meaning) (leaves meaning) (standing meaning))))
+        let symbols = symbols_of (module_of text known named l) in
+        let names : map (λ (r : Replaced). r.parameter) rs ≡ symbols = parameters-of around l (right_sides text known named around rights) (module_of text known named l).view.parameters in
+        let many : length (put-items made s) ≡ length symbols =
+        replaced-length (module_of text known named l).is_constant s made rs all ∙ sym (map-length (λ (r : Replaced). r.parameter) rs) ∙ ap length names in
+        let front : length (put-items staying s) ≡ length staying = put-length s staying in
+        let both : length (put-items staying s ++ put-items made s) ≡ length staying + length symbols =
+        let e = length-append (put-items staying s) (put-items made s) in omega (arith, e, many, front) in
+        let left : AreStanding flat (put-items staying s ++ put-items made s) base around.standing =
+        all-grown flat (put-items staying s) (put-items made s) base around.standing (λ meaning. stays-stand s staying (base meaning) (layout.stands meaning) (around.standing meaning) (stays meaning) (standing meaning)) in
+        let placed = symbols-stand (module_of text known named l).is_constant s (put-items staying s) made rs base around.standing all left in
+        kept (put-items staying s ++ put-items made s) (with_replaced around.standing rs) both
+        (subst (λ ms. AreStanding flat (put-items staying s ++ put-items made s) (with_symbols base ms (length staying)) (with_replaced around.standing rs)) names
+        (subst (λ n. AreStanding flat (put-items staying s ++ put-items made s) (with_symbols base (map (λ (r : Replaced). r.parameter) rs) n) (with_replaced around.standing rs)) front placed))
         name
 
-    pub instance-stands : (layout : Layout) (own : Lexeme) (sp : Span) (parts : Trees) (j : ℕ) (x : Instance) (l : Lexeme) (rights : Trees) (base : Meaning → Stand) (inner : Named → Stand) → IsMadeInstance flat layout j x (length (parameters_of text (Form.ModuleDefinition own) parts)) true → instance_in parts ≡ Some (l, rights) → IsModule flat (with_symbols base (symbols_of (module_of text known named l)) 0) (length (symbols_of (module_of text known named l))) inner (module_of text known named l) → ((meaning : Meaning) → IsLeafOf (base meaning) ((layout_with text layout (Form.ModuleDefinition own) parts).stands meaning)) → IsPutIn flat text known named (layout_with text layout (Form.ModuleDefinition own) parts) x l rights → Stands flat layout (Through j (map order_of (parameters_of text (Form.ModuleDefinition own) parts)) inner) (λ around. defined_value text known named around (Node (Form.ModuleDefinition own) sp parts))
-    instance-stands layout own sp parts j x l rights base inner is first kept leaves put frame around agrees =
+    pub instance-stands : (layout : Layout) (own : Lexeme) (sp : Span) (parts : Trees) (j : ℕ) (x : Instance) (l : Lexeme) (rights : Trees) (staying made : List Replacement) (base : Meaning → Stand) (inner : Named → Stand) → IsMadeInstance flat layout j x (length (parameters_of text (Form.ModuleDefinition own) parts)) true → PutsInBehind x staying made → instance_in parts ≡ Some (l, rights) → IsModuleBehind flat base (length staying) inner (module_of text known named l) → ((meaning : Meaning) → StaysIn flat staying (base meaning) ((layout_with text layout (Form.ModuleDefinition own) parts).stands meaning)) → ArePutIn flat text known named (layout_with text layout (Form.ModuleDefinition own) parts) made l rights → Stands flat layout (Through j (map order_of (parameters_of text (Form.ModuleDefinition own) parts)) inner) (λ around. defined_value text known named around (Node (Form.ModuleDefinition own) sp parts))
+    instance-stands layout own sp parts j x l rights staying made base inner is behind first kept stays put frame around agrees =
         let room : x.outer ≤ length frame = let outer = is.outer in let e = agrees.places in omega (arith, e, outer) in (
           x,
           (is.there, is.parameters ∙ sym (map-length order_of (parameters_of text (Form.ModuleDefinition own) parts)), room),
-          λ made arguments fits name.
+          λ given arguments fits name.
               let scoped = with_parameters text known named around (Form.ModuleDefinition own) parts arguments in
               let more = layout_with text layout (Form.ModuleDefinition own) parts in
-              let agrees-on = with-agrees flat text known named layout frame around agrees (Form.ModuleDefinition own) parts made arguments fits in
+              let agrees-on = with-agrees flat text known named layout frame around agrees (Form.ModuleDefinition own) parts given arguments fits in
               let constant = (module_of text known named l).is_constant in
               let rs = replacements text known named scoped l (right_sides text known named scoped rights) in
-              let all = put (frame ++ made) scoped agrees-on in
-              let behind = items_at (text_at flat) (map (λ (r : Replacement). r.root) x.replacements) (frame ++ made) in
+              let s = frame ++ given in
+              let all = put s scoped agrees-on in
+              let new = put-items staying s ++ put-items made s in
               let value = exported_value (module_of text known named l) (with_replaced scoped.standing rs) name in
               let gs = map (guard_of constant) rs in
               let guarded-value : Value = λ others path. guard gs (value others path) in
               let whole : Value = λ others path. through text known named scoped parts (record { name = name; arguments = others } ∷ path) in
-              let plain = exports-stand more (frame ++ made) scoped x l rights base inner agrees-on.standing leaves kept all name in
-              let under = subst (λ g. IsStanding flat behind g (inner name) guarded-value) (guards-nil gs) (guarded behind gs [] (inner name) value plain) in
-              let own-guards = subst (λ g. IsStanding flat behind g (inner name) guarded-value) (sym (guards-met constant (frame ++ made) x.replacements rs all)) under in
+              let plain = exports-stand more s scoped staying made l rights base inner agrees-on.standing stays kept all name in
+              let under = subst (λ g. IsStanding flat new g (inner name) guarded-value) (guards-nil gs) (guarded new gs [] (inner name) value plain) in
+              let own-guards = subst (λ g. IsStanding flat new g (inner name) guarded-value) (sym (guards-behind s staying made behind.unbounded ∙ guards-met constant s made rs all)) under in
               let same : guarded-value ≡ whole = fun_ext (λ others. fun_ext (λ path. sym (through-first scoped parts l rights (record { name = name; arguments = others } ∷ path) first))) in
-              let as-whole = subst (λ v. IsStanding flat behind (guards_of flat (text_at flat) x.replacements (frame ++ made)) (inner name) v) same own-guards in
-              subst (λ t. IsStanding flat (items_at (text_at flat) (map (λ (r : Replacement). r.root) x.replacements) (t ++ made)) (cond x.guards (guards_of flat (text_at flat) x.replacements (t ++ made)) []) (inner name) whole) (sym (take-all x.outer frame (agrees.places ∙ sym is.outer)))
-              (subst (λ b. IsStanding flat behind (cond b (guards_of flat (text_at flat) x.replacements (frame ++ made)) []) (inner name) whole) (sym is.guards) as-whole),
+              let as-whole = subst (λ v. IsStanding flat new (guards_of flat (text_at flat) (staying ++ made) s) (inner name) v) same own-guards in
+              let as-one = subst (λ t. IsStanding flat t (guards_of flat (text_at flat) (staying ++ made) s) (inner name) whole) (sym (put-append s staying made)) as-whole in
+              let as-put = subst (λ ds. IsStanding flat (put-items ds s) (guards_of flat (text_at flat) ds s) (inner name) whole) (sym behind.replacements) as-one in
+              subst (λ t. IsStanding flat (put-items x.replacements (t ++ given)) (cond x.guards (guards_of flat (text_at flat) x.replacements (t ++ given)) []) (inner name) whole) (sym (take-all x.outer frame (agrees.places ∙ sym is.outer)))
+              (subst (λ b. IsStanding flat (put-items x.replacements s) (cond b (guards_of flat (text_at flat) x.replacements s) []) (inner name) whole) (sym is.guards) as-put),
         )
 
-    pub brought-agrees : (layout : Layout) (frame : List Item) (around : Around) (j : ℕ) (x : Instance) (l : Lexeme) (sp : Span) (rights : Trees) (base : Meaning → Stand) (inner : Named → Stand) (entries : Exports) → IsMadeInstance flat layout j x 0 false → IsModule flat (with_symbols base (symbols_of (module_of text known named l)) 0) (length (symbols_of (module_of text known named l))) inner (module_of text known named l) → ((meaning : Meaning) → IsLeafOf (base meaning) (layout.stands meaning)) → IsPutIn flat text known named layout x l rights → Agrees flat layout frame around → AreStanding flat frame (with_brought layout.stands entries j inner) (bringing text known named around entries (Node (Form.Instance l) sp rights))
-    brought-agrees layout frame around j x l sp rights base inner entries is kept leaves put agrees =
-        let room : x.outer ≤ length frame = let outer = is.outer in let e = agrees.places in omega (arith, e, outer) in
+    pub brought-agrees : (layout : Layout) (frame : List Item) (around : Around) (j : ℕ) (x : Instance) (l : Lexeme) (sp : Span) (rights : Trees) (staying made : List Replacement) (base : Meaning → Stand) (inner : Named → Stand) (entries : Exports) → IsMadeInstance flat layout j x 0 false → PutsInBehind x staying made → IsModuleBehind flat base (length staying) inner (module_of text known named l) → ((meaning : Meaning) → StaysIn flat staying (base meaning) (layout.stands meaning)) → ArePutIn flat text known named layout made l rights → Agrees flat layout frame around → AreStanding flat frame (with_brought layout.stands entries j inner) (bringing text known named around entries (Node (Form.Instance l) sp rights))
+    brought-agrees layout frame around j x l sp rights staying made base inner entries is behind kept stays put agrees =
         let rs = replacements text known named around l (right_sides text known named around rights) in
-        brought-stand flat frame layout.stands around.standing entries j inner (unguarded text known named around (Node (Form.Instance l) sp rights)) agrees.standing (λ name.
+        unguarded-stand layout frame around.standing j x inner entries (unguarded text known named around (Node (Form.Instance l) sp rights)) is agrees.places agrees.standing (λ name.
         let value = exported_value (module_of text known named l) (with_replaced around.standing rs) name in
-        let plain = exports-stand layout frame around x l rights base inner agrees.standing leaves kept (put frame around agrees) name in (
-          x,
-          (is.there, is.parameters, room),
-          subst (λ t. IsStanding flat (items_at (text_at flat) (map (λ (r : Replacement). r.root) x.replacements) t) (cond x.guards (guards_of flat (text_at flat) x.replacements t) []) (inner name) value) (sym (append-nil (take x.outer frame) ∙ take-all x.outer frame (agrees.places ∙ sym is.outer)))
-              (subst (λ b. IsStanding flat (items_at (text_at flat) (map (λ (r : Replacement). r.root) x.replacements) frame) (cond b (guards_of flat (text_at flat) x.replacements frame) []) (inner name) value) (sym is.guards) plain),
-        ))
+        let plain = exports-stand layout frame around staying made l rights base inner agrees.standing stays kept (put frame around agrees) name in
+        subst (λ ds. IsStanding flat (put-items ds frame) [] (inner name) value) (sym behind.replacements)
+        (subst (λ t. IsStanding flat t [] (inner name) value) (sym (put-append frame staying made)) plain))

@@ -1,5 +1,6 @@
 -- When an instance of a flat module is one of a written module, its replacements put in.
-use Rattle.std.specs.Prelude.{◌≡◌, ℕ, suc, Bool, true, List, [], ◌∷◌, Option, Some, None, length, map, slice_get}
+use Rattle.std.specs.Prelude.{◌≡◌, ℕ, suc, ◌+◌, Bool, true, List, [], ◌∷◌, ◌++◌, Option, Some, None, length, map, slice_get}
+use Rattle.std.specs.List.{AllByRecursion}
 use Rattle.tla_symbols.specs.declared.lexeme.Lexeme.{Lexeme}
 use Rattle.tla_tree.specs.declared.form.Form.TheVariants as Form
 use Rattle.tla_tree.specs.Syntax.{Trees, Node, Nil, Cons}
@@ -19,12 +20,6 @@ abbrev pub with_symbols : (Meaning → Stand) → List Meaning → ℕ → Meani
 with_symbols stands [] place = stands
 with_symbols stands (meaning ∷ rest) place = with_stand (with_symbols stands rest (suc place)) meaning (Place place (order_of meaning))
 
--- a leaf that a name stands for here too, or nothing is said of it
-abbrev pub IsLeafOf : Stand → Stand → Type 0
-IsLeafOf Unsaid here = Unit {0}
-IsLeafOf (Leaf kind) here = here ≡ Leaf kind
-IsLeafOf _ here = ⊥
-
 -- the symbols that INSTANCE replaces
 abbrev pub symbols_of : Outside → List Meaning
 symbols_of outside = map (λ parameter. parameter.1) outside.view.parameters
@@ -39,12 +34,21 @@ instance_in (Cons x rest) = instance_in rest
 abbrev pub exported_value : Outside → Environment → Named → Value
 exported_value outside standing name arguments path = outside.standing standing (record { name = name; arguments = arguments } ∷ path)
 
+-- an instance puts in these behind others, of symbols that stay, which have no bounds
+pub record PutsInBehind (x : Instance) (staying made : List Replacement) : Type 0 where
+  pub replacements : x.replacements ≡ staying ++ made
+  pub unbounded : AllByRecursion (λ r. r.most ≡ None) staying
+
 module _ (flat : FlatModule) where
   -- the names of a module stand so, over each frame that has its symbols and wherever these stand for what an environment has
   abbrev pub IsModule : (Meaning → Stand) → ℕ → (Named → Stand) → Outside → Type 0
   IsModule stands places inner outside =
       (frame : List Item) (standing : Environment) → length frame ≡ places → AreStanding flat frame stands standing
       → (name : Named) → IsStanding flat frame [] (inner name) (exported_value outside standing name)
+
+  -- the same behind the symbols of the modules round it, so many of them: its own symbols stand at the places behind these
+  abbrev pub IsModuleBehind : (Meaning → Stand) → ℕ → (Named → Stand) → Outside → Type 0
+  IsModuleBehind base outer inner outside = IsModule (with_symbols base (symbols_of outside) outer) (outer + length (symbols_of outside)) inner outside
 
   -- a replacement is the item at a place, over each frame: a symbol that stays
   abbrev pub IsStaying : Replacement → ℕ → Type 0
@@ -75,11 +79,11 @@ module _ (flat : FlatModule) where
   AreReplaced constant frame (made ∷ others) (replaced ∷ rest) = IsReplaced constant frame made replaced × AreReplaced constant frame others rest
   AreReplaced constant frame _ _ = ⊥
 
-  -- an instance puts in what replaces the symbols of the module of a name, over each frame that agrees
-  abbrev pub IsPutIn : Text → Known → (List ℕ → Outside) → Layout → Instance → Lexeme → Trees → Type 0
-  IsPutIn text known named layout x l rights =
+  -- these are put in for the symbols of the module of a name, over each frame that agrees
+  abbrev pub ArePutIn : Text → Known → (List ℕ → Outside) → Layout → List Replacement → Lexeme → Trees → Type 0
+  ArePutIn text known named layout made l rights =
       (frame : List Item) (around : Around) → Agrees flat layout frame around
-      → AreReplaced (module_of text known named l).is_constant frame x.replacements (replacements text known named around l (right_sides text known named around rights))
+      → AreReplaced (module_of text known named l).is_constant frame made (replacements text known named around l (right_sides text known named around rights))
 
   -- an instance with so many parameters and all places round it, and whether it guards
   pub record IsMadeInstance (layout : Layout) (j : ℕ) (x : Instance) (count : ℕ) (guarding : Bool) : Type 0 where

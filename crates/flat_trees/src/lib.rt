@@ -33,9 +33,9 @@ ghost use Rattle.flat_trees.specs.Layouts.{Agrees, Gives, IsBody, IsBuiltAt, IsM
 ghost use Rattle.flat_trees.specs.Layouts.{Stands, around_repeating, function_text, layout_before};
 ghost use Rattle.flat_trees.specs.Layouts.{layout_behind, layout_in, layout_repeating, layout_with};
 ghost use Rattle.flat_trees.specs.Layouts.{order_of, parameters_of, with_brought};
-ghost use Rattle.flat_trees.specs.Instances.{AllStay, IsLeafOf, IsMadeInstance, IsModule, IsPutIn};
-ghost use Rattle.flat_trees.specs.Instances.{IsStaying, StaysIn, instance_in, symbols_of};
-ghost use Rattle.flat_trees.specs.Instances.{with_symbols};
+ghost use Rattle.flat_trees.specs.Instances.{AllStay, ArePutIn, IsMadeInstance, IsModule};
+ghost use Rattle.flat_trees.specs.Instances.{IsModuleBehind, IsStaying, PutsInBehind, StaysIn};
+ghost use Rattle.flat_trees.specs.Instances.{instance_in, with_symbols};
 ghost use Rattle.flat_trees.specs.Growing.{IsLayoutWithin, IsWithin};
 
 /// A node that is built of a written tree, over a frame where names stand for what they do round
@@ -92,7 +92,7 @@ pub fn bodies_are_meant()
 /// The name of a definition stands for what the definition gives: of an operator, where the root
 /// means the body with the parameters at the next places; of a function, where the root gives the
 /// form; and of a module definition, where the instance puts in what replaces the symbols of the
-/// module, whose names stand so over these.
+/// module, behind those of the modules round it, which stay, and its names stand so over these.
 pub fn definitions_stand()
     ensures operators { (flat : FlatModule) (text : Text) (known : Known)
         (named : List ℕ → Outside) (layout : Layout) (form : Form.the_data) (l : Lexeme) (at : Span)
@@ -111,17 +111,16 @@ pub fn definitions_stand()
         defined_value text known named around (tree.Node (Form.FunctionDefinition l) at parts)) }
     ensures instances { (flat : FlatModule) (text : Text) (known : Known)
         (named : List ℕ → Outside) (layout : Layout) (own : Lexeme) (at : Span) (parts : Trees)
-        (j : ℕ) (x : Instance) (l : Lexeme) (rights : Trees) (base : Meaning → Stand)
-        (inner : Named → Stand)
+        (j : ℕ) (x : Instance) (l : Lexeme) (rights : Trees) (staying made : List Replacement)
+        (base : Meaning → Stand) (inner : Named → Stand)
         → IsMadeInstance flat layout j x
         (length (parameters_of text (Form.ModuleDefinition own) parts)) true
-        → instance_in parts ≡ Some (l, rights)
-        → IsModule flat (with_symbols base (symbols_of (module_of text known named l)) 0)
-        (length (symbols_of (module_of text known named l))) inner (module_of text known named l)
-        → ((meaning : Meaning) → IsLeafOf (base meaning)
+        → PutsInBehind x staying made → instance_in parts ≡ Some (l, rights)
+        → IsModuleBehind flat base (length staying) inner (module_of text known named l)
+        → ((meaning : Meaning) → StaysIn flat staying (base meaning)
         ((layout_with text layout (Form.ModuleDefinition own) parts).stands meaning))
-        → IsPutIn flat text known named (layout_with text layout (Form.ModuleDefinition own) parts)
-        x l rights
+        → ArePutIn flat text known named (layout_with text layout (Form.ModuleDefinition own) parts)
+        made l rights
         → Stands flat layout
         (Through j (map order_of (parameters_of text (Form.ModuleDefinition own) parts)) inner)
         (λ around.
@@ -167,12 +166,12 @@ pub fn agreement_is_kept()
         → AreStanding flat (frame ++ more) stands standing }
     ensures brought { (flat : FlatModule) (text : Text) (known : Known) (named : List ℕ → Outside)
         (layout : Layout) (frame : List Item) (around : Around) (j : ℕ) (x : Instance) (l : Lexeme)
-        (at : Span) (rights : Trees) (base : Meaning → Stand) (inner : Named → Stand)
-        (entries : Exports) → IsMadeInstance flat layout j x 0 false
-        → IsModule flat (with_symbols base (symbols_of (module_of text known named l)) 0)
-        (length (symbols_of (module_of text known named l))) inner (module_of text known named l)
-        → ((meaning : Meaning) → IsLeafOf (base meaning) (layout.stands meaning))
-        → IsPutIn flat text known named layout x l rights → Agrees flat layout frame around
+        (at : Span) (rights : Trees) (staying made : List Replacement) (base : Meaning → Stand)
+        (inner : Named → Stand) (entries : Exports) → IsMadeInstance flat layout j x 0 false
+        → PutsInBehind x staying made
+        → IsModuleBehind flat base (length staying) inner (module_of text known named l)
+        → ((meaning : Meaning) → StaysIn flat staying (base meaning) (layout.stands meaning))
+        → ArePutIn flat text known named layout made l rights → Agrees flat layout frame around
         → AreStanding flat frame (with_brought layout.stands entries j inner)
         (bringing text known named around entries (tree.Node (Form.Instance l) at rights)) }
     ensures extended { (flat : FlatModule) (layout : Layout) (frame : List Item)

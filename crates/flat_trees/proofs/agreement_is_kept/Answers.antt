@@ -21,8 +21,8 @@ returns-clause-olds c flat layout frame around olds old agrees same =
     record { context = agrees.context; places = agrees.places; standing = agrees.standing; old = same }
 
 pub returns-clause-brought : goal.returns-clause-brought
-returns-clause-brought c flat text known named layout frame around j x l at rights base inner entries made kept leaves put agrees =
-    brought-agrees flat text known named layout frame around j x l at rights base inner entries made kept leaves put agrees
+returns-clause-brought c flat text known named layout frame around j x l at rights staying made base inner entries is behind kept stays put agrees =
+    brought-agrees flat text known named layout frame around j x l at rights staying made base inner entries is behind kept stays put agrees
 
 pub returns-clause-longer : goal.returns-clause-longer
 returns-clause-longer c flat frame more stands standing all = all-grown flat frame more stands standing all

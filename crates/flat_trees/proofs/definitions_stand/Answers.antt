@@ -14,5 +14,5 @@ returns-clause-functions c flat text known named layout l at parts d x there out
     function-stands flat text known named layout d x (λ around. defined_value text known named around (Node (Form.FunctionDefinition l) at parts)) there outer gives
 
 pub returns-clause-instances : goal.returns-clause-instances
-returns-clause-instances c flat text known named layout own at parts j x l rights base inner made first kept leaves put =
-    instance-stands flat text known named layout own at parts j x l rights base inner made first kept leaves put
+returns-clause-instances c flat text known named layout own at parts j x l rights staying made base inner is behind first kept stays put =
+    instance-stands flat text known named layout own at parts j x l rights staying made base inner is behind first kept stays put
