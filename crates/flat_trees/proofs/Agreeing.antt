@@ -1,10 +1,11 @@
 -- Frames that agree with what stands round a tree, and how that is kept.
-use Rattle.std.proofs.Common.{◌≡◌, ℕ, zero, suc, ◌+◌, ◌<◌, Bool, true, false, cond, List, [], ◌∷◌, ◌++◌, Option, Some, None, map, refl, sym, ap, ◌∙◌, subst, length, arith}
+use Rattle.std.proofs.Common.{◌≡◌, inl, inr, ℕ, zero, suc, ◌+◌, ◌<◌, Bool, true, false, cond, List, [], ◌∷◌, ◌++◌, Option, Some, None, map, refl, sym, ap, ◌∙◌, subst, length, arith}
 use Rattle.std.proofs.lemmas.List.{length-append}
 use Rattle.tla_tree.specs.declared.form.Form.TheVariants as Form
 use Rattle.tla_tree.specs.Syntax.{Tree, Trees}
 use Rattle.tla_model.specs.Tables.{Named}
 use Rattle.tla_model.specs.Entities.{Meaning, Text, meant, same_meaning}
+use Rattle.tla_model.specs.Contexts.{Context}
 use Rattle.tla_model.specs.Scopes.{behind, definition, reserved, scope}
 use Rattle.module_model.specs.Exports.{Exports, Known}
 use Rattle.kind_text.specs.ExpandedKind.{Expanded}
@@ -13,9 +14,9 @@ use Rattle.kind_text.specs.Expansion.{items as items_at, text as text_at}
 use Rattle.kind_text.specs.Substitution.{Item, at, texts}
 use Rattle.tree_kinds.specs.Standing.{Environment, Outside, Steps, Value, coming, name_among, value_of, with_entries, with_items, with_value, with_values}
 use Rattle.tree_kinds.specs.Expanding.{Around, before_scope, behind_definition, in_scope, with_parameters}
-use Rattle.flat_trees.specs.Stands.{AreStanding, Fits, IsItem, IsStanding, Matches, Stand, Place, Brought, count}
-use Rattle.flat_trees.specs.Layouts.{Agrees, Layout, coming_stand, layout_before, layout_behind, layout_in, layout_with, order_of, parameters_of, with_brought, with_places, with_stand, with_stands}
-use Rattle.flat_trees.proofs.Reaching.{grown}
+use Rattle.flat_trees.specs.Stands.{AreStanding, Fits, IsItem, IsStanding, Matches, Stand, Unsaid, Leaf, Place, Defined, Through, Brought, count}
+use Rattle.flat_trees.specs.Layouts.{Agrees, IsDeclaredAs, Layout, StandsBefore, around_in, coming_stand, layout_before, layout_behind, layout_declaring, layout_in, layout_with, order_of, parameters_of, with_brought, with_places, with_stand, with_stands}
+use Rattle.flat_trees.proofs.Reaching.{at-append, grown}
 
 count-texts : (xs : List Item) → count (texts xs) ≡ length xs
 count-texts [] = refl
@@ -83,6 +84,36 @@ module _ (flat : FlatModule) where
 
   pub all-grown : (s more : List Item) (stands : Meaning → Stand) (standing : Environment) → AreStanding flat s stands standing → AreStanding flat (s ++ more) stands standing
   all-grown s more stands standing all meaning = grown flat s more [] (stands meaning) (standing meaning) (all meaning)
+
+  -- one symbol more, at the next place
+  declared-stand : (layout : Layout) (s : List Item) (x : Item) (before next : Stand) (value : Value) → length s ≡ layout.places → IsStanding flat s [] before value → IsDeclaredAs layout x value before next → IsStanding flat (s ++ (x ∷ [])) [] next value
+  declared-stand layout s x before next value places holds (inl same) =
+      subst (λ stand. IsStanding flat (s ++ (x ∷ [])) [] stand value) (sym same) (grown flat s (x ∷ []) [] before value holds)
+  declared-stand layout s x before next value places holds (inr (order, same, item)) =
+      let room : length s < length (s ++ (x ∷ [])) = let e = length-append s (x ∷ []) in omega (arith, e) in
+      let here : IsStanding flat (s ++ (x ∷ [])) [] (Place (length s) order) value = (room, subst (λ z. IsItem order z [] value) (sym (at-behind s x [])) item) in
+      subst (λ stand. IsStanding flat (s ++ (x ∷ [])) [] stand value) (ap (λ place. Place place order) places ∙ sym same) here
+
+  -- symbols before a place, over the frame before it
+  front-stands : (s more : List Item) (stand : Stand) (value : Value) → StandsBefore (length s) stand → IsStanding flat (s ++ more) [] stand value → IsStanding flat s [] stand value
+  front-stands s more Unsaid value before holds = tt
+  front-stands s more (Leaf kind) value before holds = holds
+  front-stands s more (Place place order) value before holds = (before, subst (λ x. IsItem order x [] value) (at-append s more place before) holds.1)
+  front-stands s more (Defined d orders) value before holds = absurd before
+  front-stands s more (Through j orders inner) value before holds = absurd before
+  front-stands s more (Brought j inner) value before holds = absurd before
+
+  pub front-stand : (s more : List Item) (stands : Meaning → Stand) (standing : Environment) → ((meaning : Meaning) → StandsBefore (length s) (stands meaning)) → AreStanding flat (s ++ more) stands standing → AreStanding flat s stands standing
+  front-stand s more stands standing before all meaning = front-stands s more (stands meaning) (standing meaning) (before meaning) (all meaning)
+
+  pub declared-agrees : (layout : Layout) (frame : List Item) (around : Around) (context : Context) (next : Meaning → Stand) (x : Item) → Agrees flat layout frame around → ((meaning : Meaning) → IsDeclaredAs layout x (around.standing meaning) (layout.stands meaning) (next meaning)) → Agrees flat (layout_declaring layout context next) (frame ++ (x ∷ [])) (around_in around context)
+  declared-agrees layout frame around context next x agrees each =
+      record {
+        context = refl;
+        places = let e = length-append frame (x ∷ []) in let room = agrees.places in omega (arith, e, room);
+        standing = λ meaning. declared-stand layout frame x (layout.stands meaning) (next meaning) (around.standing meaning) agrees.places (agrees.standing meaning) (each meaning);
+        old = λ more. ap (λ s. texts (items_at (text_at flat) layout.olds s)) (append-append frame (x ∷ []) more) ∙ agrees.old ((x ∷ []) ++ more);
+      }
 
   -- entries that come through an instance without a name
   pub brought-stand : (s : List Item) (stands : Meaning → Stand) (standing : Environment) (entries : Exports) (j : ℕ) (inner : Named → Stand) (from : Steps → Expanded) → AreStanding flat s stands standing → ((name : Named) → IsStanding flat s [] (Brought j (inner name)) (λ arguments path. from (record { name = name; arguments = arguments } ∷ path))) → AreStanding flat s (with_brought stands entries j inner) (with_entries standing entries from)

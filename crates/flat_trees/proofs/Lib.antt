@@ -1,7 +1,7 @@
 mod Reaching
 mod BuiltNodes
-mod Agreeing
+pub mod Agreeing
 mod Definitions
-mod Instances
+pub mod Instances
 mod Meanings
 mod Growing

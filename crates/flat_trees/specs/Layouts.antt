@@ -1,6 +1,6 @@
 -- What is known round a node of a flat module, when a frame agrees with what stands round a tree, and what a node means by that.
 use Rattle.tla_symbols.specs.declared.level.Rule.TheVariants.{Plain}
-use Rattle.std.specs.Prelude.{◌≡◌, ℕ, suc, ◌+◌, List, [], ◌∷◌, ◌++◌, Option, Some, None, if◌then◌else◌, length, map}
+use Rattle.std.specs.Prelude.{◌≡◌, ◌⊎◌, ℕ, suc, ◌+◌, ◌<◌, List, [], ◌∷◌, ◌++◌, Option, Some, None, if◌then◌else◌, length, map}
 use Rattle.tla_tree.specs.declared.form.Form.TheVariants as Form
 use Rattle.tla_tree.specs.Syntax.{Tree, Trees}
 use Rattle.tla_model.specs.declared.names.Meaning.TheVariants.{BuiltIn, Declared}
@@ -15,7 +15,7 @@ use Rattle.kind_text.specs.Expansion.{items as items_at, text as text_at}
 use Rattle.kind_text.specs.Substitution.{Item, texts}
 use Rattle.tree_kinds.specs.Standing.{Outside, Value, name_among, places as places_of}
 use Rattle.tree_kinds.specs.Expanding.{Around, expand, inner, places_at, before_scope, in_scope, operands}
-use Rattle.flat_trees.specs.Stands.{AreStanding, IsStanding, Matches, Stand, Place, Brought}
+use Rattle.flat_trees.specs.Stands.{AreStanding, IsItem, IsStanding, Matches, Stand, Unsaid, Leaf, Place, Brought}
 use Rattle.flat_trees.specs.Names.{order_by, IsBuilt}
 
 -- ---- what stands for meanings
@@ -94,6 +94,25 @@ module _ (text : Text) where
 -- where `@` repeats what these nodes are
 abbrev pub layout_repeating : Layout → List ℕ → Layout
 layout_repeating layout olds = record layout { olds = olds }
+
+-- with one place more, for a symbol that is declared, in a context
+abbrev pub layout_declaring : Layout → Context → (Meaning → Stand) → Layout
+layout_declaring layout context stands = record { context = context; stands = stands; places = suc layout.places; olds = layout.olds }
+
+-- what stands round a tree, in another context
+abbrev pub around_in : Around → Context → Around
+around_in around context = record around { context = context }
+
+-- a name stands as before, or for the item at the next place, where a value is that
+abbrev pub IsDeclaredAs : Layout → Item → Value → Stand → Stand → Type 0
+IsDeclaredAs layout x value before next = (next ≡ before) ⊎ ((order : ℕ) × (next ≡ Place layout.places order) × IsItem order x [] value)
+
+-- a leaf, or a symbol at a place before this one; or nothing is said of it
+abbrev pub StandsBefore : ℕ → Stand → Type 0
+StandsBefore places Unsaid = Unit {0}
+StandsBefore places (Leaf kind) = Unit {0}
+StandsBefore places (Place place order) = place < places
+StandsBefore places _ = ⊥
 
 -- where `@` repeats this
 abbrev pub around_repeating : Around → Operands → Around

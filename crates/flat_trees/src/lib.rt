@@ -15,6 +15,7 @@ ghost use Rattle.tla_tree.specs.Syntax as tree;
 ghost use Rattle.tla_tree.specs.Syntax.{Tree, Trees};
 ghost use Rattle.tla_model.specs.Tables.{Named};
 ghost use Rattle.tla_model.specs.Entities.{Meaning, Operator, Text, defines, same_meaning};
+ghost use Rattle.tla_model.specs.Contexts.{Context};
 ghost use Rattle.module_model.specs.Exports.{Exports, Known};
 ghost use Rattle.kind_text.specs.ExpandedKind.{Expanded, Operands};
 ghost use Rattle.kind_text.specs.FlatModule.{Definition, Extends, FlatModule, Form as NodeForm};
@@ -30,6 +31,7 @@ ghost use Rattle.flat_trees.specs.Stands.{AreStanding, Defined, Fits, IsStanding
 ghost use Rattle.flat_trees.specs.Stands.{Stand, Through};
 ghost use Rattle.flat_trees.specs.Names.{IsBuilt, IsPath, order_by};
 ghost use Rattle.flat_trees.specs.Layouts.{Agrees, Gives, IsBody, IsBuiltAt, IsMeant, Layout};
+ghost use Rattle.flat_trees.specs.Layouts.{IsDeclaredAs, StandsBefore, around_in, layout_declaring};
 ghost use Rattle.flat_trees.specs.Layouts.{Stands, around_repeating, function_text, layout_before};
 ghost use Rattle.flat_trees.specs.Layouts.{layout_behind, layout_in, layout_repeating, layout_with};
 ghost use Rattle.flat_trees.specs.Layouts.{order_of, parameters_of, with_brought};
@@ -129,9 +131,10 @@ pub fn definitions_stand()
 
 /// A frame that agrees with what stands round a tree agrees in the scope of a form and before it;
 /// with items for its parameters behind it; behind a definition whose name stands for what it
-/// gives; and where `@` repeats other nodes. What names stand for over a frame they stand for over
-/// a longer one. With what an INSTANCE without a name brings, they stand for what stands behind it,
-/// and with what an extended module brings, for what stands in that.
+/// gives; with an item for one symbol more, at the next place; and where `@` repeats other nodes.
+/// What names stand for over a frame they stand for over a longer one, and symbols over a shorter
+/// one that has their places. With what an INSTANCE without a name brings, names stand for what
+/// stands behind it, and with what an extended module brings, for what stands in that.
 pub fn agreement_is_kept()
     ensures scopes { (flat : FlatModule) (text : Text) (known : Known) (named : List ℕ → Outside)
         (layout : Layout) (frame : List Item) (around : Around) (form : Form.the_data)
@@ -184,6 +187,17 @@ pub fn agreement_is_kept()
         → AreStanding flat frame layout.stands standing
         → AreStanding flat frame (with_brought layout.stands entries j inner)
         (with_entries standing entries (outside.standing parameters)) }
+    ensures declared { (flat : FlatModule) (layout : Layout) (frame : List Item) (around : Around)
+        (context : Context) (next : Meaning → Stand) (x : Item) → Agrees flat layout frame around
+        → ((meaning : Meaning)
+        → IsDeclaredAs layout x (around.standing meaning) (layout.stands meaning) (next meaning))
+        → Agrees flat (layout_declaring layout context next) (frame ++ (x ∷ []))
+        (around_in around context) }
+    ensures shorter { (flat : FlatModule) (frame more : List Item) (stands : Meaning → Stand)
+        (standing : Environment)
+        → ((meaning : Meaning) → StandsBefore (length frame) (stands meaning))
+        → AreStanding flat (frame ++ more) stands standing
+        → AreStanding flat frame stands standing }
 {}
 
 /// The symbols of a module stay in an instance of it whose replacements are parameters for them: a

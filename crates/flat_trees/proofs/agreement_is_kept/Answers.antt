@@ -1,4 +1,4 @@
-use Rattle.flat_trees.proofs.Agreeing.{all-grown, before-agrees, behind-agrees, scope-agrees, with-agrees}
+use Rattle.flat_trees.proofs.Agreeing.{all-grown, before-agrees, behind-agrees, declared-agrees, front-stand, scope-agrees, with-agrees}
 use Rattle.flat_trees.proofs.Instances.{brought-agrees, extended-stand}
 use Rattle.flat_trees.proofs.agreement_is_kept.Goals as goal
 
@@ -30,3 +30,9 @@ returns-clause-longer c flat frame more stands standing all = all-grown flat fra
 pub returns-clause-extended : goal.returns-clause-extended
 returns-clause-extended c flat layout frame standing parameters j x outside stands here places inner entries is many kept stays room symbols others =
     extended-stand flat layout frame standing parameters j x outside stands here places inner entries is many kept stays room symbols others
+
+pub returns-clause-declared : goal.returns-clause-declared
+returns-clause-declared c flat layout frame around context next x agrees each = declared-agrees flat layout frame around context next x agrees each
+
+pub returns-clause-shorter : goal.returns-clause-shorter
+returns-clause-shorter c flat frame more stands standing before all = front-stand flat frame more stands standing before all
