@@ -1,36 +1,16 @@
 -- What is known of a change whose area is not backward.
-use Rattle.std.proofs.Common.{◌≡◌, ℕ, ◌+◌, ◌-◌, ◌<◌, ◌≤◌, Bool, true, false, cond, ltb, List, [], ◌∷◌, ◌++◌, length, take, drop, refl, sym, ap, ◌∙◌, subst, arith, length-append, append_assoc}
-use Rattle.std.proofs.lemmas.List.{length-take-le, length-drop, take_rest}
-use Rattle.std.proofs.lemmas.Bool.{lt-ltb, le-ltb}
+use Rattle.std.proofs.Common.{◌≡◌, ℕ, ◌+◌, ◌-◌, Bool, true, false, cond, ltb, List, [], ◌∷◌, ◌++◌, length, take, drop, refl, sym, ap, ◌∙◌, subst, append_assoc}
+use Rattle.std.proofs.lemmas.List.{take_rest}
 use Rattle.std.proofs.lemmas.Option.{none-some}
-use Rattle.std.proofs.lemmas.Str.{IsUtf8-take, IsUtf8-drop, IsUtf8-append, IsCharBoundary-start, IsCharBoundary-end}
+use Rattle.std.proofs.lemmas.Str.{IsUtf8-take, IsUtf8-drop, IsUtf8-append}
 use Rattle.std.specs.Str.{IsUtf8, IsCharBoundary}
 use Rattle.std.specs.Prelude.{Option, Some, None, Result, Ok, Err}
 use Rattle.std.specs.Result.{IsErrAnd, IfErr}
 use Rattle.tla_text.specs.Places.{spliced}
-use Rattle.lsp_wire.specs.declared.types.Area.{Area}
 use Rattle.lsp_wire.specs.declared.types.Change.{Change}
 use Rattle.doc_edit.specs.declared.EditError.{EditError}
 use Rattle.doc_edit.specs.declared.EditError.TheVariants.{BackwardRange, TooLarge, Memory}
-use Rattle.doc_edit.specs.Edits.{most_bytes, after_change, first_excess, IsRefused, start_of, end_of, is_backward, backward_from, first_backward}
-use Rattle.doc_edit.proofs.Offsets.{offset_of_unit-at_char, offset_of-order}
-
--- where a text may be cut
-pub start_of-at_char : (text : List ℕ) (area : Option Area) → IsUtf8 text → IsCharBoundary text (start_of text area)
-start_of-at_char text None u = IsCharBoundary-start text u
-start_of-at_char text (Some area) u = offset_of_unit-at_char text area.start.line area.start.unit u
-
-pub end_of-at_char : (text : List ℕ) (area : Option Area) → IsUtf8 text → IsCharBoundary text (end_of text area)
-end_of-at_char text None u = IsCharBoundary-end text
-end_of-at_char text (Some area) u = offset_of_unit-at_char text area.end.line area.end.unit u
-
-pub start_of-order : (text : List ℕ) (area : Option Area) → is_backward area ≡ false → start_of text area ≤ end_of text area
-start_of-order text None h = omega arith
-start_of-order text (Some area) h = offset_of-order text area.start area.end h
-
-pub length-spliced : (text piece : List ℕ) (start end : ℕ) → start ≤ end → end ≤ length text → length (spliced text start end piece) ≡ length text - (end - start) + length piece
-length-spliced text piece start end le within =
-    omega (arith, length-append (take start text) (piece ++ drop end text), length-append piece (drop end text), length-take-le start text (omega arith), length-drop end text)
+use Rattle.doc_edit.specs.Edits.{most_bytes, after_change, first_excess, IsRefused, is_backward, backward_from, first_backward}
 
 pub IsUtf8-spliced : (text piece : List ℕ) (start end : ℕ) → IsUtf8 text → IsUtf8 piece → IsCharBoundary text start → IsCharBoundary text end → IsUtf8 (spliced text start end piece)
 IsUtf8-spliced text piece start end u v b e =
@@ -55,10 +35,6 @@ forward_more c cs h =
     let parts = first_forward (is_backward c.area) (backward_from 1 cs) h in
     (parts.0, none_from 1 0 cs parts.1)
 
-pub length-after_change : (text : List ℕ) (c : Change) → IsUtf8 text → is_backward c.area ≡ false → length (after_change text c) ≡ length text - (end_of text c.area - start_of text c.area) + length c.text
-length-after_change text c u h =
-    length-spliced text c.text (start_of text c.area) (end_of text c.area) (start_of-order text c.area h) (end_of-at_char text c.area u).0
-
 -- a text that was put together from three pieces
 pub spliced-from : (text bytes piece given empty first second third made : List ℕ) (start end : ℕ) → bytes ≡ text → given ≡ piece → empty ≡ [] → first ≡ empty ++ take start bytes → second ≡ first ++ given → third ≡ second ++ take (length bytes - end) (drop end bytes) → made ≡ third → made ≡ spliced text start end piece
 spliced-from text bytes piece given empty first second third made start end b g e f s t m =
@@ -76,12 +52,6 @@ IfErr-from (Ok x) h f = absurd h
 IfErr-from (Err e) h f = f e h
 
 -- ---- texts that are too long
-
-pub first_excess-some : (text : List ℕ) (c : Change) (n : ℕ) → n ≡ length (after_change text c) → most_bytes < n → first_excess text (c ∷ []) ≡ Some n
-first_excess-some text c n e h = rw (← e, lt-ltb most_bytes n h) refl
-
-pub first_excess-none : (text : List ℕ) (c : Change) (n : ℕ) → n ≡ length (after_change text c) → n ≤ most_bytes → first_excess text (c ∷ []) ≡ None
-first_excess-none text c n e h = rw (← e, le-ltb most_bytes n h) refl
 
 rest_turn : (long : Bool) (n : ℕ) (x : Option ℕ) → cond long (Some n) None ≡ None → cond long (Some n) x ≡ x
 rest_turn true n x h = absurd (none-some n (sym h))

@@ -1,5 +1,5 @@
 //! One change of a text.
-ghost use Rattle.std.specs.Prelude.{◌≡◌, ◌<◌, ◌^◌, ◌++◌, ◌∷◌, [], false, length, IfErr, IfOk, MatchOption, OnOk};
+ghost use Rattle.std.specs.Prelude.{◌≡◌, ◌<◌, ◌≤◌, ◌^◌, ◌++◌, ◌∷◌, [], false, length, IfErr, IfOk, MatchOption, OnOk};
 ghost use Rattle.std.specs.Str.{IsCharBoundary, IsUtf8};
 ghost use Rattle.std.specs.declared.option.Option.TheVariants.{None};
 ghost use Rattle.tla_text.specs.Places.{spliced};
@@ -55,23 +55,21 @@ pub fn first_backward(changes: &[Change]) -> Option<u64>
     None
 }
 
-// The offset at which what is replaced starts.
-fn start_of(text: &Text, area: Option<Area>) -> usize
-    ensures { result ≡ start_of text.now area }
+// The offsets at which what is replaced starts and ends.
+fn replaced(text: &Text, area: Option<Area>) -> (usize, usize)
+    requires { is_backward area ≡ false }
+    ensures start { result.0 ≡ start_of text.now area }
+    ensures end { result.1 ≡ end_of text.now area }
+    ensures start_at_char { IsCharBoundary text.now result.0 }
+    ensures end_at_char { IsCharBoundary text.now result.1 }
+    ensures in_order { result.0 ≤ result.1 }
 {
     match area {
-        Some(area) => text.offset_utf16(area.start.line, area.start.unit) as usize,
-        None => 0,
-    }
-}
-
-// The offset at which what is replaced ends.
-fn end_of(text: &Text, area: Option<Area>) -> usize
-    ensures { result ≡ end_of text.now area }
-{
-    match area {
-        Some(area) => text.offset_utf16(area.end.line, area.end.unit) as usize,
-        None => text.bytes().len(),
+        Some(area) => (
+            text.offset_utf16(area.start.line, area.start.unit) as usize,
+            text.offset_utf16(area.end.line, area.end.unit) as usize,
+        ),
+        None => (0, text.bytes().len()),
     }
 }
 
@@ -117,8 +115,7 @@ pub fn edited(alloc: Global, text: &Text, change: &Change) -> Result<Text, EditE
     ensures short { OnOk result (first_excess text.now (change.now ∷ []) ≡ None) }
     ensures cause { IfErr result (IsRefused None (first_excess text.now (change.now ∷ []))) }
 {
-    let start = start_of(text, change.area);
-    let end = end_of(text, change.area);
+    let (start, end) = replaced(text, change.area);
     let piece = change.text.as_str();
     let bytes = text.bytes().len() - (end - start) + piece.len();
     if bytes > MOST_BYTES {
