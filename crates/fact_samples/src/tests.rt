@@ -1,14 +1,15 @@
 // The store over small texts: what is answered, and how many derivations it costs.
 use crate::*;
-use fact_store::{Answer, FactStore};
+use fact_store::{Answer, FactStore, NewText};
 use std::process::Abort;
 use std::test::Fail;
 
-// What is done to a store: a name gets a text or loses it, or its value is asked for.
+// What is done to a store: names get texts or lose them, or the value of one is asked for.
 #[derive(Clone, Copy)]
 enum Step<'a> {
     Put(&'a str, &'a str),
     Remove(&'a str),
+    Batch(&'a [(&'a str, Option<&'a str>)]),
     Demand(&'a str),
 }
 
@@ -23,7 +24,7 @@ enum Said {
 }
 
 use Said::{Broken, Done, Fact, NoText};
-use Step::{Demand, Put, Remove};
+use Step::{Batch, Demand, Put, Remove};
 
 // Steps on one store, each with what has to come of it.
 type Script = &'static [(Step<'static>, Said)];
@@ -88,6 +89,45 @@ static CYCLES: [(Step, Said); 13] = [
     (Demand("Cc"), Fact(b'c', b'1', 100 * 31 + 1, 1)),
 ];
 
+// Texts of several names that are put in one go.
+static BATCHES: [(Step, Said); 9] = [
+    (
+        Batch(&[
+            ("Aa", Some("a1")),
+            ("Bb", Some("b1")),
+            ("Cc", Some("c1AaBb")),
+        ]),
+        Done,
+    ),
+    (Demand("Cc"), Fact(b'c', b'1', 100 * 31 + 101, 3)),
+    // Two faces change below "Cc".
+    (Batch(&[("Aa", Some("d1")), ("Bb", Some("e1"))]), Done),
+    (Demand("Cc"), Fact(b'c', b'1', 103 * 31 + 104, 3)),
+    // A text that goes and comes back, and one that becomes what it was.
+    (
+        Batch(&[
+            ("Aa", None),
+            ("Bb", Some("x1")),
+            ("Aa", Some("d1")),
+            ("Bb", Some("e1")),
+        ]),
+        Done,
+    ),
+    (Demand("Cc"), Fact(b'c', b'1', 103 * 31 + 104, 0)),
+    // A text that goes at last, and one that comes and goes.
+    (
+        Batch(&[
+            ("Aa", Some("a1")),
+            ("Zz", Some("z1")),
+            ("Aa", None),
+            ("Zz", None),
+        ]),
+        Done,
+    ),
+    (Demand("Cc"), Fact(b'c', b'1', 104, 1)),
+    (Demand("Zz"), NoText),
+];
+
 // Behind a chain of a thousand names, from "TX" down to "Aa".
 static CHAIN: [(Step, Said); 5] = [
     (Demand("TX"), Fact(b'f', b'1', 105, 1000)),
@@ -130,6 +170,15 @@ impl Trial {
         Ok(Done)
     }
 
+    fn batch(&mut self, alloc: Global, texts: &[(&str, Option<&str>)]) -> Result<Said, Memory> {
+        let mut news = Vec::new(alloc);
+        for (name, text) in texts {
+            news.push(new_text(alloc, name, *text)?)?;
+        }
+        self.store.put_texts(alloc, &news, &mut self.sample)?;
+        Ok(Done)
+    }
+
     fn demand(&mut self, alloc: Global, name: &str) -> Result<Said, Memory> {
         let before = self.steps.count();
         let answer = self
@@ -147,6 +196,7 @@ impl Trial {
         match step {
             Put(name, text) => self.put(alloc, name, Some(text.as_bytes())),
             Remove(name) => self.put(alloc, name, None),
+            Batch(texts) => self.batch(alloc, texts),
             Demand(name) => self.demand(alloc, name),
         }
     }
@@ -160,12 +210,24 @@ impl Trial {
     }
 }
 
+// The text that a name gets, if it does not lose it.
+fn new_text(alloc: Global, name: &str, text: Option<&str>) -> Result<NewText, Memory> {
+    let bytes = match text {
+        Some(text) => Some(List::from_vec(Vec::from_slice(alloc, text.as_bytes())?)),
+        None => None,
+    };
+    Ok(NewText {
+        name: Chars::from_str(alloc, name)?,
+        bytes,
+    })
+}
+
 fn crosses_threads<T: Send + Sync>(_: &T) {}
 
 #[test]
 fn answers_at_little_cost(rt: HostRuntime) -> Result<(), Fail> {
     let alloc = rt.alloc();
-    let scripts: [Script; 3] = [&EDITS, &PUTS, &CYCLES];
+    let scripts: [Script; 4] = [&EDITS, &PUTS, &CYCLES, &BATCHES];
     for script in scripts {
         let mut trial = Trial::new(alloc);
         trial.follows(&rt, alloc, script)?;

@@ -1,13 +1,14 @@
 -- What is owed after texts change is at most what was owed, and what is dirty.
-use Rattle.std.proofs.Common.{◌≡◌, ℕ, zero, suc, ◌+◌, ◌≤◌, Bool, true, false, List, [], ◌∷◌, ◌++◌, Option, Some, None, refl, sym, ap, ◌∙◌, subst, cond, inl, inr, map, length, arith}
+use Rattle.std.proofs.Common.{◌≡◌, ℕ, zero, suc, ◌+◌, ◌≤◌, ◌⊎◌, Bool, true, false, List, [], ◌∷◌, ◌++◌, Option, Some, None, refl, sym, ap, ◌∙◌, subst, cond, inl, inr, map, length, arith}
 use Rattle.std.specs.Prelude.{◌&&◌, slice_get, slice_set, remove, count_by, sum_by, not}
 use Rattle.std.specs.Ordering.{is_eq}
 use Rattle.std.specs.declared.cmp.Ordering.TheVariants.{Less, Equal, Greater}
 use Rattle.std.specs.FinMap.{get, keys, entries, find, put, get-from_entries, get-entries, entries-insert, empty, len, len-entries, len-empty}
 use Rattle.std.specs.FinMap.Entries.{by_order}
 use Rattle.std.specs.Cmp.Lexicographic.{nat_list_cmp_total}
-use Rattle.std.proofs.lemmas.List.Sums.{sum_by-cons, sum_by-append, count_by-le-length}
+use Rattle.std.proofs.lemmas.List.Sums.{sum_by-cons, count_by-le-length}
 use Rattle.std.proofs.lemmas.Option.{slice_get_within}
+use Rattle.list_laws.proofs.Lists.{pushed-cases}
 use Rattle.list_laws.proofs.Tests.{and-left, and-right}
 use Rattle.fact_store.specs.declared.slot.Slot.{Slot}
 use Rattle.fact_store.specs.declared.slot.Kept.{Kept}
@@ -15,13 +16,13 @@ use Rattle.fact_values.specs.Names.{name_cmp, name_eq, Texts}
 use Rattle.fact_values.specs.States.{State, same_given}
 use Rattle.fact_values.specs.Values.{given_in, same_text, is_dirty, dirty}
 use Rattle.fact_store.specs.Given.{states}
-use Rattle.fact_store.specs.Slots.{named_texts, texts_of, source, AreDistinct, HasNoSlot, is_made_from, is_settled, owed}
+use Rattle.fact_store.specs.Slots.{named_texts, texts_of, source, AreDistinct, HasNoSlot, IsHandedOn, CarriesOver, is_made_from, is_settled, owed}
 use Rattle.fact_values.proofs.NameLemmas.{true_or_false, same_name, name_eq-same, and_both}
 use Rattle.fact_store.proofs.Pairs.{same_given-trans}
-use Rattle.std.proofs.lemmas.List.{length-set, length-map}
-use Rattle.fact_store.proofs.SlotLemmas.{distinct-tail, none_found, text_of-slot, text_of-none}
+use Rattle.std.proofs.lemmas.List.{length-map}
+use Rattle.fact_store.proofs.SlotLemmas.{distinct-tail, none_found, text_of-slot, slot_with}
 use Rattle.fact_store.proofs.KeepLemmas.{set_cases}
-use Rattle.fact_store.proofs.TextLemmas.{AreDistinct-names, names-set, AreDistinct-push, AreDistinct-remove, left_at}
+use Rattle.fact_store.proofs.TextLemmas.{left_at}
 
 one : Bool → ℕ
 one b = cond b 1 0
@@ -68,25 +69,111 @@ len-texts_of slots d =
     let m = texts_of slots in
     omega (arith, len-entries m, length-map (entries m) (λ (e : List ℕ × List ℕ). e.0), all_count (keys m), all_count slots, count_keys (λ x. true) slots d)
 
--- sums over lists that go together
-sum_pairs : {A B : Type 0} (f : B → ℕ) (g : A → ℕ) (h : B → ℕ) (xs : List A) (ys : List B) → length ys ≡ length xs → ((j : ℕ) (x : A) (y : B) → slice_get xs j ≡ Some x → slice_get ys j ≡ Some y → f y ≤ g x + h y) → sum_by f ys ≤ sum_by g xs + sum_by h ys
-sum_pairs f g h [] [] e p = omega arith
-sum_pairs f g h [] (y ∷ ys) e p = cc
-sum_pairs f g h (x ∷ xs) [] e p = cc
-sum_pairs f g h (x ∷ xs) (y ∷ ys) e p =
-    omega (arith, sum_by-cons f y ys, sum_by-cons g x xs, sum_by-cons h y ys, p zero x y refl refl, sum_pairs f g h xs ys (omega arith) (λ j a b u v. p (suc j) a b u v))
+-- sums over one list
+sum_split : {A : Type 0} (f g h : A → ℕ) (xs : List A) → ((j : ℕ) (x : A) → slice_get xs j ≡ Some x → f x ≤ g x + h x) → sum_by f xs ≤ sum_by g xs + sum_by h xs
+sum_split f g h [] p = omega arith
+sum_split f g h (x ∷ xs) p =
+    omega (arith, sum_by-cons f x xs, sum_by-cons g x xs, sum_by-cons h x xs, p zero x refl, sum_split f g h xs (λ j a u. p (suc j) a u))
 
-sum_remove-le : {A : Type 0} (f : A → ℕ) (xs : List A) (i : ℕ) → sum_by f (remove xs i) ≤ sum_by f xs
-sum_remove-le f [] zero = omega arith
-sum_remove-le f [] (suc i) = omega arith
-sum_remove-le f (x ∷ xs) zero = omega (arith, sum_by-cons f x xs)
-sum_remove-le f (x ∷ xs) (suc i) = omega (arith, sum_by-cons f x xs, sum_by-cons f x (remove xs i), sum_remove-le f xs i)
+sum_none : {A : Type 0} (f : A → ℕ) (xs : List A) → ((j : ℕ) (x : A) → slice_get xs j ≡ Some x → f x ≡ 0) → sum_by f xs ≡ 0
+sum_none f [] p = refl
+sum_none f (x ∷ xs) p = omega (arith, sum_by-cons f x xs, p zero x refl, sum_none f xs (λ j a u. p (suc j) a u))
+
+module _ {Own F : Type 0} where
+  itself : (x : Slot Own F) → IsHandedOn x x
+  itself x kept e = (kept, e, refl, refl)
+
+  onward : (x y z : Slot Own F) → IsHandedOn x y → IsHandedOn y z → IsHandedOn x z
+  onward x y z f g kept e = let u = f kept e in let v = g u.0 u.1 in (v.0, v.1, v.2 ∙ u.2, v.3 ∙ u.3)
+
+  pub carries-same : (slots : List (Slot Own F)) → AreDistinct slots → CarriesOver slots slots
+  carries-same slots d = record {
+    each = λ i j x y p q n.
+        let e : i ≡ j = d i j x y p q (sym n) in
+        let k : ◌≡◌ {A = Option (Slot Own F)} (Some x) (Some y) = sym p ∙ ap (slice_get slots) e ∙ q in let s : x ≡ y = cc in
+        subst (IsHandedOn x) s (itself x);
+  }
+
+  -- where each name with a slot before and after has one in between
+  pub carries-through : (a b c : List (Slot Own F)) → CarriesOver a b → CarriesOver b c → ((i j : ℕ) (x z : Slot Own F) → slice_get a i ≡ Some x → slice_get c j ≡ Some z → z.name ≡ x.name → (k : ℕ) × (y : Slot Own F) × (slice_get b k ≡ Some y) × (y.name ≡ x.name)) → CarriesOver a c
+  carries-through a b c f g h = record {
+    each = λ i j x z p q n.
+        let m = h i j x z p q n in
+        onward x m.1 z (f.each i m.0 x m.1 p m.2 m.3) (g.each m.0 j m.1 z m.2 q (n ∙ sym m.3));
+  }
+
+  -- one slot gets another text
+  pub carries-set_text : (slots : List (Slot Own F)) (i : ℕ) (x y : Slot Own F) → AreDistinct slots → slice_get slots i ≡ Some x → y.name ≡ x.name → IsHandedOn x y → CarriesOver slots (slice_set slots i y)
+  carries-set_text slots i x y d at n handed = record {
+    each = λ a b u v p q m. elim (set_cases slots i b y v (slice_get_within slots i x at) q) as (λ _. IsHandedOn u v) [
+      | inl this ↦
+          let e : a ≡ i = d a i u x p at (sym m ∙ ap (λ (z : Slot Own F). z.name) (sym this.1) ∙ n) in
+          let k : ◌≡◌ {A = Option (Slot Own F)} (Some u) (Some x) = sym p ∙ ap (slice_get slots) e ∙ at in let s : u ≡ x = cc in
+          subst (λ (z : Slot Own F). IsHandedOn z v) (sym s) (subst (IsHandedOn x) this.1 handed)
+      | inr past ↦ (carries-same slots d).each a b u v p past.1 m
+    ];
+  }
+
+  -- one slot is removed
+  pub carries-remove : (slots : List (Slot Own F)) (i : ℕ) → AreDistinct slots → CarriesOver slots (remove slots i)
+  carries-remove slots i d = record { each = λ a b u v p q m. let l = left_at slots i b v q in (carries-same slots d).each a l.0 u v p l.1 m }
+
+  -- one slot is new
+  pub carries-push : (slots : List (Slot Own F)) (y : Slot Own F) → AreDistinct slots → HasNoSlot slots y.name → CarriesOver slots (slots ++ y ∷ [])
+  carries-push slots y d h = record {
+    each = λ a b u v p q m. elim (pushed-cases slots y v b q) as (λ _. IsHandedOn u v) [
+      | inl past ↦ (carries-same slots d).each a b u v p past m
+      | inr last ↦ let k : true ≡ false = sym (name_eq-same y.name u.name (ap (λ (z : Slot Own F). z.name) last.1 ∙ m)) ∙ h a u p in cc k
+    ];
+  }
+
+  -- how many slots of a name pass a test
+  abbrev named_count : (Slot Own F → Bool) → List (Slot Own F) → List ℕ → ℕ
+  named_count p slots name = count_by (λ (s : Slot Own F). name_eq name s.name && p s) slots
+
+  one_of-name : (b : Bool) (name : List ℕ) (slots : List (Slot Own F)) → AreDistinct slots → count_by (λ (s : Slot Own F). name_eq s.name name && b) slots ≤ cond b 1 0
+  one_of-name b name [] d = omega arith
+  one_of-name b name (x ∷ slots) d = by (true_or_false (name_eq x.name name)) (one_of-name b name slots (distinct-tail x slots d))
+    where
+      apart : name_eq x.name name ≡ true → (j : ℕ) (s : Slot Own F) → slice_get slots j ≡ Some s → (name_eq s.name name ≡ true) ⊎ (name_eq s.name name ≡ false) → name_eq s.name name ≡ false
+      apart same j s g (inl too) = let k : zero ≡ suc j = d zero (suc j) x s refl g (same_name x.name name same ∙ sym (same_name s.name name too)) in cc k
+      apart same j s g (inr other) = other
+
+      by : (name_eq x.name name ≡ true) ⊎ (name_eq x.name name ≡ false) → count_by (λ (s : Slot Own F). name_eq s.name name && b) slots ≤ cond b 1 0 → count_by (λ (s : Slot Own F). name_eq s.name name && b) (x ∷ slots) ≤ cond b 1 0
+      by (inl same) rest =
+          let here : ◌≡◌ {A = ℕ} (cond (name_eq x.name name && b) 1 0) (cond b 1 0) = ap (λ t. cond (t && b) 1 0) same in
+          let none : count_by (λ (s : Slot Own F). name_eq s.name name && b) slots ≡ 0 = sum_none (λ (s : Slot Own F). cond (name_eq s.name name && b) 1 0) slots
+          (λ j s g. ap (λ t. cond (t && b) 1 0) (apart same j s g (true_or_false (name_eq s.name name)))) in
+          omega (arith, sum_by-cons (λ (s : Slot Own F). cond (name_eq s.name name && b) 1 0) x slots, here, none)
+      by (inr other) rest =
+          let here : ◌≡◌ {A = ℕ} (cond (name_eq x.name name && b) 1 0) 0 = ap (λ t. cond (t && b) 1 0) other in
+          omega (arith, sum_by-cons (λ (s : Slot Own F). cond (name_eq s.name name && b) 1 0) x slots, here, rest)
+
+  -- over slots of distinct names these counts are no more than one for each that passes
+  counts_of-names : (p : Slot Own F → Bool) (xs ys : List (Slot Own F)) → AreDistinct ys → sum_by (λ (y : Slot Own F). named_count p xs y.name) ys ≤ count_by p xs
+  counts_of-names p [] ys d = omega (arith, sum_none (λ (y : Slot Own F). named_count p [] y.name) ys (λ j y g. refl))
+  counts_of-names p (x ∷ xs) ys d =
+      omega (
+        arith,
+        sum_by-cons (λ (s : Slot Own F). cond (p s) 1 0) x xs,
+        one_of-name (p x) x.name ys d,
+        counts_of-names p xs ys d,
+        sum_split (λ (y : Slot Own F). named_count p (x ∷ xs) y.name) (λ (y : Slot Own F). cond (name_eq y.name x.name && p x) 1 0) (λ (y : Slot Own F). named_count p xs y.name) ys
+            (λ j y g. omega (arith, sum_by-cons (λ (s : Slot Own F). cond (name_eq y.name s.name && p s) 1 0) x xs)),
+      )
+
+  -- one that passes is counted
+  counted_at : (p : Slot Own F → Bool) (slots : List (Slot Own F)) (i : ℕ) (x : Slot Own F) (name : List ℕ) → slice_get slots i ≡ Some x → x.name ≡ name → cond (p x) 1 0 ≤ named_count p slots name
+  counted_at p [] i x name at n = cc
+  counted_at p (z ∷ slots) zero x name at n =
+      let s : z ≡ x = cc in
+      let here : ◌≡◌ {A = ℕ} (cond (name_eq name z.name && p z) 1 0) (cond (p x) 1 0) =
+      ap (λ t. cond (t && p z) 1 0) (name_eq-same name z.name (sym n ∙ ap (λ (w : Slot Own F). w.name) (sym s))) ∙ ap (λ (w : Slot Own F). cond (p w) 1 0) s in
+      omega (arith, sum_by-cons (λ (w : Slot Own F). cond (name_eq name w.name && p w) 1 0) z slots, here)
+  counted_at p (z ∷ slots) (suc i) x name at n =
+      omega (arith, sum_by-cons (λ (w : Slot Own F). cond (name_eq name w.name && p w) 1 0) z slots, counted_at p slots i x name at n)
 
 module _ {Own F : Type 0} (own_of : List ℕ → List ℕ → Own) (needs_of : Own → Option (List (List ℕ))) (fact_of : List ℕ → Own → List (List ℕ × State F) → F) (same : F → F → Bool) (same_trans : (a b c : F) → same a b ≡ true → same b c ≡ true → same a c ≡ true) where
-  -- a fact that is handed on with what it was made from
-  abbrev pub IsHandedOn : Slot Own F → Slot Own F → Type 0
-  IsHandedOn x y = (kept : Kept F) → x.kept ≡ Some kept → (later : Kept F) × (y.kept ≡ Some later) × (source later y.bytes ≡ source kept x.bytes) × (later.given ≡ kept.given)
-
   -- a settled fact stays settled where its name is not dirty
   settled-clean : (old new : Texts) (x y : Slot Own F) → y.name ≡ x.name → IsHandedOn x y → get old x.name ≡ Some x.bytes → get new x.name ≡ Some y.bytes → is_settled own_of needs_of fact_of same old x ≡ true → is_dirty own_of needs_of fact_of same old new x.name ≡ false → is_settled own_of needs_of fact_of same new y ≡ true
   settled-clean old new x y n handed gx gy settled clean = by_kept x.kept refl
@@ -114,7 +201,7 @@ module _ {Own F : Type 0} (own_of : List ℕ → List ℕ → Own) (needs_of : O
           ∙ same_given-trans same same_trans (states kept.given) (given_in own_of needs_of fact_of old x.name) (given_in own_of needs_of fact_of new x.name) (and-right (name_eq (source kept x.bytes) x.bytes) _ t) (and-right (same_text own_of needs_of fact_of (get old x.name) (get new x.name)) _ alike))
 
   -- so it is owed only where it was, or where its name is dirty
-  pub owed-one : (old new : Texts) (x y : Slot Own F) → y.name ≡ x.name → IsHandedOn x y → get old x.name ≡ Some x.bytes → get new x.name ≡ Some y.bytes → cond (not (is_settled own_of needs_of fact_of same new y)) 1 0 ≤ cond (not (is_settled own_of needs_of fact_of same old x)) 1 0 + cond (is_dirty own_of needs_of fact_of same old new y.name) 1 0
+  owed-one : (old new : Texts) (x y : Slot Own F) → y.name ≡ x.name → IsHandedOn x y → get old x.name ≡ Some x.bytes → get new x.name ≡ Some y.bytes → cond (not (is_settled own_of needs_of fact_of same new y)) 1 0 ≤ cond (not (is_settled own_of needs_of fact_of same old x)) 1 0 + cond (is_dirty own_of needs_of fact_of same old new y.name) 1 0
   owed-one old new x y n handed gx gy =
       choice (is_settled own_of needs_of fact_of same old x) (is_dirty own_of needs_of fact_of same old new x.name) (is_settled own_of needs_of fact_of same new y) (is_dirty own_of needs_of fact_of same old new y.name)
       (ap (is_dirty own_of needs_of fact_of same old new) n) (λ s c. settled-clean old new x y n handed gx gy s c)
@@ -125,110 +212,39 @@ module _ {Own F : Type 0} (own_of : List ℕ → List ℕ → Own) (needs_of : O
       choice true true false e q h = let k : ◌≡◌ {A = ℕ} (cond e 1 0) 1 = ap (λ b. cond b 1 0) q in omega (arith, k)
       choice true false false e q h = let k : false ≡ true = h refl refl in cc k
 
-  -- slots that go together
-  owed-pairs : (old : Texts) (xs ys : List (Slot Own F)) → AreDistinct ys → length ys ≡ length xs → ((j : ℕ) (x y : Slot Own F) → slice_get xs j ≡ Some x → slice_get ys j ≡ Some y → (y.name ≡ x.name) × IsHandedOn x y × (get old x.name ≡ Some x.bytes) × (get (texts_of ys) x.name ≡ Some y.bytes)) → owed own_of needs_of fact_of same ys ≤ count_by (λ (s : Slot Own F). not (is_settled own_of needs_of fact_of same old s)) xs + dirty own_of needs_of fact_of same old (texts_of ys)
-  owed-pairs old xs ys d e h =
+  -- where facts are handed on, no more is owed than was, and is dirty
+  pub owed-carried : (xs ys : List (Slot Own F)) → AreDistinct xs → AreDistinct ys → CarriesOver xs ys → owed own_of needs_of fact_of same ys ≤ owed own_of needs_of fact_of same xs + dirty own_of needs_of fact_of same (texts_of xs) (texts_of ys)
+  owed-carried xs ys dx dy c =
       omega (
         arith,
-        count_keys (is_dirty own_of needs_of fact_of same old (texts_of ys)) ys d,
-        sum_pairs (λ (s : Slot Own F). cond (not (is_settled own_of needs_of fact_of same (texts_of ys) s)) 1 0) (λ (s : Slot Own F). cond (not (is_settled own_of needs_of fact_of same old s)) 1 0) (λ (s : Slot Own F). cond (is_dirty own_of needs_of fact_of same old (texts_of ys) s.name) 1 0) xs ys e
-            (λ j x y p q. let r = h j x y p q in owed-one old (texts_of ys) x y r.0 r.1 r.2 r.3),
-      )
-
-  itself : (x : Slot Own F) → IsHandedOn x x
-  itself x kept e = (kept, e, refl, refl)
-
-  -- one slot gets another text
-  pub owed-set_text : (slots : List (Slot Own F)) (i : ℕ) (x y : Slot Own F) → AreDistinct slots → slice_get slots i ≡ Some x → y.name ≡ x.name → IsHandedOn x y → owed own_of needs_of fact_of same (slice_set slots i y) ≤ owed own_of needs_of fact_of same slots + dirty own_of needs_of fact_of same (texts_of slots) (texts_of (slice_set slots i y))
-  owed-set_text slots i x y d at n handed =
-      owed-pairs (texts_of slots) slots (slice_set slots i y) d' (length-set slots i y) pairs
-    where
-      d' : AreDistinct (slice_set slots i y)
-      d' = AreDistinct-names (slice_set slots i y) slots (names-set slots i x y at n) d
-
-      pairs : (j : ℕ) (a b : Slot Own F) → slice_get slots j ≡ Some a → slice_get (slice_set slots i y) j ≡ Some b → (b.name ≡ a.name) × IsHandedOn a b × (get (texts_of slots) a.name ≡ Some a.bytes) × (get (texts_of (slice_set slots i y)) a.name ≡ Some b.bytes)
-      pairs j a b p q = elim (set_cases slots i j y b (slice_get_within slots i x at) q) as (λ _. (b.name ≡ a.name) × IsHandedOn a b × (get (texts_of slots) a.name ≡ Some a.bytes) × (get (texts_of (slice_set slots i y)) a.name ≡ Some b.bytes)) [
-        | inl this ↦
-            let k : ◌≡◌ {A = Option (Slot Own F)} (Some a) (Some x) = sym p ∙ ap (slice_get slots) this.0 ∙ at in let s : a ≡ x = cc in
-            let same_names : b.name ≡ a.name = ap (λ (z : Slot Own F). z.name) (sym this.1) ∙ n ∙ ap (λ (z : Slot Own F). z.name) (sym s) in (
-              same_names,
-              subst (λ (z : Slot Own F). IsHandedOn z b) (sym s) (subst (IsHandedOn x) this.1 handed),
-              text_of-slot slots j a d p,
-              ap (get (texts_of (slice_set slots i y))) (sym same_names) ∙ text_of-slot (slice_set slots i y) j b d' q,
-            )
-        | inr past ↦
-            let k : ◌≡◌ {A = Option (Slot Own F)} (Some a) (Some b) = sym p ∙ past.1 in let s : a ≡ b = cc in
-            let same_names : b.name ≡ a.name = ap (λ (z : Slot Own F). z.name) (sym s) in
-            (same_names, subst (IsHandedOn a) s (itself a), text_of-slot slots j a d p, ap (get (texts_of (slice_set slots i y))) (sym same_names) ∙ text_of-slot (slice_set slots i y) j b d' q)
-      ]
-
-  -- one slot is removed
-  pub owed-remove : (slots : List (Slot Own F)) (i : ℕ) → AreDistinct slots → owed own_of needs_of fact_of same (remove slots i) ≤ owed own_of needs_of fact_of same slots + dirty own_of needs_of fact_of same (texts_of slots) (texts_of (remove slots i))
-  owed-remove slots i d =
-      omega (
-        arith,
-        sum_remove-le (λ (s : Slot Own F). cond (not (is_settled own_of needs_of fact_of same (texts_of slots) s)) 1 0) slots i,
-        owed-pairs (texts_of slots) (remove slots i) (remove slots i) (AreDistinct-remove slots i d) refl
-            (λ j x y p q.
-            let k : ◌≡◌ {A = Option (Slot Own F)} (Some x) (Some y) = sym p ∙ q in let s : x ≡ y = cc in
-            let l = left_at slots i j x p in (
-              ap (λ (z : Slot Own F). z.name) (sym s),
-              subst (IsHandedOn x) s (itself x),
-              text_of-slot slots l.0 x d l.1,
-              text_of-slot (remove slots i) j x (AreDistinct-remove slots i d) p ∙ ap (λ (z : Slot Own F). Some z.bytes) s,
-            )),
-      )
-
-  -- one slot is new
-  pub owed-push : (slots : List (Slot Own F)) (y : Slot Own F) → AreDistinct slots → HasNoSlot slots y.name → owed own_of needs_of fact_of same (slots ++ y ∷ []) ≤ owed own_of needs_of fact_of same slots + dirty own_of needs_of fact_of same (texts_of slots) (texts_of (slots ++ y ∷ []))
-  owed-push slots y d h =
-      omega (
-        arith,
-        count_keys (is_dirty own_of needs_of fact_of same (texts_of slots) (texts_of new)) new d',
-        sum_by-append f slots (y ∷ []),
-        sum_by-append g slots (y ∷ []),
-        sum_by-cons f y [],
-        sum_by-cons g y [],
-        dirty_new,
-        one_le (is_settled own_of needs_of fact_of same (texts_of new) y),
-        sum_pairs f (λ (s : Slot Own F). cond (not (is_settled own_of needs_of fact_of same (texts_of slots) s)) 1 0) g slots slots refl pairs,
+        count_keys (is_dirty own_of needs_of fact_of same (texts_of xs) (texts_of ys)) ys dy,
+        counts_of-names was xs ys dy,
+        sum_split (λ (y : Slot Own F). cond (not (is_settled own_of needs_of fact_of same (texts_of ys) y)) 1 0) (λ (y : Slot Own F). named_count was xs y.name) (λ (y : Slot Own F). cond (is_dirty own_of needs_of fact_of same (texts_of xs) (texts_of ys) y.name) 1 0) ys each,
       )
     where
-      new : List (Slot Own F)
-      new = slots ++ y ∷ []
-
-      d' : AreDistinct (slots ++ y ∷ [])
-      d' = AreDistinct-push slots y d h
-
-      f : Slot Own F → ℕ
-      f s = cond (not (is_settled own_of needs_of fact_of same (texts_of (slots ++ y ∷ [])) s)) 1 0
-
-      g : Slot Own F → ℕ
-      g s = cond (is_dirty own_of needs_of fact_of same (texts_of slots) (texts_of (slots ++ y ∷ [])) s.name) 1 0
+      was : Slot Own F → Bool
+      was x = not (is_settled own_of needs_of fact_of same (texts_of xs) x)
 
       one_le : (b : Bool) → cond (not b) 1 0 ≤ 1
       one_le true = omega arith
       one_le false = omega arith
 
-      before_push : (xs : List (Slot Own F)) (j : ℕ) (z : Slot Own F) → slice_get xs j ≡ Some z → slice_get (xs ++ y ∷ []) j ≡ Some z
-      before_push [] j z e = cc
-      before_push (x ∷ xs) zero z e = e
-      before_push (x ∷ xs) (suc j) z e = before_push xs j z e
+      by_text : (y : Slot Own F) (j : ℕ) → slice_get ys j ≡ Some y → (o : Option (List ℕ)) → get (texts_of xs) y.name ≡ o → cond (not (is_settled own_of needs_of fact_of same (texts_of ys) y)) 1 0 ≤ named_count was xs y.name + cond (is_dirty own_of needs_of fact_of same (texts_of xs) (texts_of ys) y.name) 1 0
+      by_text y j at None e =
+          let dirty_new : ◌≡◌ {A = ℕ} (cond (is_dirty own_of needs_of fact_of same (texts_of xs) (texts_of ys) y.name) 1 0) 1 =
+          ap (λ o. cond (not (same_text own_of needs_of fact_of o (get (texts_of ys) y.name) && same_given same (given_in own_of needs_of fact_of (texts_of xs) y.name) (given_in own_of needs_of fact_of (texts_of ys) y.name))) 1 0) e
+          ∙ ap (λ o. cond (not (same_text own_of needs_of fact_of None o && same_given same (given_in own_of needs_of fact_of (texts_of xs) y.name) (given_in own_of needs_of fact_of (texts_of ys) y.name))) 1 0) (text_of-slot ys j y dy at) in
+          omega (arith, dirty_new, one_le (is_settled own_of needs_of fact_of same (texts_of ys) y))
+      by_text y j at (Some bytes) e =
+          let w = slot_with xs y.name bytes e in let x = w.slot in
+          omega (
+            arith,
+            counted_at was xs w.index x y.name w.at w.named,
+            owed-one (texts_of xs) (texts_of ys) x y (sym w.named) (c.each w.index j x y w.at at (sym w.named)) (text_of-slot xs w.index x dx w.at) (ap (get (texts_of ys)) w.named ∙ text_of-slot ys j y dy at),
+          )
 
-      last_at : (xs : List (Slot Own F)) → slice_get (xs ++ y ∷ []) (length xs) ≡ Some y
-      last_at [] = refl
-      last_at (x ∷ xs) = last_at xs
-
-      dirty_new : ◌≡◌ {A = ℕ} (cond (is_dirty own_of needs_of fact_of same (texts_of slots) (texts_of (slots ++ y ∷ [])) y.name) 1 0) 1
-      dirty_new =
-          ap (λ o. cond (not (same_text own_of needs_of fact_of o (get (texts_of (slots ++ y ∷ [])) y.name) && same_given same (given_in own_of needs_of fact_of (texts_of slots) y.name) (given_in own_of needs_of fact_of (texts_of (slots ++ y ∷ [])) y.name))) 1 0) (text_of-none slots y.name h)
-          ∙ ap (λ o. cond (not (same_text own_of needs_of fact_of None o && same_given same (given_in own_of needs_of fact_of (texts_of slots) y.name) (given_in own_of needs_of fact_of (texts_of (slots ++ y ∷ [])) y.name))) 1 0) (text_of-slot (slots ++ y ∷ []) (length slots) y d' (last_at slots))
-
-      pairs : (j : ℕ) (x z : Slot Own F) → slice_get slots j ≡ Some x → slice_get slots j ≡ Some z → f z ≤ cond (not (is_settled own_of needs_of fact_of same (texts_of slots) x)) 1 0 + g z
-      pairs j x z p q =
-          let k : ◌≡◌ {A = Option (Slot Own F)} (Some x) (Some z) = sym p ∙ q in let s : x ≡ z = cc in
-          owed-one (texts_of slots) (texts_of (slots ++ y ∷ [])) x z (ap (λ (w : Slot Own F). w.name) (sym s)) (subst (IsHandedOn x) s (itself x)) (text_of-slot slots j x d p)
-          (text_of-slot (slots ++ y ∷ []) j x d' (before_push slots j x p) ∙ ap (λ (w : Slot Own F). Some w.bytes) s)
+      each : (j : ℕ) (y : Slot Own F) → slice_get ys j ≡ Some y → cond (not (is_settled own_of needs_of fact_of same (texts_of ys) y)) 1 0 ≤ named_count was xs y.name + cond (is_dirty own_of needs_of fact_of same (texts_of xs) (texts_of ys) y.name) 1 0
+      each j y at = by_text y j at (get (texts_of xs) y.name) refl
 
   -- no more names are owed than there are
   pub owed-le : (slots : List (Slot Own F)) → AreDistinct slots → owed own_of needs_of fact_of same slots ≤ len (texts_of slots)

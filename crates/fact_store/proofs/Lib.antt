@@ -14,6 +14,7 @@ pub mod Keeping
 pub mod Lookups
 pub mod ShelfLemmas
 pub mod Dirt
+pub mod Batches
 pub mod PutLemmas
 pub mod PutFacts
 pub mod StoreLemmas

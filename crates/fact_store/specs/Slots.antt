@@ -34,6 +34,14 @@ module _ {Own F : Type 0} where
   abbrev pub IsIndexOf : List (Slot Own F) → List ℕ → ℕ → Type 0
   IsIndexOf slots name index = (slot : Slot Own F) × (slice_get slots index ≡ Some slot) × (slot.name ≡ name)
 
+  -- a fact of the first slot is one of the second too, and was made from the same
+  abbrev pub IsHandedOn : Slot Own F → Slot Own F → Type 0
+  IsHandedOn old new = (kept : Kept F) → old.kept ≡ Some kept → (later : Kept F) × (new.kept ≡ Some later) × (source later new.bytes ≡ source kept old.bytes) × (later.given ≡ kept.given)
+
+  -- each slot that is left has the fact of the slot of its name before
+  pub record CarriesOver (old new : List (Slot Own F)) : Type 0 where
+    pub each : (i j : ℕ) (x y : Slot Own F) → slice_get old i ≡ Some x → slice_get new j ≡ Some y → y.name ≡ x.name → IsHandedOn x y
+
   module _ (own_of : List ℕ → List ℕ → Own) (needs_of : Own → Option (List (List ℕ))) (fact_of : List ℕ → Own → List (List ℕ × State F) → F) where
     -- the parts of a slot are those of its text, and the fact is that of what it was made from
     pub record IsSound (slot : Slot Own F) : Type 0 where

@@ -27,3 +27,12 @@ pub enum Answer<F: Drop> {
     /// The fact.
     Fact(Arc<F>),
 }
+
+/// The text that a name gets; with `None` its text is taken away.
+#[derive(Drop)]
+pub struct NewText {
+    /// The name.
+    pub name: Chars,
+    /// The bytes of its text.
+    pub bytes: Option<List<u8>>,
+}

@@ -10,6 +10,7 @@
 //! number of texts, or with how they need one another.
 #![tactic(auto)]
 
+mod batch;
 mod derive;
 mod fresh;
 mod given;
@@ -22,5 +23,5 @@ mod store;
 mod texts;
 
 pub use derive::Derive;
-pub use given::{Answer, Given, Input};
+pub use given::{Answer, Given, Input, NewText};
 pub use store::FactStore;

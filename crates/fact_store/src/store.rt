@@ -4,11 +4,12 @@ ghost use Rattle.fact_values.specs.Values.{value, dirty};
 ghost use Rattle.fact_store.specs.Given.{answer_state};
 ghost use Rattle.fact_store.specs.Slots.{texts_of, owed, AreDistinct};
 ghost use Rattle.fact_store.specs.Right.{outlines, IsDone, HoldsPlan, IsRight, IsStore};
-ghost use Rattle.fact_store.specs.Holding.{with_text};
+ghost use Rattle.fact_store.specs.Holding.{with_text, with_texts, AreBetween};
 ghost use Rattle.fact_store.specs.declared.slot.Slot.{Slot as SlotOf};
 
+use crate::batch::put_all;
 use crate::derive::Derive;
-use crate::given::Answer;
+use crate::given::{Answer, NewText};
 use crate::graph::cover;
 use crate::order::bring_all;
 use crate::plan::{Plan, plan_of};
@@ -152,6 +153,23 @@ impl<D: Derive> FactStore<D> {
         }
         self.current.clear();
         Ok(())
+    }
+
+    /// Gives names their texts, or takes them away, as if one after another; but each name gets the
+    /// last of its texts alone, so that what is owed rises by no more than what is dirty between the
+    /// texts before the call and those after it. After `Memory` each name has the text that it had,
+    /// or its last one.
+    pub fn put_texts(&mut self, alloc: Global, texts: &[NewText], d: &mut D) -> Result<(), Memory>
+        ensures texts { OnOk result (self.new.texts ≡ with_texts self.old.texts texts.now) }
+        ensures owed { self.new.owed
+            ≤ self.old.owed + dirty D.own_of D.needs_of D.fact_of D.same self.old.texts
+            self.new.texts }
+        ensures between { AreBetween self.old.texts (with_texts self.old.texts texts.now)
+            self.new.texts }
+        ensures few { self.new.owed ≤ map.len self.new.texts }
+    {
+        self.current.clear();
+        put_all(alloc, &mut self.slots, &mut self.plan, texts, d)
     }
 
     /// The value of a name, from the texts alone. A fact that is held is answered where it was made

@@ -1,8 +1,7 @@
 // Texts that are put, and removed.
 ghost use Rattle.std.specs.Prelude.{◌≡◌, ℕ, ◌+◌, ◌<◌, ◌≤◌, true, Option, Some, None, IfOk, OnOk, OnErr, IsTrue, length, vec_len, map, remove, slice_get, slice_set};
 ghost use Rattle.std.specs.FinMap as map;
-ghost use Rattle.fact_values.specs.Values.{dirty};
-ghost use Rattle.fact_store.specs.Slots.{texts_of, owed, AreSound};
+ghost use Rattle.fact_store.specs.Slots.{texts_of, AreSound, CarriesOver};
 ghost use Rattle.fact_store.specs.Slots as slots_of;
 ghost use Rattle.fact_store.specs.Right.{HoldsPlan};
 ghost use Rattle.fact_store.specs.declared.slot.Slot.{Slot as SlotOf};
@@ -92,9 +91,7 @@ pub fn put<D: Derive>(
     ensures plan { HoldsPlan slots.new plan.new }
     ensures texts { OnOk result (texts_of slots.new
         ≡ map.insert (texts_of slots.old) name.now bytes.now) }
-    ensures owed { OnOk result (owed D.own_of D.needs_of D.fact_of D.same slots.new
-        ≤ owed D.own_of D.needs_of D.fact_of D.same slots.old + dirty D.own_of D.needs_of D.fact_of
-        D.same (texts_of slots.old) (texts_of slots.new)) }
+    ensures carries { OnOk result (CarriesOver slots.old slots.new) }
     ensures err { OnErr result (slots.new ≡ slots.old) }
 {
     let slot = slot_of(alloc, name, bytes, d)?;
@@ -114,9 +111,7 @@ pub fn take_out<D: Derive>(slots: &mut Shelf<D::Own, D::Fact>, plan: &mut Option
     ensures sound { AreSound D.own_of D.needs_of D.fact_of slots.new }
     ensures plan { HoldsPlan slots.new plan.new }
     ensures texts { texts_of slots.new ≡ map.remove (texts_of slots.old) name.now }
-    ensures owed { owed D.own_of D.needs_of D.fact_of D.same slots.new
-        ≤ owed D.own_of D.needs_of D.fact_of D.same slots.old + dirty D.own_of D.needs_of D.fact_of
-        D.same (texts_of slots.old) (texts_of slots.new) }
+    ensures carries { CarriesOver slots.old slots.new }
 {
     let Some(index) = slots.index_of(name) else {
         return;

@@ -10,27 +10,27 @@ push-requires g c =
 
 pub returns-in_default-clause-sound : goal.returns-in_default-clause-sound
 returns-in_default-clause-sound g c =
-    (slot_new g.D.Derive.own_of g.D.Derive.needs_of g.D.Derive.fact_of g.D.Derive.same g.met.D.Derive.same_trans c.args.slots.now c.push.new.self c.args.name.now c.args.bytes.now c.in_ok-slot.slot c.requires.sound c.in_default.ensures c.in_ok-slot.ensures c.in_ok-push.ensures.ok).sound
+    (slot_new g.D.Derive.own_of g.D.Derive.needs_of g.D.Derive.fact_of c.args.slots.now c.push.new.self c.args.name.now c.args.bytes.now c.in_ok-slot.slot c.requires.sound c.in_default.ensures c.in_ok-slot.ensures c.in_ok-push.ensures.ok).sound
 
 pub returns-in_default-clause-texts : goal.returns-in_default-clause-texts
 returns-in_default-clause-texts g c =
-    (slot_new g.D.Derive.own_of g.D.Derive.needs_of g.D.Derive.fact_of g.D.Derive.same g.met.D.Derive.same_trans c.args.slots.now c.push.new.self c.args.name.now c.args.bytes.now c.in_ok-slot.slot c.requires.sound c.in_default.ensures c.in_ok-slot.ensures c.in_ok-push.ensures.ok).texts
+    (slot_new g.D.Derive.own_of g.D.Derive.needs_of g.D.Derive.fact_of c.args.slots.now c.push.new.self c.args.name.now c.args.bytes.now c.in_ok-slot.slot c.requires.sound c.in_default.ensures c.in_ok-slot.ensures c.in_ok-push.ensures.ok).texts
 
-pub returns-in_default-clause-owed : goal.returns-in_default-clause-owed
-returns-in_default-clause-owed g c =
-    (slot_new g.D.Derive.own_of g.D.Derive.needs_of g.D.Derive.fact_of g.D.Derive.same g.met.D.Derive.same_trans c.args.slots.now c.push.new.self c.args.name.now c.args.bytes.now c.in_ok-slot.slot c.requires.sound c.in_default.ensures c.in_ok-slot.ensures c.in_ok-push.ensures.ok).owes
+pub returns-in_default-clause-carries : goal.returns-in_default-clause-carries
+returns-in_default-clause-carries g c =
+    (slot_new g.D.Derive.own_of g.D.Derive.needs_of g.D.Derive.fact_of c.args.slots.now c.push.new.self c.args.name.now c.args.bytes.now c.in_ok-slot.slot c.requires.sound c.in_default.ensures c.in_ok-slot.ensures c.in_ok-push.ensures.ok).carries
 
 pub returns-clause-sound : goal.returns-clause-sound
 returns-clause-sound g c =
     let p = c.in-Some.ensures in
-    (slot_over g.D.Derive.own_of g.D.Derive.needs_of g.D.Derive.fact_of g.D.Derive.same g.met.D.Derive.same_trans c.args.slots.now c.replace.new.slots c.in-Some.index c.args.name.now c.args.bytes.now c.in_ok-slot.slot c.requires.sound p c.in_ok-slot.ensures (c.replace.ensures.slots p.0 p.1)).sound
+    (slot_over g.D.Derive.own_of g.D.Derive.needs_of g.D.Derive.fact_of c.args.slots.now c.replace.new.slots c.in-Some.index c.args.name.now c.args.bytes.now c.in_ok-slot.slot c.requires.sound p c.in_ok-slot.ensures (c.replace.ensures.slots p.0 p.1)).sound
 
 pub returns-clause-texts : goal.returns-clause-texts
 returns-clause-texts g c =
     let p = c.in-Some.ensures in
-    (slot_over g.D.Derive.own_of g.D.Derive.needs_of g.D.Derive.fact_of g.D.Derive.same g.met.D.Derive.same_trans c.args.slots.now c.replace.new.slots c.in-Some.index c.args.name.now c.args.bytes.now c.in_ok-slot.slot c.requires.sound p c.in_ok-slot.ensures (c.replace.ensures.slots p.0 p.1)).texts
+    (slot_over g.D.Derive.own_of g.D.Derive.needs_of g.D.Derive.fact_of c.args.slots.now c.replace.new.slots c.in-Some.index c.args.name.now c.args.bytes.now c.in_ok-slot.slot c.requires.sound p c.in_ok-slot.ensures (c.replace.ensures.slots p.0 p.1)).texts
 
-pub returns-clause-owed : goal.returns-clause-owed
-returns-clause-owed g c =
+pub returns-clause-carries : goal.returns-clause-carries
+returns-clause-carries g c =
     let p = c.in-Some.ensures in
-    (slot_over g.D.Derive.own_of g.D.Derive.needs_of g.D.Derive.fact_of g.D.Derive.same g.met.D.Derive.same_trans c.args.slots.now c.replace.new.slots c.in-Some.index c.args.name.now c.args.bytes.now c.in_ok-slot.slot c.requires.sound p c.in_ok-slot.ensures (c.replace.ensures.slots p.0 p.1)).owes
+    (slot_over g.D.Derive.own_of g.D.Derive.needs_of g.D.Derive.fact_of c.args.slots.now c.replace.new.slots c.in-Some.index c.args.name.now c.args.bytes.now c.in_ok-slot.slot c.requires.sound p c.in_ok-slot.ensures (c.replace.ensures.slots p.0 p.1)).carries
