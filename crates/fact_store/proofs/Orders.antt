@@ -48,6 +48,7 @@ module _ {Own F : Type 0} where
   IsRow-same a b names row e r = record {
     each = λ j slot g. let w = outline_at a b j slot e g in r.each j w.0 w.1 ∙ ap (λ (o : List ℕ × List ℕ × Own × Option (List (List ℕ))). has names o.0) w.2;
     within = λ k d l. omega (arith, r.within k d l, length-outlines a, length-outlines b, ap length e);
+    once = r.once;
   }
     where
       length-outlines : (xs : List (Slot Own F)) → length (outlines xs) ≡ length xs

@@ -82,6 +82,7 @@ module _ {Own F : Type 0} where
           | inr past ↦ r.each j slot past.1
         ];
         within = λ k d l. omega (arith, r.within k d l, length-set slots i y);
+        once = r.once;
       }
 
   pub HoldsPlan-set : (slots : List (Slot Own F)) (i : ℕ) (x y : Slot Own F) (plan : Option Plan) → slice_get slots i ≡ Some x → y.name ≡ x.name → y.needs ≡ x.needs → HoldsPlan slots plan → HoldsPlan (slice_set slots i y) plan

@@ -1,6 +1,7 @@
 -- Rows of indices, from names that are needed.
-use Rattle.std.proofs.Common.{◌≡◌, ◌≢◌, ℕ, zero, suc, ◌+◌, ◌<◌, Bool, true, false, List, [], ◌∷◌, ◌++◌, Option, Some, refl, sym, ap, ◌∙◌, subst, inl, inr, take, length, get_or, arith, nat_eq, Vec, Global}
+use Rattle.std.proofs.Common.{◌≡◌, ◌≢◌, ℕ, zero, suc, ◌+◌, ◌<◌, Bool, true, false, List, [], ◌∷◌, ◌++◌, Option, Some, refl, sym, ap, ◌∙◌, subst, inl, inr, take, length, get_or, arith, nat_eq, cond, Vec, Global}
 use Rattle.std.specs.Prelude.{not, ◌⊎◌, ◌||◌, ◌&&◌, slice_get, slice_index, unwrap_or}
+use Rattle.std.specs.List.{list_any}
 use Rattle.std.proofs.lemmas.Bool.{eqb-true, eq-eqb, cases_lt}
 use Rattle.std.proofs.lemmas.List.{take_more, length-append}
 use Rattle.std.proofs.lemmas.List.Folds.{list_any-append}
@@ -12,7 +13,7 @@ use Rattle.list_laws.proofs.Lists.{item-at}
 use Rattle.fact_store.specs.declared.slot.Slot.{Slot}
 use Rattle.fact_values.specs.Names.{name_eq, has}
 use Rattle.fact_store.specs.Slots.{AreDistinct, HasNoSlot, IsIndexOf}
-use Rattle.fact_store.specs.Plans.{among, Edges, HasIndices, IsRow, AreEdges, AreReached, IsRank, IsGround, AreGrounds}
+use Rattle.fact_store.specs.Plans.{among, row_with, Edges, HasIndices, IsRow, AreEdges, AreReached, IsRank, IsGround, AreGrounds}
 use Rattle.fact_values.proofs.NameLemmas.{true_or_false, same_name, name_eq-same, or_left, or_cases, and_both}
 use Rattle.fact_store.proofs.Marks.{among-push, or_false, same_index}
 
@@ -25,14 +26,51 @@ same_test false false f g = refl
 has-push : (names : List (List ℕ)) (n x : List ℕ) → has (names ++ n ∷ []) x ≡ (has names x || name_eq x n)
 has-push names n x = list_any-append (name_eq x) names (n ∷ []) ∙ ap (λ b. has names x || b) (or_false (name_eq x n))
 
+-- what stands in a row is among it
+among-at : (row : List ℕ) (i x : ℕ) → slice_get row i ≡ Some x → among row x ≡ true
+among-at [] i x e = cc
+among-at (y ∷ row) zero x e = let s : y ≡ x = cc in or_left (nat_eq x y) (among row x) (eq-eqb x y (sym s))
+among-at (y ∷ row) (suc i) x e = or-right (nat_eq x y) (among row x) (among-at row i x e)
+
+-- what stands in a row once still does behind one that is not there
+once-push : (row : List ℕ) (index : ℕ) → ((i j x : ℕ) → slice_get row i ≡ Some x → slice_get row j ≡ Some x → i ≡ j) → among row index ≡ false → (i j x : ℕ) → slice_get (row ++ index ∷ []) i ≡ Some x → slice_get (row ++ index ∷ []) j ≡ Some x → i ≡ j
+once-push row index once new i j x p q = elim (pushed-cases row index x i p) as (λ _. i ≡ j) [
+  | inl ip ↦ elim (pushed-cases row index x j q) as (λ _. i ≡ j) [
+    | inl jq ↦ once i j x ip jq
+    | inr jl ↦ let k : true ≡ false = sym (among-at row i x ip) ∙ ap (among row) (sym jl.1) ∙ new in cc k
+  ]
+  | inr il ↦ elim (pushed-cases row index x j q) as (λ _. i ≡ j) [
+    | inl jq ↦ let k : true ≡ false = sym (among-at row j x jq) ∙ ap (among row) (sym il.1) ∙ new in cc k
+    | inr jl ↦ il.0 ∙ sym jl.0
+  ]
+]
+
+pub row_with-there : (row : List ℕ) (index : ℕ) → among row index ≡ true → row ≡ row_with row index
+row_with-there row index e = sym (ap (λ b. cond b row (row ++ index ∷ [])) e)
+
+pub row_with-new : (row : List ℕ) (index : ℕ) → among row index ≡ false → row ++ index ∷ [] ≡ row_with row index
+row_with-new row index e = sym (ap (λ b. cond b row (row ++ index ∷ [])) e)
+
+-- the test of each item against an index is that of the index against each
+pub among-turned : (row : List ℕ) (index : ℕ) → list_any (λ other. nat_eq other index) row ≡ among row index
+among-turned [] index = refl
+among-turned (x ∷ row) index = λ j. same_test (nat_eq x index) (nat_eq index x) (λ m. eq-eqb index x (sym (same_index x index m))) (λ m. eq-eqb x index (sym (same_index index x m))) j || among-turned row index j
+
+-- a test that follows from another adds nothing to it
+or_known : (a b : Bool) → (b ≡ true → a ≡ true) → a ≡ (a || b)
+or_known true b f = refl
+or_known false true f = f refl
+or_known false false f = refl
+
 module _ {Own F : Type 0} where
   pub IsRow-start : (slots : List (Slot Own F)) → IsRow slots [] []
-  IsRow-start slots = record { each = λ j slot e. refl; within = λ k d l. absurd (omega arith) }
+  IsRow-start slots = record { each = λ j slot e. refl; within = λ k d l. absurd (omega arith); once = λ i j x p q. cc p }
 
   pub IsRow-skip : (slots : List (Slot Own F)) (names : List (List ℕ)) (row : List ℕ) (n : List ℕ) → IsRow slots names row → HasNoSlot slots n → IsRow slots (names ++ n ∷ []) row
   IsRow-skip slots names row n r h = record {
     each = λ j slot e. r.each j slot e ∙ sym (has-push names n slot.name ∙ ap (λ b. has names slot.name || b) (other j slot e) ∙ or_false (has names slot.name));
     within = r.within;
+    once = r.once;
   }
     where
       other : (j : ℕ) (slot : Slot Own F) → slice_get slots j ≡ Some slot → name_eq slot.name n ≡ false
@@ -41,16 +79,32 @@ module _ {Own F : Type 0} where
         | inr fails ↦ fails
       ]
 
-  pub IsRow-more : (slots : List (Slot Own F)) (names : List (List ℕ)) (row : List ℕ) (n : List ℕ) (index : ℕ) → AreDistinct slots → IsRow slots names row → IsIndexOf slots n index → IsRow slots (names ++ n ∷ []) (row ++ index ∷ [])
-  IsRow-more slots names row n index d r p = record {
-    each = λ j slot e. among-push row index j ∙ ap (λ b. b || nat_eq j index) (r.each j slot e) ∙ ap (λ b. has names slot.name || b) (here j slot e) ∙ sym (has-push names n slot.name);
+  -- an index stands for a name exactly where its slot has it
+  here : (slots : List (Slot Own F)) (n : List ℕ) (index : ℕ) → AreDistinct slots → IsIndexOf slots n index → (j : ℕ) (slot : Slot Own F) → slice_get slots j ≡ Some slot → nat_eq j index ≡ name_eq slot.name n
+  here slots n index d p j slot e = same_test (nat_eq j index) (name_eq slot.name n)
+      (λ m. let k : ◌≡◌ {A = Option (Slot Own F)} (Some slot) (Some p.0) = sym e ∙ ap (slice_get slots) (same_index j index m) ∙ p.1 in let s : slot ≡ p.0 = cc in name_eq-same slot.name n (ap (λ (x : Slot Own F). x.name) s ∙ p.2))
+      (λ m. eq-eqb j index (d j index slot p.0 e p.1 (same_name slot.name n m ∙ sym p.2)))
+
+  IsRow-more : (slots : List (Slot Own F)) (names : List (List ℕ)) (row : List ℕ) (n : List ℕ) (index : ℕ) → AreDistinct slots → IsRow slots names row → IsIndexOf slots n index → among row index ≡ false → IsRow slots (names ++ n ∷ []) (row ++ index ∷ [])
+  IsRow-more slots names row n index d r p new = record {
+    each = λ j slot e. among-push row index j ∙ ap (λ b. b || nat_eq j index) (r.each j slot e) ∙ ap (λ b. has names slot.name || b) (here slots n index d p j slot e) ∙ sym (has-push names n slot.name);
     within = All-push (λ x. x < length slots) row index r.within (slice_get_within slots index p.0 p.1);
+    once = once-push row index r.once new;
   }
-    where
-      here : (j : ℕ) (slot : Slot Own F) → slice_get slots j ≡ Some slot → nat_eq j index ≡ name_eq slot.name n
-      here j slot e = same_test (nat_eq j index) (name_eq slot.name n)
-          (λ m. let k : ◌≡◌ {A = Option (Slot Own F)} (Some slot) (Some p.0) = sym e ∙ ap (slice_get slots) (same_index j index m) ∙ p.1 in let s : slot ≡ p.0 = cc in name_eq-same slot.name n (ap (λ (x : Slot Own F). x.name) s ∙ p.2))
-          (λ m. eq-eqb j index (d j index slot p.0 e p.1 (same_name slot.name n m ∙ sym p.2)))
+
+  -- a name whose index stands there already
+  IsRow-again : (slots : List (Slot Own F)) (names : List (List ℕ)) (row : List ℕ) (n : List ℕ) (index : ℕ) → AreDistinct slots → IsRow slots names row → IsIndexOf slots n index → among row index ≡ true → IsRow slots (names ++ n ∷ []) row
+  IsRow-again slots names row n index d r p there = record {
+    each = λ j slot e. r.each j slot e ∙ or_known (has names slot.name) (name_eq slot.name n) (λ m. sym (r.each j slot e) ∙ ap (among row) (same_index j index (here slots n index d p j slot e ∙ m)) ∙ there) ∙ sym (has-push names n slot.name);
+    within = r.within;
+    once = r.once;
+  }
+
+  IsRow-with : (slots : List (Slot Own F)) (names : List (List ℕ)) (row : List ℕ) (n : List ℕ) (index : ℕ) → AreDistinct slots → IsRow slots names row → IsIndexOf slots n index → IsRow slots (names ++ n ∷ []) (row_with row index)
+  IsRow-with slots names row n index d r p = elim (true_or_false (among row index)) as (λ _. IsRow slots (names ++ n ∷ []) (row_with row index)) [
+    | inl there ↦ subst (λ (xs : List ℕ). IsRow slots (names ++ n ∷ []) xs) (row_with-there row index there) (IsRow-again slots names row n index d r p there)
+    | inr new ↦ subst (λ (xs : List ℕ). IsRow slots (names ++ n ∷ []) xs) (row_with-new row index new) (IsRow-more slots names row n index d r p new)
+  ]
 
   -- the next name of a list
   pub IsRow-skip_at : (slots : List (Slot Own F)) (names : List (List ℕ)) (k : ℕ) (row row' : List ℕ) (n : List ℕ) → k < length names → n ≡ get_or names k n → IsRow slots (take k names) row → HasNoSlot slots n → row' ≡ row → IsRow slots (take (k + 1) names) row'
@@ -58,10 +112,10 @@ module _ {Own F : Type 0} where
       subst (λ (xs : List (List ℕ)). IsRow slots xs row') (ap (λ x. take k names ++ x ∷ []) e ∙ sym (take_more names k n l))
       (subst (λ (xs : List ℕ). IsRow slots (take k names ++ n ∷ []) xs) (sym er) (IsRow-skip slots (take k names) row n r h))
 
-  pub IsRow-more_at : (slots : List (Slot Own F)) (names : List (List ℕ)) (k : ℕ) (row row' : List ℕ) (n : List ℕ) (index : ℕ) → AreDistinct slots → k < length names → n ≡ get_or names k n → IsRow slots (take k names) row → IsIndexOf slots n index → row' ≡ row ++ index ∷ [] → IsRow slots (take (k + 1) names) row'
+  pub IsRow-more_at : (slots : List (Slot Own F)) (names : List (List ℕ)) (k : ℕ) (row row' : List ℕ) (n : List ℕ) (index : ℕ) → AreDistinct slots → k < length names → n ≡ get_or names k n → IsRow slots (take k names) row → IsIndexOf slots n index → row' ≡ row_with row index → IsRow slots (take (k + 1) names) row'
   IsRow-more_at slots names k row row' n index d l e r h er =
       subst (λ (xs : List (List ℕ)). IsRow slots xs row') (ap (λ x. take k names ++ x ∷ []) e ∙ sym (take_more names k n l))
-      (subst (λ (xs : List ℕ). IsRow slots (take k names ++ n ∷ []) xs) (sym er) (IsRow-more slots (take k names) row n index d r h))
+      (subst (λ (xs : List ℕ). IsRow slots (take k names ++ n ∷ []) xs) (sym er) (IsRow-with slots (take k names) row n index d r h))
 
   -- the rows of the slots before n
   pub record AreEdgesUpto (slots : List (Slot Own F)) (edges : Edges) (n : ℕ) : Type 0 where

@@ -1,5 +1,5 @@
 -- What is found of the present texts: who needs whom, in which order facts are made, and which stand.
-use Rattle.std.specs.Prelude.{◌≡◌, ℕ, ◌<◌, ◌+◌, ◌||◌, ◌&&◌, Bool, true, false, not, List, Option, Some, None, All, Contains, length, take, count_by, slice_get, slice_index, nat_eq, Vec, unwrap_or, []}
+use Rattle.std.specs.Prelude.{◌≡◌, ℕ, ◌<◌, ◌+◌, ◌||◌, ◌&&◌, Bool, true, false, not, List, Option, Some, None, All, Contains, length, take, count_by, slice_get, slice_index, nat_eq, Vec, unwrap_or, if◌then◌else◌, [], ◌∷◌, ◌++◌}
 use Rattle.std.specs.List.{list_any}
 use Rattle.std.specs.List.Sorted.{IsNonDecreasingBy}
 use Rattle.std.specs.declared.alloc.Global.{Global}
@@ -58,11 +58,16 @@ pub record MarksRow (row : List ℕ) (old new : List Bool) (queue longer : List 
   pub counted : count_by not new + length longer ≡ count_by not old + length queue
   pub within : All (λ index. index < length old) queue → All (λ index. index < length new) longer
 
+-- a row with an index in it, at its end where it was not there
+abbrev pub row_with : List ℕ → ℕ → List ℕ
+row_with row index = if among row index then row else row ++ index ∷ []
+
 module _ {Own F : Type 0} where
-  -- the indices of the slots that these names name
+  -- the indices of the slots that these names name, each once
   pub record IsRow (slots : List (Slot Own F)) (names : List (List ℕ)) (row : List ℕ) : Type 0 where
     pub each : (j : ℕ) (slot : Slot Own F) → slice_get slots j ≡ Some slot → among row j ≡ has names slot.name
     pub within : All (λ index. index < length slots) row
+    pub once : (i j index : ℕ) → slice_get row i ≡ Some index → slice_get row j ≡ Some index → i ≡ j
 
   -- for each slot the indices of those that it needs
   pub record AreEdges (slots : List (Slot Own F)) (edges : Edges) : Type 0 where

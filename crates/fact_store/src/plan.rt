@@ -1,7 +1,7 @@
 // What is found of the present texts.
-ghost use Rattle.std.specs.Prelude.{◌≡◌, ◌<◌, All, IfOk, length, unwrap_or, []};
+ghost use Rattle.std.specs.Prelude.{◌≡◌, ◌<◌, All, IfOk, OnOk, length, unwrap_or, []};
 ghost use Rattle.fact_store.specs.Slots.{AreDistinct};
-ghost use Rattle.fact_store.specs.Plans.{IsRow, AreEdges, AreRanks, AreGrounds, IsGround, HasIndices};
+ghost use Rattle.fact_store.specs.Plans.{row_with, IsRow, AreEdges, AreRanks, AreGrounds, IsGround, HasIndices};
 ghost use Rattle.fact_store.specs.Right.{IsPlan};
 
 use crate::graph::reached;
@@ -12,7 +12,7 @@ use tool_list::{Chars, List, Memory};
 
 /// What is found of the present texts, by the indices of their slots.
 pub struct Plan {
-    /// The indices that each index needs.
+    /// The indices that each index needs, each once.
     pub edges: Vec<Vec<usize>>,
     /// How many indices each index reaches.
     pub ranks: Vec<usize>,
@@ -31,7 +31,18 @@ impl Drop for Plan {
     }
 }
 
-// The indices of the slots that these names name.
+// Puts an index behind the others of a row, where it is not among them.
+fn add_once(row: &mut Vec<usize>, index: usize) -> Result<(), Memory>
+    ensures { OnOk result (row.new.items ≡ row_with row.old.items index) }
+{
+    if row.contains(&index) {
+        return Ok(());
+    }
+    row.push(index)?;
+    Ok(())
+}
+
+// The indices of the slots that these names name, each once.
 fn row_of<O: Drop, F: Drop>(
     alloc: Global,
     slots: &Shelf<O, F>,
@@ -43,7 +54,7 @@ fn row_of<O: Drop, F: Drop>(
     let mut row = Vec::new(alloc);
     for name in names {
         if let Some(index) = slots.index_of(name.as_str()) {
-            row.push(index)?;
+            add_once(&mut row, index)?;
         }
     }
     Ok(row)
