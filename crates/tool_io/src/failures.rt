@@ -36,6 +36,13 @@ impl Failures {
         is_among(self.fails.as_slice(), self.calls)
     }
 
+    /// How many calls were counted.
+    pub fn done(&self) -> u64
+        ensures { result ≡ self.now.calls }
+    {
+        self.calls
+    }
+
     /// Counts a failure.
     pub fn raise(&mut self)
         ensures rose { Rose self.old.faults self.new.faults }

@@ -9,6 +9,7 @@ use tool_list::List;
 pub struct QuietSource {
     bytes: List<u8>,
     at: usize,
+    gave: usize,
     ghost within: { at ≤ length bytes },
 }
 
@@ -17,14 +18,21 @@ impl QuietSource {
 
     /// An input of these bytes.
     pub fn new(bytes: List<u8>) -> Self
-        ensures { quiet_rest result ≡ bytes }
+        ensures rest { quiet_rest result ≡ bytes }
+        ensures last { ⟦<QuietSource as Source>⟧.last result ≡ 0 }
     {
-        QuietSource { bytes, at: 0 }
+        QuietSource {
+            bytes,
+            at: 0,
+            gave: 0,
+        }
     }
 }
 
 impl Source for QuietSource {
     ghost left = { λ s. Some (drop s.at s.bytes) };
+
+    ghost last = { λ s. s.gave };
 
     ghost fault_count = { λ _. 0 };
 
@@ -33,6 +41,7 @@ impl Source for QuietSource {
         let count = rest.len().min(buf.len());
         buf[..count].copy_from_slice(&rest[..count]);
         self.at += count;
+        self.gave = count;
         Ok(count)
     }
 

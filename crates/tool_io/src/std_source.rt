@@ -26,6 +26,8 @@ impl<R: Read> StdSource<R> {
 impl<R: Read> Source for StdSource<R> {
     ghost left = { λ _. None };
 
+    ghost last = { λ _. 0 };
+
     ghost fault_count = { λ s. s.faults };
 
     /// As the trait says; and the bytes come from what the reader has left, so that zero for a `buf`
