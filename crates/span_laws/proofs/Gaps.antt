@@ -11,7 +11,7 @@ use Rattle.tla_lexeme.specs.declared.class.Class.TheVariants.{InLine, Blank}
 use Rattle.tla_lexeme.specs.LexemeSets.{is_in, kind_of}
 use Rattle.tla_lexeme.specs.Lexing.{begins, line_len, comment_end, comment_len}
 use Rattle.tla_lexeme.specs.Longest.{IsGap, Passes, IsTaken}
-use Rattle.span_laws.proofs.LastByte.{end-low}
+use Rattle.tla_lexeme.proofs.LastLemmas.{end-low}
 
 -- behind a byte of ASCII
 behind-low : (text : List ℕ) (at n : ℕ) → IsUtf8 text → suc n ≤ length (drop at text) → get_or (drop at text) n 0 < 128 → IsCharBoundary text (at + suc n)

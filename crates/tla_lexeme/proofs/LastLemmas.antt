@@ -1,5 +1,5 @@
 -- The last byte of a lexeme is ASCII, so a character begins behind it.
-use Rattle.std.proofs.Common.{◌≡◌, ℕ, zero, suc, ◌<◌, ◌≤◌, Bool, true, false, ◌&&◌, ◌||◌, eqb, leb, cond, List, [], ◌∷◌, length, get_or, take, Option, Some, None, refl, sym, ◌∙◌, ⊎_elim, ◌⊎◌, inl, inr, arith}
+use Rattle.std.proofs.Common.{◌≡◌, ℕ, zero, suc, ◌<◌, ◌≤◌, Bool, true, false, ◌&&◌, ◌||◌, eqb, leb, cond, List, [], ◌∷◌, length, get_or, take, Option, Some, None, refl, sym, subst, ◌∙◌, ⊎_elim, ◌⊎◌, inl, inr, arith}
 use Rattle.std.proofs.lemmas.Bool.{cases_Bool, cases_lt, and_parts, and_right, or_from, or_cases, both_ways, eqb-true, lt-leb, ne_eqb, cond-true, cond-false, false_from_ne_true}
 use Rattle.std.specs.List.{list_all}
 use Rattle.tla_symbols.specs.declared.lexeme.LexKind.{LexKind}
@@ -141,3 +141,8 @@ pub last-take : (n c : ℕ) (cs : List ℕ) → n ≤ length cs → last c (take
 last-take zero c cs l = refl
 last-take (suc n) c [] l = absurd (omega arith)
 last-take (suc n) c (d ∷ ds) l = last-take n d ds (omega arith)
+
+-- the byte before the end of a lexeme that begins a text is ASCII
+pub end-low : (n : ℕ) (text : List ℕ) (k : LexKind) → suc n ≤ length text → kind_of (take (suc n) text) ≡ Some k → get_or text n 0 < 128
+end-low n [] k l e = absurd (omega arith)
+end-low n (c ∷ cs) k l e = subst (λ b. b < 128) (last-take n c cs (omega arith)) (member-low c (take n cs) k e)

@@ -7,7 +7,7 @@ mod StringLemmas
 mod SignLemmas
 mod CommentLemmas
 mod HeaderLemmas
-mod LastLemmas
+pub mod LastLemmas
 mod StepLemmas
 mod CutLemmas
 mod PartLemmas
