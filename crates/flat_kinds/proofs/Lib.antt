@@ -1,0 +1,5 @@
+mod Units
+mod Nested
+mod Leaving
+mod Modules
+mod Symbols

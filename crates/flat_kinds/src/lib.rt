@@ -1,0 +1,87 @@
+//! That a flat module which is built along a module means what the module does to those that name
+//! it.
+//!
+//! No code: each function states a law that definitions and proofs above cite. Knows nothing of how
+//! flat modules are built.
+#![tactic(auto)]
+
+ghost use Rattle.std.specs.Prelude.{◌≡◌, ℕ, Bool, List, [], length};
+ghost use Rattle.unit_grammar.specs.Units.{ModuleUnits, UnitTree};
+ghost use Rattle.tla_model.specs.Tables.{Named};
+ghost use Rattle.tla_model.specs.Entities.{Meaning, Text};
+ghost use Rattle.module_model.specs.Exports.{ModuleView, exports_of};
+ghost use Rattle.kind_text.specs.FlatModule.{FlatModule};
+ghost use Rattle.kind_text.specs.Substitution.{Item};
+ghost use Rattle.tree_kinds.specs.Standing.{Environment, Outside, themselves};
+ghost use Rattle.module_kinds.specs.ModuleKinds.{KindState, after, first, outside, outside_by};
+ghost use Rattle.module_kinds.specs.ModuleKinds.{around, standing_behind};
+ghost use Rattle.flat_trees.specs.Stands.{AreStanding, Stand};
+ghost use Rattle.flat_trees.specs.Layouts.{Agrees, Layout};
+ghost use Rattle.flat_trees.specs.Instances.{IsModule};
+ghost use Rattle.flat_kinds.specs.Readings.{Extension, KeepsState, Leaves, SaysLess};
+ghost use Rattle.flat_kinds.specs.Readings.{StandsItself, exported_stand};
+ghost use Rattle.flat_kinds.specs.Modules.{Coming, Current, IsBuiltAlong, IsExtended, IsRead};
+ghost use Rattle.flat_kinds.specs.Modules.{KeepsAll, first_current, here_behind, module_stands};
+ghost use Rattle.flat_kinds.specs.Modules.{round_behind};
+
+/// A flat module keeps the state of a module behind what that extends. Where it keeps a state, with
+/// the modules round it, it keeps the state behind each unit, by what comes of the unit; and the
+/// names that a state exports stand so outside of the module that is read there. In a state that is
+/// kept a frame agrees with what stands round the expressions of a unit.
+pub fn states_are_kept()
+    ensures begins { (flat : FlatModule) (files : List ℕ → Outside) (source : List ℕ)
+        (units : ModuleUnits) (symbols : Meaning → Stand) (places : ℕ)
+        (extensions : List Extension)
+        → IsExtended files source units flat symbols places extensions
+        → KeepsAll flat (first files source units)
+        (first_current files source units symbols places extensions) [] }
+    ensures units { (flat : FlatModule) (text : Text) (files : List ℕ → Outside) (words : List ℕ)
+        (state : KindState) (here : Current) (round : List Current) (unit : UnitTree)
+        (coming : Coming) → KeepsAll flat state here round
+        → IsRead text files words flat state here round unit coming
+        → KeepsAll flat (after text files words state unit)
+        (here_behind text files words state here round unit coming)
+        (round_behind text files words here round coming) }
+    ensures exports { (flat : FlatModule) (symbols : Meaning → Stand) (layout : Layout)
+        (state : KindState) (view : ModuleView) (constant : Bool)
+        → KeepsState flat symbols layout state
+        → IsModule flat symbols layout.places
+        (exported_stand layout.stands (exports_of state.read.place.here.exports))
+        (outside_by view constant state) }
+    ensures agrees { (flat : FlatModule) (text : Text) (files : List ℕ → Outside) (words : List ℕ)
+        (symbols : Meaning → Stand) (layout : Layout) (state : KindState) (frame : List Item)
+        (parameters : Environment) → KeepsState flat symbols layout state
+        → length frame ≡ layout.places → AreStanding flat frame symbols parameters
+        → Agrees flat layout frame (around text files words state parameters) }
+{}
+
+/// A module that is meant where less is said of its symbols is meant where more is said. Over a
+/// frame with the item that each symbol is, the symbols stand for themselves.
+pub fn symbols_stand()
+    ensures less { (flat : FlatModule) (less more : Meaning → Stand) (places : ℕ)
+        (inner : Named → Stand) (outside : Outside) → SaysLess less more
+        → IsModule flat less places inner outside → IsModule flat more places inner outside }
+    ensures themselves { (flat : FlatModule) (frame : List Item) (symbols : Meaning → Stand)
+        → ((meaning : Meaning) → StandsItself frame (symbols meaning) meaning)
+        → AreStanding flat frame symbols themselves }
+{}
+
+/// A meaning that a unit leaves stands behind it for what it does before.
+pub fn meanings_are_left()
+    ensures { (text : Text) (files : List ℕ → Outside) (words : List ℕ) (state : KindState)
+        (unit : UnitTree) (meaning : Meaning) → Leaves text files words state unit meaning
+        → (parameters : Environment)
+        → standing_behind text files words state unit parameters meaning
+        ≡ state.standing parameters meaning }
+{}
+
+/// A flat module that is built along a module, with the modules that are nested in it, means the
+/// module, by what its symbols stand for and how many places they have.
+pub fn modules_are_kept()
+    ensures { (flat : FlatModule) (files : List ℕ → Outside) (source : List ℕ)
+        (units : ModuleUnits) (symbols : Meaning → Stand) (places : ℕ)
+        (extensions : List Extension) (comings : List Coming) (behind : Current)
+        → IsBuiltAlong files source units flat symbols places extensions comings behind
+        → IsModule flat symbols places (module_stands files source units behind.layout)
+        (outside files source units) }
+{}
