@@ -75,21 +75,53 @@ pub record After : Type 0 where
 abbrev pub judged : State → After
 judged s = record { state = s; limit = limit_of s }
 
--- what calls mean
+-- what calls mean, where limits are not looked at
 pub record Meaning : Type 0 where
-  pub after_root : State → Option (List ℕ) → After
+  -- the client's root is taken, and its folder listed
+  pub after_root : State → Option (List ℕ) → State
+  -- the modules whose files are then read, one after another
+  pub root_modules : State → Option (List ℕ) → List (List ℕ)
+  -- a module's file is read
+  pub after_read : State → List ℕ → State
   pub after_open : State → List ℕ → List ℕ → State
-  pub after_change : State → List ℕ → List Change → After
+  pub after_change : State → List ℕ → List Change → State
+  -- the document's text after each of the changes
+  pub changed_texts : State → List ℕ → List Change → List (List ℕ)
   pub after_close : State → List ℕ → State
   pub after_files : State → List FileEvent → State
   pub notes_of : State → List ℕ → List Note
   pub reply_to : State → Call → Reply
 
--- notes look at the texts alone, and a root that is taken opens and closes no document
+-- what comes after a state, unless a limit is met in it
+abbrev pub unless_limit : Option ℕ → State → After → After
+unless_limit None s after = after
+unless_limit (Some said) s after = record { state = s; limit = Some said }
+
+-- the files of modules are read; a limit is judged before the first read and after each
+abbrev pub judged_reads : Meaning → State → List (List ℕ) → After
+judged_reads m s [] = judged s
+judged_reads m s (name ∷ names) = unless_limit (limit_of s) s (judged_reads m (m.after_read s name) names)
+
+-- the client's root is taken, and its folder read
+abbrev pub judged_root : Meaning → State → Option (List ℕ) → After
+judged_root m s root = judged_reads m (m.after_root s root) (m.root_modules s root)
+
+-- the length of the first of some texts that alone has too many bytes
+abbrev pub first_too_long : List (List ℕ) → Option ℕ
+first_too_long [] = None
+first_too_long (text ∷ texts) = if nat_lt most_bytes (length text) then Some (length text) else first_too_long texts
+
+-- a document is changed; a limit is judged of its text after each change, and of all when the call is done
+abbrev pub judged_change : Meaning → State → List ℕ → List Change → After
+judged_change m s uri changes = unless_limit (first_too_long (m.changed_texts s uri changes)) s (judged (m.after_change s uri changes))
+
+-- notes look at the texts alone, and a root that is taken and a file that is read open and close no document
 pub record LooksAtTexts (m : Meaning) : Type 0 where
   pub notes : (s t : State) (name : List ℕ) → s.texts ≡ t.texts → m.notes_of s name ≡ m.notes_of t name
-  pub root_opened : (s : State) (root : Option (List ℕ)) → (m.after_root s root).state.opened ≡ s.opened
-  pub root_due : (s : State) (root : Option (List ℕ)) → (m.after_root s root).state.due ≡ s.due
+  pub root_opened : (s : State) (root : Option (List ℕ)) → (m.after_root s root).opened ≡ s.opened
+  pub root_due : (s : State) (root : Option (List ℕ)) → (m.after_root s root).due ≡ s.due
+  pub read_opened : (s : State) (name : List ℕ) → (m.after_read s name).opened ≡ s.opened
+  pub read_due : (s : State) (name : List ℕ) → (m.after_read s name).due ≡ s.due
 
 -- the answer to a call, and the state that it leaves where it is not refused
 abbrev pub IsAfter : After → Result ⊤ AnswerFault → State → Type 0

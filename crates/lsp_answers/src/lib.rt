@@ -5,7 +5,8 @@
 #![tactic(auto)]
 
 ghost use Rattle.std.specs.Prelude.{◌≡◌, ◌≢◌, ℕ, Err, IfOk, OnOk, IsSome, option_map};
-ghost use Rattle.lsp_answers.specs.States.{State, Meaning, dues_of, after_dues, judged};
+ghost use Rattle.lsp_answers.specs.States.{State, Meaning, dues_of, after_dues};
+ghost use Rattle.lsp_answers.specs.States.{judged, judged_change, judged_root};
 ghost use Rattle.lsp_answers.specs.States.{IsAfter, IsQuestion, HasAnswerCause};
 
 use lsp_wire::{Call, Change, FileEvent, Note, Reply, Uri};
@@ -55,11 +56,11 @@ pub trait Answers {
     /// How often its folder failed.
     ghost fault_count: { Self → ℕ };
 
-    /// What its calls mean.
+    /// What its calls mean, where limits are not looked at: these the clauses judge.
     ghost meaning: { Meaning };
 
     /// Takes the client's root, and reads the folder that it names. A limit is judged after each
-    /// read.
+    /// read, and the first that is met ends the call.
     fn root<L>(
         &mut self,
         alloc: Global,
@@ -67,8 +68,8 @@ pub trait Answers {
         steps: &mut Steps<L>,
     ) -> Result<(), AnswerFault>
         ensures goes { IsSome (state self.old).folder
-            → IsAfter (meaning.after_root (state self.old) (option_map (λ uri. uri.now) root.entry))
-            result (state self.new) }
+            → IsAfter (judged_root meaning (state self.old)
+            (option_map (λ uri. uri.now) root.entry)) result (state self.new) }
         ensures cause { HasAnswerCause (fault_count self.old) (fault_count self.new) result };
 
     /// Opens a document, or replaces its text.
@@ -85,7 +86,7 @@ pub trait Answers {
         ensures quiet { result ≢ Err AnswerFault.Folder };
 
     /// Applies changes to an open document. If one has its start behind its end, all of them
-    /// change nothing. A limit is judged after each change too.
+    /// change nothing. That the document's text alone is too long is judged after each change too.
     fn change<L>(
         &mut self,
         alloc: Global,
@@ -93,7 +94,7 @@ pub trait Answers {
         changes: &List<Change>,
         steps: &mut Steps<L>,
     ) -> Result<(), AnswerFault>
-        ensures goes { IsAfter (meaning.after_change (state self.old) uri.now changes.now)
+        ensures goes { IsAfter (judged_change meaning (state self.old) uri.now changes.now)
             result (state self.new) }
         ensures cause { fault_count self.new ≡ fault_count self.old }
         ensures quiet { result ≢ Err AnswerFault.Folder };

@@ -12,7 +12,7 @@ use Rattle.lsp_wire.specs.declared.types.Notice as told
 use Rattle.lsp_wire.specs.declared.types.Notice.TheVariants.{Exit, Open, Change, Close, Files, Other}
 use Rattle.lsp_wire.specs.declared.types.Incoming.{Incoming}
 use Rattle.lsp_wire.specs.declared.types.Incoming.TheVariants.{Request, Notice, Dropped, Invalid}
-use Rattle.lsp_answers.specs.States.{State, After, Opened, Named, Meaning, LooksAtTexts, judged, same_position, same_area, same_notes, was_sent, others_notices, notices, after_dues, notice}
+use Rattle.lsp_answers.specs.States.{State, After, Opened, Named, Meaning, LooksAtTexts, judged, judged_change, judged_reads, judged_root, limit_of, unless_limit, same_position, same_area, same_notes, was_sent, others_notices, notices, after_dues, notice}
 use Rattle.lsp_session.specs.declared.phase.Phase.{Phase}
 use Rattle.lsp_session.specs.declared.phase.Phase.TheVariants.{Uninitialized, Running, Stopped}
 use Rattle.lsp_session.specs.NotesSent.{AreSent, HasOpenedNone, HasSent, KeepsDocuments}
@@ -42,13 +42,29 @@ noticed_sent m looks after =
 
 -- ---- message by message
 
-root_sent : (m : Meaning) → LooksAtTexts m → (s : State) (root : Option (List ℕ)) → HasOpenedNone s → AreSent m (m.after_root s root).state
+-- two states have the same documents
+abbrev Keeps : State → State → Type 0
+Keeps s t = (t.opened ≡ s.opened) × (t.due ≡ s.due)
+
+limit_keeps : (s t : State) (limit : Option ℕ) (after : After) → Keeps s t → Keeps s after.state → Keeps s (unless_limit limit t after).state
+limit_keeps s t None after now later = later
+limit_keeps s t (Some said) after now later = now
+
+-- files that are read keep the documents
+reads_keep : (m : Meaning) → LooksAtTexts m → (s t : State) (names : List (List ℕ)) → Keeps s t → Keeps s (judged_reads m t names).state
+reads_keep m looks s t [] now = now
+reads_keep m looks s t (name ∷ names) now =
+    let next : Keeps s (m.after_read t name) = (looks.read_opened t name ∙ now.0, looks.read_due t name ∙ now.1) in
+    limit_keeps s t (limit_of t) (judged_reads m (m.after_read t name) names) now (reads_keep m looks s (m.after_read t name) names next)
+
+root_sent : (m : Meaning) → LooksAtTexts m → (s : State) (root : Option (List ℕ)) → HasOpenedNone s → AreSent m (judged_root m s root).state
 root_sent m looks s root none =
-    let t = (m.after_root s root).state in
+    let t = (judged_root m s root).state in
     let P : List Opened → Type 0 = λ os. Sent (m.notes_of t) os in
+    let keeps : Keeps s t = reads_keep m looks s (m.after_root s root) (m.root_modules s root) (looks.root_opened s root, looks.root_due s root) in
     record {
-      none_due = looks.root_due s root ∙ none.none_due;
-      sent = subst P (sym (looks.root_opened s root ∙ none.none)) tt;
+      none_due = keeps.1 ∙ none.none_due;
+      sent = subst P (sym (keeps.0 ∙ none.none)) tt;
     }
 
 requested_sent : (m : Meaning) → LooksAtTexts m → (phase : Phase) (s : State) (id : Id) (call : Call) → HasSent m phase s → HasSent m (requested_by (refusal phase call) m phase s id call).phase (requested_by (refusal phase call) m phase s id call).state
@@ -71,7 +87,7 @@ requested_sent m looks Stopped s id call h = h
 running_sent : (m : Meaning) → LooksAtTexts m → (s : State) (n : told.Notice) → AreSent m s → HasSent m (told_running m s n).phase (told_running m s n).state
 running_sent m looks s Exit h = h
 running_sent m looks s (Open uri text) h = noticed_sent m looks (judged (m.after_open s uri text))
-running_sent m looks s (Change uri changes) h = noticed_sent m looks (m.after_change s uri changes)
+running_sent m looks s (Change uri changes) h = noticed_sent m looks (judged_change m s uri changes)
 running_sent m looks s (Close uri) h = noticed_sent m looks (judged (m.after_close s uri))
 running_sent m looks s (Files events) h = noticed_sent m looks (judged (m.after_files s events))
 running_sent m looks s Other h = h

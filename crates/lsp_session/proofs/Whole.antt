@@ -11,7 +11,7 @@ use Rattle.lsp_wire.specs.declared.types.Incoming.{Incoming}
 use Rattle.lsp_wire.specs.declared.types.Incoming.TheVariants.{Request, Notice, Dropped, Invalid}
 use Rattle.lsp_wire.specs.Written.{notes_content}
 use Rattle.lsp_answers.specs.declared.Due.{Due}
-use Rattle.lsp_answers.specs.States.{State, After, Meaning, judged, dues_of}
+use Rattle.lsp_answers.specs.States.{State, After, Meaning, judged, judged_change, dues_of}
 use Rattle.lsp_session.specs.declared.phase.Phase.{Phase}
 use Rattle.lsp_session.specs.declared.phase.Phase.TheVariants.{Uninitialized, Running, Stopped}
 use Rattle.lsp_session.specs.SessionOutput.{notice_frames, answered, requested_by, refusal, noticed, told_running, told_idle, notified, handled}
@@ -52,7 +52,7 @@ requested_whole (Some code) m phase s id call = one _
 running_whole : (m : Meaning) (s : State) (n : told.Notice) → AreWhole (told_running m s n).bytes
 running_whole m s Exit = none
 running_whole m s (Open uri text) = noticed_whole m (judged (m.after_open s uri text))
-running_whole m s (Change uri changes) = noticed_whole m (m.after_change s uri changes)
+running_whole m s (Change uri changes) = noticed_whole m (judged_change m s uri changes)
 running_whole m s (Close uri) = noticed_whole m (judged (m.after_close s uri))
 running_whole m s (Files events) = noticed_whole m (judged (m.after_files s events))
 running_whole m s Other = none

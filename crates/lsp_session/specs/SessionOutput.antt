@@ -16,7 +16,7 @@ use Rattle.lsp_wire.specs.Written.{error_content, notes_content}
 use Rattle.lsp_answers.specs.declared.AnswerFault.{AnswerFault}
 use Rattle.lsp_answers.specs.declared.AnswerFault.TheVariants as answer
 use Rattle.lsp_answers.specs.declared.Due.{Due}
-use Rattle.lsp_answers.specs.States.{State, After, Meaning, judged, dues_of, after_dues}
+use Rattle.lsp_answers.specs.States.{State, After, Meaning, judged, judged_change, judged_root, dues_of, after_dues}
 use Rattle.lsp_session.specs.declared.phase.Phase.{Phase}
 use Rattle.lsp_session.specs.declared.phase.Phase.TheVariants.{Uninitialized, Running, Stopped}
 use Rattle.lsp_session.specs.declared.phase.Turn.{Turn}
@@ -65,10 +65,10 @@ abbrev pub initialized : Meaning → State → Id → Option (List ℕ) → Outc
 initialized m s id root =
     record {
       phase = Running;
-      state = (m.after_root s root).state;
+      state = (judged_root m s root).state;
       bytes = frame_of (reply_content id Initialized);
       turn = On;
-      limit = (m.after_root s root).limit;
+      limit = (judged_root m s root).limit;
     }
 
 -- a question is answered
@@ -143,7 +143,7 @@ exit_status Stopped = 0
 abbrev pub told_running : Meaning → State → told.Notice → Outcome
 told_running m s Exit = record { phase = Running; state = s; bytes = []; turn = Ended 1; limit = None }
 told_running m s (Open uri text) = noticed m (judged (m.after_open s uri text))
-told_running m s (Change uri changes) = noticed m (m.after_change s uri changes)
+told_running m s (Change uri changes) = noticed m (judged_change m s uri changes)
 told_running m s (Close uri) = noticed m (judged (m.after_close s uri))
 told_running m s (Files events) = noticed m (judged (m.after_files s events))
 told_running m s Other = wrote Running s []

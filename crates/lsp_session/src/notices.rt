@@ -1,7 +1,7 @@
 //! Notifications, and the notices that they ask for.
 
 ghost use Rattle.std.specs.Prelude.{◌≡◌, ◌++◌, List, ℕ, IfErr, IsSome, OnOk, OnErr};
-ghost use Rattle.lsp_answers.specs.States.{judged, dues_of, after_dues};
+ghost use Rattle.lsp_answers.specs.States.{judged, judged_change, dues_of, after_dues};
 ghost use Rattle.lsp_session.specs.SessionOutput.{noticed, notified, notice_frames, told_running};
 ghost use Rattle.lsp_session.specs.SessionOutput.{TellsRunning, TellsNotified, IsCut, IsDone};
 ghost use Rattle.lsp_session.specs.SessionOutput.{HasSessionCause, Adds};
@@ -78,7 +78,7 @@ fn changed<A: Answers, L>(
     steps: &mut Steps<L>,
 ) -> Result<(), SessionFault>
     ensures goes { IsDone (noticed A.meaning
-        (A.meaning.after_change (A.state answers.old) uri.now changes.now))
+        (judged_change A.meaning (A.state answers.old) uri.now changes.now))
         out.old out.new (A.state answers.new) result }
     ensures cause { HasSessionCause (A.fault_count answers.old) (A.fault_count answers.new) result }
     ensures adds { Adds out.old out.new result }

@@ -1,24 +1,35 @@
 -- Messages that change nothing.
-use Rattle.std.proofs.Common.{◌≡◌, ℕ, List, Option, Some, None, IsSome, refl, ap, ◌∙◌}
+use Rattle.std.proofs.Common.{◌≡◌, ℕ, cond, ltb, List, [], ◌∷◌, length, Option, Some, None, IsSome, refl, ap, ◌∙◌}
 use Rattle.std.specs.Option.{option_or}
 use Rattle.lsp_wire.specs.declared.types.Change.{Change}
-use Rattle.lsp_answers.specs.States.{State, Root, Opened}
-use Rattle.doc_edit.specs.Edits.{first_backward}
-use Rattle.server_texts.specs.Documents.{after_change, after_close, after_open, changed_as, changed_if, closed_as, opened_at, rooted, stays, with_opened, IsRooted}
+use Rattle.lsp_answers.specs.States.{State, Root, Opened, first_too_long, judged, judged_change, unless_limit}
+use Rattle.doc_edit.specs.Edits.{after_change, first_backward, first_excess, most_bytes}
+use Rattle.server_texts.specs.Documents.{after_close, after_open, closed_as, edited_at, edited_if, edited_texts, opened_at, rooted, texts_after, with_changes, with_its_text, with_opened, Edited, IsRooted}
+use Rattle.server_texts.specs.Server.{server_meaning}
 use Rattle.server_texts.specs.Uris.{document_root, module_of}
 
-pub change_ignored : (s : State) (uri : List ℕ) (changes : List Change) → opened_at s uri ≡ None → after_change s uri changes ≡ stays s
-change_ignored s uri changes e = ap (changed_as s changes) e
+-- where changes change nothing, the state is judged as it is
+as_is : (s : State) (changes : List Change) (e : Option Edited) → e ≡ None → unless_limit (first_too_long (edited_texts changes e)) s (judged (with_changes s changes e)) ≡ judged s
+as_is s changes e none = ap (λ e. unless_limit (first_too_long (edited_texts changes e)) s (judged (with_changes s changes e))) none
+
+none_edited : (index : Option ℕ) (s : State) (o : Option Opened) → o ≡ None → edited_if index s o ≡ None
+none_edited None s o e = ap (with_its_text s) e
+none_edited (Some index) s o e = refl
+
+pub change_ignored : (s : State) (uri : List ℕ) (changes : List Change) → opened_at s uri ≡ None → judged_change server_meaning s uri changes ≡ judged s
+change_ignored s uri changes e = as_is s changes (edited_at s uri changes) (none_edited (first_backward changes) s (opened_at s uri) e)
 
 pub close_ignored : (s : State) (uri : List ℕ) → opened_at s uri ≡ None → after_close s uri ≡ s
 close_ignored s uri e = ap (closed_as s) e
 
-backward_as : (s : State) (changes : List Change) (index : ℕ) (o : Option Opened) → first_backward changes ≡ Some index → changed_as s changes o ≡ stays s
-backward_as s changes index None e = refl
-backward_as s changes index (Some o) e = ap (λ f. changed_if f s o changes) e
+pub backward_ignored : (s : State) (uri : List ℕ) (changes : List Change) (index : ℕ) → first_backward changes ≡ Some index → judged_change server_meaning s uri changes ≡ judged s
+backward_ignored s uri changes index e = as_is s changes (edited_at s uri changes) (ap (λ f. edited_if f s (opened_at s uri)) e)
 
-pub backward_ignored : (s : State) (uri : List ℕ) (changes : List Change) (index : ℕ) → first_backward changes ≡ Some index → after_change s uri changes ≡ stays s
-backward_ignored s uri changes index e = backward_as s changes index (opened_at s uri) e
+-- the first text that is too long is the same, however it is found
+pub excess_same : (text : List ℕ) (changes : List Change) → first_too_long (texts_after text changes) ≡ first_excess text changes
+excess_same text [] = refl
+excess_same text (c ∷ cs) =
+    ap (λ more. cond (ltb most_bytes (length (after_change text c))) (Some (length (after_change text c))) more) (excess_same (after_change text c) cs)
 
 -- a root that is there stays
 kept : (root other : Option Root) → IsSome root → option_or root other ≡ root

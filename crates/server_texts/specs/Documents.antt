@@ -9,8 +9,9 @@ use Rattle.tool_io.specs.Folder.{Told, after_call, names_at, read_at}
 use Rattle.sany_files.specs.Files.{MOST, file_of, modules_of_listing}
 use Rattle.lsp_wire.specs.declared.types.Change.{Change}
 use Rattle.lsp_wire.specs.declared.types.FileEvent.{FileEvent}
-use Rattle.doc_edit.specs.Edits.{after_changes, first_backward, first_excess}
-use Rattle.lsp_answers.specs.States.{State, Root, Opened, After, judged, limit_of}
+use Rattle.doc_edit.specs.Edits.{after_changes, first_backward}
+use Rattle.doc_edit.specs.Edits as edits
+use Rattle.lsp_answers.specs.States.{State, Root, Opened}
 use Rattle.server_texts.specs.Uris.{client_root_of, document_root, module_of}
 
 -- ---- by name
@@ -75,48 +76,34 @@ from_folder s name (Some path) = after_read s path name
 abbrev pub path_of : State → Option (List ℕ)
 path_of s = option_and_then (λ r. r.path) s.root
 
--- a module that is no longer open has its file's text
-abbrev pub let_go : State → List ℕ → State
-let_go s name = from_folder s name (path_of s)
+-- a module has its file's text, by the folder that was read
+abbrev pub with_file : State → List ℕ → State
+with_file s name = from_folder s name (path_of s)
 
 -- ---- the root
 
--- nothing happens
-abbrev pub stays : State → After
-stays s = record { state = s; limit = None }
+-- the folder is listed once, where a root names one
+abbrev pub listed : State → Option (List ℕ) → State
+listed s None = s
+listed s (Some path) = called s
 
--- what comes after a state, unless a limit is met in it
-abbrev pub unless_limit : Option ℕ → State → After → After
-unless_limit None s after = after
-unless_limit (Some said) s after = record { state = s; limit = Some said }
-
--- each module's file is read once, up to the first read with which a limit is passed
-abbrev pub after_reads : State → List ℕ → List (List ℕ) → After
-after_reads s path [] = stays s
-after_reads s path (name ∷ names) =
-    unless_limit (limit_of (after_read s path name)) (after_read s path name) (after_reads (after_read s path name) path names)
-
--- the folder is listed once, and the files of its modules are read, in byte order of names
-abbrev pub after_listing : State → List ℕ → After
-after_listing s path = after_reads (called s) path (names_in (called s).folder path)
-
--- a folder is read where the root names one
-abbrev pub after_folder : State → Option (List ℕ) → After
-after_folder s None = stays s
-after_folder s (Some path) = after_listing s path
-
--- a root is taken, and its folder read
-abbrev pub with_root : State → Root → After
-with_root s root = after_folder (record s { root = Some root }) root.path
-
--- the client's root is taken, if it is a URL
-abbrev pub with_client_root : State → Option Root → After
-with_client_root s None = stays s
-with_client_root s (Some root) = with_root s root
+-- the client's root is taken, if it is a URL, and its folder listed
+abbrev pub with_client_root : State → Option Root → State
+with_client_root s None = s
+with_client_root s (Some root) = listed (record s { root = Some root }) root.path
 
 -- the client names its root, or none
-abbrev pub after_root : State → Option (List ℕ) → After
+abbrev pub after_root : State → Option (List ℕ) → State
 after_root s uri = with_client_root s (option_and_then client_root_of uri)
+
+-- the modules that the listing tells of
+abbrev pub modules_in : State → Option (List ℕ) → List (List ℕ)
+modules_in s None = []
+modules_in s (Some path) = names_in (called s).folder path
+
+-- the modules whose files are then read, in byte order of names
+abbrev pub root_modules : State → Option (List ℕ) → List (List ℕ)
+root_modules s uri = modules_in s (option_and_then (λ r. r.path) (option_and_then client_root_of uri))
 
 -- ---- documents
 
@@ -145,33 +132,51 @@ after_open s uri text = with_opened (rooted s uri) uri text (module_of (rooted s
 abbrev pub with_due : State → Opened → State
 with_due s o = record s { due = Some (record { name = o.name; uri = o.uri }) }
 
--- changes of a text, unless it becomes too long after one of them
-abbrev pub with_changes : State → Opened → List Change → List ℕ → Option ℕ → After
-with_changes s o changes text None = judged (with_due (with_text s o.name (Some (after_changes text changes))) o)
-with_changes s o changes text (Some bytes) = record { state = s; limit = Some bytes }
+-- an open document and its text
+pub record Edited : Type 0 where
+  pub opened : Opened
+  pub text : List ℕ
 
--- the changes of an open document's text
-abbrev pub changed_text : State → Opened → List Change → Option (List ℕ) → After
-changed_text s o changes None = stays s
-changed_text s o changes (Some text) = with_changes s o changes text (first_excess text changes)
+-- the document with its text, if it is open and has one
+abbrev pub with_its_text : State → Option Opened → Option Edited
+with_its_text s None = None
+with_its_text s (Some o) = option_map (λ text. record { opened = o; text = text }) (text_of s o.name)
 
 -- changes of which one is backward change nothing
-abbrev pub changed_if : Option ℕ → State → Opened → List Change → After
-changed_if None s o changes = changed_text s o changes (text_of s o.name)
-changed_if (Some index) s o changes = stays s
+abbrev pub edited_if : Option ℕ → State → Option Opened → Option Edited
+edited_if None s o = with_its_text s o
+edited_if (Some index) s o = None
 
--- a document that is not open is ignored
-abbrev pub changed_as : State → List Change → Option Opened → After
-changed_as s changes None = stays s
-changed_as s changes (Some o) = changed_if (first_backward changes) s o changes
+-- what changes of a document change, if they change anything
+abbrev pub edited_at : State → List ℕ → List Change → Option Edited
+edited_at s uri changes = edited_if (first_backward changes) s (opened_at s uri)
 
--- a document is changed
-abbrev pub after_change : State → List ℕ → List Change → After
-after_change s uri changes = changed_as s changes (opened_at s uri)
+-- the document has the text that its changes make, and its notice is due
+abbrev pub with_changes : State → List Change → Option Edited → State
+with_changes s changes None = s
+with_changes s changes (Some e) = with_due (with_text s e.opened.name (Some (after_changes e.text changes))) e.opened
+
+-- a document is changed; one that is not open is ignored
+abbrev pub after_change : State → List ℕ → List Change → State
+after_change s uri changes = with_changes s changes (edited_at s uri changes)
+
+-- a text after each of its changes
+abbrev pub texts_after : List ℕ → List Change → List (List ℕ)
+texts_after text [] = []
+texts_after text (c ∷ cs) = edits.after_change text c ∷ texts_after (edits.after_change text c) cs
+
+-- the same of what changes change
+abbrev pub edited_texts : List Change → Option Edited → List (List ℕ)
+edited_texts changes None = []
+edited_texts changes (Some e) = texts_after e.text changes
+
+-- the document's text after each of its changes
+abbrev pub changed_texts : State → List ℕ → List Change → List (List ℕ)
+changed_texts s uri changes = edited_texts changes (edited_at s uri changes)
 
 -- an open document is no longer open, its file counts again, and the notice that takes its notes back is due
 abbrev pub closed : State → Opened → State
-closed s o = with_due (let_go (record s { opened = without (λ d. d.name) o.name s.opened }) o.name) o
+closed s o = with_due (with_file (record s { opened = without (λ d. d.name) o.name s.opened }) o.name) o
 
 -- a document that is not open is ignored
 abbrev pub closed_as : State → Option Opened → State
@@ -187,7 +192,7 @@ after_close s uri = closed_as s (opened_at s uri)
 -- a file was deleted, or else made or changed
 abbrev pub file_changed : State → Bool → List ℕ → State
 file_changed s true name = with_text s name None
-file_changed s false name = let_go s name
+file_changed s false name = with_file s name
 
 -- an open document's file does not count
 abbrev pub file_counts : State → Bool → List ℕ → State

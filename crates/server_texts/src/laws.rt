@@ -3,8 +3,9 @@
 ghost use Rattle.std.specs.Prelude.{◌≡◌, ◌↔◌, ℕ, List, [], ◌∷◌, None, Some, codes, map, true};
 ghost use Rattle.lsp_wire.specs.declared.types.Change.{Change};
 ghost use Rattle.lsp_answers.specs.States.{State, LooksAtTexts, all_notices};
-ghost use Rattle.doc_edit.specs.Edits.{first_backward, is_backward};
-ghost use Rattle.server_texts.specs.Documents.{after_change, after_close, after_open, opened_at, stays};
+ghost use Rattle.lsp_answers.specs.States.{first_too_long, judged, judged_change};
+ghost use Rattle.doc_edit.specs.Edits.{first_backward, first_excess, is_backward};
+ghost use Rattle.server_texts.specs.Documents.{after_close, after_open, opened_at, texts_after};
 ghost use Rattle.server_texts.specs.Documents.{IsRooted};
 ghost use Rattle.server_texts.specs.Server.{server_meaning};
 ghost use Rattle.server_texts.specs.Uris.{before_last_slash, client_root_of, cut_path, document_root};
@@ -17,7 +18,8 @@ pub fn module_text()
         → (module_behind root text ≡ Some name) ↔ IsModuleText root text name }
 {}
 
-/// Notes look at the texts alone, and a root that is taken opens and closes no document.
+/// Notes look at the texts alone, and a root that is taken and a file that is read open and close no
+/// document.
 pub fn looks_at_texts()
     ensures { LooksAtTexts server_meaning }
 {}
@@ -32,13 +34,20 @@ pub fn last_slash()
 /// the text of a document that is no member of the root that is there.
 pub fn nothing_happens()
     ensures changed { (s : State) (uri : List ℕ) (changes : List Change)
-        → opened_at s uri ≡ None → after_change s uri changes ≡ stays s }
+        → opened_at s uri ≡ None → judged_change server_meaning s uri changes ≡ judged s }
     ensures backward { (s : State) (uri : List ℕ) (changes : List Change) (index : ℕ)
-        → first_backward changes ≡ Some index → after_change s uri changes ≡ stays s }
+        → first_backward changes ≡ Some index
+        → judged_change server_meaning s uri changes ≡ judged s }
     ensures closed { (s : State) (uri : List ℕ)
         → opened_at s uri ≡ None → after_close s uri ≡ s }
     ensures opened { (s : State) (uri text : List ℕ)
         → IsRooted s → module_of s.root uri ≡ None → after_open s uri text ≡ s }
+{}
+
+/// The first text that is too long after a change is the one of which `doc_edit` tells the length.
+pub fn same_excess()
+    ensures { (text : List ℕ) (changes : List Change)
+        → first_too_long (texts_after text changes) ≡ first_excess text changes }
 {}
 
 /// Small cases, by computation: texts of URLs, a range that is backward by its numbers, and notices in

@@ -166,7 +166,7 @@ pub static LIMIT: [Row; 3] = [
     ),
     (
         r#"{"method":"textDocument/didChange","params":{"textDocument":{"uri":"u"},"contentChanges":[{"text":"a"},{"text":"b"}]}}"#,
-        Err(SessionFault::Limit { said: 2 }),
+        Err(SessionFault::Limit { said: 33_554_433 }),
         0,
         "",
     ),

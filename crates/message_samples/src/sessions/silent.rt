@@ -9,9 +9,12 @@ use std::alloc::Global;
 use step_count::Steps;
 use tool_list::{Chars, List, Memory};
 
+// One byte more than a text may have.
+const TOO_MANY: u64 = (1 << 25) + 1;
+
 /// Tells the documents that are opened, each with its text, and those that are closed, and asks for a
-/// notice for each that is opened. A root is a fault of its folder, and changes meet the limit that
-/// their number is.
+/// notice for each that is opened. A root is a fault of its folder, and changes meet the limit of a
+/// text that has one byte too many.
 #[derive(Drop)]
 pub struct Silent {
     told: String,
@@ -64,12 +67,10 @@ impl Answers for Silent {
         &mut self,
         _alloc: Global,
         _uri: &Uri,
-        changes: &List<Change>,
+        _changes: &List<Change>,
         _steps: &mut Steps<L>,
     ) -> Result<(), AnswerFault> {
-        Err(AnswerFault::Limit {
-            said: changes.len() as u64,
-        })
+        Err(AnswerFault::Limit { said: TOO_MANY })
     }
 
     fn close<L>(

@@ -7,3 +7,8 @@ pub returns-in-Open-clause-goes : goal.returns-in-Open-clause-goes
 returns-in-Open-clause-goes g c =
     let P : Notice → Type 0 = λ n. IsDone (told_running g.A.Answers.meaning (g.A.Answers.state c.args.answers.now) n) c.args.out.now c.opened.new.out (g.A.Answers.state c.opened.new.answers) c.opened.result in
     λ t. subst P (sym c.in-Open.is) c.opened.ensures.goes
+
+pub returns-in-Change-clause-goes : goal.returns-in-Change-clause-goes
+returns-in-Change-clause-goes g c =
+    let P : Notice → Type 0 = λ n. IsDone (told_running g.A.Answers.meaning (g.A.Answers.state c.args.answers.now) n) c.args.out.now c.changed.new.out (g.A.Answers.state c.changed.new.answers) c.changed.result in
+    λ t. subst P (sym c.in-Change.is) c.changed.ensures.goes
