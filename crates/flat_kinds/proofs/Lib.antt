@@ -3,3 +3,4 @@ mod Nested
 mod Leaving
 mod Modules
 mod Symbols
+mod Growing

@@ -13,6 +13,7 @@ use Rattle.tree_kinds.specs.Standing.{Environment, Outside}
 use Rattle.module_kinds.specs.ModuleKinds.{KindState, after, first, last}
 use Rattle.flat_trees.specs.Stands.{Stand}
 use Rattle.flat_trees.specs.Layouts.{Layout}
+use Rattle.flat_trees.specs.Growing.{IsWithin}
 use Rattle.flat_kinds.specs.Readings.{AreExtensions, AreNew, Extension, IsUnitRead, KeepsStanding, KeepsState, StaysBehind, exported_stand, extended_stands, layout_after, nested_layout, with_own}
 
 -- a module that is being read: what its symbols stand for, and the layout so far
@@ -26,6 +27,11 @@ pub data Coming : Type 0 where
   Stands : (next : Meaning → Stand) → Coming
   Begins : (own : Meaning → Stand) (count : ℕ) (extensions : List Extension) → Coming
   Ends : Coming
+
+-- what a module stands on is there already
+pub record IsCurrentWithin (flat : FlatModule) (current : Current) : Type 0 where
+  pub symbols : (meaning : Meaning) → IsWithin flat (current.symbols meaning)
+  pub stands : (meaning : Meaning) → IsWithin flat (current.layout.stands meaning)
 
 -- ---- what is kept
 

@@ -6,11 +6,12 @@
 #![tactic(auto)]
 
 ghost use Rattle.std.specs.Prelude.{◌≡◌, ℕ, Bool, List, [], length};
+ghost use Rattle.std.specs.List.{AllByRecursion};
 ghost use Rattle.unit_grammar.specs.Units.{ModuleUnits, UnitTree};
 ghost use Rattle.tla_model.specs.Tables.{Named};
 ghost use Rattle.tla_model.specs.Entities.{Meaning, Text};
 ghost use Rattle.module_model.specs.Exports.{ModuleView, exports_of};
-ghost use Rattle.kind_text.specs.FlatModule.{FlatModule};
+ghost use Rattle.kind_text.specs.FlatModule.{Extends, FlatModule, IsOrdered};
 ghost use Rattle.kind_text.specs.Substitution.{Item};
 ghost use Rattle.tree_kinds.specs.Standing.{Environment, Outside, themselves};
 ghost use Rattle.module_kinds.specs.ModuleKinds.{KindState, after, first, outside, outside_by};
@@ -21,13 +22,14 @@ ghost use Rattle.flat_trees.specs.Instances.{IsModule};
 ghost use Rattle.flat_kinds.specs.Readings.{Extension, KeepsState, Leaves, SaysLess};
 ghost use Rattle.flat_kinds.specs.Readings.{StandsItself, exported_stand};
 ghost use Rattle.flat_kinds.specs.Modules.{Coming, Current, IsBuiltAlong, IsExtended, IsRead};
-ghost use Rattle.flat_kinds.specs.Modules.{KeepsAll, first_current, here_behind, module_stands};
+ghost use Rattle.flat_kinds.specs.Modules.{IsCurrentWithin, KeepsAll, first_current, here_behind, module_stands};
 ghost use Rattle.flat_kinds.specs.Modules.{round_behind};
 
 /// A flat module keeps the state of a module behind what that extends. Where it keeps a state, with
 /// the modules round it, it keeps the state behind each unit, by what comes of the unit; and the
 /// names that a state exports stand so outside of the module that is read there. In a state that is
-/// kept a frame agrees with what stands round the expressions of a unit.
+/// kept a frame agrees with what stands round the expressions of a unit. And a flat module that has
+/// more keeps the same states, where what stands in them is there already.
 pub fn states_are_kept()
     ensures begins { (flat : FlatModule) (files : List ℕ → Outside) (source : List ℕ)
         (units : ModuleUnits) (symbols : Meaning → Stand) (places : ℕ)
@@ -53,6 +55,10 @@ pub fn states_are_kept()
         (parameters : Environment) → KeepsState flat symbols layout state
         → length frame ≡ layout.places → AreStanding flat frame symbols parameters
         → Agrees flat layout frame (around text files words state parameters) }
+    ensures grows { (flat more : FlatModule) (state : KindState) (here : Current)
+        (round : List Current) → Extends flat more → IsOrdered flat → IsCurrentWithin flat here
+        → AllByRecursion (IsCurrentWithin flat) round → KeepsAll flat state here round
+        → KeepsAll more state here round }
 {}
 
 /// A module that is meant where less is said of its symbols is meant where more is said. Over a

@@ -4,4 +4,4 @@ pub mod Agreeing
 mod Definitions
 pub mod Instances
 mod Meanings
-mod Growing
+pub mod Growing
