@@ -95,8 +95,8 @@ impl Source for MemorySource {
         ensures bound { ReadsAtMost result buf.new }
         ensures count { IfOk result (λ count. count
             ≡ min (min (length (source_rest self.old)) (length buf.new)) (source_most self.old)) }
-        ensures bytes { ReadConsumes (Some (source_rest self.old)) (Some (source_rest self.new)) result
-            buf.new }
+        ensures bytes { ReadConsumes (Some (source_rest self.old)) (Some (source_rest self.new))
+            result buf.new }
         ensures gave { self.new.gave ≡ given result }
         ensures cause { HasOneCause self.old.failures.faults self.new.failures.faults result }
         ensures refused { IsErr result ↔ IsTrue (fails_read self.old) }
