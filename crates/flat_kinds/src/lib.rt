@@ -5,7 +5,7 @@
 //! flat modules are built.
 #![tactic(auto)]
 
-ghost use Rattle.std.specs.Prelude.{◌≡◌, ℕ, Bool, List, [], length};
+ghost use Rattle.std.specs.Prelude.{◌≡◌, ℕ, Bool, List, [], ◌++◌, length, map};
 ghost use Rattle.std.specs.List.{AllByRecursion};
 ghost use Rattle.unit_grammar.specs.Units.{ModuleUnits, UnitTree};
 ghost use Rattle.tla_model.specs.Tables.{Named};
@@ -16,14 +16,15 @@ ghost use Rattle.kind_text.specs.Substitution.{Item};
 ghost use Rattle.tree_kinds.specs.Standing.{Environment, Outside, themselves};
 ghost use Rattle.module_kinds.specs.ModuleKinds.{KindState, after, first, outside, outside_by};
 ghost use Rattle.module_kinds.specs.ModuleKinds.{around, standing_behind};
-ghost use Rattle.flat_trees.specs.Stands.{AreStanding, Stand};
+ghost use Rattle.flat_trees.specs.Stands.{AreStanding, Stand, Unsaid};
 ghost use Rattle.flat_trees.specs.Layouts.{Agrees, Layout};
-ghost use Rattle.flat_trees.specs.Instances.{IsModule};
+ghost use Rattle.flat_trees.specs.Instances.{IsModule, with_symbols};
 ghost use Rattle.flat_kinds.specs.Readings.{Extension, KeepsState, Leaves, SaysLess};
-ghost use Rattle.flat_kinds.specs.Readings.{StandsItself, exported_stand};
+ghost use Rattle.flat_kinds.specs.Readings.{StandsItself, exported_stand, with_own};
+ghost use Rattle.flat_kinds.specs.Symbols.{AreDistinct, SaysNothing, item_itself, symbols_at};
 ghost use Rattle.flat_kinds.specs.Modules.{Coming, Current, IsBuiltAlong, IsExtended, IsRead};
-ghost use Rattle.flat_kinds.specs.Modules.{IsCurrentWithin, KeepsAll, first_current, here_behind, module_stands};
-ghost use Rattle.flat_kinds.specs.Modules.{round_behind};
+ghost use Rattle.flat_kinds.specs.Modules.{IsCurrentWithin, KeepsAll, first_current, here_behind};
+ghost use Rattle.flat_kinds.specs.Modules.{module_stands, round_behind};
 
 /// A flat module keeps the state of a module behind what that extends. Where it keeps a state, with
 /// the modules round it, it keeps the state behind each unit, by what comes of the unit; and the
@@ -62,7 +63,8 @@ pub fn states_are_kept()
 {}
 
 /// A module that is meant where less is said of its symbols is meant where more is said. Over a
-/// frame with the item that each symbol is, the symbols stand for themselves.
+/// frame with the item that each symbol is, the symbols stand for themselves: so do symbols at
+/// places, each of its own entity, and less is said of these than of all that mean the same.
 pub fn symbols_stand()
     ensures less { (flat : FlatModule) (less more : Meaning → Stand) (places : ℕ)
         (inner : Named → Stand) (outside : Outside) → SaysLess less more
@@ -70,6 +72,17 @@ pub fn symbols_stand()
     ensures themselves { (flat : FlatModule) (frame : List Item) (symbols : Meaning → Stand)
         → ((meaning : Meaning) → StandsItself frame (symbols meaning) meaning)
         → AreStanding flat frame symbols themselves }
+    ensures places { (base : Meaning → Stand) (before : List Item) (symbols : List Meaning)
+        → ((meaning : Meaning) → StandsItself before (base meaning) meaning) → (meaning : Meaning)
+        → StandsItself (before ++ map item_itself symbols)
+        (symbols_at base symbols (length before) meaning) meaning }
+    ensures same { (base : Meaning → Stand) (symbols : List Meaning) (place : ℕ)
+        → AreDistinct symbols → SaysNothing base symbols
+        → SaysLess (symbols_at base symbols place) (with_symbols base symbols place) }
+    ensures own { (base : Meaning → Stand) (symbols : List Meaning) (place : ℕ)
+        → AreDistinct symbols → SaysNothing base symbols
+        → SaysLess (with_own base (symbols_at (λ (meaning : Meaning). Unsaid) symbols place))
+        (with_symbols base symbols place) }
 {}
 
 /// A meaning that a unit leaves stands behind it for what it does before.

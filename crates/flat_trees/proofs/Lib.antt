@@ -3,5 +3,5 @@ mod BuiltNodes
 pub mod Agreeing
 mod Definitions
 pub mod Instances
-mod Meanings
+pub mod Meanings
 pub mod Growing
