@@ -1,0 +1,5 @@
+mod Nodes
+pub mod Agreeing
+mod Joining
+mod Definitions
+pub mod Growing

@@ -1,0 +1,15 @@
+use Rattle.flat_depths.proofs.Definitions.{function-deep, instance-deep, operator-deep, staying-plain}
+use Rattle.flat_depths.proofs.definitions_are_as_deep.Goals as goal
+
+pub returns-clause-operators : goal.returns-clause-operators
+returns-clause-operators c flat text known named around form l at parts d x orders e there deep = operator-deep flat text known named around form l at parts d x orders e there deep
+
+pub returns-clause-functions : goal.returns-clause-functions
+returns-clause-functions c flat text known named around l at parts d x orders there deep = function-deep flat text known named around l at parts d x orders there deep
+
+pub returns-clause-instances : goal.returns-clause-instances
+returns-clause-instances c flat text known named around own at parts j x orders staying made l rights inner there behind none first deep kept =
+    instance-deep flat text known named around own at parts j x orders staying made l rights inner there behind none first deep kept
+
+pub returns-clause-staying : goal.returns-clause-staying
+returns-clause-staying c flat r node place ordered there e none = staying-plain flat r node place ordered there e none
