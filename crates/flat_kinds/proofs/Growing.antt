@@ -1,7 +1,6 @@
 -- A state that is kept is kept in a flat module that has more.
 use Rattle.std.proofs.Common.{List, [], ◌∷◌}
 use Rattle.std.specs.List.{AllByRecursion}
-use Rattle.tla_model.specs.Entities.{Meaning}
 use Rattle.module_model.specs.Modules.{Reading}
 use Rattle.kind_text.specs.FlatModule.{Extends, FlatModule, IsOrdered}
 use Rattle.tree_kinds.specs.Standing.{Environment}

@@ -32,7 +32,7 @@ entries-left : (standing : Environment) (entries : Exports) (from : Steps → Ex
 entries-left standing entries from meaning none = ap (λ found. coming from (standing meaning) found) none
 
 module _ (text : Text) (files : List ℕ → Outside) (words : List ℕ) where
-  extended-left : (modules : Scope Outside) (parameters standing : Environment) (ls : List Lexeme) (meaning : Meaning) → BringNone text files words modules ls meaning → extended text files words modules parameters standing ls meaning ≡ standing meaning
+  pub extended-left : (modules : Scope Outside) (parameters standing : Environment) (ls : List Lexeme) (meaning : Meaning) → BringNone text files words modules ls meaning → extended text files words modules parameters standing ls meaning ≡ standing meaning
   extended-left modules parameters standing [] meaning none = refl
   extended-left modules parameters standing (l ∷ rest) meaning none =
       let from = (named_in text files words modules (spelled text.source l)).standing parameters in

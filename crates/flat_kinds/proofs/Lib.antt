@@ -4,3 +4,4 @@ mod Leaving
 mod Modules
 mod Symbols
 mod Growing
+mod Declarations

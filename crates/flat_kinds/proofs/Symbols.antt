@@ -102,7 +102,7 @@ places-itself base before (meaning ∷ rest) other holds =
     by_sameness room others false e = others
 
 -- what means none of these symbols stands as before
-symbols-none : (base : Meaning → Stand) (symbols : List Meaning) (place : ℕ) (other : Meaning) → is_among symbols other ≡ false → symbols_at base symbols place other ≡ base other
+pub symbols-none : (base : Meaning → Stand) (symbols : List Meaning) (place : ℕ) (other : Meaning) → is_among symbols other ≡ false → symbols_at base symbols place other ≡ base other
 symbols-none base [] place other none = refl
 symbols-none base (meaning ∷ rest) place other none = by_sameness (symbols-none base rest (suc place) other) (same_symbol other meaning) refl (same_meaning other meaning) refl none
   where

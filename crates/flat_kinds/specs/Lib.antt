@@ -1,3 +1,4 @@
 pub mod Readings
 pub mod Modules
 pub mod Symbols
+pub mod Declarations

@@ -11,17 +11,21 @@ ghost use Rattle.unit_grammar.specs.Units.{ModuleUnits, UnitTree};
 ghost use Rattle.tla_model.specs.Tables.{Named};
 ghost use Rattle.tla_model.specs.Entities.{Meaning, Text};
 ghost use Rattle.module_model.specs.Exports.{ModuleView, exports_of};
+ghost use Rattle.module_model.specs.Modules.{text_of};
 ghost use Rattle.kind_text.specs.FlatModule.{Extends, FlatModule, IsOrdered};
 ghost use Rattle.kind_text.specs.Substitution.{Item};
 ghost use Rattle.tree_kinds.specs.Standing.{Environment, Outside, themselves};
 ghost use Rattle.module_kinds.specs.ModuleKinds.{KindState, after, first, outside, outside_by};
-ghost use Rattle.module_kinds.specs.ModuleKinds.{around, standing_behind};
+ghost use Rattle.module_kinds.specs.ModuleKinds.{around, read_all, standing_behind};
 ghost use Rattle.flat_trees.specs.Stands.{AreStanding, Stand, Unsaid};
-ghost use Rattle.flat_trees.specs.Layouts.{Agrees, Layout};
+ghost use Rattle.flat_trees.specs.Layouts.{Agrees, Layout, StandsBefore};
 ghost use Rattle.flat_trees.specs.Instances.{IsModule, with_symbols};
-ghost use Rattle.flat_kinds.specs.Readings.{Extension, KeepsState, Leaves, SaysLess};
+ghost use Rattle.flat_kinds.specs.Readings.{AreNew, Extension, KeepsState, Leaves, SaysLess};
 ghost use Rattle.flat_kinds.specs.Readings.{StandsItself, exported_stand, with_own};
 ghost use Rattle.flat_kinds.specs.Symbols.{AreDistinct, SaysNothing, item_itself, symbols_at};
+ghost use Rattle.flat_kinds.specs.Declarations.{AreNamesDeclared, AreUnitsDeclared, Declarations};
+ghost use Rattle.flat_kinds.specs.Declarations.{IsNoDefinition, IsOutsideDeclared};
+ghost use Rattle.flat_kinds.specs.Declarations.{KeepsDeclarations, declared_names};
 ghost use Rattle.flat_kinds.specs.Modules.{Coming, Current, IsBuiltAlong, IsExtended, IsRead};
 ghost use Rattle.flat_kinds.specs.Modules.{IsCurrentWithin, KeepsAll, first_current, here_behind};
 ghost use Rattle.flat_kinds.specs.Modules.{module_stands, round_behind};
@@ -92,6 +96,37 @@ pub fn meanings_are_left()
         → (parameters : Environment)
         → standing_behind text files words state unit parameters meaning
         ≡ state.standing parameters meaning }
+{}
+
+/// Where the names of a text, and those that the files export, have the meanings of their
+/// declarations, a state has such names alone behind what the module extends and behind units, and
+/// nothing stands in for symbols there; so has what the module is to others. A unit leaves what is
+/// by its declaration no definition and no instance. So own symbols of a nested module are new.
+pub fn declarations_are_kept()
+    ensures begins { (declares : Declarations) (files : List ℕ → Outside) (source : List ℕ)
+        (units : ModuleUnits) → ((name : List ℕ) → IsOutsideDeclared declares (files name))
+        → KeepsDeclarations declares (first files source units) }
+    ensures units { (declares : Declarations) (text : Text) (files : List ℕ → Outside)
+        (words : List ℕ) (state : KindState) (units : List UnitTree)
+        → ((name : List ℕ) → IsOutsideDeclared declares (files name))
+        → AreUnitsDeclared declares text units → KeepsDeclarations declares state
+        → KeepsDeclarations declares (read_all text files words state units) }
+    ensures exports { (declares : Declarations) (files : List ℕ → Outside) (source : List ℕ)
+        (units : ModuleUnits) → ((name : List ℕ) → IsOutsideDeclared declares (files name))
+        → AreUnitsDeclared declares (text_of source units) units.units
+        → IsOutsideDeclared declares (outside files source units) }
+    ensures leaves { (declares : Declarations) (text : Text) (files : List ℕ → Outside)
+        (words : List ℕ) (state : KindState) (unit : UnitTree) (meaning : Meaning)
+        → ((name : List ℕ) → IsOutsideDeclared declares (files name))
+        → AreNamesDeclared declares text (declared_names unit)
+        → KeepsDeclarations declares state → IsNoDefinition declares meaning
+        → Leaves text files words state unit meaning }
+    ensures new { (declares : Declarations) (state : KindState) (symbols : Meaning → Stand)
+        (layout : Layout) (own : List Meaning) → KeepsDeclarations declares state
+        → ((meaning : Meaning) → StandsBefore layout.places (symbols meaning))
+        → AllByRecursion (IsNoDefinition declares) own → SaysNothing symbols own
+        → AreNew symbols layout state
+        (symbols_at (λ (meaning : Meaning). Unsaid) own layout.places) }
 {}
 
 /// A flat module that is built along a module, with the modules that are nested in it, means the

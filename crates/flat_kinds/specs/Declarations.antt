@@ -1,0 +1,90 @@
+-- What each declaration declares, in a text and in the modules that it names: a name, as an entity.
+use Rattle.std.specs.Prelude.{◌≡◌, false, List, [], Option, Some, None}
+use Rattle.std.specs.List.{AllByRecursion}
+use Rattle.unit_grammar.specs.Units.{UnitTree, Variables, Constants, OperatorDefinition, FunctionDefinition, ModuleDefinition}
+use Rattle.tla_model.specs.declared.ids.DeclId.{DeclId}
+use Rattle.tla_model.specs.declared.names.Binder.{Binder}
+use Rattle.tla_model.specs.declared.names.Meaning.TheVariants.{BuiltIn, Declared}
+use Rattle.tla_model.specs.Tables.{Named}
+use Rattle.tla_model.specs.Entities.{Entity, Meaning, Text, meant, name_of, variables}
+use Rattle.tla_model.specs.EntityKinds.{stands_behind}
+use Rattle.tla_model.specs.Scopes.{definition}
+use Rattle.module_scope.specs.Environments.{Environment}
+use Rattle.module_model.specs.Exports.{Exports, ModuleView, exported, exports_of}
+use Rattle.module_model.specs.Modules.{Reading, constants}
+use Rattle.tree_kinds.specs.Standing.{Environment as Standing, Outside}
+use Rattle.module_kinds.specs.ModuleKinds.{KindState}
+
+-- the name and the entity of each declaration
+abbrev pub Declarations : Type 0
+Declarations = DeclId → Named × Entity
+
+-- the names that a unit declares or defines in its module
+abbrev pub declared_names : UnitTree → List Binder
+declared_names (Variables names) = variables names
+declared_names (Constants declarations) = constants declarations
+declared_names (OperatorDefinition local x) = definition x
+declared_names (FunctionDefinition local x) = definition x
+declared_names (ModuleDefinition local x) = definition x
+declared_names unit = []
+
+-- what is said of a module that is known holds, where it is
+abbrev pub OfKnown : {Known : Type 0} → (Known → Type 0) → Option Known → Type 0
+OfKnown says None = Unit {0}
+OfKnown says (Some known) = says known
+
+-- the same of each module that can be named
+abbrev pub OfAllKnown : {Known : Type 0} → (Known → Type 0) → Environment Known → Type 0
+OfAllKnown says modules = AllByRecursion (λ named. OfKnown says named.1) modules
+
+module _ (declares : Declarations) where
+  -- a name means this by its declaration
+  abbrev pub IsDeclared : Named → Meaning → Type 0
+  IsDeclared name BuiltIn = Unit {0}
+  IsDeclared name (Declared e callee) = declares callee.decl ≡ (name, e)
+
+  -- the same of entries
+  abbrev pub AreDeclared : Exports → Type 0
+  AreDeclared entries = AllByRecursion (λ entry. IsDeclared entry.0 entry.1) entries
+
+  -- what a module exports is declared so
+  abbrev pub IsViewDeclared : ModuleView → Type 0
+  IsViewDeclared view = AreDeclared (exported view)
+
+  -- the same of a module with what stands for its names
+  abbrev pub IsOutsideDeclared : Outside → Type 0
+  IsOutsideDeclared outside = IsViewDeclared outside.view
+
+  -- names of a text are declared so
+  abbrev pub AreNamesDeclared : Text → List Binder → Type 0
+  AreNamesDeclared text names = AllByRecursion (λ binder. IsDeclared (name_of text.source binder.name) (meant text binder)) names
+
+  -- those of these units
+  abbrev pub AreUnitsDeclared : Text → List UnitTree → Type 0
+  AreUnitsDeclared text units = AllByRecursion (λ unit. AreNamesDeclared text (declared_names unit)) units
+
+  -- what a module that is read exports so far is declared so, and so is what the modules export that can be named there
+  pub record IsReadingDeclared (reading : Reading) : Type 0 where
+    pub exports : AreDeclared (exports_of reading.exports)
+    pub modules : OfAllKnown IsViewDeclared reading.modules
+
+  -- the same of a state, and of the modules round the one that is read
+  pub record IsStateDeclared (state : KindState) : Type 0 where
+    pub here : IsReadingDeclared state.read.place.here
+    pub round : AllByRecursion IsReadingDeclared state.read.place.round
+    pub modules : OfAllKnown IsOutsideDeclared state.modules.here
+    pub modules_round : AllByRecursion (λ nested. OfAllKnown IsOutsideDeclared nested.1) state.modules.round
+
+  -- by its declaration this is no definition and no instance
+  abbrev pub IsNoDefinition : Meaning → Type 0
+  IsNoDefinition BuiltIn = Unit {0}
+  IsNoDefinition (Declared e callee) = stands_behind (declares callee.decl).1 ≡ false
+
+  -- nothing stands in for what is no definition and no instance
+  abbrev pub PassesSymbols : KindState → Type 0
+  PassesSymbols state = (meaning : Meaning) → IsNoDefinition meaning → (parameters : Standing) → state.standing parameters meaning ≡ parameters meaning
+
+  -- a state has what is declared, and nothing stands in for symbols
+  pub record KeepsDeclarations (state : KindState) : Type 0 where
+    pub declared : IsStateDeclared state
+    pub passes : PassesSymbols state
