@@ -29,7 +29,7 @@ use Rattle.module_model.specs.NamedModules.{module_under as view_under, unit_of}
 use Rattle.module_model.specs.Resolution.{ReadState, instance_brings, words_of, read_all as read_names}
 use Rattle.tree_kinds.specs.Standing.{Environment as Standing, Outside, name_among}
 use Rattle.module_kinds.specs.ModuleKinds.{KindState, after, first, module_under, named_in, nested_outside, outside, read_all, views}
-use Rattle.flat_kinds.specs.Declarations.{Declarations, AreDeclared, AreNamesDeclared, AreUnitsDeclared, KeepsDeclarations, IsDeclared, IsNoDefinition, IsOutsideDeclared, IsReadingDeclared, IsStateDeclared, IsViewDeclared, OfAllKnown, OfKnown, declared_names}
+use Rattle.flat_kinds.specs.Declarations.{Declarations, AreDeclared, AreNamesDeclared, AreUnitsDeclared, EachOnce, IsOnce, KeepsDeclarations, IsDeclared, IsNoDefinition, IsOutsideDeclared, IsReadingDeclared, IsStateDeclared, IsViewDeclared, OfAllKnown, OfKnown, declared_names}
 use Rattle.flat_trees.specs.Stands.{Stand, Unsaid}
 use Rattle.flat_trees.specs.Layouts.{Layout, StandsBefore}
 use Rattle.flat_kinds.specs.Readings.{AreNew, BringNone, Leaves, is_among}
@@ -43,14 +43,41 @@ all-weaker : {A : Type 0} (P Q : A → Type 0) → ((x : A) → P x → Q x) →
 all-weaker P Q weaker [] all = tt
 all-weaker P Q weaker (x ∷ xs) all = (weaker x all.0, all-weaker P Q weaker xs all.1)
 
-all-both : {A : Type 0} (P : A → Type 0) (xs ys : List A) → AllByRecursion P xs → AllByRecursion P ys → AllByRecursion P (xs ++ ys)
+pub all-both : {A : Type 0} (P : A → Type 0) (xs ys : List A) → AllByRecursion P xs → AllByRecursion P ys → AllByRecursion P (xs ++ ys)
 all-both P [] ys front back = back
 all-both P (x ∷ xs) ys front back = (front.0, all-both P xs ys front.1 back)
+
+-- ---- names once
+
+module _ {K V : Type 0} (same : K → K → Bool) where
+  none-each : (entries : List (K × V)) (key : K) → lookup same entries key ≡ None → AllByRecursion (λ (entry : K × V). same key entry.0 ≡ false) entries
+  none-each [] key none = tt
+  none-each (entry ∷ rest) key none = by_key (same key entry.0) refl none (none-each rest key)
+    where
+      by_key : (b : Bool) → same key entry.0 ≡ b → cond b (Some entry.1) (lookup same rest key) ≡ None → (lookup same rest key ≡ None → AllByRecursion (λ (other : K × V). same key other.0 ≡ false) rest) → (same key entry.0 ≡ false) × AllByRecursion (λ (other : K × V). same key other.0 ≡ false) rest
+      by_key true is none others = absurd (cc none)
+      by_key false is none others = (is, others none)
+
+  each-more : (entries : List (K × V)) (key : K) (value : V) → EachOnce same entries → AllByRecursion (λ (entry : K × V). same key entry.0 ≡ false) entries → EachOnce same (entries ++ (key, value) ∷ [])
+  each-more [] key value once apart = (tt, tt)
+  each-more (entry ∷ rest) key value once apart =
+      (all-both (λ (other : K × V). same other.0 entry.0 ≡ false) rest ((key, value) ∷ []) once.0 (apart.0, tt), each-more rest key value once.1 apart.1)
+
+  added-once : (entries : List (K × V)) (key : K) (value : V) → EachOnce same entries → EachOnce same (added same entries key value)
+  added-once entries key value once = by_found (lookup same entries key) refl
+    where
+      by_found : (found : Option V) → lookup same entries key ≡ found → EachOnce same (cond (is_some found) entries (entries ++ (key, value) ∷ []))
+      by_found None is = each-more entries key value once (none-each entries key is)
+      by_found (Some other) is = once
+
+put-once : (table : Table Meaning) (name : Named) (meaning : Meaning) → IsOnce table → IsOnce (put table name meaning)
+put-once table (Word bytes) meaning once = (added-once bytes_eq table.words bytes meaning once.0, once.1)
+put-once table (Symbol op) meaning once = (once.0, added-once same_symbol table.symbols op meaning once.1)
 
 -- ---- what modules are named
 
 module _ {Known : Type 0} (says : Known → Type 0) where
-  found-known : (modules : Environment Known) (name : List ℕ) (P : Option (Option Known) → Type 0) → P None → ((found : Option Known) → OfKnown says found → P (Some found)) → OfAllKnown says modules → P (module_meaning modules name)
+  pub found-known : (modules : Environment Known) (name : List ℕ) (P : Option (Option Known) → Type 0) → P None → ((found : Option Known) → OfKnown says found → P (Some found)) → OfAllKnown says modules → P (module_meaning modules name)
   found-known [] name P nothing some all = nothing
   found-known (entry ∷ rest) name P nothing some all = by_name (bytes_eq name entry.0) (found-known rest name P nothing some all.1)
     where
@@ -58,7 +85,7 @@ module _ {Known : Type 0} (says : Known → Type 0) where
       by_name true others = some entry.1 all.0
       by_name false others = others
 
-  added-known : (modules : Environment Known) (name : List ℕ) (known : Option Known) → OfAllKnown says modules → OfKnown says known → OfAllKnown says (added bytes_eq modules name known)
+  pub added-known : (modules : Environment Known) (name : List ℕ) (known : Option Known) → OfAllKnown says modules → OfKnown says known → OfAllKnown says (added bytes_eq modules name known)
   added-known modules name known all one = by_there (is_some (lookup bytes_eq modules name))
     where
       by_there : (b : Bool) → OfAllKnown says (cond b modules (modules ++ (name, known) ∷ []))
@@ -66,13 +93,13 @@ module _ {Known : Type 0} (says : Known → Type 0) where
       by_there false = all-both (λ (entry : List ℕ × Option Known). OfKnown says entry.1) modules ((name, known) ∷ []) all (one, tt)
 
 -- what is read of names is read beside what stands for them
-read-same : (text : Text) (files : List ℕ → Outside) (words : List ℕ) (state : KindState) (units : List UnitTree) → (read_all text files words state units).read ≡ read_names text (views text files words) words state.read units
+pub read-same : (text : Text) (files : List ℕ → Outside) (words : List ℕ) (state : KindState) (units : List UnitTree) → (read_all text files words state units).read ≡ read_names text (views text files words) words state.read units
 read-same text files words state [] = refl
 read-same text files words state (unit ∷ units) = read-same text files words (after text files words state unit) units
 
 -- ---- declarations
 
-decl-equal : (a b : DeclId) → same_decl a b ≡ true → a ≡ b
+pub decl-equal : (a b : DeclId) → same_decl a b ≡ true → a ≡ b
 decl-equal a b same =
     let parts = and_parts (bytes_eq a.«module» b.«module») (nat_eq a.place b.place) same in
     let names : a.«module» ≡ b.«module» = (bytes_eq-Decides a.«module» b.«module»).0 parts.0 in
@@ -171,8 +198,8 @@ module _ (declares : Declarations) where
   reading-either false reading other one two = two
 
   entry-declared : (local : Bool) (reading : Reading) (name : Named) (meaning : Meaning) → IsReadingDeclared declares reading → IsDeclared declares name meaning → IsReadingDeclared declares (with_entry local reading name meaning)
-  entry-declared true reading name meaning all one = record { exports = all.exports; modules = all.modules }
-  entry-declared false reading name meaning all one = record { exports = put-declared reading.exports name meaning all.exports one; modules = all.modules }
+  entry-declared true reading name meaning all one = record { once = all.once; exports = all.exports; modules = all.modules }
+  entry-declared false reading name meaning all one = record { once = put-once reading.exports name meaning all.once; exports = put-declared reading.exports name meaning all.exports one; modules = all.modules }
 
   joined-declared : (local : Bool) (reading : Reading) (entries : Exports) → IsReadingDeclared declares reading → AreDeclared declares entries → IsReadingDeclared declares (joined local reading entries)
   joined-declared local reading [] all one = all
@@ -285,6 +312,7 @@ module _ (declares : Declarations) where
       left-declared known inner [] one all = (one, tt)
       left-declared known inner (outer ∷ round) one all = (
         record {
+          once = all.0.once;
           exports = all.0.exports;
           modules = added-known (IsViewDeclared declares) outer.modules inner.name (Some (nested_view known outer.context (exports_of inner.exports))) all.0.modules one.exports;
         },
@@ -305,7 +333,7 @@ module _ (declares : Declarations) where
       state-declared state (Line dashes) declared all = with-reading state (Line dashes) _ all all.here refl refl
       state-declared state (ModuleBegin name extends) declared all =
           let title : List ℕ = spelled text.source name in
-          let begins : IsReadingDeclared declares (begun_in state.read.place.here title) = record { exports = tt; modules = added-known (IsViewDeclared declares) state.read.place.here.modules title None all.here.modules tt } in
+          let begins : IsReadingDeclared declares (begun_in state.read.place.here title) = record { once = (tt, tt); exports = tt; modules = added-known (IsViewDeclared declares) state.read.place.here.modules title None all.here.modules tt } in
           record {
             here = extends-declared (begun_in state.read.place.here title) extends begins;
             round = (all.here, all.round);
@@ -343,7 +371,7 @@ module _ (declares : Declarations) where
     keeps-first =
         let text : Text = text_of source units in
         let words : List ℕ = words_of units in
-        let begins : IsReadingDeclared declares (unread text) = record { exports = tt; modules = (tt, tt) } in
+        let begins : IsReadingDeclared declares (unread text) = record { once = (tt, tt); exports = tt; modules = (tt, tt) } in
         record {
           declared = record {
             here = extends-declared text files words files_declared (unread text) units.extends begins;

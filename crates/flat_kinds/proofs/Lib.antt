@@ -5,3 +5,4 @@ mod Modules
 mod Symbols
 mod Growing
 mod Declarations
+mod Distinct

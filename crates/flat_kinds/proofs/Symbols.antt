@@ -111,7 +111,7 @@ symbols-none base (meaning ∷ rest) place other none = by_sameness (symbols-non
     by_sameness others true same false means none = let e = symbol-means other meaning same in cc
     by_sameness others false same false means none = others none
 
-among-alike : (symbols : List Meaning) (a b : Meaning) → same_meaning a b ≡ true → is_among symbols a ≡ is_among symbols b
+pub among-alike : (symbols : List Meaning) (a b : Meaning) → same_meaning a b ≡ true → is_among symbols a ≡ is_among symbols b
 among-alike [] a b same = refl
 among-alike (meaning ∷ rest) a b same =
     ap (λ (t : Bool). t || is_among rest a) (same-alike a b meaning same) ∙ ap (λ (t : Bool). same_meaning b meaning || t) (among-alike rest a b same)

@@ -1,19 +1,21 @@
 -- What each declaration declares, in a text and in the modules that it names: a name, as an entity.
-use Rattle.std.specs.Prelude.{◌≡◌, false, List, [], Option, Some, None}
+use Rattle.std.specs.Prelude.{◌≡◌, Bool, true, false, List, [], ◌∷◌, Option, Some, None}
 use Rattle.std.specs.List.{AllByRecursion}
+use Rattle.std.specs.Str.{bytes_eq}
 use Rattle.unit_grammar.specs.Units.{UnitTree, Variables, Constants, OperatorDefinition, FunctionDefinition, ModuleDefinition}
 use Rattle.tla_model.specs.declared.ids.DeclId.{DeclId}
 use Rattle.tla_model.specs.declared.names.Binder.{Binder}
 use Rattle.tla_model.specs.declared.names.Meaning.TheVariants.{BuiltIn, Declared}
-use Rattle.tla_model.specs.Tables.{Named}
+use Rattle.tla_model.specs.Tables.{Table, Named, same_symbol}
 use Rattle.tla_model.specs.Entities.{Entity, Meaning, Text, meant, name_of, variables}
-use Rattle.tla_model.specs.EntityKinds.{stands_behind}
+use Rattle.tla_model.specs.EntityKinds.{stands_behind, stands_for_parameter}
 use Rattle.tla_model.specs.Scopes.{definition}
 use Rattle.module_scope.specs.Environments.{Environment}
 use Rattle.module_model.specs.Exports.{Exports, ModuleView, exported, exports_of}
 use Rattle.module_model.specs.Modules.{Reading, constants}
 use Rattle.tree_kinds.specs.Standing.{Environment as Standing, Outside}
 use Rattle.module_kinds.specs.ModuleKinds.{KindState}
+use Rattle.flat_kinds.specs.Symbols.{AreDistinct}
 
 -- the name and the entity of each declaration
 abbrev pub Declarations : Type 0
@@ -36,6 +38,15 @@ OfKnown says (Some known) = says known
 -- the same of each module that can be named
 abbrev pub OfAllKnown : {Known : Type 0} → (Known → Type 0) → Environment Known → Type 0
 OfAllKnown says modules = AllByRecursion (λ named. OfKnown says named.1) modules
+
+-- each key of these entries once
+abbrev pub EachOnce : {K V : Type 0} → (K → K → Bool) → List (K × V) → Type 0
+EachOnce same [] = Unit {0}
+EachOnce same (entry ∷ rest) = AllByRecursion (λ other. same other.0 entry.0 ≡ false) rest × EachOnce same rest
+
+-- each name of a table once
+abbrev pub IsOnce : {V : Type 0} → Table V → Type 0
+IsOnce table = EachOnce bytes_eq table.words × EachOnce same_symbol table.symbols
 
 module _ (declares : Declarations) where
   -- a name means this by its declaration
@@ -63,8 +74,10 @@ module _ (declares : Declarations) where
   abbrev pub AreUnitsDeclared : Text → List UnitTree → Type 0
   AreUnitsDeclared text units = AllByRecursion (λ unit. AreNamesDeclared text (declared_names unit)) units
 
-  -- what a module that is read exports so far is declared so, and so is what the modules export that can be named there
+  -- what a module that is read exports so far has names of its own and is declared so, and so is what the modules export that can be
+  -- named there
   pub record IsReadingDeclared (reading : Reading) : Type 0 where
+    pub once : IsOnce reading.exports
     pub exports : AreDeclared (exports_of reading.exports)
     pub modules : OfAllKnown IsViewDeclared reading.modules
 
@@ -88,3 +101,13 @@ module _ (declares : Declarations) where
   pub record KeepsDeclarations (state : KindState) : Type 0 where
     pub declared : IsStateDeclared state
     pub passes : PassesSymbols state
+
+  -- by its declaration this is a constant or a variable
+  abbrev pub IsSymbol : Meaning → Type 0
+  IsSymbol BuiltIn = ⊥
+  IsSymbol (Declared e callee) = stands_for_parameter (declares callee.decl).1 ≡ true
+
+  -- these are symbols, and no two of them mean the same
+  pub record AreSymbols (symbols : List Meaning) : Type 0 where
+    pub distinct : AreDistinct symbols
+    pub declared : AllByRecursion IsSymbol symbols

@@ -5,26 +5,27 @@
 //! flat modules are built.
 #![tactic(auto)]
 
-ghost use Rattle.std.specs.Prelude.{◌≡◌, ℕ, Bool, List, [], ◌++◌, length, map};
+ghost use Rattle.std.specs.Prelude.{◌≡◌, ℕ, Bool, false, List, [], ◌++◌, length, map};
 ghost use Rattle.std.specs.List.{AllByRecursion};
 ghost use Rattle.unit_grammar.specs.Units.{ModuleUnits, UnitTree};
 ghost use Rattle.tla_model.specs.Tables.{Named};
 ghost use Rattle.tla_model.specs.Entities.{Meaning, Text};
 ghost use Rattle.module_model.specs.Exports.{ModuleView, exports_of};
-ghost use Rattle.module_model.specs.Modules.{text_of};
+ghost use Rattle.module_model.specs.Modules.{Reading, text_of};
 ghost use Rattle.kind_text.specs.FlatModule.{Extends, FlatModule, IsOrdered};
 ghost use Rattle.kind_text.specs.Substitution.{Item};
 ghost use Rattle.tree_kinds.specs.Standing.{Environment, Outside, themselves};
 ghost use Rattle.module_kinds.specs.ModuleKinds.{KindState, after, first, outside, outside_by};
-ghost use Rattle.module_kinds.specs.ModuleKinds.{around, read_all, standing_behind};
+ghost use Rattle.module_kinds.specs.ModuleKinds.{around, nested_outside, read_all, standing_behind};
 ghost use Rattle.flat_trees.specs.Stands.{AreStanding, Stand, Unsaid};
 ghost use Rattle.flat_trees.specs.Layouts.{Agrees, Layout, StandsBefore};
-ghost use Rattle.flat_trees.specs.Instances.{IsModule, with_symbols};
+ghost use Rattle.flat_trees.specs.Instances.{IsModule, symbols_of, with_symbols};
 ghost use Rattle.flat_kinds.specs.Readings.{AreNew, Extension, KeepsState, Leaves, SaysLess};
-ghost use Rattle.flat_kinds.specs.Readings.{StandsItself, exported_stand, with_own};
+ghost use Rattle.flat_kinds.specs.Readings.{StandsItself, exported_stand, is_among, with_own};
 ghost use Rattle.flat_kinds.specs.Symbols.{AreDistinct, SaysNothing, item_itself, symbols_at};
 ghost use Rattle.flat_kinds.specs.Declarations.{AreNamesDeclared, AreUnitsDeclared, Declarations};
-ghost use Rattle.flat_kinds.specs.Declarations.{IsNoDefinition, IsOutsideDeclared};
+ghost use Rattle.flat_kinds.specs.Declarations.{AreSymbols, IsNoDefinition, IsOutsideDeclared};
+ghost use Rattle.flat_kinds.specs.Declarations.{IsSymbol};
 ghost use Rattle.flat_kinds.specs.Declarations.{KeepsDeclarations, declared_names};
 ghost use Rattle.flat_kinds.specs.Modules.{Coming, Current, IsBuiltAlong, IsExtended, IsRead};
 ghost use Rattle.flat_kinds.specs.Modules.{IsCurrentWithin, KeepsAll, first_current, here_behind};
@@ -127,6 +128,29 @@ pub fn declarations_are_kept()
         → AllByRecursion (IsNoDefinition declares) own → SaysNothing symbols own
         → AreNew symbols layout state
         (symbols_at (λ (meaning : Meaning). Unsaid) own layout.places) }
+{}
+
+/// The symbols of a module, and the own ones of a nested module at its end, are constants and
+/// variables by their declarations, and no two mean the same; so they are no definitions. Nothing
+/// is said of them where nothing is said of what is declared as a symbol, and neither where other
+/// symbols stand at places.
+pub fn symbols_are_distinct()
+    ensures exported { (declares : Declarations) (files : List ℕ → Outside) (source : List ℕ)
+        (units : ModuleUnits) → ((name : List ℕ) → IsOutsideDeclared declares (files name))
+        → AreUnitsDeclared declares (text_of source units) units.units
+        → AreSymbols declares (symbols_of (outside files source units)) }
+    ensures nested { (declares : Declarations) (state : KindState) (round : List Reading)
+        → KeepsDeclarations declares state
+        → AreSymbols declares (symbols_of (nested_outside state round)) }
+    ensures kinds { (declares : Declarations) (symbols : List Meaning)
+        → AreSymbols declares symbols → AllByRecursion (IsNoDefinition declares) symbols }
+    ensures nothing { (declares : Declarations) (base : Meaning → Stand) (symbols : List Meaning)
+        → ((meaning : Meaning) → IsSymbol declares meaning → base meaning ≡ Unsaid)
+        → AreSymbols declares symbols → SaysNothing base symbols }
+    ensures behind { (base : Meaning → Stand) (outer own : List Meaning) (place : ℕ)
+        → SaysNothing base own
+        → AllByRecursion (λ (meaning : Meaning). is_among outer meaning ≡ false) own
+        → SaysNothing (symbols_at base outer place) own }
 {}
 
 /// A flat module that is built along a module, with the modules that are nested in it, means the
