@@ -3,3 +3,4 @@ pub mod Agreeing
 mod Joining
 mod Definitions
 pub mod Growing
+mod Units

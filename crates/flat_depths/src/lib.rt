@@ -4,7 +4,7 @@
 //! flat modules are built.
 #![tactic(auto)]
 
-ghost use Rattle.std.specs.Prelude.{◌≡◌, ℕ, ◌<◌, true, false, List, [], ◌∷◌, ◌++◌, Option};
+ghost use Rattle.std.specs.Prelude.{◌≡◌, ℕ, ◌<◌, Bool, true, false, List, [], ◌∷◌, ◌++◌, Option};
 ghost use Rattle.std.specs.Prelude.{Some, length, map, max, slice_get};
 ghost use Rattle.std.specs.List.{AllByRecursion};
 ghost use Rattle.tla_symbols.specs.declared.lexeme.Lexeme.{Lexeme};
@@ -13,11 +13,15 @@ ghost use Rattle.tla_tree.specs.declared.form.Form.TheVariants as Form;
 ghost use Rattle.tla_tree.specs.Forms.{helps};
 ghost use Rattle.tla_tree.specs.Syntax as tree;
 ghost use Rattle.tla_tree.specs.Syntax.{Tree, Trees};
+ghost use Rattle.unit_grammar.specs.Units.{ModuleUnits, UnitTree};
 ghost use Rattle.tla_model.specs.Tables.{Named};
 ghost use Rattle.tla_model.specs.Entities.{Meaning, Operator, Text, defines};
 ghost use Rattle.tla_model.specs.Contexts.{Context};
 ghost use Rattle.tla_model.specs.Scopes.{has_set};
-ghost use Rattle.module_model.specs.Exports.{Exports, Known};
+ghost use Rattle.module_scope.specs.Environments.{first as first_scope};
+ghost use Rattle.module_model.specs.Exports.{Exports, Known, ModuleView, exports_of};
+ghost use Rattle.module_model.specs.Modules.{text_of};
+ghost use Rattle.module_model.specs.Resolution.{words_of};
 ghost use Rattle.kind_text.specs.FlatModule.{Definition, Extends, FlatModule, Form as NodeForm};
 ghost use Rattle.kind_text.specs.FlatModule.{Instance, IsOrdered, Node, Replacement};
 ghost use Rattle.kind_text.specs.Substitution.{Item};
@@ -27,8 +31,11 @@ ghost use Rattle.tree_kinds.specs.Standing.{Outside, Reached, Step, Steps};
 ghost use Rattle.tree_kinds.specs.Expanding.{Around, module_of};
 ghost use Rattle.tree_kinds.specs.TreeDepths as written;
 ghost use Rattle.tree_kinds.specs.TreeDepths.{Beneath, Depths, before_scope, behind_depth, deeper};
-ghost use Rattle.tree_kinds.specs.TreeDepths.{defined_depth, in_scope, parts_depth, reached_at};
-ghost use Rattle.tree_kinds.specs.TreeDepths.{replaced_depth, use_depth, with_entry_depths};
+ghost use Rattle.tree_kinds.specs.TreeDepths.{defined_depth, in_scope, no_depths, parts_depth};
+ghost use Rattle.tree_kinds.specs.TreeDepths.{reached_at, replaced_depth, use_depth};
+ghost use Rattle.tree_kinds.specs.TreeDepths.{with_entry_depths};
+ghost use Rattle.module_kinds.specs.ModuleKinds as module_kinds;
+ghost use Rattle.module_kinds.specs.ModuleKinds.{KindState, after, beneath, first, outside_by};
 ghost use Rattle.flat_trees.specs.Stands.{Defined, Stand, Through};
 ghost use Rattle.flat_trees.specs.Names.{IsBuilt, IsPath};
 ghost use Rattle.flat_trees.specs.Layouts.{Layout, layout_before, layout_behind, layout_declaring};
@@ -36,9 +43,13 @@ ghost use Rattle.flat_trees.specs.Layouts.{layout_in, layout_repeating, layout_w
 ghost use Rattle.flat_trees.specs.Layouts.{with_brought};
 ghost use Rattle.flat_trees.specs.Instances.{instance_in};
 ghost use Rattle.flat_trees.specs.Growing.{IsLayoutWithin, IsWithin};
+ghost use Rattle.flat_kinds.specs.Readings.{Extension, KeepsState, exported_stand};
+ghost use Rattle.flat_kinds.specs.Modules.{Coming, Current, IsCurrentWithin, first_current};
+ghost use Rattle.flat_kinds.specs.Modules.{here_behind, module_stands, round_behind};
 ghost use Rattle.flat_depths.specs.Depths.{AgreesInDepth, HasDepths, HaveDepths, IsAsDeep};
 ghost use Rattle.flat_depths.specs.Depths.{IsDeepModule, IsPlain, beneath_in};
 ghost use Rattle.flat_depths.specs.Parts.{AreOnPath, AreReplacedAsDeep, Counts, HasParts, path_of};
+ghost use Rattle.flat_depths.specs.Modules.{AreDeepExtensions, IsDeepAlong, IsDeepRead, KeepDepths};
 
 /// A node that is built of a written tree, where names are as deep as what they mean round the tree
 /// and where its parts are as deep as those of the tree, is as deep as the tree. And a node that is
@@ -207,4 +218,48 @@ pub fn depths_are_kept()
         (named : List ℕ → Outside) (around : Beneath) (i : ℕ) (x : Tree) → Extends flat more
         → IsOrdered flat → i < length flat.nodes → IsAsDeep flat text known named around i x
         → IsAsDeep more text known named around i x }
+{}
+
+/// Names have the depths of a state in the modules that are read: behind what a module extends,
+/// behind each unit, by what comes of it, and in a flat module that has more. What a state exports
+/// has its depths outside of the module. And what is known in a state that is kept agrees with the
+/// depths that stand round the expressions of a unit.
+pub fn states_are_as_deep()
+    ensures begins { (flat : FlatModule) (files : List ℕ → Outside) (source : List ℕ)
+        (units : ModuleUnits) (symbols : Meaning → Stand) (places : ℕ)
+        (extensions : List Extension) → HaveDepths flat symbols no_depths
+        → AreDeepExtensions (text_of source units) files (words_of units) flat
+        (first_scope (text_of source units).file) units.extends extensions
+        → KeepDepths flat (first files source units)
+        (first_current files source units symbols places extensions ∷ []) }
+    ensures units { (flat : FlatModule) (text : Text) (files : List ℕ → Outside) (words : List ℕ)
+        (state : KindState) (here : Current) (round : List Current) (unit : UnitTree)
+        (coming : Coming) → KeepDepths flat state (here ∷ round)
+        → IsDeepRead text files words flat state here round unit coming
+        → KeepDepths flat (after text files words state unit)
+        (here_behind text files words state here round unit coming
+        ∷ round_behind text files words here round coming) }
+    ensures exports { (flat : FlatModule) (stands : Meaning → Stand) (state : KindState)
+        (view : ModuleView) (constant : Bool) → HaveDepths flat stands state.depths
+        → IsDeepModule flat (exported_stand stands (exports_of state.read.place.here.exports))
+        (outside_by view constant state) }
+    ensures agrees { (flat : FlatModule) (text : Text) (files : List ℕ → Outside) (words : List ℕ)
+        (symbols : Meaning → Stand) (layout : Layout) (state : KindState)
+        → KeepsState flat symbols layout state → HaveDepths flat layout.stands state.depths
+        → AgreesInDepth flat layout (beneath text files words state) }
+    ensures grows { (flat more : FlatModule) (state : KindState) (modules : List Current)
+        → Extends flat more → IsOrdered flat
+        → AllByRecursion (IsCurrentWithin flat) modules
+        → KeepDepths flat state modules → KeepDepths more state modules }
+{}
+
+/// The names of a module are as deep as outside of it where what comes of its units, and of the
+/// modules that are nested in it, is as deep as what is written in them.
+pub fn modules_are_as_deep()
+    ensures { (flat : FlatModule) (files : List ℕ → Outside) (source : List ℕ)
+        (units : ModuleUnits) (symbols : Meaning → Stand) (places : ℕ)
+        (extensions : List Extension) (comings : List Coming) (behind : Current)
+        → IsDeepAlong files source units flat symbols places extensions comings behind
+        → IsDeepModule flat (module_stands files source units behind.layout)
+        (module_kinds.outside files source units) }
 {}
