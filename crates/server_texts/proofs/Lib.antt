@@ -1,4 +1,11 @@
+pub mod ByName
+pub mod ByteOrder
+pub mod HeldTexts
 pub mod Ignoring
 pub mod Looking
+pub mod Members
 pub mod ModuleTexts
+pub mod Noticing
+pub mod Ordering
 pub mod Slashes
+pub mod Stepping

@@ -1,12 +1,16 @@
 //! What holds of the definitions. The functions do nothing: their clauses are the theorems.
 
-ghost use Rattle.std.specs.Prelude.{◌≡◌, ◌↔◌, ℕ, List, [], ◌∷◌, None, Some, codes, map, true};
+ghost use Rattle.std.specs.Prelude.{◌≡◌, ◌≢◌, ◌↔◌, ℕ, List, [], ◌∷◌, Option, None, Some, codes, map};
+ghost use Rattle.std.specs.Prelude.{slice_get, true};
 ghost use Rattle.lsp_wire.specs.declared.types.Change.{Change};
-ghost use Rattle.lsp_answers.specs.States.{State, LooksAtTexts, all_notices};
-ghost use Rattle.lsp_answers.specs.States.{first_too_long, judged, judged_change};
+ghost use Rattle.lsp_answers.specs.States.{State, LooksAtTexts, ModuleText, all_notices, dues_of};
+ghost use Rattle.lsp_answers.specs.States.{first_too_long, judged, judged_change, judged_root};
 ghost use Rattle.doc_edit.specs.Edits.{first_backward, first_excess, is_backward};
-ghost use Rattle.server_texts.specs.Documents.{after_close, after_open, opened_at, texts_after};
-ghost use Rattle.server_texts.specs.Documents.{IsRooted};
+ghost use Rattle.server_texts.specs.Documents.{after_close, after_open, after_root, opened_at};
+ghost use Rattle.server_texts.specs.Documents.{text_of, texts_after, with_file, with_text, IsRooted};
+ghost use Rattle.server_texts.specs.Kept.{AreInByteOrder, HasMembers, HasNamesInOrder, HasTexts};
+ghost use Rattle.server_texts.specs.Kept.{IsKept};
+ghost use Rattle.server_texts.specs.Notes.{notes_of};
 ghost use Rattle.server_texts.specs.Server.{server_meaning};
 ghost use Rattle.server_texts.specs.Uris.{before_last_slash, client_root_of, cut_path, document_root};
 ghost use Rattle.server_texts.specs.Uris.{module_behind, module_of, without_slash, IsBeforeLastSlash, IsModuleText};
@@ -22,6 +26,52 @@ pub fn module_text()
 /// document.
 pub fn looks_at_texts()
     ensures { LooksAtTexts server_meaning }
+{}
+
+/// Texts stay in byte order of names, none of them twice, and so do open documents: from a state that
+/// holds none, when a root is taken, with each file that is read, and through each notification.
+pub fn names_stay_in_order()
+    ensures first { (s : State) → s.texts ≡ [] → s.opened ≡ [] → HasNamesInOrder s }
+    ensures taken { (s : State) (root : Option (List ℕ))
+        → HasNamesInOrder s → HasNamesInOrder (after_root s root) }
+    ensures read { (s : State) (name : List ℕ)
+        → HasNamesInOrder s → HasNamesInOrder (with_file s name) }
+    ensures root { (s : State) (root : Option (List ℕ))
+        → HasNamesInOrder s → HasNamesInOrder (judged_root server_meaning s root).state }
+    ensures kept { IsKept server_meaning (λ s. HasNamesInOrder s) }
+{}
+
+/// The URI of each open document stays one of its module, if none is open when a root is taken.
+pub fn opened_are_members()
+    ensures root { (s : State) (root : Option (List ℕ)) → s.opened ≡ [] → s.due ≡ None
+        → HasMembers (judged_root server_meaning s root).state }
+    ensures kept { IsKept server_meaning (λ s. HasMembers s) }
+{}
+
+/// Notices stand in byte order of the names of the modules that their URIs are, at most one for each.
+pub fn notices_in_order()
+    ensures { (s : State) → HasNamesInOrder s → HasMembers s
+        → (names : List (List ℕ)) × AreInByteOrder names
+        × (map (λ due. module_of s.root due.uri) (dues_of notes_of s)
+        ≡ map (λ name. Some name) names) }
+{}
+
+/// Each open document stays one that has a text, if none is open when a root is taken.
+pub fn opened_have_texts()
+    ensures root { (s : State) (root : Option (List ℕ)) → s.opened ≡ []
+        → HasTexts (judged_root server_meaning s root).state }
+    ensures kept { IsKept server_meaning HasTexts }
+{}
+
+/// A text in byte order is the one of its name. A module has the text that it gets, or none where it
+/// loses it, and no other module's text changes.
+pub fn texts_by_name()
+    ensures only { (s : State) (index : ℕ) (t : ModuleText) → HasNamesInOrder s
+        → slice_get s.texts index ≡ Some t → text_of s t.name ≡ Some t.bytes }
+    ensures given { (s : State) (name : List ℕ) (bytes : Option (List ℕ))
+        → text_of (with_text s name bytes) name ≡ bytes }
+    ensures others { (s : State) (name other : List ℕ) (bytes : Option (List ℕ))
+        → other ≢ name → text_of (with_text s name bytes) other ≡ text_of s other }
 {}
 
 /// The root that the first document makes is what stands before the last `/` of its URL's text.
