@@ -2,6 +2,7 @@ pub mod ByName
 pub mod ByteOrder
 pub mod HeldTexts
 pub mod Ignoring
+pub mod Listing
 pub mod Looking
 pub mod Members
 pub mod ModuleTexts

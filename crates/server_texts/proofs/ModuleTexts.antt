@@ -26,7 +26,7 @@ named_if file stem name false passes h p e = cc
 abbrev stem_of : List ℕ → List ℕ
 stem_of file = take (length file - 4) file
 
-file_named : (file name : List ℕ) → module_of_file file ≡ Some name → (is_identifier name ≡ true) × (file ≡ file_of name)
+pub file_named : (file name : List ℕ) → module_of_file file ≡ Some name → (is_identifier name ≡ true) × (file ≡ file_of name)
 file_named file name e =
     named_if file (stem_of file) name (ends_with nat_eq file extension) (is_identifier (stem_of file)) (ends_is Decides-eqb file extension (ends_with nat_eq file extension) refl).0 refl e
 

@@ -7,7 +7,8 @@ ghost use Rattle.lsp_answers.specs.States.{State, LooksAtTexts, ModuleText, all_
 ghost use Rattle.lsp_answers.specs.States.{first_too_long, judged, judged_change, judged_root};
 ghost use Rattle.doc_edit.specs.Edits.{first_backward, first_excess, is_backward};
 ghost use Rattle.server_texts.specs.Documents.{after_close, after_open, after_root, opened_at};
-ghost use Rattle.server_texts.specs.Documents.{text_of, texts_after, with_file, with_text, IsRooted};
+ghost use Rattle.server_texts.specs.Documents.{root_modules, text_of, texts_after, with_file};
+ghost use Rattle.server_texts.specs.Documents.{with_text, IsRooted};
 ghost use Rattle.server_texts.specs.Kept.{AreInByteOrder, HasMembers, HasNamesInOrder, HasTexts};
 ghost use Rattle.server_texts.specs.Kept.{IsKept};
 ghost use Rattle.server_texts.specs.Notes.{notes_of};
@@ -39,6 +40,11 @@ pub fn names_stay_in_order()
     ensures root { (s : State) (root : Option (List ℕ))
         → HasNamesInOrder s → HasNamesInOrder (judged_root server_meaning s root).state }
     ensures kept { IsKept server_meaning (λ s. HasNamesInOrder s) }
+{}
+
+/// The modules whose files are read for a root are in byte order of names, each once.
+pub fn root_modules_in_order()
+    ensures { (s : State) (root : Option (List ℕ)) → AreInByteOrder (root_modules s root) }
 {}
 
 /// The URI of each open document stays one of its module, if none is open when a root is taken.
