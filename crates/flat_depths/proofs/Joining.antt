@@ -49,7 +49,7 @@ append-append (x ∷ a) b c = ap (λ xs. x ∷ xs) (append-append a b c)
 
 -- ---- expressions declare nothing
 
-no-name : (form : Form.the_data) → helps form ≡ false → placed form ≡ []
+pub no-name : (form : Form.the_data) → helps form ≡ false → placed form ≡ []
 no-name (Form.Name l) e = cc
 no-name (Form.OperatorParameter l places) e = cc
 no-name (Form.PrefixParameter l) e = cc
@@ -57,7 +57,7 @@ no-name (Form.InfixParameter l) e = cc
 no-name (Form.PostfixParameter l) e = cc
 no-name form e = refl
 
-no-group : (form : Form.the_data) → helps form ≡ false → is_group form ≡ false
+pub no-group : (form : Form.the_data) → helps form ≡ false → is_group form ≡ false
 no-group Form.Names e = cc
 no-group Form.TupleNames e = cc
 no-group Form.Bound e = cc

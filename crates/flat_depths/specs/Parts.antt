@@ -1,5 +1,5 @@
 -- When a node of a flat module has the parts that count for the depth of a tree.
-use Rattle.std.specs.Prelude.{◌≡◌, ℕ, ◌≤◌, true, false, List, [], ◌∷◌, ◌++◌, Option, None, drop, map, max, slice_get, take}
+use Rattle.std.specs.Prelude.{◌≡◌, ℕ, ◌≤◌, true, false, List, [], ◌∷◌, ◌++◌, Option, None, drop, if◌then◌else◌, map, max, slice_get, take}
 use Rattle.tla_symbols.specs.declared.level.Rule.{Rule}
 use Rattle.tla_symbols.specs.declared.lexeme.LexKind.TheVariants as LexKind
 use Rattle.tla_symbols.specs.declared.lexeme.Lexeme.{Lexeme}
@@ -8,16 +8,17 @@ use Rattle.tla_symbols.specs.declared.place.Fix.TheVariants.{Prefix, Infix, Post
 use Rattle.tla_tree.specs.declared.form.Form.TheVariants as Form
 use Rattle.tla_tree.specs.Forms.{helps}
 use Rattle.tla_tree.specs.Syntax.{Tree, Trees, Node, Nil, Cons}
-use Rattle.tla_model.specs.Entities.{Text}
+use Rattle.tla_model.specs.Tables.{Named, is_among, same_named}
+use Rattle.tla_model.specs.Entities.{Text, name_of}
 use Rattle.tla_model.specs.Scopes.{is_free, prefixed, itself as as_spelled}
-use Rattle.module_model.specs.Exports.{Known}
+use Rattle.module_model.specs.Exports.{Exports, Known}
 use Rattle.module_model.specs.Instances.{left_sides}
 use Rattle.kind_text.specs.FlatModule.{FlatModule, Form as NodeForm, Replacement, places_of}
 use Rattle.level_text.specs.Depth.{depth as depth_at, greatest, operator_depth, parameters_on}
 use Rattle.level_text.specs.FormRules.{symbol_rule}
 use Rattle.tree_kinds.specs.Standing.{Outside}
 use Rattle.tree_kinds.specs.Expanding.{bare_rule, module_of, places_at}
-use Rattle.tree_kinds.specs.TreeDepths.{Beneath, before_scope, chain_depth, counted, implied_depth, in_scope, parts_depth}
+use Rattle.tree_kinds.specs.TreeDepths.{Beneath, before_scope, chain_depth, counted, implied_depth, in_scope, name_depth, parts_depth}
 use Rattle.flat_depths.specs.Depths.{IsAsDeep}
 
 -- a symbol is built in at its place, or else it is one that modules define
@@ -30,6 +31,22 @@ abbrev pub path_of : NodeForm → List ℕ
 path_of (NodeForm.Use path d) = path
 path_of (NodeForm.Name path d) = path
 path_of form = []
+
+-- right sides are expressions, each for one of these symbols, and none for one of those before or for the same one again
+abbrev pub AreRightSides : Text → List Named → List Named → Trees → Type 0
+AreRightSides text symbols before Nil = Unit {0}
+AreRightSides text symbols before (Cons (Node (Form.Replacement l) s (Cons (Node form at parts) Nil)) rest) =
+    (is_among symbols (name_of text.source l) ≡ true) × (is_among before (name_of text.source l) ≡ false) × (helps form ≡ false)
+    × AreRightSides text symbols (name_of text.source l ∷ before) rest
+AreRightSides text symbols before _ = ⊥
+
+module _ (text : Text) (known : Known) (named : List ℕ → Outside) where
+  -- the depth of what replaces the symbol of a name: of the first right side that is written for it, or else of the name
+  abbrev pub right_depth : Beneath → Trees → Named → ℕ
+  right_depth around Nil name = name_depth around name
+  right_depth around (Cons (Node (Form.Replacement l) s right) rest) name =
+      if same_named name (name_of text.source l) then parts_depth text known named around around right else right_depth around rest name
+  right_depth around (Cons x rest) name = right_depth around rest name
 
 module _ (flat : FlatModule) where
   -- what counts of these arguments behind a path: the greatest depth of those of its instances, and of the bare operators among those
@@ -82,6 +99,12 @@ module _ (flat : FlatModule) where
     AreOnPath around (Cons (Node (Form.Segment l) s arguments) (Cons x rest)) before own =
         (first : List ℕ) × (others : List ℕ) × (before ≡ first ++ others) × AreArguments around arguments first × AreOnPath around (Cons x rest) others own
     AreOnPath around _ before own = ⊥
+
+    -- replacements are as deep, each, as what replaces these symbols
+    abbrev pub AreEachAsDeep : Beneath → Trees → Exports → List Replacement → Type 0
+    AreEachAsDeep around rights [] [] = Unit {0}
+    AreEachAsDeep around rights (parameter ∷ rest) (r ∷ made) = (depth_at flat r.root ≡ right_depth text known named around rights parameter.0) × AreEachAsDeep around rights rest made
+    AreEachAsDeep around rights _ _ = ⊥
 
     -- replacements are together as deep as those of an INSTANCE, the implied ones among them
     abbrev pub AreReplacedAsDeep : Beneath → List Replacement → Lexeme → Trees → Type 0

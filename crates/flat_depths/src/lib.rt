@@ -48,7 +48,8 @@ ghost use Rattle.flat_kinds.specs.Modules.{Coming, Current, IsCurrentWithin, fir
 ghost use Rattle.flat_kinds.specs.Modules.{here_behind, module_stands, round_behind};
 ghost use Rattle.flat_depths.specs.Depths.{AgreesInDepth, HasDepths, HaveDepths, IsAsDeep};
 ghost use Rattle.flat_depths.specs.Depths.{IsDeepModule, IsPlain, beneath_in};
-ghost use Rattle.flat_depths.specs.Parts.{AreOnPath, AreReplacedAsDeep, Counts, HasParts, path_of};
+ghost use Rattle.flat_depths.specs.Parts.{AreEachAsDeep, AreOnPath, AreReplacedAsDeep};
+ghost use Rattle.flat_depths.specs.Parts.{AreRightSides, Counts, HasParts, path_of};
 ghost use Rattle.flat_depths.specs.Modules.{AreDeepExtensions, IsDeepAlong, IsDeepRead, KeepDepths};
 
 /// A node that is built of a written tree, where names are as deep as what they mean round the tree
@@ -112,7 +113,8 @@ pub fn parts_are_joined()
 /// The name of a definition is as deep as what is written: of an operator or of a function, where
 /// the root is as deep as what stands in the definition; and of a module definition, where the
 /// replacements of the instance are as deep as those of the INSTANCE, behind symbols that stay, and
-/// where the names of the module are as deep as outside of it. Symbols that stay have no depth.
+/// where the names of the module are as deep as outside of it. Replacements are so together where
+/// each is as deep as what replaces its symbol. Symbols that stay have no depth.
 pub fn definitions_are_as_deep()
     ensures operators { (flat : FlatModule) (text : Text) (known : Known)
         (named : List ℕ → Outside) (around : Beneath) (form : Form.the_data) (l : Lexeme)
@@ -140,6 +142,13 @@ pub fn definitions_are_as_deep()
         → IsDeepModule flat inner (module_of text known named l)
         → HasDepths flat 0 (Through j orders inner)
         (defined_depth text known named around (tree.Node (Form.ModuleDefinition own) at parts)) }
+    ensures replacements { (flat : FlatModule) (text : Text) (known : Known)
+        (named : List ℕ → Outside) (around : Beneath) (made : List Replacement) (l : Lexeme)
+        (rights : Trees) → AreRightSides text
+        (map (λ parameter. parameter.0) (module_of text known named l).view.parameters) [] rights
+        → AreEachAsDeep flat text known named around rights
+        (module_of text known named l).view.parameters made
+        → AreReplacedAsDeep flat text known named around made l rights }
     ensures staying { (flat : FlatModule) (r : Replacement) (node : Node) (place : ℕ)
         → IsOrdered flat → slice_get flat.nodes r.root ≡ Some node
         → node.form ≡ NodeForm.Parameter place → node.parts ≡ [] → depth flat r.root ≡ 0 }

@@ -1,3 +1,5 @@
+use Rattle.tree_kinds.specs.Expanding.{module_of}
+use Rattle.flat_depths.proofs.Replacing.{each-together}
 use Rattle.flat_depths.proofs.Definitions.{function-deep, instance-deep, operator-deep, staying-plain}
 use Rattle.flat_depths.proofs.definitions_are_as_deep.Goals as goal
 
@@ -13,3 +15,6 @@ returns-clause-instances c flat text known named around own at parts j x orders 
 
 pub returns-clause-staying : goal.returns-clause-staying
 returns-clause-staying c flat r node place ordered there e none = staying-plain flat r node place ordered there e none
+
+pub returns-clause-replacements : goal.returns-clause-replacements
+returns-clause-replacements c flat text known named around made l rights sides each = each-together flat text known named around rights (module_of text known named l).view.parameters made sides each
