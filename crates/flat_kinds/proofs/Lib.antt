@@ -6,3 +6,4 @@ mod Symbols
 mod Growing
 mod Declarations
 mod Distinct
+mod Yields

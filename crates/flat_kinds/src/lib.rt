@@ -5,27 +5,32 @@
 //! flat modules are built.
 #![tactic(auto)]
 
-ghost use Rattle.std.specs.Prelude.{◌≡◌, ℕ, Bool, false, List, [], ◌++◌, length, map};
+ghost use Rattle.std.specs.Prelude.{◌≡◌, ◌⊎◌, ℕ, Bool, false, List, [], ◌∷◌, ◌++◌, length, map};
 ghost use Rattle.std.specs.List.{AllByRecursion};
-ghost use Rattle.unit_grammar.specs.Units.{ModuleUnits, UnitTree};
+ghost use Rattle.tla_symbols.specs.declared.lexeme.Lexeme.{Lexeme};
+ghost use Rattle.unit_grammar.specs.Units.{ModuleBegin, ModuleUnits, UnitTree};
 ghost use Rattle.tla_model.specs.Tables.{Named};
 ghost use Rattle.tla_model.specs.Entities.{Meaning, Text};
+ghost use Rattle.module_scope.specs.Environments.{first as first_scope};
 ghost use Rattle.module_model.specs.Exports.{ModuleView, exports_of};
 ghost use Rattle.module_model.specs.Modules.{Reading, text_of};
+ghost use Rattle.module_model.specs.Resolution.{words_of};
 ghost use Rattle.kind_text.specs.FlatModule.{Extends, FlatModule, IsOrdered};
 ghost use Rattle.kind_text.specs.Substitution.{Item};
 ghost use Rattle.tree_kinds.specs.Standing.{Environment, Outside, themselves};
 ghost use Rattle.module_kinds.specs.ModuleKinds.{KindState, after, first, outside, outside_by};
-ghost use Rattle.module_kinds.specs.ModuleKinds.{around, nested_outside, read_all, standing_behind};
+ghost use Rattle.module_kinds.specs.ModuleKinds.{around, last, nested_outside, read_all, standing_behind};
 ghost use Rattle.flat_trees.specs.Stands.{AreStanding, Stand, Unsaid};
 ghost use Rattle.flat_trees.specs.Layouts.{Agrees, Layout, StandsBefore};
 ghost use Rattle.flat_trees.specs.Instances.{IsModule, symbols_of, with_symbols};
-ghost use Rattle.flat_kinds.specs.Readings.{AreNew, Extension, KeepsState, Leaves, SaysLess};
+ghost use Rattle.flat_kinds.specs.Readings.{AreNew, BringNone, Extension, KeepsStanding, KeepsState};
+ghost use Rattle.flat_kinds.specs.Readings.{Leaves, SaysLess, StaysBehind};
 ghost use Rattle.flat_kinds.specs.Readings.{StandsItself, exported_stand, is_among, with_own};
 ghost use Rattle.flat_kinds.specs.Symbols.{AreDistinct, SaysNothing, item_itself, symbols_at};
 ghost use Rattle.flat_kinds.specs.Declarations.{AreNamesDeclared, AreUnitsDeclared, Declarations};
 ghost use Rattle.flat_kinds.specs.Declarations.{AreSymbols, IsNoDefinition, IsOutsideDeclared};
-ghost use Rattle.flat_kinds.specs.Declarations.{IsSymbol};
+ghost use Rattle.flat_kinds.specs.Declarations.{IsOnce, IsSymbol, OfAllKnown};
+ghost use Rattle.flat_kinds.specs.Yields.{ComesAgain, HasExported, HasYielded, IsYielding, Yields};
 ghost use Rattle.flat_kinds.specs.Declarations.{KeepsDeclarations, declared_names};
 ghost use Rattle.flat_kinds.specs.Modules.{Coming, Current, IsBuiltAlong, IsExtended, IsRead};
 ghost use Rattle.flat_kinds.specs.Modules.{IsCurrentWithin, KeepsAll, first_current, here_behind};
@@ -151,6 +156,51 @@ pub fn symbols_are_distinct()
         → SaysNothing base own
         → AllByRecursion (λ (meaning : Meaning). is_among outer meaning ≡ false) own
         → SaysNothing (symbols_at base outer place) own }
+{}
+
+/// What declarations yield, whichever way their names come: where files bring names for what they
+/// yield, so does what a module extends; what a unit leaves stands for what it yields as before, and
+/// in a nested module it does so whatever is extended, files and nested modules that can be named. A
+/// nested module and one of a file bring their names so where the state has what its exports yield.
+/// So names of a module round a nested one stand as before, also those that come again.
+pub fn names_come_again()
+    ensures extended { (yields : Yields) (files : List ℕ → Outside) (source : List ℕ)
+        (units : ModuleUnits) (meaning : Meaning)
+        → ((title : List ℕ) → IsYielding yields (files title))
+        → BringNone (text_of source units) files (words_of units)
+        (first_scope (text_of source units).file) units.extends meaning
+        ⊎ HasYielded yields (first files source units) meaning }
+    ensures left { (yields : Yields) (text : Text) (files : List ℕ → Outside) (words : List ℕ)
+        (state : KindState) (unit : UnitTree) (meaning : Meaning)
+        → Leaves text files words state unit meaning → HasYielded yields state meaning
+        → HasYielded yields (after text files words state unit) meaning }
+    ensures nested { (yields : Yields) (text : Text) (files : List ℕ → Outside) (words : List ℕ)
+        (state : KindState) (name : Lexeme) (extends : List Lexeme) (meaning : Meaning)
+        → ((title : List ℕ) → IsYielding yields (files title))
+        → OfAllKnown (IsYielding yields) state.modules.here → HasYielded yields state meaning
+        → HasYielded yields (after text files words state (ModuleBegin name extends)) meaning }
+    ensures ended { (yields : Yields) (state : KindState) (outer : Reading) (round : List Reading)
+        → IsOnce state.read.place.here.exports → HasExported yields state
+        → IsYielding yields (nested_outside state (outer ∷ round)) }
+    ensures exported { (yields : Yields) (files : List ℕ → Outside) (source : List ℕ)
+        (units : ModuleUnits) → IsOnce (last files source units).read.place.here.exports
+        → HasExported yields (last files source units)
+        → IsYielding yields (outside files source units) }
+    ensures stays { (yields : Yields) (text : Text) (files : List ℕ → Outside) (words : List ℕ)
+        (flat : FlatModule) (symbols : Meaning → Stand) (layout : Layout) (state : KindState)
+        (unit : UnitTree) → KeepsStanding flat symbols layout state.standing
+        → ((meaning : Meaning) → ComesAgain yields text files words state unit layout meaning)
+        → StaysBehind text files words flat state unit symbols layout }
+    ensures begins { (yields : Yields) (text : Text) (files : List ℕ → Outside) (words : List ℕ)
+        (flat : FlatModule) (symbols : Meaning → Stand) (layout : Layout) (state : KindState)
+        (name : Lexeme) (extends : List Lexeme)
+        → ((title : List ℕ) → IsYielding yields (files title))
+        → OfAllKnown (IsYielding yields) state.modules.here
+        → KeepsStanding flat symbols layout state.standing
+        → ((meaning : Meaning)
+        → Leaves text files words state (ModuleBegin name extends) meaning
+        ⊎ ((layout.stands meaning ≡ Unsaid) ⊎ HasYielded yields state meaning))
+        → StaysBehind text files words flat state (ModuleBegin name extends) symbols layout }
 {}
 
 /// A flat module that is built along a module, with the modules that are nested in it, means the
