@@ -7,3 +7,4 @@ mod Growing
 mod Declarations
 mod Distinct
 mod Yields
+mod Places

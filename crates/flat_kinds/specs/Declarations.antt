@@ -1,14 +1,15 @@
 -- What each declaration declares, in a text and in the modules that it names: a name, as an entity.
-use Rattle.std.specs.Prelude.{◌≡◌, Bool, true, false, List, [], ◌∷◌, Option, Some, None}
+use Rattle.std.specs.Prelude.{◌≡◌, ℕ, Bool, true, false, List, [], ◌∷◌, Option, Some, None, slice_get}
 use Rattle.std.specs.List.{AllByRecursion}
 use Rattle.std.specs.Str.{bytes_eq}
-use Rattle.unit_grammar.specs.Units.{UnitTree, Variables, Constants, OperatorDefinition, FunctionDefinition, ModuleDefinition}
+use Rattle.unit_grammar.specs.Units.{UnitTree, Variables, Constants, OperatorDefinition, FunctionDefinition, ModuleDefinition, ModuleUnits}
 use Rattle.tla_model.specs.declared.ids.DeclId.{DeclId}
 use Rattle.tla_model.specs.declared.names.Binder.{Binder}
 use Rattle.tla_model.specs.declared.names.Meaning.TheVariants.{BuiltIn, Declared}
 use Rattle.tla_model.specs.Tables.{Table, Named, same_symbol}
-use Rattle.tla_model.specs.Entities.{Entity, Meaning, Text, meant, name_of, variables}
+use Rattle.tla_model.specs.Entities.{Entity, Meaning, Text, declaring, meant, name_of, variables}
 use Rattle.tla_model.specs.EntityKinds.{stands_behind, stands_for_parameter}
+use Rattle.tla_model.specs.Lexemes.{spelled}
 use Rattle.tla_model.specs.Scopes.{definition}
 use Rattle.module_scope.specs.Environments.{Environment}
 use Rattle.module_model.specs.Exports.{Exports, ModuleView, exported, exports_of}
@@ -29,6 +30,10 @@ declared_names (OperatorDefinition local x) = definition x
 declared_names (FunctionDefinition local x) = definition x
 declared_names (ModuleDefinition local x) = definition x
 declared_names unit = []
+
+-- no two of these numbers are the same
+abbrev pub StandApart : List ℕ → Type 0
+StandApart starts = (i j start : ℕ) → slice_get starts i ≡ Some start → slice_get starts j ≡ Some start → i ≡ j
 
 -- what is said of a module that is known holds, where it is
 abbrev pub OfKnown : {Known : Type 0} → (Known → Type 0) → Option Known → Type 0
@@ -57,6 +62,12 @@ module _ (declares : Declarations) where
   -- the same of entries
   abbrev pub AreDeclared : Exports → Type 0
   AreDeclared entries = AllByRecursion (λ entry. IsDeclared entry.0 entry.1) entries
+
+  -- the declaration at each place of a text declares the name that stands there, as its entity
+  abbrev pub HasPlaces : List ℕ → ModuleUnits → Type 0
+  HasPlaces source units =
+      (place : ℕ) (binder : Binder) → slice_get (declaring units.units) place ≡ Some binder
+      → declares (record { «module» = spelled source units.name; place = place }) ≡ (name_of source binder.name, binder.entity)
 
   -- what a module exports is declared so
   abbrev pub IsViewDeclared : ModuleView → Type 0

@@ -29,7 +29,8 @@ ghost use Rattle.flat_kinds.specs.Readings.{StandsItself, exported_stand, is_amo
 ghost use Rattle.flat_kinds.specs.Symbols.{AreDistinct, SaysNothing, item_itself, symbols_at};
 ghost use Rattle.flat_kinds.specs.Declarations.{AreNamesDeclared, AreUnitsDeclared, Declarations};
 ghost use Rattle.flat_kinds.specs.Declarations.{AreSymbols, IsNoDefinition, IsOutsideDeclared};
-ghost use Rattle.flat_kinds.specs.Declarations.{IsOnce, IsSymbol, OfAllKnown};
+ghost use Rattle.flat_kinds.specs.Declarations.{HasPlaces, IsOnce, IsSymbol, OfAllKnown};
+ghost use Rattle.flat_kinds.specs.Declarations.{StandApart};
 ghost use Rattle.flat_kinds.specs.Yields.{ComesAgain, HasExported, HasYielded, IsYielding, Yields};
 ghost use Rattle.flat_kinds.specs.Declarations.{KeepsDeclarations, declared_names};
 ghost use Rattle.flat_kinds.specs.Modules.{Coming, Current, IsBuiltAlong, IsExtended, IsRead};
@@ -133,6 +134,14 @@ pub fn declarations_are_kept()
         → AllByRecursion (IsNoDefinition declares) own → SaysNothing symbols own
         → AreNew symbols layout state
         (symbols_at (λ (meaning : Meaning). Unsaid) own layout.places) }
+{}
+
+/// Where the declaring names of a text begin at places of their own, and a declaration declares the
+/// name at its place, the names of the units have the meanings of their declarations.
+pub fn places_are_declared()
+    ensures { (declares : Declarations) (source : List ℕ) (units : ModuleUnits)
+        → StandApart (text_of source units).starts → HasPlaces declares source units
+        → AreUnitsDeclared declares (text_of source units) units.units }
 {}
 
 /// The symbols of a module, and the own ones of a nested module at its end, are constants and
