@@ -9,14 +9,14 @@ use Rattle.std.proofs.lemmas.Slice.Eq.{bytes_eq-Decides}
 use denote.Enum.Bare.{same_true, true_same}
 use Rattle.tla_symbols.specs.contracts.op.Op as op
 use Rattle.tla_symbols.specs.declared.lexeme.Lexeme.{Lexeme}
-use Rattle.unit_grammar.specs.Units.{ModuleBegin, ModuleUnits, UnitTree}
+use Rattle.unit_grammar.specs.Units.{UnitTree, Variables, Constants, OperatorDefinition, FunctionDefinition, ModuleDefinition, Instance, Assumption, Theorem, Line, ModuleBegin, ModuleEnd, ModuleUnits}
 use Rattle.tla_model.specs.declared.ids.UnitId.{UnitId}
 use Rattle.tla_model.specs.declared.names.Meaning.TheVariants.{BuiltIn, Declared}
 use Rattle.tla_model.specs.Entities.{Meaning, Text, same_decl, same_meaning, same_units}
 use Rattle.tla_model.specs.EntityKinds.{is_meant, stands_behind}
 use Rattle.tla_model.specs.Lexemes.{spelled}
 use Rattle.tla_model.specs.Tables.{Named, Word, Symbol, same_named}
-use Rattle.module_scope.specs.Environments.{Environment as Modules, Scope, begun, first as first_scope, meaning as module_meaning}
+use Rattle.module_scope.specs.Environments.{Environment as Modules, Scope, begun, ended, first as first_scope, meaning as module_meaning}
 use Rattle.module_model.specs.Exports.{Exports, entry_of, exported, exports_of, instantiable}
 use Rattle.module_model.specs.Modules.{Reading, text_of}
 use Rattle.module_model.specs.Resolution.{ReadState, words_of}
@@ -29,7 +29,7 @@ use Rattle.flat_trees.specs.Stands.{IsStanding, Stand, Unsaid}
 use Rattle.flat_trees.specs.Layouts.{Layout}
 use Rattle.flat_kinds.specs.Declarations.{IsOnce, OfAllKnown, OfKnown}
 use Rattle.flat_kinds.specs.Readings.{BringNone, KeepsStanding, Leaves, StaysBehind}
-use Rattle.flat_kinds.specs.Yields.{ComesAgain, HasExported, HasYielded, IsYielding, Yields, yielded}
+use Rattle.flat_kinds.specs.Yields.{AreYielding, ComesAgain, EndsYielding, HasExported, HasYielded, IsYielding, Yields, yielded}
 use Rattle.flat_kinds.proofs.Declarations.{added-known, decl-equal, found-known, read-same}
 use Rattle.flat_kinds.proofs.Distinct.{HaveOwnNames, words-own}
 use Rattle.flat_kinds.proofs.Leaving.{meaning-left}
@@ -189,6 +189,30 @@ module _ (yields : Yields) where
   nested-yields state outer round once has meaning name is parameters arguments path =
       let table = state.read.place.here.exports in
       exports-yield (exports_of table) state.standing meaning name (words-own table.words table.symbols once.0 once.1) is has parameters arguments path
+
+  ended-yields : (state : KindState) (round : List Reading) → IsOnce state.read.place.here.exports → HasExported yields state → IsYielding yields (nested_outside state round)
+  ended-yields state [] once has = λ meaning name is. cc is
+  ended-yields state (outer ∷ round) once has = nested-yields state outer round once has
+
+  -- the modules that can be named behind one
+  ended-modules : (known : Outside) (here : Modules Outside) (round : List (List ℕ × Modules Outside)) → IsYielding yields known → AreYielding yields (record { here = here; round = round }) → AreYielding yields (ended known here round)
+  ended-modules known here [] one all = all
+  ended-modules known here (nested ∷ round) one all = record { here = added-known (IsYielding yields) nested.1 nested.0 (Some known) all.round.0 one; round = all.round.1 }
+
+  -- modules that can be named behind a unit
+  pub modules-yield : (text : Text) (files : List ℕ → Outside) (words : List ℕ) (state : KindState) (unit : UnitTree) → AreYielding yields state.modules → EndsYielding yields state unit → AreYielding yields (after text files words state unit).modules
+  modules-yield text files words state (ModuleBegin name extends) all ends = record { here = added-known (IsYielding yields) state.modules.here (spelled text.source name) None all.here tt; round = (all.here, all.round) }
+  modules-yield text files words state (ModuleEnd closing) all ends =
+      ended-modules (nested_outside state state.read.place.round) state.modules.here state.modules.round (ended-yields state state.read.place.round ends.0 ends.1) (record { here = all.here; round = all.round })
+  modules-yield text files words state (Variables names) all ends = all
+  modules-yield text files words state (Constants declarations) all ends = all
+  modules-yield text files words state (OperatorDefinition local x) all ends = all
+  modules-yield text files words state (FunctionDefinition local x) all ends = all
+  modules-yield text files words state (ModuleDefinition local x) all ends = all
+  modules-yield text files words state (Instance local x) all ends = all
+  modules-yield text files words state (Assumption word name x) all ends = all
+  modules-yield text files words state (Theorem word name x) all ends = all
+  modules-yield text files words state (Line dashes) all ends = all
 
   -- a module of a file
   pub file-yields : (files : List ℕ → Outside) (source : List ℕ) (units : ModuleUnits) → IsOnce (last files source units).read.place.here.exports → HasExported yields (last files source units) → IsYielding yields (outside files source units)

@@ -31,7 +31,8 @@ ghost use Rattle.flat_kinds.specs.Declarations.{AreNamesDeclared, AreUnitsDeclar
 ghost use Rattle.flat_kinds.specs.Declarations.{AreSymbols, IsNoDefinition, IsOutsideDeclared};
 ghost use Rattle.flat_kinds.specs.Declarations.{HasPlaces, IsOnce, IsSymbol, OfAllKnown};
 ghost use Rattle.flat_kinds.specs.Declarations.{StandApart};
-ghost use Rattle.flat_kinds.specs.Yields.{ComesAgain, HasExported, HasYielded, IsYielding, Yields};
+ghost use Rattle.flat_kinds.specs.Yields.{AreYielding, ComesAgain, EndsYielding};
+ghost use Rattle.flat_kinds.specs.Yields.{HasExported, HasYielded, IsYielding, Yields};
 ghost use Rattle.flat_kinds.specs.Declarations.{KeepsDeclarations, declared_names};
 ghost use Rattle.flat_kinds.specs.Modules.{Coming, Current, IsBuiltAlong, IsExtended, IsRead};
 ghost use Rattle.flat_kinds.specs.Modules.{IsCurrentWithin, KeepsAll, first_current, here_behind};
@@ -170,8 +171,8 @@ pub fn symbols_are_distinct()
 /// What declarations yield, whichever way their names come: where files bring names for what they
 /// yield, so does what a module extends; what a unit leaves stands for what it yields as before, and
 /// in a nested module it does so whatever is extended, files and nested modules that can be named. A
-/// nested module and one of a file bring their names so where the state has what its exports yield.
-/// So names of a module round a nested one stand as before, also those that come again.
+/// nested module and one of a file bring their names so where the state has what its exports yield,
+/// and so do all that can be named behind a unit. So names of a module round a nested one stand as before, also those that come again.
 pub fn names_come_again()
     ensures extended { (yields : Yields) (files : List ℕ → Outside) (source : List ℕ)
         (units : ModuleUnits) (meaning : Meaning)
@@ -195,6 +196,10 @@ pub fn names_come_again()
         (units : ModuleUnits) → IsOnce (last files source units).read.place.here.exports
         → HasExported yields (last files source units)
         → IsYielding yields (outside files source units) }
+    ensures modules { (yields : Yields) (text : Text) (files : List ℕ → Outside) (words : List ℕ)
+        (state : KindState) (unit : UnitTree) → AreYielding yields state.modules
+        → EndsYielding yields state unit
+        → AreYielding yields (after text files words state unit).modules }
     ensures stays { (yields : Yields) (text : Text) (files : List ℕ → Outside) (words : List ℕ)
         (flat : FlatModule) (symbols : Meaning → Stand) (layout : Layout) (state : KindState)
         (unit : UnitTree) → KeepsStanding flat symbols layout state.standing

@@ -1,4 +1,4 @@
-use Rattle.flat_kinds.proofs.Yields.{again-stays, begins-yielded, begun-stays, file-yields, first-yielded, left-yielded, nested-yields}
+use Rattle.flat_kinds.proofs.Yields.{again-stays, begins-yielded, begun-stays, file-yields, first-yielded, left-yielded, modules-yield, nested-yields}
 use Rattle.flat_kinds.proofs.names_come_again.Goals as goal
 
 pub returns-clause-extended : goal.returns-clause-extended
@@ -15,6 +15,9 @@ returns-clause-ended c yields state outer round once has = nested-yields yields 
 
 pub returns-clause-exported : goal.returns-clause-exported
 returns-clause-exported c yields files source units once has = file-yields yields files source units once has
+
+pub returns-clause-modules : goal.returns-clause-modules
+returns-clause-modules c yields text files words state unit all ends = modules-yield yields text files words state unit all ends
 
 pub returns-clause-stays : goal.returns-clause-stays
 returns-clause-stays c yields text files words flat symbols layout state unit keeps each = again-stays yields text files words flat symbols layout state unit keeps each
