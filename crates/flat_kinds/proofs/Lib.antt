@@ -8,3 +8,4 @@ mod Declarations
 mod Distinct
 mod Yields
 mod Places
+mod Samples
