@@ -1,5 +1,5 @@
 -- When names stay as deep as what they mean.
-use Rattle.std.proofs.Common.{◌≡◌, ℕ, suc, max, Bool, true, false, cond, List, [], ◌∷◌, Option, Some, None, map, refl, sym, ap, ◌∙◌, subst, arith}
+use Rattle.std.proofs.Common.{◌≡◌, ℕ, suc, max, Bool, true, false, cond, List, [], ◌∷◌, Option, Some, None, map, refl, sym, ap, ◌∙◌, subst, ◌⊎◌, inl, inr, arith}
 use Rattle.std.specs.Prelude.{slice_get}
 use Rattle.std.specs.List.{AllByRecursion}
 use Rattle.std.proofs.Math.Nat.{max-zero, zero-max}
@@ -16,7 +16,7 @@ use Rattle.tree_kinds.specs.Standing.{Outside, Reached, name_among}
 use Rattle.tree_kinds.specs.TreeDepths.{Beneath, Depths, before_scope, behind_depth, coming_depth, deeper, in_scope, with_depth, with_entry_depths}
 use Rattle.flat_trees.specs.Stands.{Stand, Unsaid, Leaf, Place, Defined, Through, Brought}
 use Rattle.flat_trees.specs.Layouts.{Layout, coming_stand, layout_before, layout_behind, layout_declaring, layout_in, layout_repeating, layout_with, order_of, parameters_of, with_brought, with_places, with_stand, with_stands}
-use Rattle.flat_depths.specs.Depths.{AgreesInDepth, HasDepths, HaveDepths, IsDeepModule, IsPlain, beneath_in}
+use Rattle.flat_depths.specs.Depths.{AgreesInDepth, HasDepths, HaveDepths, IsDeclaredPlain, IsDeepModule, IsPlain, beneath_in}
 
 pub max-assoc : (a b c : ℕ) → max (max a b) c ≡ max a (max b c)
 max-assoc a b c = omega arith
@@ -96,9 +96,12 @@ module _ (flat : FlatModule) where
 
   -- ---- what is known round a node
 
-  pub declared-agrees : (layout : Layout) (around : Beneath) (context : Context) (meaning : Meaning) → AgreesInDepth flat layout around → IsPlain around.depths meaning → AgreesInDepth flat (layout_declaring layout context meaning) (beneath_in around context)
-  declared-agrees layout around context meaning agrees plain =
-      record { context = refl; depths = place-deep layout.stands around.depths meaning layout.places agrees.depths plain }
+  pub declared-agrees : (layout : Layout) (around : Beneath) (context : Context) (next : Meaning → Stand) → AgreesInDepth flat layout around → ((meaning : Meaning) → IsDeclaredPlain layout (around.depths meaning) (layout.stands meaning) (next meaning)) → AgreesInDepth flat (layout_declaring layout context next) (beneath_in around context)
+  declared-agrees layout around context next agrees each = record { context = refl; depths = λ meaning. by_case meaning (each meaning) }
+    where
+      by_case : (meaning : Meaning) → IsDeclaredPlain layout (around.depths meaning) (layout.stands meaning) (next meaning) → HasDepths flat 0 (next meaning) (around.depths meaning)
+      by_case meaning (inl same) = subst (λ stand. HasDepths flat 0 stand (around.depths meaning)) (sym same) (agrees.depths meaning)
+      by_case meaning (inr (order, same, plain)) = subst (λ stand. HasDepths flat 0 stand (around.depths meaning)) (sym same) plain
 
   pub repeating-agrees : (layout : Layout) (around : Beneath) (olds : List ℕ) → AgreesInDepth flat layout around → AgreesInDepth flat (layout_repeating layout olds) around
   repeating-agrees layout around olds agrees = record { context = agrees.context; depths = agrees.depths }

@@ -1,5 +1,5 @@
 -- When what names stand for in a flat module is as deep as what they mean.
-use Rattle.std.specs.Prelude.{◌≡◌, ℕ, true, List, [], ◌∷◌, max, slice_get}
+use Rattle.std.specs.Prelude.{◌≡◌, ◌⊎◌, ℕ, true, List, [], ◌∷◌, max, slice_get}
 use Rattle.tla_tree.specs.Syntax.{Tree}
 use Rattle.tla_model.specs.Tables.{Named}
 use Rattle.tla_model.specs.Entities.{Meaning, Text, same_meaning}
@@ -9,12 +9,16 @@ use Rattle.kind_text.specs.FlatModule.{FlatModule}
 use Rattle.level_text.specs.Depth.{depth as depth_at, depth_of, instance_depth, replaced_depth}
 use Rattle.tree_kinds.specs.Standing.{Outside, Reached}
 use Rattle.tree_kinds.specs.TreeDepths.{Beneath, Depths, depth}
-use Rattle.flat_trees.specs.Stands.{Stand, Unsaid, Defined, Through, Brought}
+use Rattle.flat_trees.specs.Stands.{Stand, Unsaid, Place, Defined, Through, Brought}
 use Rattle.flat_trees.specs.Layouts.{Layout}
 
 -- whatever means the same has no depth
 abbrev pub IsPlain : Depths → Meaning → Type 0
 IsPlain depths meaning = (other : Meaning) → same_meaning other meaning ≡ true → depths other [] ≡ record { depth = 0; replaced = 0 }
+
+-- a name stands as before, or for the item at the next place, and then it has no depth
+abbrev pub IsDeclaredPlain : Layout → (List Named → Reached) → Stand → Stand → Type 0
+IsDeclaredPlain layout depths before next = (next ≡ before) ⊎ ((order : ℕ) × (next ≡ Place layout.places order) × (depths [] ≡ record { depth = 0; replaced = 0 }))
 
 -- what stands round a tree, in another context
 abbrev pub beneath_in : Beneath → Context → Beneath

@@ -47,7 +47,7 @@ ghost use Rattle.flat_kinds.specs.Readings.{Extension, KeepsState, exported_stan
 ghost use Rattle.flat_kinds.specs.Modules.{Coming, Current, IsCurrentWithin, first_current};
 ghost use Rattle.flat_kinds.specs.Modules.{here_behind, module_stands, round_behind};
 ghost use Rattle.flat_depths.specs.Depths.{AgreesInDepth, HasDepths, HaveDepths, IsAsDeep};
-ghost use Rattle.flat_depths.specs.Depths.{IsDeepModule, IsPlain, beneath_in};
+ghost use Rattle.flat_depths.specs.Depths.{IsDeclaredPlain, IsDeepModule, IsPlain, beneath_in};
 ghost use Rattle.flat_depths.specs.Parts.{AreEachAsDeep, AreOnPath, AreReplacedAsDeep};
 ghost use Rattle.flat_depths.specs.Parts.{AreRightSides, Counts, HasParts, path_of};
 ghost use Rattle.flat_depths.specs.Modules.{AreDeepExtensions, IsDeepAlong, IsDeepRead, KeepDepths};
@@ -183,9 +183,10 @@ pub fn depths_agree()
         → AgreesInDepth flat (layout_behind text layout x stand)
         (behind_depth text known named around x reached) }
     ensures declared { (flat : FlatModule) (layout : Layout) (around : Beneath) (context : Context)
-        (meaning : Meaning) → AgreesInDepth flat layout around → IsPlain around.depths meaning
-        → AgreesInDepth flat (layout_declaring layout context meaning)
-        (beneath_in around context) }
+        (next : Meaning → Stand) → AgreesInDepth flat layout around
+        → ((meaning : Meaning) → IsDeclaredPlain layout (around.depths meaning)
+        (layout.stands meaning) (next meaning))
+        → AgreesInDepth flat (layout_declaring layout context next) (beneath_in around context) }
     ensures olds { (flat : FlatModule) (layout : Layout) (around : Beneath) (olds : List ℕ)
         → AgreesInDepth flat layout around
         → AgreesInDepth flat (layout_repeating layout olds) around }

@@ -16,7 +16,7 @@ pub returns-clause-definitions : goal.returns-clause-definitions
 returns-clause-definitions c flat text known named layout around x stand reached agrees one = behind-agrees flat text known named layout around agrees x stand reached one
 
 pub returns-clause-declared : goal.returns-clause-declared
-returns-clause-declared c flat layout around context meaning agrees plain = declared-agrees flat layout around context meaning agrees plain
+returns-clause-declared c flat layout around context next agrees each = declared-agrees flat layout around context next agrees each
 
 pub returns-clause-olds : goal.returns-clause-olds
 returns-clause-olds c flat layout around olds agrees = repeating-agrees flat layout around olds agrees
