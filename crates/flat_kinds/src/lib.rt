@@ -5,7 +5,8 @@
 //! flat modules are built.
 #![tactic(auto)]
 
-ghost use Rattle.std.specs.Prelude.{◌≡◌, ◌⊎◌, ℕ, Bool, false, List, [], ◌∷◌, ◌++◌, length, map};
+ghost use Rattle.std.specs.Prelude.{◌≡◌, ◌⊎◌, ℕ, Bool, false, List, [], ◌∷◌, ◌++◌};
+ghost use Rattle.std.specs.Prelude.{length, map};
 ghost use Rattle.std.specs.List.{AllByRecursion};
 ghost use Rattle.tla_symbols.specs.declared.lexeme.Lexeme.{Lexeme};
 ghost use Rattle.unit_grammar.specs.Units.{ModuleBegin, ModuleUnits, UnitTree};
@@ -19,21 +20,21 @@ ghost use Rattle.kind_text.specs.FlatModule.{Extends, FlatModule, IsOrdered};
 ghost use Rattle.kind_text.specs.Substitution.{Item};
 ghost use Rattle.tree_kinds.specs.Standing.{Environment, Outside, themselves};
 ghost use Rattle.module_kinds.specs.ModuleKinds.{KindState, after, first, outside, outside_by};
-ghost use Rattle.module_kinds.specs.ModuleKinds.{around, last, nested_outside, read_all, standing_behind};
+ghost use Rattle.module_kinds.specs.ModuleKinds.{around, last, nested_outside, read_all};
+ghost use Rattle.module_kinds.specs.ModuleKinds.{standing_behind};
 ghost use Rattle.flat_trees.specs.Stands.{AreStanding, Stand, Unsaid};
 ghost use Rattle.flat_trees.specs.Layouts.{Agrees, Layout, StandsBefore};
 ghost use Rattle.flat_trees.specs.Instances.{IsModule, symbols_of, with_symbols};
-ghost use Rattle.flat_kinds.specs.Readings.{AreNew, BringNone, Extension, KeepsStanding, KeepsState};
-ghost use Rattle.flat_kinds.specs.Readings.{Leaves, SaysLess, StaysBehind};
+ghost use Rattle.flat_kinds.specs.Readings.{AreNew, BringNone, Extension, KeepsStanding};
+ghost use Rattle.flat_kinds.specs.Readings.{KeepsState, Leaves, SaysLess, StaysBehind};
 ghost use Rattle.flat_kinds.specs.Readings.{StandsItself, exported_stand, is_among, with_own};
 ghost use Rattle.flat_kinds.specs.Symbols.{AreDistinct, SaysNothing, item_itself, symbols_at};
-ghost use Rattle.flat_kinds.specs.Declarations.{AreNamesDeclared, AreUnitsDeclared, Declarations};
-ghost use Rattle.flat_kinds.specs.Declarations.{AreSymbols, IsNoDefinition, IsOutsideDeclared};
-ghost use Rattle.flat_kinds.specs.Declarations.{HasPlaces, IsOnce, IsSymbol, OfAllKnown};
-ghost use Rattle.flat_kinds.specs.Declarations.{StandApart};
-ghost use Rattle.flat_kinds.specs.Yields.{AreYielding, ComesAgain, EndsYielding};
-ghost use Rattle.flat_kinds.specs.Yields.{HasExported, HasYielded, IsYielding, Yields};
-ghost use Rattle.flat_kinds.specs.Declarations.{KeepsDeclarations, declared_names};
+ghost use Rattle.flat_kinds.specs.Declarations.{AreNamesDeclared, AreSymbols, AreUnitsDeclared};
+ghost use Rattle.flat_kinds.specs.Declarations.{Declarations, HasPlaces, IsNoDefinition, IsOnce};
+ghost use Rattle.flat_kinds.specs.Declarations.{IsOutsideDeclared, IsSymbol, KeepsDeclarations};
+ghost use Rattle.flat_kinds.specs.Declarations.{OfAllKnown, StandApart, declared_names};
+ghost use Rattle.flat_kinds.specs.Yields.{AreYielding, ComesAgain, EndsYielding, HasExported};
+ghost use Rattle.flat_kinds.specs.Yields.{HasYielded, IsYielding, Yields};
 ghost use Rattle.flat_kinds.specs.Modules.{Coming, Current, IsBuiltAlong, IsExtended, IsRead};
 ghost use Rattle.flat_kinds.specs.Modules.{IsCurrentWithin, KeepsAll, first_current, here_behind};
 ghost use Rattle.flat_kinds.specs.Modules.{module_stands, round_behind};
@@ -169,10 +170,11 @@ pub fn symbols_are_distinct()
 {}
 
 /// What declarations yield, whichever way their names come: where files bring names for what they
-/// yield, so does what a module extends; what a unit leaves stands for what it yields as before, and
-/// in a nested module it does so whatever is extended, files and nested modules that can be named. A
-/// nested module and one of a file bring their names so where the state has what its exports yield,
-/// and so do all that can be named behind a unit. So names of a module round a nested one stand as before, also those that come again.
+/// yield, so does what a module extends; what a unit leaves stands for what it yields as before,
+/// and in a nested module it does so whatever is extended, files and nested modules that can be
+/// named. A nested module and one of a file bring their names so where the state has what its
+/// exports yield, and so do all that can be named behind a unit. So names of a module round a
+/// nested one stand as before, also those that come again.
 pub fn names_come_again()
     ensures extended { (yields : Yields) (files : List ℕ → Outside) (source : List ℕ)
         (units : ModuleUnits) (meaning : Meaning)
