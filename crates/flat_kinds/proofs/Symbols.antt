@@ -1,5 +1,5 @@
 -- What symbols stand for: more or less of them, and each for itself.
-use Rattle.std.proofs.Common.{◌≡◌, ℕ, zero, suc, ◌<◌, Bool, true, false, cond, ◌⊎◌, inl, inr, List, [], ◌∷◌, ◌++◌, map, length, refl, sym, ap, ◌∙◌, subst, arith}
+use Rattle.std.proofs.Common.{◌≡◌, ℕ, zero, suc, ◌+◌, ◌<◌, ◌≤◌, Bool, true, false, cond, ◌⊎◌, inl, inr, List, [], ◌∷◌, ◌++◌, map, length, refl, sym, ap, ◌∙◌, subst, arith}
 use Rattle.std.specs.Prelude.{◌||◌}
 use Rattle.std.proofs.lemmas.Bool.{and_parts}
 use Rattle.std.proofs.lemmas.List.{length-append}
@@ -11,7 +11,7 @@ use Rattle.kind_text.specs.FlatModule.{FlatModule}
 use Rattle.kind_text.specs.Substitution.{Item, at}
 use Rattle.tree_kinds.specs.Standing.{Outside, itself, themselves, value_of}
 use Rattle.flat_trees.specs.Stands.{AreStanding, IsItem, IsStanding, Matches, Stand, Unsaid, Leaf, Place, Defined, Through, Brought}
-use Rattle.flat_trees.specs.Layouts.{order_of}
+use Rattle.flat_trees.specs.Layouts.{StandsBefore, order_of}
 use Rattle.flat_trees.specs.Instances.{IsModule, with_symbols}
 use Rattle.flat_trees.proofs.Agreeing.{append-append, at-behind, item-value}
 use Rattle.flat_trees.proofs.Meanings.{same-alike}
@@ -153,3 +153,25 @@ own-less base symbols place distinct nothing other = by_case (symbols-at-less ba
     by_case : (symbols_at base symbols place other ≡ Unsaid) ⊎ (symbols_at base symbols place other ≡ with_symbols base symbols place other) → (with_own base (symbols_at (λ (meaning : Meaning). Unsaid) symbols place) other ≡ Unsaid) ⊎ (with_own base (symbols_at (λ (meaning : Meaning). Unsaid) symbols place) other ≡ with_symbols base symbols place other)
     by_case (inl none) = inl (own-symbols base symbols place other ∙ none)
     by_case (inr same) = inr (own-symbols base symbols place other ∙ same)
+
+-- ---- before a place
+
+before-more : (less more : ℕ) (stand : Stand) → less ≤ more → StandsBefore less stand → StandsBefore more stand
+before-more less more Unsaid fewer holds = tt
+before-more less more (Leaf kind) fewer holds = tt
+before-more less more (Place place order) fewer holds = omega (arith, fewer, holds)
+before-more less more (Defined d orders) fewer holds = absurd holds
+before-more less more (Through j orders inner) fewer holds = absurd holds
+before-more less more (Brought j inner) fewer holds = absurd holds
+
+-- symbols at places stand before the place behind them
+pub places-before : (base : Meaning → Stand) (symbols : List Meaning) (place : ℕ) (other : Meaning) → StandsBefore place (base other) → StandsBefore (place + length symbols) (symbols_at base symbols place other)
+places-before base [] place other holds = before-more place (place + 0) (base other) (omega arith) holds
+places-before base (meaning ∷ rest) place other holds =
+    by_sameness (same_symbol other meaning)
+    (before-more (suc place + length rest) (place + length (meaning ∷ rest)) (symbols_at base rest (suc place) other) (omega arith)
+    (places-before base rest (suc place) other (before-more place (suc place) (base other) (omega arith) holds)))
+  where
+    by_sameness : (b : Bool) → StandsBefore (place + length (meaning ∷ rest)) (symbols_at base rest (suc place) other) → StandsBefore (place + length (meaning ∷ rest)) (cond b (Place place (order_of meaning)) (symbols_at base rest (suc place) other))
+    by_sameness true others = omega arith
+    by_sameness false others = others

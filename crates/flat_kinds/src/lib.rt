@@ -5,7 +5,7 @@
 //! flat modules are built.
 #![tactic(auto)]
 
-ghost use Rattle.std.specs.Prelude.{◌≡◌, ◌⊎◌, ℕ, Bool, false, List, [], ◌∷◌, ◌++◌};
+ghost use Rattle.std.specs.Prelude.{◌≡◌, ◌⊎◌, ℕ, ◌+◌, Bool, false, List, [], ◌∷◌, ◌++◌};
 ghost use Rattle.std.specs.Prelude.{length, map};
 ghost use Rattle.std.specs.List.{AllByRecursion};
 ghost use Rattle.tla_symbols.specs.declared.lexeme.Lexeme.{Lexeme};
@@ -77,7 +77,8 @@ pub fn states_are_kept()
 
 /// A module that is meant where less is said of its symbols is meant where more is said. Over a
 /// frame with the item that each symbol is, the symbols stand for themselves: so do symbols at
-/// places, each of its own entity, and less is said of these than of all that mean the same.
+/// places, each of its own entity, and less is said of these than of all that mean the same. These
+/// stand before the place behind them.
 pub fn symbols_stand()
     ensures less { (flat : FlatModule) (less more : Meaning → Stand) (places : ℕ)
         (inner : Named → Stand) (outside : Outside) → SaysLess less more
@@ -96,6 +97,9 @@ pub fn symbols_stand()
         → AreDistinct symbols → SaysNothing base symbols
         → SaysLess (with_own base (symbols_at (λ (meaning : Meaning). Unsaid) symbols place))
         (with_symbols base symbols place) }
+    ensures before { (base : Meaning → Stand) (symbols : List Meaning) (place : ℕ)
+        → ((meaning : Meaning) → StandsBefore place (base meaning)) → (meaning : Meaning)
+        → StandsBefore (place + length symbols) (symbols_at base symbols place meaning) }
 {}
 
 /// A meaning that a unit leaves stands behind it for what it does before.

@@ -1,4 +1,4 @@
-use Rattle.flat_kinds.proofs.Symbols.{module-by_less, own-less, places-itself, symbols-at-less, symbols-themselves}
+use Rattle.flat_kinds.proofs.Symbols.{module-by_less, own-less, places-before, places-itself, symbols-at-less, symbols-themselves}
 use Rattle.flat_kinds.proofs.symbols_stand.Goals as goal
 
 pub returns-clause-less : goal.returns-clause-less
@@ -15,3 +15,6 @@ returns-clause-same c base symbols place distinct nothing = symbols-at-less base
 
 pub returns-clause-own : goal.returns-clause-own
 returns-clause-own c base symbols place distinct nothing = own-less base symbols place distinct nothing
+
+pub returns-clause-before : goal.returns-clause-before
+returns-clause-before c base symbols place before meaning = places-before base symbols place meaning (before meaning)
