@@ -30,7 +30,9 @@ use Rattle.module_model.specs.Resolution.{ReadState, instance_brings, words_of, 
 use Rattle.tree_kinds.specs.Standing.{Environment as Standing, Outside, name_among}
 use Rattle.module_kinds.specs.ModuleKinds.{KindState, after, first, module_under, named_in, nested_outside, outside, read_all, views}
 use Rattle.flat_kinds.specs.Declarations.{Declarations, AreDeclared, AreNamesDeclared, AreUnitsDeclared, EachOnce, IsOnce, KeepsDeclarations, IsDeclared, IsNoDefinition, IsOutsideDeclared, IsReadingDeclared, IsStateDeclared, IsViewDeclared, OfAllKnown, OfKnown, declared_names}
+use Rattle.list_laws.proofs.Lists.{all-both}
 use Rattle.flat_trees.specs.Stands.{Stand, Unsaid}
+use Rattle.flat_trees.proofs.Meanings.{decl-equal}
 use Rattle.flat_trees.specs.Layouts.{Layout, StandsBefore}
 use Rattle.flat_kinds.specs.Readings.{AreNew, BringNone, Leaves, is_among}
 use Rattle.flat_kinds.specs.Symbols.{SaysNothing, symbols_at}
@@ -42,10 +44,6 @@ use Rattle.flat_kinds.proofs.Symbols.{symbols-none}
 all-weaker : {A : Type 0} (P Q : A → Type 0) → ((x : A) → P x → Q x) → (xs : List A) → AllByRecursion P xs → AllByRecursion Q xs
 all-weaker P Q weaker [] all = tt
 all-weaker P Q weaker (x ∷ xs) all = (weaker x all.0, all-weaker P Q weaker xs all.1)
-
-pub all-both : {A : Type 0} (P : A → Type 0) (xs ys : List A) → AllByRecursion P xs → AllByRecursion P ys → AllByRecursion P (xs ++ ys)
-all-both P [] ys front back = back
-all-both P (x ∷ xs) ys front back = (front.0, all-both P xs ys front.1 back)
 
 -- ---- names once
 
@@ -98,13 +96,6 @@ read-same text files words state [] = refl
 read-same text files words state (unit ∷ units) = read-same text files words (after text files words state unit) units
 
 -- ---- declarations
-
-pub decl-equal : (a b : DeclId) → same_decl a b ≡ true → a ≡ b
-decl-equal a b same =
-    let parts = and_parts (bytes_eq a.«module» b.«module») (nat_eq a.place b.place) same in
-    let names : a.«module» ≡ b.«module» = (bytes_eq-Decides a.«module» b.«module»).0 parts.0 in
-    let places : a.place ≡ b.place = (Decides-eqb a.place b.place).0 parts.1 in
-    λ i. record { «module» = names i; place = places i }
 
 module _ (declares : Declarations) where
   -- what is declared as a definition is not what is declared as none

@@ -21,12 +21,14 @@ use Rattle.module_model.specs.Modules.{Reading, text_of}
 use Rattle.module_model.specs.Resolution.{ReadState, words_of}
 use Rattle.tree_kinds.specs.Standing.{Outside}
 use Rattle.module_kinds.specs.ModuleKinds.{KindState, first, last, nested_outside, outside}
+use Rattle.list_laws.proofs.Lists.{all-both}
 use Rattle.flat_trees.specs.Instances.{symbols_of}
+use Rattle.flat_trees.proofs.Meanings.{decl-equal}
 use Rattle.flat_trees.specs.Stands.{Stand, Unsaid}
 use Rattle.flat_kinds.specs.Declarations.{AreDeclared, AreSymbols, AreUnitsDeclared, Declarations, EachOnce, IsDeclared, IsNoDefinition, IsOnce, IsOutsideDeclared, IsSymbol, KeepsDeclarations}
 use Rattle.flat_kinds.specs.Readings.{is_among}
 use Rattle.flat_kinds.specs.Symbols.{AreDistinct, SaysNothing, symbols_at}
-use Rattle.flat_kinds.proofs.Declarations.{all-both, decl-equal, keeps-all, keeps-first, read-same}
+use Rattle.flat_kinds.proofs.Declarations.{keeps-all, keeps-first, read-same}
 use Rattle.flat_kinds.proofs.Symbols.{among-alike, symbols-none}
 
 -- entries have names of their own

@@ -27,10 +27,11 @@ use Rattle.tree_kinds.specs.Standing.{Environment, Outside, Steps, Value, coming
 use Rattle.module_kinds.specs.ModuleKinds.{KindState, after, extended, first, last, module_under, named_in, nested_outside, outside, standing_behind}
 use Rattle.flat_trees.specs.Stands.{IsStanding, Stand, Unsaid}
 use Rattle.flat_trees.specs.Layouts.{Layout}
+use Rattle.flat_trees.proofs.Meanings.{decl-equal, units-equal}
 use Rattle.flat_kinds.specs.Declarations.{IsOnce, OfAllKnown, OfKnown}
 use Rattle.flat_kinds.specs.Readings.{BringNone, KeepsStanding, Leaves, StaysBehind}
 use Rattle.flat_kinds.specs.Yields.{AreYielding, ComesAgain, EndsYielding, HasExported, HasYielded, IsYielding, Yields, yielded}
-use Rattle.flat_kinds.proofs.Declarations.{added-known, decl-equal, found-known, read-same}
+use Rattle.flat_kinds.proofs.Declarations.{added-known, found-known, read-same}
 use Rattle.flat_kinds.proofs.Distinct.{HaveOwnNames, words-own}
 use Rattle.flat_kinds.proofs.Leaving.{meaning-left}
 
@@ -43,18 +44,6 @@ named-equal (Symbol a) (Word b) same = cc same
 named-itself : (a : Named) → same_named a a ≡ true
 named-itself (Word a) = (bytes_eq-Decides a a).1 refl
 named-itself (Symbol a) = true_same op.the_type a a refl
-
-units-equal : (a b : List UnitId) → same_units a b ≡ true → a ≡ b
-units-equal [] [] same = refl
-units-equal [] (y ∷ b) same = cc
-units-equal (x ∷ a) [] same = cc
-units-equal (x ∷ a) (y ∷ b) same =
-    let parts = and_parts (bytes_eq x.«module» y.«module» && nat_eq x.place y.place) (same_units a b) same in
-    let first = and_parts (bytes_eq x.«module» y.«module») (nat_eq x.place y.place) parts.0 in
-    let names : x.«module» ≡ y.«module» = (bytes_eq-Decides x.«module» y.«module»).0 first.0 in
-    let places : x.place ≡ y.place = (Decides-eqb x.place y.place).0 first.1 in
-    let rest = units-equal a b parts.1 in
-    λ i. record { «module» = names i; place = places i } ∷ rest i
 
 -- the entry under a name by which a meaning comes
 record Entry (entries : Exports) (meaning : Meaning) (name : Named) : Type 0 where

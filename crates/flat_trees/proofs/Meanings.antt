@@ -13,14 +13,14 @@ use Rattle.flat_trees.specs.Stands.{Stand, Place}
 use Rattle.flat_trees.specs.Layouts.{order_of}
 use Rattle.flat_trees.specs.Instances.{with_symbols}
 
-decl-equal : (a b : DeclId) → same_decl a b ≡ true → a ≡ b
+pub decl-equal : (a b : DeclId) → same_decl a b ≡ true → a ≡ b
 decl-equal a b same =
     let parts = and_parts (bytes_eq a.«module» b.«module») (nat_eq a.place b.place) same in
     let names : a.«module» ≡ b.«module» = (bytes_eq-Decides a.«module» b.«module»).0 parts.0 in
     let places : a.place ≡ b.place = (Decides-eqb a.place b.place).0 parts.1 in
     λ i. record { «module» = names i; place = places i }
 
-units-equal : (a b : List UnitId) → same_units a b ≡ true → a ≡ b
+pub units-equal : (a b : List UnitId) → same_units a b ≡ true → a ≡ b
 units-equal [] [] same = refl
 units-equal [] (y ∷ b) same = cc
 units-equal (x ∷ a) [] same = cc
