@@ -27,6 +27,7 @@ use Rattle.tree_kinds.specs.Making.{IsOperation}
 use Rattle.tree_kinds.specs.TreeDepths.{Beneath, counted, depth, name_depth, path_names, reached_at, reached_by, symbol_depth, use_depth}
 use Rattle.flat_trees.specs.Stands.{Stand, Unsaid, Leaf, Place, Defined, Through, Brought}
 use Rattle.flat_trees.specs.Names.{Ending, IsBare, IsBareSymbol, IsBuilt, IsMeaning, IsNamed, IsPath, IsSymbolOn, IsUse, Leads}
+use Rattle.flat_depths.proofs.Agreeing.{max-assoc}
 use Rattle.flat_depths.specs.Depths.{HasDepths, HaveDepths}
 use Rattle.flat_depths.specs.Parts.{Counts, HasParts, IsDefinable}
 
@@ -120,9 +121,6 @@ used r d replaced n most e =
 
 top : {n m : ℕ} → n ≡ m → n ≡ max 0 m
 top {m} e = e ∙ sym (zero-max m)
-
-max-assoc : (a b c : ℕ) → max (max a b) c ≡ max a (max b c)
-max-assoc a b c = omega arith
 
 module _ (flat : FlatModule) where
   -- what a path leads to is as deep as the definition, behind the replacements on it

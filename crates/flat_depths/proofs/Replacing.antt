@@ -2,15 +2,12 @@
 use Rattle.std.proofs.Common.{◌≡◌, ℕ, ◌≤◌, max, Bool, true, false, cond, List, [], ◌∷◌, ◌++◌, map, refl, sym, ap, ◌∙◌, subst, arith}
 use Rattle.std.specs.Prelude.{◌||◌}
 use Rattle.std.proofs.Math.Nat.{zero-max}
-use denote.Enum.Bare.{same_true, true_same}
-use Rattle.std.proofs.lemmas.Slice.Eq.{bytes_eq-Decides}
 use Rattle.tla_symbols.specs.declared.lexeme.Lexeme.{Lexeme}
 use Rattle.tla_symbols.specs.declared.lexeme.Span.{Span}
-use Rattle.tla_symbols.specs.contracts.op.Op as op
 use Rattle.tla_tree.specs.declared.form.Form.TheVariants as Form
 use Rattle.tla_tree.specs.Forms.{helps}
 use Rattle.tla_tree.specs.Syntax.{Trees, Node, Nil, Cons}
-use Rattle.tla_model.specs.Tables.{Named, Word, Symbol, is_among, same_named}
+use Rattle.tla_model.specs.Tables.{Named, is_among, same_named}
 use Rattle.tla_model.specs.Entities.{Meaning, Text, binding_of, bound_as, name_of}
 use Rattle.tla_model.specs.Contexts.{bind_all}
 use Rattle.tla_model.specs.Scopes.{all_grouped, names_in}
@@ -20,18 +17,9 @@ use Rattle.kind_text.specs.FlatModule.{FlatModule, Replacement}
 use Rattle.level_text.specs.Depth.{depth as depth_at, greatest}
 use Rattle.tree_kinds.specs.Standing.{Outside}
 use Rattle.tree_kinds.specs.TreeDepths.{Beneath, depth, implied_depth, in_scope, name_depth, parts_depth}
+use Rattle.flat_trees.proofs.Meanings.{named-equal, named-itself}
 use Rattle.flat_depths.specs.Parts.{AreEachAsDeep, AreRightSides, right_depth}
 use Rattle.flat_depths.proofs.Joining.{no-group, no-name}
-
-named-equal : (a b : Named) → same_named a b ≡ true → a ≡ b
-named-equal (Word a) (Word b) e = ap Word ((bytes_eq-Decides a b).0 e)
-named-equal (Word a) (Symbol b) e = cc
-named-equal (Symbol a) (Word b) e = cc
-named-equal (Symbol a) (Symbol b) e = ap Symbol (same_true op.the_type tt a b e)
-
-named-itself : (a : Named) → same_named a a ≡ true
-named-itself (Word a) = (bytes_eq-Decides a a).1 refl
-named-itself (Symbol a) = true_same op.the_type a a refl
 
 -- what is said of one side and of the rest
 above-next : (b a : Bool) (whole right rest later name : ℕ) → whole ≡ right → later ≤ max rest (cond a 0 name) → cond b right later ≤ max (max whole rest) (cond (b || a) 0 name)

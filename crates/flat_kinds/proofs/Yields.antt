@@ -1,21 +1,14 @@
 -- What names yield, whichever way they come: from files and from nested modules that are extended.
 use Rattle.std.proofs.Common.{◌≡◌, ℕ, Bool, true, false, cond, List, [], ◌∷◌, ◌⊎◌, inl, inr, Option, Some, None, refl, sym, ap, ◌∙◌, subst}
-use Rattle.std.specs.Prelude.{◌&&◌, nat_eq}
 use Rattle.std.specs.List.{AllByRecursion}
-use Rattle.std.specs.Str.{bytes_eq}
 use Rattle.std.proofs.lemmas.Bool.{and_parts}
-use Rattle.std.proofs.lemmas.Bool.Decides.{Decides-eqb}
-use Rattle.std.proofs.lemmas.Slice.Eq.{bytes_eq-Decides}
-use denote.Enum.Bare.{same_true, true_same}
-use Rattle.tla_symbols.specs.contracts.op.Op as op
 use Rattle.tla_symbols.specs.declared.lexeme.Lexeme.{Lexeme}
 use Rattle.unit_grammar.specs.Units.{UnitTree, Variables, Constants, OperatorDefinition, FunctionDefinition, ModuleDefinition, Instance, Assumption, Theorem, Line, ModuleBegin, ModuleEnd, ModuleUnits}
-use Rattle.tla_model.specs.declared.ids.UnitId.{UnitId}
 use Rattle.tla_model.specs.declared.names.Meaning.TheVariants.{BuiltIn, Declared}
 use Rattle.tla_model.specs.Entities.{Meaning, Text, same_decl, same_meaning, same_units}
 use Rattle.tla_model.specs.EntityKinds.{is_meant, stands_behind}
 use Rattle.tla_model.specs.Lexemes.{spelled}
-use Rattle.tla_model.specs.Tables.{Named, Word, Symbol, same_named}
+use Rattle.tla_model.specs.Tables.{Named, same_named}
 use Rattle.module_scope.specs.Environments.{Environment as Modules, Scope, begun, ended, first as first_scope, meaning as module_meaning}
 use Rattle.module_model.specs.Exports.{Exports, entry_of, exported, exports_of, instantiable}
 use Rattle.module_model.specs.Modules.{Reading, text_of}
@@ -27,23 +20,13 @@ use Rattle.tree_kinds.specs.Standing.{Environment, Outside, Steps, Value, coming
 use Rattle.module_kinds.specs.ModuleKinds.{KindState, after, extended, first, last, module_under, named_in, nested_outside, outside, standing_behind}
 use Rattle.flat_trees.specs.Stands.{IsStanding, Stand, Unsaid}
 use Rattle.flat_trees.specs.Layouts.{Layout}
-use Rattle.flat_trees.proofs.Meanings.{decl-equal, units-equal}
+use Rattle.flat_trees.proofs.Meanings.{decl-equal, named-equal, named-itself, units-equal}
 use Rattle.flat_kinds.specs.Declarations.{IsOnce, OfAllKnown, OfKnown}
 use Rattle.flat_kinds.specs.Readings.{BringNone, KeepsStanding, Leaves, StaysBehind}
 use Rattle.flat_kinds.specs.Yields.{AreYielding, ComesAgain, EndsYielding, HasExported, HasYielded, IsYielding, Yields, yielded}
 use Rattle.flat_kinds.proofs.Declarations.{added-known, found-known, read-same}
 use Rattle.flat_kinds.proofs.Distinct.{HaveOwnNames, words-own}
 use Rattle.flat_kinds.proofs.Leaving.{meaning-left}
-
-named-equal : (a b : Named) → same_named a b ≡ true → a ≡ b
-named-equal (Word a) (Word b) same = ap Word ((bytes_eq-Decides a b).0 same)
-named-equal (Symbol a) (Symbol b) same = ap Symbol (same_true op.the_type tt a b same)
-named-equal (Word a) (Symbol b) same = cc same
-named-equal (Symbol a) (Word b) same = cc same
-
-named-itself : (a : Named) → same_named a a ≡ true
-named-itself (Word a) = (bytes_eq-Decides a a).1 refl
-named-itself (Symbol a) = true_same op.the_type a a refl
 
 -- the entry under a name by which a meaning comes
 record Entry (entries : Exports) (meaning : Meaning) (name : Named) : Type 0 where

@@ -17,10 +17,10 @@ use Rattle.kind_text.specs.Substitution.{Item, expressions, operator}
 use Rattle.level_text.specs.FormRules.{symbol_rule}
 use Rattle.tree_kinds.specs.Standing.{Outside, Steps, applied_to, item_of, single, value_in}
 use Rattle.tree_kinds.specs.Expanding.{Around, at_names, bare_rule, expand, inner, items, places_at, steps, symbol_name, symbol_places, symbol_text}
-use Rattle.tree_kinds.proofs.MadeNodes.{made-form}
+use Rattle.tree_kinds.proofs.MadeNodes.{made-form, texts-expressions}
 use Rattle.flat_trees.specs.Stands.{AreStanding, Matches, Stand}
 use Rattle.flat_trees.specs.Names.{IsBareSymbol, IsBuilt, IsInside, IsMeaning, IsPath, IsSymbolOn, order_by}
-use Rattle.flat_trees.proofs.Reaching.{append-nil, further, named-node, texts-expressions}
+use Rattle.flat_trees.proofs.Reaching.{append-nil, further, named-node}
 
 -- the same item matches itself
 pub matches-same : (n : ℕ) (a b : Item) → a ≡ b → Matches n a b

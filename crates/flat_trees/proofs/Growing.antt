@@ -13,9 +13,9 @@ use Rattle.kind_text.specs.FlatModule.{Definition, Extends, FlatModule, Instance
 use Rattle.kind_text.specs.Expansion.{Guard, Reached, behind, guard, items as items_at, text as text_at}
 use Rattle.kind_text.specs.Substitution.{Item, texts}
 use Rattle.kind_text.proofs.Unfolding.{behind-agree, text-kept}
-use Rattle.tree_kinds.specs.Standing.{Environment, Outside, Value}
+use Rattle.tree_kinds.specs.Standing.{Outside, Value}
 use Rattle.tree_kinds.specs.Expanding.{Around, expand, places_at}
-use Rattle.flat_trees.specs.Stands.{AreStanding, Fits, IsStanding, Matches, Stand, Unsaid, Leaf, Place, Defined, Through, Brought, passed}
+use Rattle.flat_trees.specs.Stands.{IsStanding, Matches, Stand, Unsaid, Leaf, Place, Defined, Through, Brought, passed}
 use Rattle.flat_trees.specs.Names.{order_by}
 use Rattle.flat_trees.specs.Layouts.{Agrees, Gives, IsMeant, Layout, Stands}
 use Rattle.flat_trees.specs.Instances.{IsModule}

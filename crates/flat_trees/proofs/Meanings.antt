@@ -1,17 +1,30 @@
--- Meanings that are the same, and what stands for them.
+-- Names and meanings that are the same, and what stands for them.
 use Rattle.std.proofs.Common.{◌≡◌, ℕ, suc, Bool, true, cond, List, [], ◌∷◌, refl, ap, ◌∙◌}
 use Rattle.std.specs.Prelude.{◌&&◌, nat_eq}
 use Rattle.std.specs.Str.{bytes_eq}
 use Rattle.std.proofs.lemmas.Bool.{and_parts}
 use Rattle.std.proofs.lemmas.Bool.Decides.{Decides-eqb}
 use Rattle.std.proofs.lemmas.Slice.Eq.{bytes_eq-Decides}
+use denote.Enum.Bare.{same_true, true_same}
+use Rattle.tla_symbols.specs.contracts.op.Op as op
 use Rattle.tla_model.specs.declared.names.Meaning.TheVariants.{BuiltIn, Declared}
 use Rattle.tla_model.specs.declared.ids.DeclId.{DeclId}
 use Rattle.tla_model.specs.declared.ids.UnitId.{UnitId}
+use Rattle.tla_model.specs.Tables.{Named, Word, Symbol, same_named}
 use Rattle.tla_model.specs.Entities.{Meaning, same_decl, same_meaning, same_units}
 use Rattle.flat_trees.specs.Stands.{Stand, Place}
 use Rattle.flat_trees.specs.Layouts.{order_of}
 use Rattle.flat_trees.specs.Instances.{with_symbols}
+
+pub named-equal : (a b : Named) → same_named a b ≡ true → a ≡ b
+named-equal (Word a) (Word b) same = ap Word ((bytes_eq-Decides a b).0 same)
+named-equal (Symbol a) (Symbol b) same = ap Symbol (same_true op.the_type tt a b same)
+named-equal (Word a) (Symbol b) same = cc same
+named-equal (Symbol a) (Word b) same = cc same
+
+pub named-itself : (a : Named) → same_named a a ≡ true
+named-itself (Word a) = (bytes_eq-Decides a a).1 refl
+named-itself (Symbol a) = true_same op.the_type a a refl
 
 pub decl-equal : (a b : DeclId) → same_decl a b ≡ true → a ≡ b
 decl-equal a b same =

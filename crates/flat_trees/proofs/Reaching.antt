@@ -8,6 +8,7 @@ use Rattle.kind_text.specs.FlatModule.{FlatModule, Form as NodeForm, Instance}
 use Rattle.kind_text.specs.Expansion.{Guard, Reached, along_path, behind, body, form_item, guard, items as items_at, text, through, used}
 use Rattle.kind_text.specs.Substitution.{Item, at, expressions, operator, texts}
 use Rattle.tree_kinds.specs.Standing.{Step, Steps, Value, applied_to, item_of}
+use Rattle.tree_kinds.proofs.MadeNodes.{texts-expressions}
 use Rattle.flat_trees.specs.Stands.{Fits, IsItem, IsStanding, Matches, Stand, Unsaid, Leaf, Place, Defined, Through, Brought, count, passed}
 use Rattle.flat_trees.specs.Names.{Ending, IsBare, IsNamed, IsUse, Leads, order_by, places_by}
 
@@ -22,10 +23,6 @@ append-nil (x ∷ xs) = ap (λ ys. x ∷ ys) (append-nil xs)
 
 longer : (n : ℕ) (s more : List Item) → n ≤ length s → n ≤ length (s ++ more)
 longer n s more l = let e = length-append s more in omega (arith, l, e)
-
-pub texts-expressions : (ts : Operands) → texts (expressions ts) ≡ ts
-texts-expressions Operands.Nil = refl
-texts-expressions (Operands.Cons t ts) = ap (Operands.Cons t) (texts-expressions ts)
 
 count-expressions : (ts : Operands) → length (expressions ts) ≡ count ts
 count-expressions Operands.Nil = refl

@@ -1,5 +1,5 @@
 -- Nodes that are made of trees, form by form.
-use Rattle.std.proofs.Common.{◌≡◌, ℕ, List, [], ◌∷◌, Option, Some, None, refl, sym, ap, ◌∙◌}
+use Rattle.std.proofs.Common.{◌≡◌, ℕ, List, Option, Some, None, refl, sym, ap, ◌∙◌}
 use mathlib.Core.Path.{fun_ext}
 use Rattle.tla_symbols.specs.declared.level.Rule.{Rule}
 use Rattle.tla_symbols.specs.declared.level.Rule.TheVariants.{Plain, Boolean}
@@ -19,7 +19,7 @@ use Rattle.tree_kinds.specs.Standing.{Outside}
 use Rattle.tree_kinds.specs.Expanding.{Around, bare_rule, before_scope, changed, expand, in_scope, items, operands, ruled_text, symbol_name, symbol_text}
 use Rattle.tree_kinds.specs.Making.{IsMade, IsOperation, IsSymbol}
 
-texts-expressions : (ts : Operands) → texts (expressions ts) ≡ ts
+pub texts-expressions : (ts : Operands) → texts (expressions ts) ≡ ts
 texts-expressions Operands.Nil = refl
 texts-expressions (Operands.Cons t ts) = ap (Operands.Cons t) (texts-expressions ts)
 
