@@ -8,7 +8,7 @@ use Rattle.tla_model.specs.EntityKinds.{is_meant, stands_behind}
 use Rattle.tla_model.specs.declared.ids.UnitId.{UnitId}
 use Rattle.module_model.specs.Exports.{Exports, instantiable, of_words}
 use Rattle.module_model.specs.Modules.{Reading, brings_clash, clashes, joined, with_entry}
-use Rattle.name_exports.specs.declared.exported.Names.{Names}
+use Rattle.name_exports.specs.declared.names.Names.{Names}
 use Rattle.name_context.specs.AsTables.{context_of}
 use Rattle.name_exports.specs.Brought.{IsBringing, IsJoined, ModuleNames, as_read, behind_through, brought, brought_through, passed_through}
 

@@ -10,7 +10,7 @@ use Rattle.module_scope.specs.Environments.{Environment}
 use Rattle.module_model.specs.Exports.{Exports, ModuleView, exported, exports_of, import_outside, instantiable}
 use Rattle.module_model.specs.Modules.{Reading, brings_clash, clashes, joined, with_entry}
 use Rattle.module_model.specs.Instances.{through}
-use Rattle.name_exports.specs.declared.exported.Names.{Names}
+use Rattle.name_exports.specs.declared.names.Names.{Names}
 use Rattle.name_context.specs.AsTables.{AreApart, behind, context_of, first_words, usable_words}
 
 -- both are the same INSTANCE in the same module's text

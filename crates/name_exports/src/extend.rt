@@ -7,7 +7,8 @@ ghost use Rattle.name_exports.specs.Brought.{import_exports};
 ghost use Rattle.name_context.specs.AsTables.{context_of, meant_by, taken_words, words_of};
 ghost use Rattle.name_exports.specs.Brought.{AreFirst, IsBrought, ModuleNames, as_read, brought, shown_by};
 
-use crate::exported::{Exported, Names};
+use crate::exported::Exported;
+use crate::names::Names;
 use crate::same::differs;
 use indexmap::IndexMap;
 use module_model::Import;

@@ -6,8 +6,9 @@ ghost use Rattle.module_model.specs.Instances.{through};
 ghost use Rattle.name_context.specs.AsTables.{meant_by, taken_words, words_of};
 ghost use Rattle.name_exports.specs.Brought.{IsJoined, behind_through, brought_through, passed_through};
 
-use crate::exported::{Exported, Names};
+use crate::exported::Exported;
 use crate::extend::{either, join};
+use crate::names::Names;
 use indexmap::IndexMap;
 use name_context::Named;
 use std::alloc::Global;

@@ -7,8 +7,10 @@
 mod exported;
 mod extend;
 mod instance;
+mod names;
 mod same;
 
-pub use exported::{Exported, Names};
+pub use exported::Exported;
 pub use extend::{bring_import, bring_nested};
 pub use instance::{bring_nested_through, bring_through};
+pub use names::Names;

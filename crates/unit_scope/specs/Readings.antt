@@ -14,7 +14,7 @@ use Rattle.instance_scope.specs.Scoped.{module_in}
 use Rattle.module_model.specs.Modules.{Reading, brings, brings_clash}
 use Rattle.instance_scope.specs.declared.scope.Scope.{Scope}
 use Rattle.name_exports.specs.Brought.{ModuleNames, as_read}
-use Rattle.name_exports.specs.declared.exported.Names.{Names}
+use Rattle.name_exports.specs.declared.names.Names.{Names}
 
 -- the imports, and where the module names of instances, and the paths through them, begin in a text
 pub record Over : Type 0 where

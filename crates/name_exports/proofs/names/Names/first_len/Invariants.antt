@@ -1,6 +1,6 @@
 use Rattle.std.proofs.Common.{◌≡◌, take}
 use Rattle.name_context.specs.AsTables.{behind, usable_words}
-use Rattle.name_exports.proofs.exported.Names.first_len.Given as goal
+use Rattle.name_exports.proofs.names.Names.first_len.Given as goal
 
 abbrev pub invariant-loop-index : goal.invariant-loop-index
 invariant-loop-index l =

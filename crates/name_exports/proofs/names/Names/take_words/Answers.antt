@@ -1,5 +1,5 @@
 use Rattle.name_exports.proofs.Over.{taken-over}
-use Rattle.name_exports.proofs.exported.Names.take_words.Goals as goal
+use Rattle.name_exports.proofs.names.Names.take_words.Goals as goal
 
 pub returns-clause-taken : goal.returns-clause-taken
 returns-clause-taken c = λ yes.

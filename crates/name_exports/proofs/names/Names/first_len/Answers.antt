@@ -2,7 +2,7 @@ use Rattle.std.proofs.Common.{refl, sym}
 use Rattle.tla_model.specs.Stretches.{shown}
 use Rattle.name_context.specs.AsTables.{behind}
 use Rattle.name_exports.proofs.Firsts.{one-more, one-more-usable}
-use Rattle.name_exports.proofs.exported.Names.first_len.Goals as goal
+use Rattle.name_exports.proofs.names.Names.first_len.Goals as goal
 
 pub loop-index-preserved : goal.loop-index-preserved
 loop-index-preserved c =
