@@ -19,7 +19,7 @@ static FRAMES: [Row; 8] = [
     ),
     (
         "Content-Length: 72\r\n\r\n{\"jsonrpc\":\"2.0\",\"id\":1,\"method\":\"initialize\",\"params\":{\"rootUri\":null}}Content-Length: 44\r\n\r\n{\"jsonrpc\":\"2.0\",\"id\":2,\"method\":\"shutdown\"}Content-Length: 33\r\n\r\n{\"jsonrpc\":\"2.0\",\"method\":\"exit\"}",
-        "{\"jsonrpc\":\"2.0\",\"id\":1,\"method\":\"initialize\",\"params\":{\"rootUri\":null}}|{\"jsonrpc\":\"2.0\",\"id\":2,\"method\":\"shutdown\"}|{\"jsonrpc\":\"2.0\",\"method\":\"exit\"}|",
+        r#"{"jsonrpc":"2.0","id":1,"method":"initialize","params":{"rootUri":null}}|{"jsonrpc":"2.0","id":2,"method":"shutdown"}|{"jsonrpc":"2.0","method":"exit"}|"#,
         FrameNext::NotYet,
         false,
     ),

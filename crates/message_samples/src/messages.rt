@@ -161,7 +161,7 @@ fn write(alloc: Global, sent: Sent, out: &mut List<u8>) -> Result<(), Memory> {
         Sent::NoNotes => write_notes(alloc, &uri(alloc)?, &List::new(alloc), out),
         Sent::OneNote => write_notes(alloc, &uri(alloc)?, &one_note(alloc)?, out),
         Sent::Places => {
-            let id = Id::Text(Chars::from_str(alloc, "a\"")?);
+            let id = Id::Text(Chars::from_str(alloc, r#"a""#)?);
             write_reply(alloc, &id, &places(alloc)?, out)
         }
         Sent::Symbols => write_reply(alloc, &Id::Int(3), &symbols(alloc)?, out),

@@ -42,7 +42,7 @@ fn shown(rt: &impl Abort, alloc: Global, body: &str) -> String {
 static LONGEST: [(&str, &str); 16] = [
     ("1..5", "Number<1> Sym(DotDot)<..> Number<5> End<> "),
     ("1.5 .5", "Number<1.5> Number<.5> End<> "),
-    ("\\b01 \\hFFg", "Number<\\b01> Number<\\hFF> Name<g> End<> "),
+    (r"\b01 \hFFg", r"Number<\b01> Number<\hFF> Name<g> End<> "),
     (
         "1a 12_ _1",
         "Name<1a> Number<12> Mark(Underscore)<_> Mark(Underscore)<_> Number<1> End<> ",
@@ -58,22 +58,26 @@ static LONGEST: [(&str, &str); 16] = [
         "Mark(RightBracketSubscript)<]_> Mark(RightAngleSubscript)<>>_> Sym(LessEqual)<<=> Close<====> ",
     ),
     (
-        "\\inx \\b2",
-        "Sym(In)<\\in> Name<x> Sym(SetMinus)<\\> Name<b2> End<> ",
+        r"\inx \b2",
+        r"Sym(In)<\in> Name<x> Sym(SetMinus)<\> Name<b2> End<> ",
     ),
     (
         "|---- r.1 1-.5",
         "Sym(RightTurnstile)<|-> Sym(MinusMinus)<--> Sym(Minus)<-> Name<r> Number<.1> Number<1> Sym(Negative)<-.> Number<5> End<> ",
     ),
-    ("\"\\q\" x", "Bad<\"> "),
+    (r#""\q" x"#, r#"Bad<"> "#),
     (
         "\"\\\"\\\\ é\t\" \"a\nb\"",
         "Str<\"\\\"\\\\ é\t\"> Bad<\"> ",
     ),
-    ("(* (* *) *)x\\* \"é\n(*)", "Name<x> Bad<(*> "),
     (
-        "SUBSET \\X y😀",
-        "Sym(PowerSet)<SUBSET> Sym(Product)<\\X> Name<y> Bad<😀> ",
+        r#"(* (* *) *)x\* "é
+(*)"#,
+        "Name<x> Bad<(*> ",
+    ),
+    (
+        r"SUBSET \X y😀",
+        r"Sym(PowerSet)<SUBSET> Sym(Product)<\X> Name<y> Bad<😀> ",
     ),
     ("===== MODULE", "Close<=====> "),
     (

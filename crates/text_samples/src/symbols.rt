@@ -12,20 +12,20 @@ fn crosses() {
 }
 
 static SYNONYMS: [(&str, Option<Op>); 15] = [
-    ("\\land", Some(Op::And)),
-    ("/\\", Some(Op::And)),
-    ("\\neg", Some(Op::Not)),
+    (r"\land", Some(Op::And)),
+    (r"/\", Some(Op::And)),
+    (r"\neg", Some(Op::Not)),
     ("/=", Some(Op::NotEqual)),
     ("<=", Some(Op::LessEqual)),
-    ("\\union", Some(Op::Cup)),
+    (r"\union", Some(Op::Cup)),
     ("UNION", Some(Op::BigUnion)),
-    ("\\times", Some(Op::Product)),
-    ("(\\X)", Some(Op::CircleTimes)),
-    ("\\circ", Some(Op::Concatenate)),
+    (r"\times", Some(Op::Product)),
+    (r"(\X)", Some(Op::CircleTimes)),
+    (r"\circ", Some(Op::Concatenate)),
     ("-.", Some(Op::Negative)),
     ("-", Some(Op::Minus)),
     ("==", None),
-    ("\\inx", None),
+    (r"\inx", None),
     ("", None),
 ];
 
@@ -46,7 +46,7 @@ static WORDS: [(&str, Option<Word>); 5] = [
 
 static MARKS: [(&str, Option<Mark>); 3] = [
     ("]_", Some(Mark::RightBracketSubscript)),
-    ("\\AA", Some(Mark::TemporalForAll)),
+    (r"\AA", Some(Mark::TemporalForAll)),
     ("=", None),
 ];
 

@@ -23,13 +23,15 @@ pub static ARITIES: [Single; 20] = [
     ),
     // A function is applied in brackets.
     (
-        "f[x \\in {1}] == x\nU == f[1]\nV == f(1)",
+        r"f[x \in {1}] == x
+U == f[1]
+V == f(1)",
         1,
         "A refused\n  4:6-4:7 E501\nmodules=1 refused=1\n",
     ),
     // A bound name takes no argument.
     (
-        "U == \\A x \\in {1} : x(1) = 1",
+        r"U == \A x \in {1} : x(1) = 1",
         1,
         "A refused\n  2:21-2:22 E501\nmodules=1 refused=1\n",
     ),
@@ -65,13 +67,17 @@ pub static ARITIES: [Single; 20] = [
     ),
     // Symbols are operators, also those that are built in.
     (
-        "a ++ b == a\nF(G(_, _)) == G(1, 2)\nH(G(_)) == G(1)\nU == <<F(++), F(\\cup), H(SUBSET), H(')>>",
+        r"a ++ b == a
+F(G(_, _)) == G(1, 2)
+H(G(_)) == G(1)
+U == <<F(++), F(\cup), H(SUBSET), H(')>>",
         0,
         "A accepted\nmodules=1 refused=0\n",
     ),
     // A symbol between two operands where one of one operand is due.
     (
-        "F(G(_)) == G(1)\nU == F(\\cup)",
+        r"F(G(_)) == G(1)
+U == F(\cup)",
         1,
         "A refused\n  3:8-3:12 E502\nmodules=1 refused=1\n",
     ),
@@ -107,19 +113,23 @@ pub static ARITIES: [Single; 20] = [
     ),
     // The at sign outside of EXCEPT, and in an index.
     (
-        "f[x \\in {1}] == x\nU == @\nV == [f EXCEPT ![@] = @]",
+        r"f[x \in {1}] == x
+U == @
+V == [f EXCEPT ![@] = @]",
         1,
         "A refused\n  3:6-3:7 E503\n  4:18-4:19 E503\nmodules=1 refused=1\n",
     ),
     // The function and the indices of an inner EXCEPT stand in a right side of the outer one.
     (
-        "f[x \\in {1}] == x\nV == [f EXCEPT ![1] = [@ EXCEPT ![@] = 2]]",
+        r"f[x \in {1}] == x
+V == [f EXCEPT ![1] = [@ EXCEPT ![@] = 2]]",
         0,
         "A accepted\nmodules=1 refused=0\n",
     ),
     // A definition in the right side stands in it.
     (
-        "f[x \\in {1}] == x\nV == [f EXCEPT ![1] = LET u == @ IN u]",
+        r"f[x \in {1}] == x
+V == [f EXCEPT ![1] = LET u == @ IN u]",
         0,
         "A accepted\nmodules=1 refused=0\n",
     ),

@@ -43,7 +43,11 @@ pub static EXPORTS: [Case; 13] = [
             ("A", "EXTENDS Naturals\nU == 1 .. 2"),
             ("B", "EXTENDS Integers\nU == -Int"),
             ("C", "EXTENDS Reals\nU == 1 / -Real"),
-            ("D", "EXTENDS Sequences\nU == Tail(<<>>) \\o <<1>>"),
+            (
+                "D",
+                r"EXTENDS Sequences
+U == Tail(<<>>) \o <<1>>",
+            ),
         ],
         0,
         "A accepted\nB accepted\nC accepted\nD accepted\nmodules=4 refused=0\n",
@@ -135,7 +139,12 @@ pub static EXPORTS: [Case; 13] = [
     // What is extended is there already.
     (
         &[
-            ("A", "EXTENDS B\nVARIABLE F\nU == \\A x \\in {1} : x = F"),
+            (
+                "A",
+                r"EXTENDS B
+VARIABLE F
+U == \A x \in {1} : x = F",
+            ),
             ("B", "F == 1\nCONSTANT x"),
         ],
         1,
@@ -145,7 +154,12 @@ pub static EXPORTS: [Case; 13] = [
     (
         &[
             ("A", "EXTENDS B\nU == <<G, F, f>>\nF == 3"),
-            ("B", "LOCAL F == 1\nLOCAL f[x \\in {1}] == x\nG == f[F]"),
+            (
+                "B",
+                r"LOCAL F == 1
+LOCAL f[x \in {1}] == x
+G == f[F]",
+            ),
         ],
         1,
         "A refused\n  3:11-3:12 E401\n  3:14-3:15 E401\nB accepted\nmodules=2 refused=1\n",
@@ -330,7 +344,7 @@ pub static INSTANCES: [Case; 13] = [
         "A refused\n  3:1-3:2 E201\nB refused\n  2:1-2:2 E201\nmodules=2 refused=2\n",
     ),
     (
-        &[("A", "\\* INSTANCE C"), ("B", ";")],
+        &[("A", r"\* INSTANCE C"), ("B", ";")],
         1,
         "A accepted\nB refused\n  2:1-2:2 E201\nmodules=2 refused=1\n",
     ),

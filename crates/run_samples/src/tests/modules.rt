@@ -34,7 +34,8 @@ pub static MODULES: [Single; 35] = [
         "A refused\n  4:14-4:15 E402\nmodules=1 refused=1\n",
     ),
     (
-        "CONSTANT N (* a, (* N *) b *), M \\* N\nVARIABLE N, N",
+        r"CONSTANT N (* a, (* N *) b *), M \* N
+VARIABLE N, N",
         1,
         "A refused\n  3:10-3:11 E402\n  3:13-3:14 E402\nmodules=1 refused=1\n",
     ),
@@ -95,7 +96,7 @@ pub static MODULES: [Single; 35] = [
         "A refused\n  4:1-4:5 E202\nmodules=1 refused=1\n",
     ),
     (
-        "f[x \\in S => T] == 1",
+        r"f[x \in S => T] == 1",
         1,
         "A refused\n  2:11-2:13 E202\nmodules=1 refused=1\n",
     ),
@@ -107,12 +108,15 @@ pub static MODULES: [Single; 35] = [
     ),
     ("CONSTANT N\nF == N", 0, "A accepted\nmodules=1 refused=0\n"),
     (
-        "CONSTANT a, b, c\nU == /\\ a\n     /\\ b\n     \\/ c",
+        r"CONSTANT a, b, c
+U == /\ a
+     /\ b
+     \/ c",
         0,
         "A accepted\nmodules=1 refused=0\n",
     ),
     (
-        "F[a \\in {1}] == F[a]",
+        r"F[a \in {1}] == F[a]",
         0,
         "A accepted\nmodules=1 refused=0\n",
     ),
@@ -127,7 +131,8 @@ pub static MODULES: [Single; 35] = [
         "A accepted\nmodules=1 refused=0\n",
     ),
     (
-        "CONSTANT N\nU == \\A N \\in {1} : N = N",
+        r"CONSTANT N
+U == \A N \in {1} : N = N",
         1,
         "A refused\n  3:9-3:10 E402\nmodules=1 refused=1\n",
     ),
@@ -151,7 +156,7 @@ pub static MODULES: [Single; 35] = [
         1,
         "A refused\n  2:13-2:14 E402\nmodules=1 refused=1\n",
     ),
-    ("f[x \\in 1] == x", 0, "A accepted\nmodules=1 refused=0\n"),
+    (r"f[x \in 1] == x", 0, "A accepted\nmodules=1 refused=0\n"),
     (
         "CONSTANT c, G(_), _ + _",
         0,

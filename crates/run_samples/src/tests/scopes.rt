@@ -41,7 +41,9 @@ pub static SCOPES: [Single; 53] = [
     ),
     // Symbols that are passed; a built-in one needs no module.
     (
-        "F(G(_, _)) == G(1, 2)\nH(G(_)) == G(1)\nU == <<F(\\cup), F(%), H(-.)>>",
+        r"F(G(_, _)) == G(1, 2)
+H(G(_)) == G(1)
+U == <<F(\cup), F(%), H(-.)>>",
         1,
         "A refused\n  4:19-4:20 E401\n  4:25-4:27 E401\nmodules=1 refused=1\n",
     ),
@@ -83,13 +85,18 @@ pub static SCOPES: [Single; 53] = [
     ),
     // Built-in symbols need no module.
     (
-        "VARIABLE x\nU == {1} \\cup SUBSET DOMAIN x # UNION {x'}",
+        r"VARIABLE x
+U == {1} \cup SUBSET DOMAIN x # UNION {x'}",
         0,
         "A accepted\nmodules=1 refused=0\n",
     ),
     // A name that is declared stays what it is.
     (
-        "VARIABLE x\nCONSTANT x(_)\nx == 1\nx[y \\in {2}] == y\nU == x",
+        r"VARIABLE x
+CONSTANT x(_)
+x == 1
+x[y \in {2}] == y
+U == x",
         1,
         "A refused\n  3:10-3:11 E402\n  4:1-4:2 E402\n  5:1-5:2 E402\nmodules=1 refused=1\n",
     ),
@@ -101,31 +108,35 @@ pub static SCOPES: [Single; 53] = [
     ),
     // A bound name hides nothing of its module.
     (
-        "CONSTANT c\nVARIABLE v\nF == 1\nU == \\A c, v \\in {2} : \\E F \\in {3} : c = v",
+        r"CONSTANT c
+VARIABLE v
+F == 1
+U == \A c, v \in {2} : \E F \in {3} : c = v",
         1,
         "A refused\n  5:9-5:10 E402\n  5:12-5:13 E402\n  5:27-5:28 E402\nmodules=1 refused=1\n",
     ),
     // Nor a parameter, which its own set may name.
     (
-        "F(p) == \\E p \\in {p} : p = 1",
+        r"F(p) == \E p \in {p} : p = 1",
         1,
         "A refused\n  2:12-2:13 E402\nmodules=1 refused=1\n",
     ),
     // Nor another bound name.
     (
-        "U == \\A x \\in {1} : \\E x \\in {x} : x = 1",
+        r"U == \A x \in {1} : \E x \in {x} : x = 1",
         1,
         "A refused\n  2:24-2:25 E402\nmodules=1 refused=1\n",
     ),
     // A name twice in a list of bounds, and in a list of names.
     (
-        "U == \\A x \\in {1}, x \\in {2} : x = 1\nV == \\E y, y : y = 1",
+        r"U == \A x \in {1}, x \in {2} : x = 1
+V == \E y, y : y = 1",
         1,
         "A refused\n  2:20-2:21 E402\n  3:12-3:13 E402\nmodules=1 refused=1\n",
     ),
     // A name twice in tuples of bounds.
     (
-        "U == \\A <<x, x>> \\in {1}, <<y, x>> \\in {2} : y = x",
+        r"U == \A <<x, x>> \in {1}, <<y, x>> \in {2} : y = x",
         1,
         "A refused\n  2:14-2:15 E402\n  2:32-2:33 E402\nmodules=1 refused=1\n",
     ),
@@ -155,13 +166,18 @@ pub static SCOPES: [Single; 53] = [
     ),
     // What a LET held can be defined behind it.
     (
-        "U == LET G(x) == x f[y \\in {1}] == G(y) IN f[1]\nx == U\ny == x\nf == y",
+        r"U == LET G(x) == x f[y \in {1}] == G(y) IN f[1]
+x == U
+y == x
+f == y",
         0,
         "A accepted\nmodules=1 refused=0\n",
     ),
     // The built-in names are there already.
     (
-        "TRUE == 1\nU == \\A STRING \\in {1} : TRUE\nF(BOOLEAN) == FALSE",
+        r"TRUE == 1
+U == \A STRING \in {1} : TRUE
+F(BOOLEAN) == FALSE",
         1,
         "A refused\n  2:1-2:5 E402\n  3:9-3:15 E402\n  4:3-4:10 E402\nmodules=1 refused=1\n",
     ),
@@ -173,67 +189,79 @@ pub static SCOPES: [Single; 53] = [
     ),
     // A function's name as its own bound name.
     (
-        "f[f \\in {1}] == 2",
+        r"f[f \in {1}] == 2",
         1,
         "A refused\n  2:3-2:4 E402\nmodules=1 refused=1\n",
     ),
     // A function can be used in its body.
     (
-        "f[x, y \\in {1}, <<z>> \\in {2}] == f[x, y, z]",
+        r"f[x, y \in {1}, <<z>> \in {2}] == f[x, y, z]",
         0,
         "A accepted\nmodules=1 refused=0\n",
     ),
     // But not in the sets of its bounds.
     (
-        "f[x \\in {f}] == f[x]",
+        r"f[x \in {f}] == f[x]",
         1,
         "A refused\n  2:10-2:11 E401\nmodules=1 refused=1\n",
     ),
     // Nor can its other bound names.
     (
-        "f[x \\in {1}, y \\in {x}] == <<x, y>>",
+        r"f[x \in {1}, y \in {x}] == <<x, y>>",
         1,
         "A refused\n  2:21-2:22 E401\nmodules=1 refused=1\n",
     ),
     // Sets of bounds stand outside the scope of the whole list.
     (
-        "U == \\A x \\in {x}, y \\in {x} : x = y",
+        r"U == \A x \in {x}, y \in {x} : x = y",
         1,
         "A refused\n  2:16-2:17 E401\n  2:27-2:28 E401\nmodules=1 refused=1\n",
     ),
     // What stands before bounds is in their scope.
     (
-        "U == {x : x \\in {1}}\nV == {y : x \\in {x}}",
+        r"U == {x : x \in {1}}
+V == {y : x \in {x}}",
         1,
         "A refused\n  3:7-3:8 E401\n  3:18-3:19 E401\nmodules=1 refused=1\n",
     ),
     // A bound name there hides nothing either.
     (
-        "CONSTANT c\nU == {<<c, x>> : x \\in {c}, c \\in {1}}",
+        r"CONSTANT c
+U == {<<c, x>> : x \in {c}, c \in {1}}",
         1,
         "A refused\n  3:29-3:30 E402\nmodules=1 refused=1\n",
     ),
     // The sets of other forms that bind names.
     (
-        "U == {x \\in {x} : x = 1}\nV == CHOOSE y \\in {y} : y = 1\nW == [z \\in {z} |-> z]",
+        r"U == {x \in {x} : x = 1}
+V == CHOOSE y \in {y} : y = 1
+W == [z \in {z} |-> z]",
         1,
         "A refused\n  2:14-2:15 E401\n  3:20-3:21 E401\n  4:14-4:15 E401\nmodules=1 refused=1\n",
     ),
     // What CHOOSE binds, and where that ends.
     (
-        "U == CHOOSE x : x = 1\nV == CHOOSE <<y, z>> \\in {<<1, 2>>} : y = z\nW == <<x, y>>",
+        r"U == CHOOSE x : x = 1
+V == CHOOSE <<y, z>> \in {<<1, 2>>} : y = z
+W == <<x, y>>",
         1,
         "A refused\n  4:8-4:9 E401\n  4:11-4:12 E401\nmodules=1 refused=1\n",
     ),
     // Temporal quantifiers bind names.
     (
-        "VARIABLE v\nU == \\AA x : x = v\nV == \\EE y, y : y = v\nW == \\EE v : v = 1",
+        r"VARIABLE v
+U == \AA x : x = v
+V == \EE y, y : y = v
+W == \EE v : v = 1",
         1,
         "A refused\n  4:13-4:14 E402\n  5:10-5:11 E402\nmodules=1 refused=1\n",
     ),
     // Scopes that do not overlap may use one name.
     (
-        "F(x) == x\nG(x) == \\E y \\in {x} : y = x\nU == (\\A y \\in {1} : y = 1) /\\ (\\E y \\in {2} : y = 2)\ny == 3",
+        r"F(x) == x
+G(x) == \E y \in {x} : y = x
+U == (\A y \in {1} : y = 1) /\ (\E y \in {2} : y = 2)
+y == 3",
         0,
         "A accepted\nmodules=1 refused=0\n",
     ),
@@ -257,7 +285,9 @@ pub static SCOPES: [Single; 53] = [
     ),
     // A synonym is the same symbol.
     (
-        "CONSTANTS _ \\o _, -. _\na \\circ b == a\n-. a == a",
+        r"CONSTANTS _ \o _, -. _
+a \circ b == a
+-. a == a",
         1,
         "A refused\n  3:3-3:8 E402\n  4:1-4:3 E402\nmodules=1 refused=1\n",
     ),

@@ -121,7 +121,12 @@ pub static NEEDED: [Case; 12] = [
     ),
     // A module in comments is not needed.
     (
-        &[("A", "\\* INSTANCE Q\n(* INSTANCE A *)\nU == \"INSTANCE R\"")],
+        &[(
+            "A",
+            r#"\* INSTANCE Q
+(* INSTANCE A *)
+U == "INSTANCE R""#,
+        )],
         0,
         "A accepted\nmodules=1 refused=0\n",
     ),

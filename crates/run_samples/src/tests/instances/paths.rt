@@ -40,7 +40,7 @@ pub static PATHS: [Case; 20] = [
     (
         &[
             ("A", "I == INSTANCE B\nU == <<I!TRUE, I!x, I!y, I!F(1)>>"),
-            ("B", "F(x) == \\A y \\in {1} : x = y"),
+            ("B", r"F(x) == \A y \in {1} : x = y"),
         ],
         1,
         "A refused\n  3:10-3:14 E401\n  3:18-3:19 E401\n  3:23-3:24 E401\nB accepted\nmodules=2 refused=1\n",
@@ -81,7 +81,11 @@ pub static PATHS: [Case; 20] = [
     (
         &[(
             "A",
-            "CONSTANT c\nF == 1\nU == <<F!G, c!G, TRUE!G>>\nV == \\A x \\in {1} : x!G!H\nW(J) == J!G",
+            r"CONSTANT c
+F == 1
+U == <<F!G, c!G, TRUE!G>>
+V == \A x \in {1} : x!G!H
+W(J) == J!G",
         )],
         1,
         "A refused\n  4:10-4:11 E401\n  4:15-4:16 E401\n  4:23-4:24 E401\n  5:23-5:24 E401\n  6:11-6:12 E401\nmodules=1 refused=1\n",

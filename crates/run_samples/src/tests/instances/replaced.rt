@@ -50,7 +50,11 @@ pub static REPLACED: [Case; 20] = [
         &[
             (
                 "A",
-                "f(a) == a\ng(a, b) == a\nI == INSTANCE B WITH G <- f, ++ <- g\nJ == INSTANCE B WITH G <- g, ++ <- f\nK == INSTANCE B WITH G <- 1, ++ <- \\cup",
+                r"f(a) == a
+g(a, b) == a
+I == INSTANCE B WITH G <- f, ++ <- g
+J == INSTANCE B WITH G <- g, ++ <- f
+K == INSTANCE B WITH G <- 1, ++ <- \cup",
             ),
             ("B", "CONSTANT G(_), _ ++ _\nF == G(1) ++ 2"),
         ],
@@ -74,7 +78,10 @@ pub static REPLACED: [Case; 20] = [
         &[
             (
                 "A",
-                "f(a) == a\nI == INSTANCE B WITH + <- .., -. <- f\nJ == INSTANCE B WITH + <- \\cup, -. <- -.\nK == INSTANCE B WITH + <- \\cup, -. <- '",
+                r"f(a) == a
+I == INSTANCE B WITH + <- .., -. <- f
+J == INSTANCE B WITH + <- \cup, -. <- -.
+K == INSTANCE B WITH + <- \cup, -. <- '",
             ),
             ("B", "CONSTANT _ + _, -. _\nF == 1 + (-2)"),
         ],
@@ -86,9 +93,14 @@ pub static REPLACED: [Case; 20] = [
         &[
             (
                 "A",
-                "f(a, b) == a\nI == INSTANCE B WITH \\circ <- f, \\o <- f, + <- f, -. <- f, ^+ <- Z",
+                r"f(a, b) == a
+I == INSTANCE B WITH \circ <- f, \o <- f, + <- f, -. <- f, ^+ <- Z",
             ),
-            ("B", "CONSTANT _ \\o _\nF == 1 \\o 2"),
+            (
+                "B",
+                r"CONSTANT _ \o _
+F == 1 \o 2",
+            ),
         ],
         1,
         "A refused\n  3:34-3:36 E406\n  3:43-3:44 E405\n  3:51-3:53 E405\n  3:60-3:62 E405\n  3:66-3:67 E401\nB accepted\nmodules=2 refused=1\n",
@@ -113,7 +125,9 @@ pub static REPLACED: [Case; 20] = [
             ("B", "CONSTANTS c, G(_), _ + _\nVARIABLE x\nF == G(c + x)"),
             (
                 "C",
-                "I(c, G(_), a, x) == INSTANCE B\nJ(c, G(_), x) == INSTANCE B WITH + <- \\cup\nU == I(1, SUBSET, 2, 3)!F",
+                r"I(c, G(_), a, x) == INSTANCE B
+J(c, G(_), x) == INSTANCE B WITH + <- \cup
+U == I(1, SUBSET, 2, 3)!F",
             ),
         ],
         1,

@@ -8,7 +8,12 @@ pub static SEGMENTS: [Case; 16] = [
         &[
             (
                 "A",
-                "F == 1\nF == INSTANCE B\nU == F\nI == INSTANCE B\nI == 2\nV == \\A I \\in {1} : TRUE",
+                r"F == 1
+F == INSTANCE B
+U == F
+I == INSTANCE B
+I == 2
+V == \A I \in {1} : TRUE",
             ),
             ("B", "G == 1"),
         ],
@@ -173,7 +178,9 @@ pub static SEGMENTS: [Case; 16] = [
         &[
             (
                 "A",
-                "F(c) == LET I == INSTANCE B IN I!G\nU == \\A c \\in {1} : LET I == INSTANCE B IN I!G = F(c)\nV == LET I == INSTANCE B IN I!G",
+                r"F(c) == LET I == INSTANCE B IN I!G
+U == \A c \in {1} : LET I == INSTANCE B IN I!G = F(c)
+V == LET I == INSTANCE B IN I!G",
             ),
             ("B", "CONSTANT c\nG == c"),
         ],

@@ -100,7 +100,12 @@ pub static UNNAMED: [Case; 20] = [
     // What came is there.
     (
         &[
-            ("A", "INSTANCE B\nF == 2\nU == \\A G \\in {1} : F = G"),
+            (
+                "A",
+                r"INSTANCE B
+F == 2
+U == \A G \in {1} : F = G",
+            ),
             ("B", "F == 1\nG == 2"),
         ],
         1,

@@ -10,7 +10,12 @@ pub static USES: [Case; 8] = [
                 "A",
                 "VARIABLE x\nI == INSTANCE B\nU == <<I!f[1], I!F.a, I!f(1)>>\nV == I!F' = [I!F EXCEPT !.a = I!G]",
             ),
-            ("B", "VARIABLE x\nf[y \\in {1}] == y\nF == x"),
+            (
+                "B",
+                r"VARIABLE x
+f[y \in {1}] == y
+F == x",
+            ),
         ],
         1,
         "A refused\n  4:25-4:26 E501\n  5:33-5:34 E401\nB accepted\nmodules=2 refused=1\n",
@@ -20,7 +25,11 @@ pub static USES: [Case; 8] = [
         &[
             (
                 "A",
-                "I == INSTANCE B\nU == \\A y \\in I!S : y = I!F\nASSUME I!F = 1\nTHEOREM I!F = I!G\nf[y \\in I!S, z \\in I!T] == {I!F}",
+                r"I == INSTANCE B
+U == \A y \in I!S : y = I!F
+ASSUME I!F = 1
+THEOREM I!F = I!G
+f[y \in I!S, z \in I!T] == {I!F}",
             ),
             ("B", "F == 1\nS == {1}"),
         ],
@@ -45,7 +54,9 @@ pub static USES: [Case; 8] = [
         &[
             (
                 "A",
-                "EXTENDS Naturals\nI(G(_, _)) == INSTANCE B WITH ++ <- G\nU == <<I(+ )!F, I(\\cup)!F, I(')!F>>",
+                r"EXTENDS Naturals
+I(G(_, _)) == INSTANCE B WITH ++ <- G
+U == <<I(+ )!F, I(\cup)!F, I(')!F>>",
             ),
             ("B", "CONSTANT _ ++ _\nF == 1 ++ 2"),
             ("C", "I(G(_, _)) == INSTANCE B WITH ++ <- G\nU == I(+ )!F"),
