@@ -277,8 +277,8 @@ pub fn push_trees(
     nodes: &[u32],
 ) -> Result<(), Memory>
     requires { AreThere tree.now nodes.now }
-    ensures { OnOk result (faults.new ≡ faults.old ++ arities.part_faults (told meanings.now) Other false 0
-        (trees (map (tree_at tree.now) nodes.now))) }
+    ensures { OnOk result (faults.new ≡ faults.old ++ arities.part_faults
+        (told meanings.now) Other false 0 (trees (map (tree_at tree.now) nodes.now))) }
 {
     let mut opened = Vec::new(alloc);
     open_parts(&mut opened, meanings, tree, Role::Other, false, nodes)?;

@@ -143,7 +143,9 @@ impl Derive for Sample {
 
     ghost same_trans = { same_trans_lem };
 
-    ghost respects = { λ name own xs ys e. ap (λ (n : ℕ). record { face = slice_index own 0; hidden = slice_index own 1; below = n }) (below_same 0 xs ys e) };
+    ghost respects = { λ name own xs ys e. ap
+        (λ (n : ℕ). record { face = slice_index own 0; hidden = slice_index own 1; below = n })
+        (below_same 0 xs ys e) };
 }
 
 #[cfg(test)]

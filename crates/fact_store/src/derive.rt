@@ -62,5 +62,6 @@ pub trait Derive {
     ghost same_trans: { (a b c : Self.Fact) → same a b ≡ true → same b c ≡ true → same a c ≡ true };
 
     /// Of what is given, the faces alone count.
-    ghost respects: { (name : List ℕ) (own : Self.Own) (xs ys : List (List ℕ × State Self.Fact)) → same_given same xs ys ≡ true → fact_of name own xs ≡ fact_of name own ys };
+    ghost respects: { (name : List ℕ) (own : Self.Own) (xs ys : List (List ℕ × State Self.Fact))
+        → same_given same xs ys ≡ true → fact_of name own xs ≡ fact_of name own ys };
 }

@@ -39,9 +39,13 @@ impl<D: Derive> Model for FactStore<D> {
 
     ghost coded = { holding_code };
 
-    ghost view = { λ s. record { texts = texts_of s.slots; owed = owed D.own_of D.needs_of D.fact_of D.same s.slots } };
+    ghost view = { λ s. record {
+      texts = texts_of s.slots;
+      owed = owed D.own_of D.needs_of D.fact_of D.same s.slots;
+    } };
 
-    ghost invariant = { λ s. IsStore D.own_of D.needs_of D.fact_of D.same s.slots s.plan s.current.items };
+    ghost invariant = { λ s. IsStore D.own_of D.needs_of D.fact_of D.same s.slots s.plan
+        s.current.items };
 }
 
 // A plan of these slots, where there is none yet.

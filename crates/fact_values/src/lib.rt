@@ -15,15 +15,21 @@ ghost use Rattle.fact_values.specs.Values.{needs_in, reaches, value, value_of_te
 
 /// The value of a name is made of the values of its needs, whether or not they lead back.
 pub fn values_unfold<Own, F>()
-    ensures { (own_of : List ℕ → List ℕ → Own) (needs_of : Own → Option (List (List ℕ))) (fact_of : List ℕ → Own → List (List ℕ × State F) → F)
+    ensures { (own_of : List ℕ → List ℕ → Own) (needs_of : Own → Option (List (List ℕ)))
+        (fact_of : List ℕ → Own → List (List ℕ × State F) → F)
         → (texts : Texts) (name : List ℕ)
-        → value own_of needs_of fact_of texts name ≡ value_of_text own_of needs_of fact_of texts (value own_of needs_of fact_of texts) name (map.get texts name) }
+        → value own_of needs_of fact_of texts name ≡ value_of_text own_of needs_of fact_of texts
+        (value own_of needs_of fact_of texts) name (map.get texts name) }
 {}
 
 /// One name reaches another exactly where a path of needs leads there.
 pub fn reach_is_paths<Own, F>()
-    ensures path { (own_of : List ℕ → List ℕ → Own) (needs_of : Own → Option (List (List ℕ))) (fact_of : List ℕ → Own → List (List ℕ × State F) → F)
-        → (texts : Texts) (a b : List ℕ) → reaches own_of needs_of fact_of texts a b ≡ true → Reaches (needs_in own_of needs_of fact_of texts) a b }
-    ensures found { (own_of : List ℕ → List ℕ → Own) (needs_of : Own → Option (List (List ℕ))) (fact_of : List ℕ → Own → List (List ℕ × State F) → F)
-        → (texts : Texts) (a b : List ℕ) → Reaches (needs_in own_of needs_of fact_of texts) a b → reaches own_of needs_of fact_of texts a b ≡ true }
+    ensures path { (own_of : List ℕ → List ℕ → Own) (needs_of : Own → Option (List (List ℕ)))
+        (fact_of : List ℕ → Own → List (List ℕ × State F) → F)
+        → (texts : Texts) (a b : List ℕ) → reaches own_of needs_of fact_of texts a b ≡ true
+        → Reaches (needs_in own_of needs_of fact_of texts) a b }
+    ensures found { (own_of : List ℕ → List ℕ → Own) (needs_of : Own → Option (List (List ℕ)))
+        (fact_of : List ℕ → Own → List (List ℕ × State F) → F)
+        → (texts : Texts) (a b : List ℕ) → Reaches (needs_in own_of needs_of fact_of texts) a b
+        → reaches own_of needs_of fact_of texts a b ≡ true }
 {}

@@ -41,7 +41,8 @@ fn nested_parameter(ended: Option<&Ended<'_>>, name: Named<'_>) -> Result<Option
 // What a name means behind an instance of a nested module.
 fn nested_entry(ended: Option<&Ended<'_>>, name: Named<'_>) -> Result<Option<Meaning>, Memory>
     ensures { IfOk result (λ meaning. meaning
-        ≡ entry_of (instantiable (exports_shown (option_copied ended.entry))) (meant_by name.entry)) }
+        ≡ entry_of (instantiable (exports_shown (option_copied ended.entry)))
+        (meant_by name.entry)) }
 {
     match ended {
         Some(ended) => copied(kept_among(Kind::Instantiable, &ended.exports, name)),

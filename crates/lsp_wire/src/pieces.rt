@@ -145,7 +145,8 @@ fn note_texts(alloc: Global, notes: &[Note]) -> Result<String, AllocError>
 
 fn notes_around(alloc: Global, items: &str, uri: &str) -> Result<String, AllocError>
     ensures { IfOk result (λ json. string_bytes json
-        ≡ codes "{\"diagnostics\":" ++ (items.now ++ (codes ",\"uri\":" ++ (uri.now ++ codes "}")))) }
+        ≡ codes "{\"diagnostics\":" ++ (items.now
+        ++ (codes ",\"uri\":" ++ (uri.now ++ codes "}")))) }
 {
     format!(in alloc; "{{\"diagnostics\":{items},\"uri\":{uri}}}")
 }

@@ -46,9 +46,13 @@ impl<'a> Model for Exported<'a> {
 
     ghost Value = { Table Meaning };
 
-    ghost view = { λ t. record { words = taken_words t.taken ++ words_of t.words.entries; symbols = t.symbols.items } };
+    ghost view = { λ t. record {
+      words = taken_words t.taken ++ words_of t.words.entries;
+      symbols = t.symbols.items;
+    } };
 
-    ghost invariant = { λ t. AreNew bytes_eq [] (taken_words t.taken ++ words_of t.words.entries) × AreNew same_symbol [] t.symbols.items };
+    ghost invariant = { λ t. AreNew bytes_eq [] (taken_words t.taken ++ words_of t.words.entries)
+        × AreNew same_symbol [] t.symbols.items };
 }
 
 // Whether a word was taken over.

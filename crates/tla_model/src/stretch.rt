@@ -42,7 +42,8 @@ impl Model for Stretch {
 
     ghost view = { λ s. words_of s.words.entries };
 
-    ghost invariant = { λ s. AreAt stands_for_parameter (words_of s.words.entries) s.parameters.items × AreAt is_instance (words_of s.words.entries) s.instances.items };
+    ghost invariant = { λ s. AreAt stands_for_parameter (words_of s.words.entries) s.parameters.items
+        × AreAt is_instance (words_of s.words.entries) s.instances.items };
 }
 
 // Notes a place, if it is one of those.

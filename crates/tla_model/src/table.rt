@@ -51,7 +51,8 @@ impl Model for NameTable {
 
     ghost view = { λ t. record { words = all_words t.stretches; symbols = t.symbols } };
 
-    ghost invariant = { λ t. AreNew bytes_eq [] (all_words t.stretches) × (t.len ≡ length (all_words t.stretches)) × AreNew same_symbol [] t.symbols };
+    ghost invariant = { λ t. AreNew bytes_eq [] (all_words t.stretches)
+        × (t.len ≡ length (all_words t.stretches)) × AreNew same_symbol [] t.symbols };
 }
 
 // The same stretches.

@@ -84,7 +84,8 @@ impl Model for Text {
 
     ghost view = { λ t. string_bytes t.text };
 
-    ghost invariant = { λ t. (length (string_bytes t.text) < 2 ^ 31) × (t.starts.items ≡ starts_after 0 (string_bytes t.text)) };
+    ghost invariant = { λ t. (length (string_bytes t.text) < 2 ^ 31)
+        × (t.starts.items ≡ starts_after 0 (string_bytes t.text)) };
 }
 
 impl Text {

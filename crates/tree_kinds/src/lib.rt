@@ -21,7 +21,8 @@ ghost use Rattle.tree_kinds.specs.Making.{IsMade};
 /// What stands behind an instance has the kind that it has with the replacements put in, where each of
 /// these is of a level that it may have, and else none.
 pub fn instance_is_put_in()
-    ensures { (text : Text) (known : Known) (named : List ℕ → Outside) (around : Around) (l : Lexeme)
+    ensures { (text : Text) (known : Known) (named : List ℕ → Outside) (around : Around)
+        (l : Lexeme)
         (rs : List Replaced) (path : Steps)
         → kind (behind_instance text known named around l rs path)
         ≡ if are_met (map (guard_of (module_of text known named l).is_constant) rs)
@@ -31,7 +32,8 @@ pub fn instance_is_put_in()
 /// A node of a flat module that has the form of a written tree, over parts that are what the tree is
 /// made of, expands to what the tree expands to.
 pub fn forms_are_expanded()
-    ensures { (flat : FlatModule) (i : ℕ) (node : Node) (s : List Item) (text : Text) (known : Known)
+    ensures { (flat : FlatModule) (i : ℕ) (node : Node) (s : List Item) (text : Text)
+        (known : Known)
         (named : List ℕ → Outside) (around : Around) (x : Tree) → IsOrdered flat
         → slice_get flat.nodes i ≡ Some node
         → IsMade text known named around x node.form

@@ -76,7 +76,8 @@ fn perform<'a, S: Surround<'a>>(
 ) -> Result<(), Memory>
     requires next { IsReady text.now tree.now next }
     requires tasks { AreReady text.now tree.now (stack tasks.old.items) }
-    ensures { OnOk result (IsDone text.now (S.around around.now) (S.held around.now) tree.now next.entry
+    ensures { OnOk result (IsDone text.now (S.around around.now)
+        (S.held around.now) tree.now next.entry
         (context_of context.old) (context_of context.new) findings.old findings.new
         (stack tasks.old.items) (stack tasks.new.items)) }
 {

@@ -138,7 +138,8 @@ fn use_further<'a, S: Surround<'a>>(
         ≡ findings.old
         ++ scopes.use_findings at
         (walking.called last number
-        (exports.entry_of (S.held around.now held.entry []) (entities.name_of text.now.source at)))) }
+        (exports.entry_of (S.held around.now held.entry [])
+        (entities.name_of text.now.source at)))) }
 {
     let meaning = around.entry(held, text.name_of(at))?;
     let next = onward(text, around, held, at, &meaning);

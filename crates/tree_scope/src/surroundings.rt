@@ -48,7 +48,8 @@ pub trait Surround<'a> {
 
     /// Where a path comes to by one name more.
     fn onward(&self, at: Held<'a>, name: Named<'_>) -> Held<'a>
-        ensures { held self.now result ≡ exports.onward (held self.now at.entry) (meant_by name.entry) };
+        ensures { held self.now result ≡ exports.onward (held self.now at.entry)
+            (meant_by name.entry) };
 
     /// The number of the path that begins there, from 1.
     fn path_number(&self, start: u32) -> u32

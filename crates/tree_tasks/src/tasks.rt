@@ -123,7 +123,8 @@ fn append_visits(tasks: &mut Vec<Task<'_>>, nodes: &[u32]) -> Result<(), Memory>
 
 /// Puts a task on top of what is due.
 pub fn push_task<'a>(tasks: &mut Vec<Task<'a>>, task: Task<'a>) -> Result<(), Memory>
-    ensures { OnOk result (walking.stack tasks.new.items ≡ task.entry ∷ walking.stack tasks.old.items) }
+    ensures { OnOk result (walking.stack tasks.new.items
+        ≡ task.entry ∷ walking.stack tasks.old.items) }
 {
     tasks.push(task)?;
     Ok(())

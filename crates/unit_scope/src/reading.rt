@@ -93,7 +93,8 @@ impl<'a> Reading<'a> {
         ensures modules { OnOk result (self.new.modules ≡ self.old.modules) }
         ensures reading { OnOk result (reading_of scope.now self.new
             ≡ in_modules.extended (reading_of scope.now self.old)
-            (in_modules.brings text.now (files_in scope.now) (reading_of scope.now self.old) name)) }
+            (in_modules.brings text.now (files_in scope.now)
+            (reading_of scope.now self.old) name)) }
         ensures findings { OnOk result (findings.new
             ≡ findings.old ++ readings.clash_at text.now (files_in scope.now)
             (reading_of scope.now self.old) name) }
