@@ -5,8 +5,9 @@ use Rattle.std.specs.Str.{bytes_eq}
 use Rattle.list_laws.proofs.Lists.{at-mapped}
 use Rattle.list_laws.proofs.Tests.{and-both}
 use Rattle.list_laws.proofs.Texts.{text-itself}
+use Rattle.std_modules.specs.StdTexts.{std_names}
 use Rattle.family_facts.specs.Family.{AreMembersDistinct, Member, is_there}
-use Rattle.family_facts.specs.Verdicts.{AreDistinct, built_in, built_in_members, built_in_names, family_of, member_of}
+use Rattle.family_facts.specs.Verdicts.{AreDistinct, built_in, built_in_members, family_of, member_of}
 use Rattle.family_facts.specs.declared.verdict.File.{File}
 use Rattle.family_facts.proofs.Lists.{at-contains, in-filter, mapped}
 use Rattle.family_facts.proofs.Members.{AreOneEach, not-hidden, one-each}
@@ -24,7 +25,7 @@ pub not-so : (a : Bool) → not a ≡ true → a ≡ false
 not-so true e = cc
 not-so false e = refl
 
-pub built-in-apart : are_apart built_in_names ≡ true
+pub built-in-apart : are_apart std_names ≡ true
 built-in-apart = refl
 
 at-either : {A : Type 0} (xs ys : List A) (i : ℕ) (x : A) → slice_get (xs ++ ys) i ≡ Some x → (slice_get xs i ≡ Some x) ⊎ ((k : ℕ) × (i ≡ length xs + k) × (slice_get ys k ≡ Some x))
@@ -90,7 +91,7 @@ family-placed files d k l a b ea eb same =
       | inr sa ↦ elim (at-either own others l b eb) as (λ _. k ≡ l) [
         | inl fb ↦ absurd (not-hidden own b a (at-contains own l b fb) (in-filter kept built_in_members a (at-contains others sa.0 a sa.2)).1 (sym same))
         | inr sb ↦
-            let place : sa.0 ≡ sb.0 = built-in-placed kept built_in_names built-in-apart sa.0 sb.0 a b sa.2 sb.2 same in
+            let place : sa.0 ≡ sb.0 = built-in-placed kept std_names built-in-apart sa.0 sb.0 a b sa.2 sb.2 same in
             sa.1 ∙ (ap (λ n. length own + n) place ∙ sym sb.1)
       ]
     ]

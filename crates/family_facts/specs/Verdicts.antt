@@ -6,16 +6,12 @@ use Rattle.tla_model.specs.declared.entity.Use.{Use}
 use Rattle.module_facts.specs.Checks.{unless_any}
 use Rattle.front_laws.specs.Fronts.{Front, Tree, Fault, readable_len}
 use Rattle.fact_values.specs.Names.{Texts}
-use Rattle.std_modules.specs.StdTexts.{std_text}
+use Rattle.std_modules.specs.StdTexts.{std_names, std_text}
 use Rattle.family_facts.specs.Facts.{diagnosed, texts_of}
 use Rattle.family_facts.specs.Family.{Member, Diagnosed, IsDiagnosed, over}
 use Rattle.family_facts.specs.Fronts.{front_of}
 use Rattle.family_facts.specs.declared.verdict.File.{File}
 use Rattle.family_facts.specs.declared.verdict.Verdict.{Verdict}
-
--- the built-in modules
-abbrev pub built_in_names : List (List ℕ)
-built_in_names = codes "Naturals" ∷ codes "Integers" ∷ codes "Reals" ∷ codes "Sequences" ∷ codes "FiniteSets" ∷ codes "Bags" ∷ codes "RealTime" ∷ codes "TLC" ∷ []
 
 -- the built-in module of a name, as a member of a family
 abbrev pub built_in : List ℕ → Member
@@ -23,7 +19,7 @@ built_in name = record { name = name; bytes = unwrap_or (std_text name) [] }
 
 -- all built-in modules
 abbrev pub built_in_members : List Member
-built_in_members = map built_in built_in_names
+built_in_members = map built_in std_names
 
 -- a file as a member of a family: the module of its name
 abbrev pub member_of : File → Member

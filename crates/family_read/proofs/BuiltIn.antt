@@ -2,8 +2,7 @@
 use Rattle.std.proofs.Common.{◌≡◌, ◌<◌, ◌^◌, ℕ, List, length, refl, arith}
 use Rattle.std.specs.Prelude.{codes, unwrap_or, []}
 use Rattle.std.specs.List.{AllByRecursion}
-use Rattle.std_modules.specs.StdTexts.{std_text, STD_MODULES, naturals, integers, reals, sequences, finite_sets, bags, real_time, tlc}
-use Rattle.family_facts.specs.Verdicts.{built_in_names}
+use Rattle.std_modules.specs.StdTexts.{STD_MODULES, bags, finite_sets, integers, naturals, real_time, reals, sequences, std_names, std_text, tlc}
 
 abbrev pub IsSmall : List ℕ → Type 0
 IsSmall name = length (unwrap_or (std_text name) []) < 2 ^ 31
@@ -43,5 +42,5 @@ small-tlc : IsSmall (codes "TLC")
 unfolding STD_MODULES tlc
 small-tlc = few (length (unwrap_or (std_text (codes "TLC")) [])) 632 refl (omega arith)
 
-pub built-in-small : AllByRecursion IsSmall built_in_names
+pub built-in-small : AllByRecursion IsSmall std_names
 built-in-small = (small-naturals, (small-integers, (small-reals, (small-sequences, (small-finite-sets, (small-bags, (small-real-time, (small-tlc, tt))))))))

@@ -20,24 +20,12 @@ use family_facts::File;
 use family_tables::{Module, Reading, Table};
 use module_graph::{imports_are_lexemes, lexemes_lie_names, named_modules};
 use std::alloc::Global;
-use std_modules::std_text;
+use std_modules::{STD_NAMES, std_text};
 use tla_front::{FrontError, front};
 use tla_model::spelled;
 use tla_symbols::Lexeme;
 use tla_tree::ModuleTree;
 use tool_list::{Chars, List, Memory};
-
-// The built-in modules.
-static BUILT_IN: [&str; 8] = [
-    "Naturals",
-    "Integers",
-    "Reals",
-    "Sequences",
-    "FiniteSets",
-    "Bags",
-    "RealTime",
-    "TLC",
-];
 
 // The front of a module, with what is asked of its lexemes.
 fn read_front(alloc: Global, name: &str, bytes: &[u8]) -> Result<ModuleTree, FrontError>
@@ -159,6 +147,6 @@ pub fn read_family(alloc: Global, files: &[File]) -> Result<Table<Module>, Memor
     ensures { IfOk result (λ modules. AreModules (family_of files.now) modules) }
 {
     let mut modules = read_files(alloc, files)?;
-    add_all(alloc, &mut modules, &BUILT_IN)?;
+    add_all(alloc, &mut modules, &STD_NAMES)?;
     Ok(modules)
 }

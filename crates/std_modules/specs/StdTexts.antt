@@ -176,6 +176,10 @@ STD_MODULES =
     (codes "TLC", tlc) ∷
     []
 
+-- the names of the built-in modules
+abbrev pub std_names : List (List ℕ)
+std_names = codes "Naturals" ∷ codes "Integers" ∷ codes "Reals" ∷ codes "Sequences" ∷ codes "FiniteSets" ∷ codes "Bags" ∷ codes "RealTime" ∷ codes "TLC" ∷ []
+
 -- the text of the first entry with a name
 abbrev pub text_in : {E : Type 0} → (E → List ℕ) → (E → List ℕ) → List E → List ℕ → Option (List ℕ)
 text_in named text [] name = None

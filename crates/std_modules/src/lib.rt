@@ -1,6 +1,6 @@
 //! The built-in modules.
 //!
-//! Answers the text of a built-in module. Knows nothing of how a text is read.
+//! Answers the text of a built-in module, and the names of all. Knows nothing of how a text is read.
 #![tactic(auto)]
 
 ghost use Rattle.std.specs.Prelude.{◌≡◌, option_copied};
@@ -9,6 +9,18 @@ ghost use Rattle.std_modules.specs.StdTexts as std_texts;
 mod texts;
 
 use texts::{BAGS, FINITE_SETS, INTEGERS, NATURALS, REAL_TIME, REALS, SEQUENCES, TLC};
+
+/// The names of the built-in modules, each once.
+pub static STD_NAMES: [&str; 8] = [
+    "Naturals",
+    "Integers",
+    "Reals",
+    "Sequences",
+    "FiniteSets",
+    "Bags",
+    "RealTime",
+    "TLC",
+];
 
 static TEXTS: [(&str, &str); 8] = [
     ("Naturals", NATURALS),
