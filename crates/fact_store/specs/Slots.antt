@@ -2,6 +2,7 @@
 use Rattle.std.specs.Prelude.{◌≡◌, ℕ, Bool, false, not, ◌&&◌, List, Option, Some, None, map, count_by, unwrap_or, slice_get, if◌then◌else◌}
 use Rattle.std.specs.Arc.{arc_value}
 use Rattle.std.specs.FinMap.{from_entries}
+use Rattle.list_laws.specs.Distinct.{AreNamedApart}
 use Rattle.fact_store.specs.declared.slot.Slot.{Slot}
 use Rattle.fact_store.specs.declared.slot.Kept.{Kept}
 use Rattle.fact_values.specs.Names.{name_eq, Texts}
@@ -24,7 +25,7 @@ module _ {Own F : Type 0} where
 
   -- no two slots have one name
   abbrev pub AreDistinct : List (Slot Own F) → Type 0
-  AreDistinct slots = (i j : ℕ) (x y : Slot Own F) → slice_get slots i ≡ Some x → slice_get slots j ≡ Some y → x.name ≡ y.name → i ≡ j
+  AreDistinct slots = AreNamedApart (λ (slot : Slot Own F). slot.name) slots
 
   -- no slot has this name
   abbrev pub HasNoSlot : List (Slot Own F) → List ℕ → Type 0

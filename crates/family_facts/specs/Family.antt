@@ -13,6 +13,7 @@ use Rattle.module_graph.specs.Imports.{imports_of}
 use Rattle.front_laws.specs.Fronts.{IsFront, Tree, Fault}
 use Rattle.unit_grammar.specs.Units.{ModuleUnits}
 use Rattle.module_facts.specs.Checks.{ImportStatus, Unknown, Cyclic, Refused, Accepted, all_faults, all_uses, files_given}
+use Rattle.list_laws.specs.Distinct.{AreNamedApart}
 
 -- a module's text under its name
 pub record Member : Type 0 where
@@ -31,7 +32,7 @@ over files built_in = files ++ filter (λ m. not (is_there files m.name)) built_
 
 -- no two members have one name
 abbrev pub AreMembersDistinct : List Member → Type 0
-AreMembersDistinct family = (i j : ℕ) (a b : Member) → slice_get family i ≡ Some a → slice_get family j ≡ Some b → a.name ≡ b.name → i ≡ j
+AreMembersDistinct family = AreNamedApart (λ (member : Member). member.name) family
 
 -- all that is found of a module: its faults, the uses of its names, and what it is to others where it has no faults
 pub record Diagnosed : Type 0 where

@@ -7,6 +7,7 @@ use Rattle.module_facts.specs.Checks.{unless_any}
 use Rattle.front_laws.specs.Fronts.{Front, Tree, Fault, readable_len}
 use Rattle.fact_values.specs.Names.{Texts}
 use Rattle.std_modules.specs.StdTexts.{std_names, std_text}
+use Rattle.list_laws.specs.Distinct.{AreNamedApart}
 use Rattle.family_facts.specs.Facts.{diagnosed, texts_of}
 use Rattle.family_facts.specs.Family.{Member, Diagnosed, IsDiagnosed, over}
 use Rattle.family_facts.specs.Fronts.{front_of}
@@ -31,7 +32,7 @@ family_of files = over (map member_of files) built_in_members
 
 -- no two files have one name
 abbrev pub AreDistinct : List File → Type 0
-AreDistinct files = (i j : ℕ) (a b : File) → slice_get files i ≡ Some a → slice_get files j ≡ Some b → a.name ≡ b.name → i ≡ j
+AreDistinct files = AreNamedApart (λ (file : File). file.name) files
 
 -- ---- verdicts
 

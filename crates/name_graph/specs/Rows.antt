@@ -5,6 +5,7 @@ use Rattle.std.specs.FinMap.{from_entries}
 use Rattle.std.specs.Map.{keys_of}
 use Rattle.std.specs.Str.{bytes_eq}
 use Rattle.std.specs.declared.cmp.Ordering.TheVariants.{Less}
+use Rattle.list_laws.specs.Distinct.{AreNamedApart}
 use Rattle.name_graph.specs.Family.{Family, name_cmp}
 use Rattle.name_graph.specs.Indices.{Has, Edges}
 
@@ -22,7 +23,7 @@ family_of rows = from_entries (named rows)
 
 -- no name stands twice
 abbrev pub AreDistinct : Rows → Type 0
-AreDistinct rows = (i j : ℕ) (a b : String Global × List (List ℕ)) → slice_get rows i ≡ Some a → slice_get rows j ≡ Some b → string_bytes a.0 ≡ string_bytes b.0 → i ≡ j
+AreDistinct rows = AreNamedApart (λ (row : String Global × List (List ℕ)). string_bytes row.0) rows
 
 -- the name at an index
 abbrev pub name_of : Option (String Global × List (List ℕ)) → List ℕ
