@@ -16,7 +16,8 @@ use Rattle.module_model.specs.Resolution.{findings, outside_in}
 use Rattle.unit_grammar.specs.Units.{ModuleUnits}
 use Rattle.module_facts.proofs.Inserting.{in-order}
 use Rattle.module_facts.specs.Ordered.{in_order}
-use Rattle.module_facts.specs.Checks.{CheckedModule, IsChecked, all_faults, files_given, given_by, given_in, import_faults, name_faults, or_else, outside_by, unless_any}
+use Rattle.module_facts.specs.Checks.{CheckedModule, all_faults, facts_of, facts_told, files_given, given_by, given_in, import_faults, name_faults, or_else, outside_by, unless_any}
+use Rattle.module_facts.proofs.Checked.{checked-facts}
 use Rattle.module_faces.specs.Faces.{IsOwnOrRefused}
 use Rattle.module_faces.proofs.Refused.{refused-over}
 use Rattle.check_core.specs.Outcomes.{IsFaceWith, IsJudged, IsRefused, IsResolved, IsWithArities, face_unless}
@@ -111,28 +112,28 @@ unless-these (fault ∷ all) items some = refl
 in-one-order : (all found : List Diagnostic) → AreInOrder all found → found ≡ in_order all
 in-one-order all found order = order-is-one all found (in_order all) order (in-order all)
 
-pub refused-checked : (imports : Imports) (source : List ℕ) (units : ModuleUnits) (all : List Diagnostic) (checked : CheckedModule) → all ≡ import_faults (given_in imports) source units → (all ≡ [] → ⊥) → IsRefused all checked → IsChecked (given_in imports) source units checked
+pub refused-checked : (imports : Imports) (source : List ℕ) (units : ModuleUnits) (all : List Diagnostic) (checked : CheckedModule) → all ≡ import_faults (given_in imports) source units → (all ≡ [] → ⊥) → IsRefused all checked → facts_told checked ≡ facts_of (given_in imports) source units
 refused-checked imports source units all checked are some refused =
     let any : import_faults (given_in imports) source units ≡ [] → ⊥ = λ none. some (are ∙ none) in
-    record {
+    checked-facts (given_in imports) source units checked (record {
       faults = in-one-order (all_faults (given_in imports) source units) checked.faults
           (rw (or-these (import_faults (given_in imports) source units) (name_faults (findings (files_given (given_in imports)) source units) units) any) (subst (λ z. AreInOrder z checked.faults) are refused.faults));
       uses = refused.uses ∙ sym (unless-these (import_faults (given_in imports) source units) _ any);
       decls = refused.decls ∙ sym (unless-these (import_faults (given_in imports) source units) _ any);
       outside = λ none. absurd (some (none-at-all all (subst (λ z. AreInOrder all z) none refused.faults)));
-    }
+    })
 
 -- with names resolved
-pub resolved-checked : (imports : Imports) (source : List ℕ) (units : ModuleUnits) (checked : CheckedModule) → [] ≡ import_faults (given_in imports) source units → IsResolved imports source units checked → IsFaceWith imports source units checked.faults checked.face → IsChecked (given_in imports) source units checked
+pub resolved-checked : (imports : Imports) (source : List ℕ) (units : ModuleUnits) (checked : CheckedModule) → [] ≡ import_faults (given_in imports) source units → IsResolved imports source units checked → IsFaceWith imports source units checked.faults checked.face → facts_told checked ≡ facts_of (given_in imports) source units
 resolved-checked imports source units checked none names face =
     let files = files-given imports in
-    record {
+    checked-facts (given_in imports) source units checked (record {
       faults = in-one-order (all_faults (given_in imports) source units) checked.faults
           (subst (λ z. AreInOrder (or_else z (name_faults (findings (files_given (given_in imports)) source units) units)) checked.faults) none (subst (λ f. AreInOrder (name_faults (findings f source units) units) checked.faults) files names.faults));
       uses = names.uses ∙ ap (λ f. map (λ r. r.«use») (resolved (findings f source units))) files ∙ ap (λ z. unless_any z (map (λ r. r.«use») (resolved (findings (files_given (given_in imports)) source units)))) none;
       decls = names.decls ∙ ap (λ z. unless_any z (decls (text_of source units) (declaring units.units))) none;
       outside = λ accepted. face.outside accepted ∙ ap (λ f. outside_in f source units) files;
-    }
+    })
 
 pub none-long : (all : List Diagnostic) → length all ≡ 0 → [] ≡ all
 none-long [] none = refl

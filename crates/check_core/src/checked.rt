@@ -3,7 +3,7 @@ ghost use Rattle.std.specs.Prelude.{◌≡◌, ◌++◌, ◌+◌, ◌-◌, ◌^�
 ghost use Rattle.unit_grammar.specs.UnitNodes.{module_of};
 ghost use Rattle.tla_model.specs.Lexemes.{spelled};
 ghost use Rattle.module_model.specs.Given.{AreFaces, IsFaceOver, IsReadable};
-ghost use Rattle.module_facts.specs.Checks.{IsChecked, given_in};
+ghost use Rattle.module_facts.specs.Checks.{facts_of, facts_told, given_in};
 ghost use Rattle.module_faces.specs.Faces.{IsRefusedFace};
 ghost use Rattle.module_model.specs.Bindings.{AreInOrder};
 ghost use Rattle.check_core.specs.Outcomes as outcomes;
@@ -51,7 +51,12 @@ impl Model for Checked {
 
     ghost Value = { CheckedModule };
 
-    ghost view = { λ c. record { faults = c.faults; uses = c.uses; decls = c.decls; face = arc_value c.face } };
+    ghost view = { λ c. record {
+      faults = c.faults;
+      uses = c.uses;
+      decls = c.decls;
+      face = arc_value c.face;
+    } };
 }
 
 impl Checked {
@@ -204,8 +209,8 @@ pub fn check_module<L>(
     requires readable { IsReadable tree.now }
     requires faces { AreFaces imported.now name.now }
     requires name { spelled tree.now.source tree.now.name ≡ name.now }
-    ensures checked { IfOk result (λ checked. IsChecked (given_in imported.now) tree.now.source
-        (module_of tree.now) checked) }
+    ensures facts { IfOk result (λ checked. facts_told checked
+        ≡ facts_of (given_in imported.now) tree.now.source (module_of tree.now)) }
     ensures face { IfOk result (λ checked. IsFaceOver imported.now name.now checked.face) }
     ensures tick { steps.new ≡ min (steps.old + 1) (2 ^ 64 - 1) }
 {

@@ -19,7 +19,8 @@ use Rattle.unit_grammar.specs.UnitNodes.{module_of}
 use Rattle.tool_list.specs.declared.Memory.{Memory}
 use Rattle.module_facts.proofs.Inserting.{in-order}
 use Rattle.module_facts.specs.Ordered.{in_order}
-use Rattle.module_facts.specs.Checks.{ImportStatus, CheckedModule, IsChecked, all_faults, all_uses, files_given, given_in, unless_any}
+use Rattle.module_facts.specs.Checks.{CheckedModule, ImportStatus, all_faults, all_uses, facts_of, facts_told, files_given, given_in, unless_any}
+use Rattle.module_facts.proofs.Checked.{facts-checked}
 use Rattle.list_laws.proofs.Lists.{contains-map}
 use Rattle.list_laws.proofs.Texts.{same-text}
 use Rattle.family_facts.specs.Family as families
@@ -50,9 +51,10 @@ use Rattle.family_check.specs.Findings.{IsFound}
 abbrev found-in : (List ℕ → ImportStatus) → List ℕ → ModuleUnits → List Diagnostic → Diagnosed
 found-in given bytes units faults = record { faults = faults; uses = all_uses given bytes units; outside = outside_in (files_given given) bytes units }
 
-tree-diagnosed : (family : List Member) (name : List ℕ) (tree : ModuleTree) (needs : List (List ℕ)) (imports : Imports) (ch : CheckedModule) (h : IsMember family name (reading.Tree tree) needs) → AreImports family name needs imports → IsChecked (given_in imports) tree.source (module_of tree) ch →
+tree-diagnosed : (family : List Member) (name : List ℕ) (tree : ModuleTree) (needs : List (List ℕ)) (imports : Imports) (ch : CheckedModule) (h : IsMember family name (reading.Tree tree) needs) → AreImports family name needs imports → facts_told ch ≡ facts_of (given_in imports) tree.source (module_of tree) →
     IsDiagnosed family name (found-in (given_in imports) (h.member).bytes (module_of tree) ch.faults)
-tree-diagnosed family name tree needs imports ch h imported k =
+tree-diagnosed family name tree needs imports ch h imported told =
+    let k = facts-checked (given_in imports) tree.source (module_of tree) ch told in
     let m : Member = h.member in
     let units : ModuleUnits = module_of tree in
     let given : List ℕ → ImportStatus = given_in imports in
@@ -65,15 +67,16 @@ tree-diagnosed family name tree needs imports ch h imported k =
     subst (λ x. IsDiagnosed family x (found-in given m.bytes units ch.faults)) h.named diagnosed
 
 -- what is said of it, and how many uses are shown
-pub tree-found : (family : List Member) (name : List ℕ) (tree : ModuleTree) (needs : List (List ℕ)) (imports : Imports) (ch : CheckedModule) (o : outcome.the_data) (count : ℕ) → IsMember family name (reading.Tree tree) needs → AreImports family name needs imports → IsChecked (given_in imports) tree.source (module_of tree) ch →
+pub tree-found : (family : List Member) (name : List ℕ) (tree : ModuleTree) (needs : List (List ℕ)) (imports : Imports) (ch : CheckedModule) (o : outcome.the_data) (count : ℕ) → IsMember family name (reading.Tree tree) needs → AreImports family name needs imports → facts_told ch ≡ facts_of (given_in imports) tree.source (module_of tree) →
     ((outside : ModuleView) → (ch.faults ≡ [] → face_outside ch.face ≡ outside) → Says ch.faults outside o) → count ≡ length (unless_any ch.faults ch.uses) → IsFound family name o count
-tree-found family name tree needs imports ch o count h imported k says counted =
+tree-found family name tree needs imports ch o count h imported told says counted =
+    let k = facts-checked (given_in imports) tree.source (module_of tree) ch told in
     let m : Member = h.member in
     let units : ModuleUnits = module_of tree in
     let given : List ℕ → ImportStatus = given_in imports in
     let outside : ModuleView = outside_in (files_given given) m.bytes units in
     let found : Diagnosed = found-in given m.bytes units ch.faults in
-    let diagnosed : IsDiagnosed family name found = tree-diagnosed family name tree needs imports ch h imported k in
+    let diagnosed : IsDiagnosed family name found = tree-diagnosed family name tree needs imports ch h imported told in
     record {
       outcome_is = record { found = found; diagnosed = diagnosed; says = says outside (λ e. k.outside e ∙ ap (λ s. outside_in (files_given given) s units) h.is.source) };
       count_is = record { found = found; diagnosed = diagnosed; is = counted ∙ ap (λ uses. length (unless_any ch.faults uses)) (k.uses ∙ ap (λ s. all_uses given s units) h.is.source) };

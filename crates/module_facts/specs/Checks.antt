@@ -106,9 +106,27 @@ pub record CheckedModule : Type 0 where
   pub decls : List Decl
   pub face : Face
 
--- a module that was checked, by what the modules are that it names; it is something to others where it is accepted
-pub record IsChecked (given : List ℕ → ImportStatus) (source : List ℕ) (units : ModuleUnits) (checked : CheckedModule) : Type 0 where
-  pub faults : checked.faults ≡ in_order (all_faults given source units)
-  pub uses : checked.uses ≡ all_uses given source units
-  pub decls : checked.decls ≡ all_decls given source units
-  pub outside : checked.faults ≡ [] → face_outside checked.face ≡ outside_in (files_given given) source units
+-- what is found of a module: what is at fault, its uses and declarations, and what it is to others, if it is accepted
+pub record ModuleFacts : Type 0 where
+  pub faults : List Diagnostic
+  pub uses : List Use
+  pub decls : List Decl
+  pub outside : Option ModuleView
+
+-- what a module is to others where nothing is at fault
+abbrev pub if_accepted : List Diagnostic → ModuleView → Option ModuleView
+if_accepted [] outside = Some outside
+if_accepted (fault ∷ rest) outside = None
+
+-- what is at fault, each once, by start, then end, then code
+abbrev pub faults_of : (List ℕ → ImportStatus) → List ℕ → ModuleUnits → List Diagnostic
+faults_of given source units = in_order (all_faults given source units)
+
+-- the facts of a module, by what the modules are that it names
+abbrev pub facts_of : (List ℕ → ImportStatus) → List ℕ → ModuleUnits → ModuleFacts
+facts_of given source units =
+    record { faults = faults_of given source units; uses = all_uses given source units; decls = all_decls given source units; outside = if_accepted (faults_of given source units) (outside_in (files_given given) source units) }
+
+-- the facts that a checked module tells
+abbrev pub facts_told : CheckedModule → ModuleFacts
+facts_told checked = record { faults = checked.faults; uses = checked.uses; decls = checked.decls; outside = if_accepted checked.faults (face_outside checked.face) }
