@@ -4,6 +4,7 @@ use Rattle.std.specs.Prelude.{Contains, map}
 use Rattle.std.specs.List.{list_any}
 use Rattle.std.specs.Map.{lookup}
 use Rattle.std.proofs.lemmas.List.Folds.{list_any_at}
+use Rattle.std.specs.Cmp.{both_ways}
 use Rattle.unit_grammar.specs.Units.{ModuleUnits}
 use Rattle.tla_model.specs.declared.entity.Use.{Use}
 use Rattle.tla_model.specs.Entities.{Entity}
@@ -31,15 +32,9 @@ some-of {A} p (x ∷ xs) any = by (p x) refl (some-of p xs) any
 any-of : {A : Type 0} (p : A → Bool) (xs : List A) (x : A) → Contains xs x → p x ≡ true → list_any p xs ≡ true
 any-of p xs x there is = list_any_at p xs there.0 x there.1 (ap p there.2 ∙ is)
 
-both-ways : (a b : Bool) → (a ≡ true → b ≡ true) → (b ≡ true → a ≡ true) → a ≡ b
-both-ways true true on back = refl
-both-ways true false on back = sym (on refl)
-both-ways false true on back = back refl
-both-ways false false on back = refl
-
 -- lists with the same elements have one that passes, or none
 pub same-any : {A : Type 0} (p : A → Bool) (xs ys : List A) → ((x : A) → Contains xs x ↔ Contains ys x) → list_any p xs ≡ list_any p ys
-same-any p xs ys same = both-ways (list_any p xs) (list_any p ys)
+same-any p xs ys same = both_ways (list_any p xs) (list_any p ys)
     (λ any. let found = some-of p xs any in any-of p ys found.0 ((same found.0).0 found.1) found.2)
     (λ any. let found = some-of p ys any in any-of p xs found.0 ((same found.0).1 found.1) found.2)
 

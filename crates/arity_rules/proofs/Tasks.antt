@@ -16,10 +16,6 @@ use Rattle.arity_rules.specs.Arities as arities
 use Rattle.arity_rules.specs.Arities.{Due, Role, count, is_known, is_part_inside, is_path, own_faults, part_due, part_faults, path_faults, role_of, tree_faults}
 use Rattle.arity_rules.specs.Walking.{AreDue, IsTaken, all_faults, all_size, below, part_tasks, path_tasks, segment_due, size, sizes, stack}
 
--- the tasks with the one that is taken
-pub popped : (item : Task) (old rest : List Task) → old ≡ rest ++ item ∷ [] → stack old ≡ item ∷ stack rest
-popped item old rest is = ap (λ z. reverse z) is ∙ reverse-append rest (item ∷ [])
-
 regroup : {A : Type 0} (a b c d : List A) → a ++ ((b ++ c) ++ d) ≡ (a ++ b) ++ (c ++ d)
 regroup a b c d = ap (λ z. a ++ z) (append_assoc b c d) ∙ sym (append_assoc a b (c ++ d))
 

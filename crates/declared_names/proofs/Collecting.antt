@@ -118,9 +118,6 @@ module _ (nodes : List ArenaNode) where
     less = omega arith;
   }
 
-pub popped : (item : Due) (old rest : List Due) → old ≡ rest ++ item ∷ [] → stack old ≡ item ∷ stack rest
-popped item old rest is = ap (λ z. reverse z) is ∙ reverse-append rest (item ∷ [])
-
 pub pushed : (item : Due) (items new : List Due) → new ≡ items ++ item ∷ [] → stack new ≡ item ∷ stack items
 pushed item items new is = ap (λ z. reverse z) is ∙ reverse-append items (item ∷ [])
 

@@ -130,10 +130,6 @@ trees-then qs x xs e = trees-last qs ∙ ap (λ z. then z x) e
     trees-last [] = refl
     trees-last (p ∷ ps) = rw (trees-last ps)
 
-pub bound-shape : {x : Tree} {a : List Lexeme} {i : ℕ} {o : Option Lexeme} → DerivesBound x a i o → shape x ≡ Shape.Bound
-bound-shape (bound m k l d e) = refl
-bound-shape (tuple_bound m k l d e) = refl
-
 -- a frame that takes bounds parted by commas
 pub record Bounding (v v' : Wait) (b : Binding) : Type 0 where
   pub starts : child v ≡ Some (fresh (Wait.BindingStart b))

@@ -17,7 +17,7 @@ use Rattle.expr_grammar.specs.declared.wait.Handed.TheVariants as Handed
 use Rattle.expr_grammar.specs.Tables.{mode, Child, fresh, handed, child, list_of, goes_on, begins, at_mark, endable, absorbs, role, edge_of, lead, takes, choice, shape, is_expression, at_part}
 use Rattle.expr_grammar.specs.Kinds.{is_name}
 use Rattle.expr_grammar.specs.Machine.{Frame, frame, State, At, Have, inside, inside_list, inner, ready, complete, absorbed, begun, marked, moved, led, on_bullet, is_operator, operator_step, part_step, within, leave, have, step, run, node_with, close_all, finish, finish_due, parse, start}
-use Rattle.expr_laws.proofs.Tabled.{promised, IsNoBullet, InItem, Ends, at_end, by_column, by_mark, by_operator, EndsHead, head_at_end, head_by_column, head_by_mark, Part, closed, headed, finished, Closed, leaf, close, done, led_node, Begun, pushed, pushed_leaf, pushed_hand, pushed_mark, fresh_child, led_push, shifted, leafed, leafed_of, handed_mark, went, handed_part, absorbed_part, next_item, next_factor, converting, converted_part}
+use Rattle.expr_laws.proofs.Tabled.{Begun, Closed, Ends, EndsHead, InItem, IsNoBullet, Part, absorbed_part, at_end, by_column, by_mark, by_operator, close, closed, converted_part, converting, done, finished, fresh_child, handed_mark, handed_part, head_at_end, head_by_column, head_by_mark, headed, item-in, leaf, leafed, leafed_of, led_node, led_push, next_factor, next_item, promised, pushed, pushed_hand, pushed_leaf, pushed_mark, shifted, went}
 
 -- whether a lexeme begins something, and whether it moves a frame
 abbrev pub starts : Start → Bool
@@ -328,9 +328,6 @@ InItem-rest : (l : Option Lexeme) (i : ℕ) (xs ys : List Lexeme) → InItem l i
 InItem-rest None i xs ys h = tt
 InItem-rest (Some t) i xs ys h = (h.0, From-back (suc t.col) xs ys h.1)
 
-item-by : (l : Option Lexeme) (first : Lexeme) (i : ℕ) (xs : List Lexeme) → l ≡ Some first → i ≤ first.col → From (suc first.col) xs → InItem l i xs
-item-by l first i xs e k f = rw e (k, f)
-
 pub complete-have : (w : Wait) (qs : List Tree) (c : List Lexeme) (fs : List Frame) (e : Tree) (b : List Lexeme) → absorbs w ≡ None → complete (frame w qs c ∷ fs) e b ≡ Have (frame w qs c ∷ fs) e b
 complete-have w qs c fs e b h = rw h
 
@@ -517,7 +514,7 @@ mutual
   reads-begun {w = w} {i = i} (next_item {v = v} {x = x} {ps = ps} {a = a} {b = b} first n p l d y g u e k m) qs c fs rest j f =
       let f' : From i (rest_begun p ++ (promised v ++ (rest_part d ++ n ∷ []))) = From-front i (rest_begun p ++ (promised v ++ (rest_part d ++ n ∷ []))) [] f in
       let g' : From (suc first.col) (rest_part d) = From-back (suc first.col) (promised v) (rest_part d) (subst (λ z. From (suc first.col) z) (tied-part d) g) in
-      let s : From (inside v i) (rest_part d) = From-part (list_of v) i (rest_part d) (item-by (list_of v) first i (rest_part d) l y g') (From-middle i (rest_begun p) (promised v) (rest_part d) (n ∷ []) f') in
+      let s : From (inside v i) (rest_part d) = From-part (list_of v) i (rest_part d) (item-in (list_of v) first i (rest_part d) l y g') (From-middle i (rest_begun p) (promised v) (rest_part d) (n ∷ []) f') in
       ap (λ z. run (Some (ready (frame w qs c ∷ fs))) z) (assoc-part_mark (rest_begun p) (promised v) (rest_part d) n rest)
       ∙ (reads-begun p qs c fs (rest_part d ++ n ∷ rest) j (From-first i (rest_begun p) (promised v) (rest_part d ++ n ∷ []) f')
       ∙ (reads-part d ps a (frame w qs c ∷ fs) (n ∷ rest) (ap (inside v) j) s

@@ -30,6 +30,7 @@ use Rattle.expr_laws.proofs.Asking.{mark-follows}
 use Rattle.expr_laws.proofs.Starting.{start-at, mark-role, trees-snoc, joined-snoc}
 use Rattle.expr_laws.proofs.Bounding.{Ended}
 use Rattle.expr_laws.proofs.Membering.{postfix-no_infix}
+use Rattle.expr_laws.proofs.PartShapes.{parameter-shape}
 
 -- what follows a definition
 pub data Closing : Option Lexeme → Type 0 where
@@ -129,13 +130,6 @@ parameter-part (postfix_symbol {op = op} {p = p} {t = s} k e h) n i t f =
     let y : defines Fix.Infix s.kind ≡ false = ap (defines Fix.Infix) e ∙ postfix-no_infix op h in
     let z : defines Fix.Postfix s.kind ≡ true = ap (defines Fix.Postfix) e ∙ h in
     closed (close {v = Wait.SymbolPlace} s (Form.PostfixParameter s) q1 refl (rw (y, z)) refl)
-
-pub parameter-shape : {x : Tree} {a : List Lexeme} → DerivesParameter x a → shape x ≡ Shape.Helper
-parameter-shape (plain k) = refl
-parameter-shape (of_places u k e g d) = refl
-parameter-shape (prefix_symbol k e) = refl
-parameter-shape (infix_symbol k e h g) = refl
-parameter-shape (postfix_symbol k e h) = refl
 
 pub read-parameters : {xs : Trees} {a : List Lexeme} → DerivesParameters xs a → (n : Lexeme) (ps : List Tree) (c : List Lexeme) (u : Lexeme) (i : ℕ) → IsMark u Mark.RightParen → Begun (Wait.Handing Handed.Definition n) (Wait.DefinitionParameters n) ps c i → ParametersRead n ps xs c a u i
 read-parameters (last_parameter {x = x} d) n ps c u i k b = record {
@@ -263,14 +257,6 @@ symbol-right-ends n i (Some t) = by (nat_lt t.col i) refl
     by : (b : Bool) → nat_lt t.col i ≡ b → EndsHead (Wait.ReplacementEnd n) i (Form.Replacement n) (Some t)
     by true k = head_by_column refl (grind (arith, nat_tests))
     by false k = head_by_mark (grind (arith, nat_tests)) refl refl refl
-
-pub replacement-shape : {x : Tree} {a : List Lexeme} {i : ℕ} {o : Option Lexeme} → DerivesReplacement x a i o → shape x ≡ Shape.Helper
-replacement-shape (replaced k l d) = refl
-replacement-shape (replaced_by_symbol k l e h) = refl
-
-pub instance-shape : {x : Tree} {a : List Lexeme} {i : ℕ} {o : Option Lexeme} → DerivesInstance x a i o → shape x ≡ Shape.Instance
-instance-shape (without k l) = refl
-instance-shape (with_replacements k l e d) = refl
 
 -- how a definition begins
 pub record Beginning (a : List Lexeme) : Type 0 where

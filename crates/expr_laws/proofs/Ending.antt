@@ -34,7 +34,8 @@ use Rattle.expr_laws.proofs.Starting.{derives-shape, trees-snoc}
 use Rattle.expr_laws.proofs.Views.{Sort, sort, Stands, expression, symbol, instance, names, bound, arm, other_arm, segment, definition, parameter, replacement, update, step, HasRead, prefix_operand, infix_operand, factor, list_first, list_item, handing_segment, handing_definition, bound_set, tuple_bound_set, quantifier_body, bounded_body, temporal_body, choose_body, bounded_choose_body, square_subscript, angle_subscript, if_else, case_arms, arm_body, other_body, let_body, update_value, definition_body, prefix_body, infix_body, postfix_body, function_head_body, replacements, replacement_right, BoundFor}
 use Rattle.expr_laws.proofs.Viewing.{trees-then, adds-close}
 use Rattle.expr_laws.proofs.Marking.{operand-due, not-subscript}
-use Rattle.expr_laws.proofs.Parting.{restand, names-shape, bound-of, instance-shape, derives-bound-shape, segment-shape, definition-shape, parameter-shape, replacement-shape, update-shape, step-shape, arm-shape}
+use Rattle.expr_laws.proofs.Parting.{restand, names-shape, bound-of, segment-shape, definition-shape, step-shape}
+use Rattle.expr_laws.proofs.PartShapes.{arm-shape, bound-shape, instance-shape, parameter-shape, replacement-shape, update-shape}
 
 abbrev pub after : Wait → Tree → Lexeme → PartMove
 after v x t = cond (is_expression (shape x)) (after_expression v (shape x) t) (after_part v (shape x) t)
@@ -275,7 +276,7 @@ ends-sound w i v ps a h x b o r y e (instance so d) =
 ends-sound w i v ps a h x b o r y e (names β k d) =
     subst (λ z. EndOk w i ps a x b o (finishes v z)) (sym (names-shape β x b d)) (subst (λ z. EndOk w i ps a x b o z) (sym (names-end v)) tt)
 ends-sound w i v ps a h x b o r y e (bound β k d) =
-    subst (λ z. EndOk w i ps a x b o (finishes v z)) (sym (derives-bound-shape (bound-of β x b _ o d))) (subst (λ z. EndOk w i ps a x b o z) (sym (bound-ends v)) tt)
+    subst (λ z. EndOk w i ps a x b o (finishes v z)) (sym (bound-shape (bound-of β x b _ o d))) (subst (λ z. EndOk w i ps a x b o z) (sym (bound-ends v)) tt)
 ends-sound w i v ps a h x b o r y e (arm so d) =
     subst (λ z. EndOk w i ps a x b o (finishes v z)) (sym (arm-shape d)) (arm-ends w i v ps a h x b o (subst (λ z. DerivesArm x b z o) e d) y)
 ends-sound w i v ps a h x b o r y e (other_arm {x = q} {b = c} so k l d) = other-arm-ends w i v ps a h x b o (of_other k l (subst (λ z. Derives q c z o) e d))

@@ -16,8 +16,8 @@ use Rattle.expr_laws.proofs.Completeness.{rest_part, tied-part, opened, reads-pa
 use Rattle.expr_laws.proofs.Asking.{mark-follows}
 use Rattle.expr_laws.proofs.Bounding.{Ended}
 use Rattle.expr_laws.proofs.Starting.{mark-role, trees-snoc, joined-snoc}
-use Rattle.expr_laws.proofs.Parting.{derives-bound-shape}
 use Rattle.expr_laws.proofs.TablesDerive.{gen-bound}
+use Rattle.expr_laws.proofs.PartShapes.{bound-shape}
 
 ends-round : (v : Wait) (ps : List Tree) (a : List Lexeme) (x : Tree) (b : List Lexeme) (f : Frame) (fs : List Frame) (form : Form) (i : ℕ) → Ends v x i form None → close_bounds (frame v ps a ∷ f ∷ fs) x b ≡ close_bounds (f ∷ fs) (built form (trees (ps ++ x ∷ [])) (a ++ b)) (a ++ b)
 ends-round v ps a x b f fs form i (ends_at_end e) = rw e
@@ -40,12 +40,12 @@ bounds-read {o = o} (last_bound {x = x} {a = a} d) q ps c =
     let p : Part Wait.WholeBounds x a 0 o = bound-part d (subst (Ended 0) (sym q) (λ qs. tt)) in
     let e : a ≡ rest_part p ++ [] = tied-part p ∙ sym (append-nil (rest_part p)) in
     let r : run (Some (ready (frame Wait.WholeBounds ps c ∷ []))) (rest_part p ++ []) ≡ Some (opened p (frame Wait.WholeBounds ps c ∷ [])) = reads-part p ps c [] [] refl (From-zero (rest_part p)) in
-    let s : close_bounds (frame Wait.WholeBounds ps c ∷ []) x a ≡ Some (trees (ps ++ x ∷ [])) = rw (derives-bound-shape d) in
+    let s : close_bounds (frame Wait.WholeBounds ps c ∷ []) x a ≡ Some (trees (ps ++ x ∷ [])) = rw (bound-shape d) in
     ap (λ z. finish_bounds (run (Some (ready (frame Wait.WholeBounds ps c ∷ []))) z)) e ∙ (ap finish_bounds r ∙ (opened-bounds p ps c [] q refl ∙ (s ∙ ap Some (trees-snoc ps x))))
 bounds-read (more_bounds {x = x} {xs = xs} {a = a} {b = b} t k d rest) q ps c =
     let p : Part Wait.WholeBounds x a 0 (Some t) = bound-part d (λ qs. mark-follows 0 qs t _ k refl refl) in
     let e : a ++ t ∷ b ≡ rest_part p ++ t ∷ b = ap (λ z. z ++ t ∷ b) (tied-part p) in
-    let m : at_part Wait.WholeBounds (shape x) t ≡ PartMove.Goes Wait.WholeBounds Conversion.Keep = rw (derives-bound-shape d, k) in
+    let m : at_part Wait.WholeBounds (shape x) t ≡ PartMove.Goes Wait.WholeBounds Conversion.Keep = rw (bound-shape d, k) in
     let go : Form → Option State = λ form. part_step [] (node_with form (frame Wait.WholeBounds ps c) x a) (c ++ a) t in
     let r : run (Some (ready (frame Wait.WholeBounds ps c ∷ []))) (rest_part p ++ t ∷ b) ≡ run (moved (at_part Wait.WholeBounds (shape x) t) (frame Wait.WholeBounds ps c) [] x a t go) b =
     marked-part p ps c [] t b refl refl refl (mark-role t _ k refl) (omega arith) (reads-part p ps c [] (t ∷ b) refl (From-zero (rest_part p)))

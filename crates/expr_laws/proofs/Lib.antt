@@ -3,11 +3,11 @@ mod Samples
 mod Tabled
 mod Completeness
 mod Asking
-mod Starting
+pub mod Starting
 mod Bounding
 mod Naming
 mod Passing
-mod Membering
+pub mod Membering
 pub mod Defining
 mod TablesDerive
 pub mod Complete
@@ -17,6 +17,7 @@ mod Views
 pub mod Viewing
 mod Marking
 mod Converting
+mod PartShapes
 mod Parting
 mod Ending
 mod Joining

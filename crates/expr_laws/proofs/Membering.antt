@@ -33,6 +33,7 @@ use Rattle.expr_laws.proofs.Asking.{continues, Follows, ends-expression, AllFit}
 use Rattle.expr_laws.proofs.Starting.{start-at, mark-role, mode-absorbs, all-fit, trees-snoc, joined-snoc, renamed, renamed-closed, Listing, tuple-first, tuple-next}
 use Rattle.expr_laws.proofs.Bounding.{part-at, Ended}
 use Rattle.expr_laws.proofs.Naming.{name-identifier, name-part}
+use Rattle.expr_laws.proofs.KindTests.{member-is}
 
 -- a bound of one name or tuple, read as an operand
 pub record MemberRead (v : Wait) (y : Tree) (a : List Lexeme) (i : ℕ) (o : Option Lexeme) : Type 0 where
@@ -129,15 +130,11 @@ binder-is (Node Form.Identifier s ps) h = plain-names ps h
 binder-is (Node Form.Tuple s ps) h = all-plain ps h
 binder-is (Node _ s ps) h = cc
 
-pub is-member : (k : LexKind) → is_member k ≡ true → k ≡ LexKind.Sym Op.In
-is-member (LexKind.Sym Op.In) h = refl
-is-member _ h = cc
-
 pub member-bare : (m : Lexeme) (x y : Tree) (b : Bool) → cond (is_member m.kind) (is_binder x) false ≡ b → b ≡ true → (m.kind ≡ LexKind.Sym Op.In) × IsBinder x
 member-bare m x y b e h = by (is_member m.kind) refl (e ∙ h)
   where
     by : (c : Bool) → is_member m.kind ≡ c → cond c (is_binder x) false ≡ true → (m.kind ≡ LexKind.Sym Op.In) × IsBinder x
-    by true k l = (is-member m.kind k, binder-is x l)
+    by true k l = (member-is m.kind k, binder-is x l)
     by false k l = cc
 
 abbrev pub is_member_shape : Shape → Bool
@@ -276,9 +273,6 @@ bounds-more front c t a t' a' m e =
     let k : front ++ (c ++ m ∷ []) ≡ (front ++ c) ++ m ∷ [] = simp append_assoc in
     let l : ((t ∷ (a ++ t' ∷ [])) ++ a') ++ m ∷ [] ≡ (t ∷ []) ++ ((a ++ t' ∷ a') ++ m ∷ []) = simp append_assoc in
     k ∙ (ap (λ z. z ++ m ∷ []) e ∙ l)
-
-pub update-shape : {x : Tree} {a : List Lexeme} {i : ℕ} {o : Option Lexeme} → DerivesUpdate x a i o → shape x ≡ Shape.Helper
-update-shape (update t e k l ds d) = refl
 
 -- the frame of the steps of an update
 pub record StepWait (v : Wait) : Type 0 where

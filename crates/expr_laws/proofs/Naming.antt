@@ -243,6 +243,3 @@ other-arm-ends x i qs (Some n) e f = by (nat_lt n.col i) (is_operator (role n.ki
     by false c k r (inl h) = by_column (rw e) h tt
     by false true k r (inr h) = let j : AllJoin (edge_of (role n.kind)) (Open ∷ qs) = h r in absurd (not-open (edge_of (role n.kind)) j.0)
     by false false k r (inr h) = by_mark (grind (arith, nat_tests)) r (rw e)
-
-pub arm-shape : {x : Tree} {a : List Lexeme} {i : ℕ} {o : Option Lexeme} → DerivesArm x a i o → shape x ≡ Shape.Arm
-arm-shape (arm t k d e) = refl

@@ -27,6 +27,7 @@ use Rattle.expr_laws.proofs.Views.{IsDue, Sort, sort, binding, Bounds, Stands, e
 use Rattle.expr_laws.proofs.Viewing.{trees-then, adds-close, adds-mark, reread, names-more}
 use Rattle.expr_laws.proofs.Converting.{member-bound, name-derives, bare-shape}
 use Rattle.expr_laws.proofs.Marking.{operand-due, not-subscript}
+use Rattle.expr_laws.proofs.PartShapes.{arm-shape, bound-shape, instance-shape, parameter-shape, replacement-shape, update-shape}
 
 -- what a move after a part makes
 abbrev pub PartOk : Wait → ℕ → List Tree → List Lexeme → Tree → List Lexeme → Lexeme → PartMove → Type 0
@@ -192,21 +193,12 @@ operand-moves w i v ps a (arm_guard so) x b t d s =
     only (PartOk w i ps a x b t) (is_arrow t.kind) _ tt (λ e. (arm_body so (arrow-is t.kind e) d, refl))
 operand-moves w i v ps a _ x b t d s = tt
 
--- the shapes of other parts
-pub instance-shape : {x : Tree} {b : List Lexeme} {i : ℕ} {o : Option Lexeme} → DerivesInstance x b i o → shape x ≡ Shape.Instance
-instance-shape (without k m) = refl
-instance-shape (with_replacements k m t r) = refl
-
 pub names-shape : (β : Binding) (x : Tree) (b : List Lexeme) → NamesFor β x b → shape x ≡ Shape.Names
 names-shape Binding.One x b (binder_name k) = refl
 names-shape Binding.One x b (binder_tuple d) = refl
 names-shape Binding.Bound x b n = absurd n
 names-shape Binding.Names x b (of_list d) = refl
 names-shape Binding.Either x b (of_list d) = refl
-
-pub derives-bound-shape : {x : Tree} {b : List Lexeme} {i : ℕ} {o : Option Lexeme} → DerivesBound x b i o → shape x ≡ Shape.Bound
-derives-bound-shape (of_names m k j n d) = refl
-derives-bound-shape (tuple_bound m k j n d) = refl
 
 pub bound-of : (β : Binding) (x : Tree) (b : List Lexeme) (i : ℕ) (o : Option Lexeme) → BoundFor β x b i o → DerivesBound x b i o
 bound-of Binding.One x b i o h = h.0
@@ -226,26 +218,9 @@ definition-shape (postfix_operator m k d q e) = refl
 definition-shape (function_of u d k l m n b e) = refl
 definition-shape (module_of d h k e) = refl
 
-pub parameter-shape : {x : Tree} {b : List Lexeme} → DerivesParameter x b → shape x ≡ Shape.Helper
-parameter-shape (plain k) = refl
-parameter-shape (of_places u k l m p) = refl
-parameter-shape (prefix_symbol k l) = refl
-parameter-shape (infix_symbol k l d m) = refl
-parameter-shape (postfix_symbol k l d) = refl
-
-pub replacement-shape : {x : Tree} {b : List Lexeme} {i : ℕ} {o : Option Lexeme} → DerivesReplacement x b i o → shape x ≡ Shape.Helper
-replacement-shape (replaced n k d) = refl
-replacement-shape (replaced_by_symbol n k l g) = refl
-
-pub update-shape : {x : Tree} {b : List Lexeme} {i : ℕ} {o : Option Lexeme} → DerivesUpdate x b i o → shape x ≡ Shape.Helper
-update-shape (of_steps t e k l s d) = refl
-
 pub step-shape : {x : Tree} {b : List Lexeme} {i : ℕ} → DerivesStep x b i → shape x ≡ Shape.Helper
 step-shape (field_step k n) = refl
 step-shape (index_step t u k l d) = refl
-
-pub arm-shape : {x : Tree} {b : List Lexeme} {i : ℕ} {o : Option Lexeme} → DerivesArm x b i o → shape x ≡ Shape.Arm
-arm-shape (of_guard t k d e) = refl
 
 -- moves that no frame makes
 no-instance : (v : Wait) (t : Lexeme) → after_part v Shape.Instance t ≡ PartMove.Refused
@@ -402,7 +377,7 @@ other-moves w i v ps a h x b t l n e (instance so d) =
 other-moves w i v ps a h x b t l n e (names β k d) =
     subst (λ z. PartOk w i ps a x b t (after_part v z t)) (sym (names-shape β x b d)) (names-moves w i v ps a h β x b t k d)
 other-moves w i v ps a h x b t l n e (bound β k d) =
-    subst (λ z. PartOk w i ps a x b t (after_part v z t)) (sym (derives-bound-shape (bound-of β x b _ (Some t) d)))
+    subst (λ z. PartOk w i ps a x b t (after_part v z t)) (sym (bound-shape (bound-of β x b _ (Some t) d)))
     (bound-moves w i v ps a h β x b t k (subst (λ z. BoundFor β x b z (Some t)) e d))
 other-moves w i v ps a h x b t l n e (arm so d) =
     subst (λ z. PartOk w i ps a x b t (after_part v z t)) (sym (arm-shape d)) (arm-moves w i v ps a h x b t (subst (λ z. DerivesArm x b z (Some t)) e d))

@@ -132,9 +132,6 @@ symbol-next n s t op i ps c k h m b = by (passing n s op k)
 pub item-part : (v : Wait) (first : Lexeme) (x : Tree) (a : List Lexeme) (i : ℕ) (o : Option Lexeme) → list_of v ≡ Some first → i ≤ first.col → Part v x a (suc first.col) o → Part v x a (inside v i) o
 item-part v first x a i o l h d = let e : suc first.col ≡ inside v i = rw l (items-deep first i h) in subst (λ z. Part v x a z o) e d
 
-pub item-in : (l : Option Lexeme) (first : Lexeme) (i : ℕ) (a : List Lexeme) → l ≡ Some first → i ≤ first.col → From (suc first.col) a → InItem l i a
-item-in l first i a e h f = rw e (h, f)
-
 pub item-follows : (first : Lexeme) (qs : List Edge) (o : Option Lexeme) → MayFollow first o → NoMore o → Follows (suc first.col) qs o
 item-follows first qs None f m = tt
 item-follows first qs (Some n) f m = (m, by (is_operator (role n.kind)) refl)

@@ -33,9 +33,11 @@ use Rattle.expr_laws.proofs.Views.{Bounds, Sort, sort, binding, Stands, expressi
 use Rattle.expr_laws.proofs.Viewing.{adds-close, adds-part}
 use Rattle.expr_laws.proofs.Marking.{MarkOk, mark-sound, HeadOk, head-sound, BeginOk, begin-sound}
 use Rattle.expr_laws.proofs.Converting.{}
-use Rattle.expr_laws.proofs.Parting.{bounds-mark, bounds-close, PartOk, operand-moves, other-moves, names-shape, bound-of, instance-shape, derives-bound-shape, segment-shape, definition-shape, parameter-shape, replacement-shape, update-shape, step-shape, arm-shape}
+use Rattle.expr_laws.proofs.Parting.{bounds-mark, bounds-close, PartOk, operand-moves, other-moves, names-shape, bound-of, segment-shape, definition-shape, step-shape}
 use Rattle.expr_laws.proofs.Ending.{item-at, after, at_end, by_column, by_mark, by_operator, EndOk, ends-sound}
 use Rattle.expr_laws.proofs.Joining.{last-edge, EdgeOk, ends-edges, Shuts, list-shuts, list-part, LeadOk, lead-sound, factor-sound}
+use Rattle.expr_laws.proofs.PartShapes.{arm-shape, bound-shape, instance-shape, parameter-shape, replacement-shape, update-shape}
+use Rattle.expr_laws.proofs.Complete.{run-none}
 
 -- each frame has read what its wait says, under the wait of the frame below it
 pub data Chain : List Frame → Type 0 where
@@ -214,7 +216,7 @@ operand-of w x b i o (expression d f p s) e = record { derives = d; fits = f; su
 operand-of w x b i o (symbol m k p) e = cc
 operand-of w x b i o (instance so d) e = let q : shape x ≡ Shape.Instance = instance-shape d in cc
 operand-of w x b i o (names β k d) e = let q : shape x ≡ Shape.Names = names-shape β x b d in cc
-operand-of w x b i o (bound β k d) e = let q : shape x ≡ Shape.Bound = derives-bound-shape (bound-of β x b i o d) in cc
+operand-of w x b i o (bound β k d) e = let q : shape x ≡ Shape.Bound = bound-shape (bound-of β x b i o d) in cc
 operand-of w x b i o (arm so d) e = let q : shape x ≡ Shape.Arm = arm-shape d in cc
 operand-of w x b i o (other_arm so k l d) e = cc
 operand-of w x b i o (segment so d) e = let q : shape x ≡ Shape.Helper = segment-shape d in cc
@@ -470,10 +472,6 @@ step-sound ts (At (f ∷ fs)) t s = renamed _ _ _ (ap (λ z. z ++ t ∷ []) s.1)
 step-sound ts (Have [] e b) t s = absurd s
 step-sound ts (Have (f ∷ fs) e b) t s =
     renamed _ _ _ (sym (append_assoc (spelled (f ∷ fs)) b (t ∷ [])) ∙ ap (λ z. z ++ t ∷ []) s.3) (have-sound f fs s.0 e b t (s.1.0 (Some t)) s.1.1 s.2)
-
-run-none : (rest : List Lexeme) → run None rest ≡ None
-run-none [] = refl
-run-none (t ∷ rest) = refl
 
 run-sound : (rest ts : List Lexeme) (o : Option State) → Going ts o → Going (ts ++ rest) (run o rest)
 run-sound [] ts o g = renamed o _ _ (sym (append-nil ts)) g

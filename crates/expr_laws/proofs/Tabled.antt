@@ -33,6 +33,9 @@ abbrev pub InItem : Option Lexeme → ℕ → List Lexeme → Type 0
 InItem None i b = Unit {0}
 InItem (Some first) i b = (i ≤ first.col) × From (suc first.col) b
 
+pub item-in : (l : Option Lexeme) (first : Lexeme) (i : ℕ) (a : List Lexeme) → l ≡ Some first → i ≤ first.col → From (suc first.col) a → InItem l i a
+item-in l first i a e h f = rw e (h, f)
+
 abbrev pub IsPlain : Wait → Type 0
 IsPlain v = (list_of v ≡ None) × (absorbs v ≡ None)
 

@@ -26,14 +26,15 @@ use Rattle.expr_grammar.specs.declared.wait.Shape.{Shape}
 use Rattle.expr_grammar.specs.Kinds.{is_comma, is_left_paren, is_bang, is_maps_to, is_colon}
 use Rattle.expr_grammar.specs.Tables.{mode, fresh, handed, child, list_of, absorbs, role, edge_of, lead, takes, choice, shape, is_expression, name_leaf, ends_with, after_expression, in_square, keeps, defines, takes_more, takes_set, at_part}
 use Rattle.expr_grammar.specs.Machine.{is_operator}
-use Rattle.expr_laws.proofs.Tabled.{Part, closed, headed, finished, Closed, leaf, close, done, led_node, Begun, pushed, pushed_leaf, pushed_hand, pushed_mark, fresh_child, led_push, shifted, leafed, leafed_of, handed_mark, went, handed_part, absorbed_part, next_item, next_factor, converted_part}
+use Rattle.expr_laws.proofs.Tabled.{Begun, Closed, Part, absorbed_part, close, closed, converted_part, done, finished, fresh_child, handed_mark, handed_part, headed, item-in, leaf, leafed, leafed_of, led_node, led_push, next_factor, next_item, pushed, pushed_hand, pushed_leaf, pushed_mark, shifted, went}
 use Rattle.expr_laws.proofs.Asking.{continues, Follows, mark-follows, column-follows, operator-follows, follows-tail, ends-expression, ends-open, Place, operand, subscript, AllFit, follows-none}
 use Rattle.expr_laws.proofs.Starting.{derives-shape, start-at, mark-role, operand-of, paren-start, bracket-start, brace-start, angle-start, mode-absorbs, waits-takes, all-waits, all-fit, prefix-start, infix-role, postfix-role, infix-lead, symbol-continues, trees-snoc, joined-snoc, renamed, renamed-closed, Listing, set-first, set-next, tuple-first, tuple-next, application-listing, index-listing, no-follow, symbol-leaf}
-use Rattle.expr_laws.proofs.Bounding.{part-at, ends-takes, last-factors, Ended, NamesRead, read-names, binding-frame, names-part, names-shape, read-tuple, binder-part, binder-shape, trees-then, bound-shape, Bounding, BoundsRead, quantifier-start, temporal-start, angle-quiet, in-square, square-move, square-arrow, quantifier-bounds, quantifier-more, image-bounds, function-bounds, head-bounds, bound-set-waits, tuple-set-waits, bound-names, open-then, bounds-spelled}
-use Rattle.expr_laws.proofs.Naming.{NoParen, NoMore, FollowsIn, follows-no-bang, follows-no-more, more-paren, path-ends, name-identifier, SegmentRead, bare-segment, name-part, subscript-segment, subpath, bullet-start, goes-on, list-ends, arms-end, other-arm-ends, arm-shape}
-use Rattle.expr_laws.proofs.Passing.{square-action, angle-action, fairness-start, square-subscript, no-left, path-goes, last-arms, symbol-last, symbol-next, item-part, item-in, item-follows, items-first, bullet-continues, item-spelled}
-use Rattle.expr_laws.proofs.Membering.{MemberRead, MemberWait, square-wait, brace-wait, single-name, derives-member, image-colon, closes_with, image-spelled, function-spelled, FunctionRead, FieldWaits, record-waits, record-set-waits, member-fit, member-of-name, member-of-tuple, first-goes, bounds-more, update-shape, StepWait, step-first, step-next, step-inside, StepsRead, plain-maps, plain-colon}
-use Rattle.expr_laws.proofs.Defining.{Closing, closing-follows, IsFirst, first-closes, DefinitionRead, name-begun, prefix-begun, HeadRead, read-head, given-quiet, ends-closing, instance-ends, symbol-right-ends, replacement-shape, instance-shape, definitions-beginning, first-of, DefinitionsRead, replacement-begun, given-move, instance-name, symbol-head, postfix-head, first-role, definition-goes, let-goes, let-first, head-spelled, ends_let}
+use Rattle.expr_laws.proofs.Bounding.{part-at, ends-takes, last-factors, Ended, NamesRead, read-names, binding-frame, names-part, names-shape, read-tuple, binder-part, binder-shape, trees-then, Bounding, BoundsRead, quantifier-start, temporal-start, angle-quiet, in-square, square-move, square-arrow, quantifier-bounds, quantifier-more, image-bounds, function-bounds, head-bounds, bound-set-waits, tuple-set-waits, bound-names, open-then, bounds-spelled}
+use Rattle.expr_laws.proofs.Naming.{NoParen, NoMore, FollowsIn, follows-no-bang, follows-no-more, more-paren, path-ends, name-identifier, SegmentRead, bare-segment, name-part, subscript-segment, subpath, bullet-start, goes-on, list-ends, arms-end, other-arm-ends}
+use Rattle.expr_laws.proofs.Passing.{square-action, angle-action, fairness-start, square-subscript, no-left, path-goes, last-arms, symbol-last, symbol-next, item-part, item-follows, items-first, bullet-continues, item-spelled}
+use Rattle.expr_laws.proofs.Membering.{MemberRead, MemberWait, square-wait, brace-wait, single-name, derives-member, image-colon, closes_with, image-spelled, function-spelled, FunctionRead, FieldWaits, record-waits, record-set-waits, member-fit, member-of-name, member-of-tuple, first-goes, bounds-more, StepWait, step-first, step-next, step-inside, StepsRead, plain-maps, plain-colon}
+use Rattle.expr_laws.proofs.Defining.{Closing, closing-follows, IsFirst, first-closes, DefinitionRead, name-begun, prefix-begun, HeadRead, read-head, given-quiet, ends-closing, instance-ends, symbol-right-ends, definitions-beginning, first-of, DefinitionsRead, replacement-begun, given-move, instance-name, symbol-head, postfix-head, first-role, definition-goes, let-goes, let-first, head-spelled, ends_let}
+use Rattle.expr_laws.proofs.PartShapes.{arm-shape, bound-shape, instance-shape, replacement-shape, update-shape}
 
 mutual
   pub gen : {x : Tree} {a : List Lexeme} {i : ℕ} {o : Option Lexeme} → Derives x a i o → (w : Wait) (flag : Bool) → Place w x flag → AllFit w (left_edge x) → FollowsIn flag i (right_edge x) o → Part w x a i o

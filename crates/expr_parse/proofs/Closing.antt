@@ -15,6 +15,7 @@ use Rattle.expr_grammar.specs.Tables.{shape, plain_shape, infix_shape, member_sh
 use Rattle.expr_grammar.specs.Machine as Machine
 use Rattle.expr_grammar.specs.Machine.{State, At, Have, node, node_with}
 use Rattle.expr_grammar.specs.Counting.{made_close, made_last, made_finish}
+use Rattle.expr_laws.proofs.Starting.{member-expression, plain-expression}
 use Rattle.expr_parse.specs.declared.goal.Goal.{Goal}
 use Rattle.expr_stack.specs.declared.stack.Frame.{Frame}
 use Rattle.tree_parts.specs.declared.part.Part.{Part}
@@ -55,14 +56,6 @@ expression-whole Goal.Bounds _ w q = cc
 
 expression-alike : (goal : Goal) (sh : Shape) → is_expression sh ≡ true → Alike goal Shape.Expression sh
 expression-alike goal sh q = record { ends = λ w. rw q refl; whole = λ w. sym (expression-whole goal sh w q) }
-
-plain-expression : (ps : Trees) → is_expression (plain_shape ps) ≡ true
-plain-expression (Cons (Node (Form.Segment n) s Nil) Nil) = refl
-plain-expression _ = refl
-
-member-expression : (b : Bool) → is_expression (member_shape b) ≡ true
-member-expression true = refl
-member-expression false = refl
 
 infix-expression : (t : Lexeme) (ps : Trees) → is_expression (infix_shape t ps) ≡ true
 infix-expression t (Cons x (Cons y Nil)) = member-expression _

@@ -15,6 +15,7 @@ use Rattle.expr_grammar.specs.declared.wait.Shape.TheVariants as Shape
 use Rattle.expr_grammar.specs.declared.wait.Conversion.TheVariants as Conversion
 use Rattle.expr_grammar.specs.Tables.{converted, shape, infix_shape, member_shape, name_leaf, name_of, names_of, as_bound, bound_of}
 use Rattle.expr_grammar.specs.Counting.{made_name, made_names, made_bound, made_converted}
+use Rattle.expr_laws.proofs.Viewing.{trees-then}
 use Rattle.expr_parse.specs.declared.convert.Operands.{Operands}
 use Rattle.tree_parts.specs.declared.part.Part.{Part}
 use Rattle.tree_parts.specs.Parts.{parts_of, span_of, joined, covered, IsPart}
@@ -63,10 +64,6 @@ pub names-list : (ts : List Tree) → names_of (trees ts) ≡ trees (map name_of
 names-list [] = refl
 names-list (t ∷ ts) = ap (λ z. Cons (name_of t) z) (names-list ts)
 
-pub trees-snoc : (ts : List Tree) (y : Tree) → trees (ts ++ y ∷ []) ≡ then (trees ts) y
-trees-snoc [] y = refl
-trees-snoc (t ∷ ts) y = ap (λ z. Cons t z) (trees-snoc ts y)
-
 names-snoc : (ts : List Tree) (y : Tree) → names_of (trees (ts ++ y ∷ [])) ≡ then (names_of (trees ts)) (name_of y)
 names-snoc [] y = refl
 names-snoc (t ∷ ts) y = ap (λ z. Cons (name_of t) z) (names-snoc ts y)
@@ -83,7 +80,7 @@ names-more nodes more most numbers numbers' ts number y a r e = rw e (record {
   there = there-append most numbers (number ∷ []) (there-longer 0 0 numbers more most (grows-length more most r.grows) a.there) (r.there, tt);
   are =
       ap trees (map-append most numbers (number ∷ []))
-      ∙ (trees-snoc (map (tree_at most) numbers) (tree_at most number)
+      ∙ (trees-then (map (tree_at most) numbers) (tree_at most number)
       ∙ (ap (λ z. then z (tree_at most number)) (ap trees (map-grows more most numbers r.grows a.there) ∙ a.are)
       ∙ (ap (λ z. then (names_of (trees ts)) z) r.is ∙ sym (names-snoc ts y))));
 })
@@ -163,7 +160,7 @@ bound-tuple nodes more most left right bound numbers numbers' span covers a is t
     let m : map (tree_at more) numbers' ≡ map (tree_at more) numbers ++ tree_at nodes right ∷ [] = rw w (map-append more numbers (right ∷ []) ∙ ap (λ z. map (tree_at more) numbers ++ z ∷ []) y) in
     let t = new-built more most bound Form.TupleBound span covers numbers' (map (tree_at more) numbers ++ tree_at nodes right ∷ []) a e v p n m in
     let g : trees (map (tree_at more) numbers ++ tree_at nodes right ∷ []) ≡ then (names_of (parts_of (tree_at nodes left))) (tree_at nodes right) =
-    trees-snoc (map (tree_at more) numbers) (tree_at nodes right) ∙ ap (λ z. then z (tree_at nodes right)) r.are
+    trees-then (map (tree_at more) numbers) (tree_at nodes right) ∙ ap (λ z. then z (tree_at nodes right)) r.are
     in
     let q = bound-parts (tree_at nodes left) (tree_at nodes right) a is in
     record {

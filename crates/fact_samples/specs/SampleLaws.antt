@@ -8,6 +8,7 @@ use Rattle.fact_store.specs.declared.given.Input.{Input}
 use Rattle.fact_values.specs.Names.{name_eq}
 use Rattle.fact_values.specs.States.{State, no_text, cyclic, broken, fact, same_state, same_given}
 use Rattle.fact_store.specs.Given.{input_state, states}
+use Rattle.list_laws.proofs.Tests.{and-left, and-right}
 use Rattle.fact_samples.specs.declared.SampleFact.{SampleFact}
 use Rattle.fact_samples.specs.Sample.{names, seen, below, same}
 
@@ -31,14 +32,6 @@ below-more given i d l =
     ap (λ xs. below (states xs)) (take_more given i d l)
     ∙ ap below (map-append (λ (g : List ℕ × Input SampleFact). (g.0, input_state g.1)) (take i given) (get_or given i d ∷ []))
     ∙ fold-append (λ (n : ℕ) (g : List ℕ × State SampleFact). (n * 31 + seen g.1) % 65536) 0 (states (take i given)) (states (get_or given i d ∷ []))
-
-left : (a b : Bool) → (a && b) ≡ true → a ≡ true
-left true b e = refl
-left false b e = e
-
-right : (a b : Bool) → (a && b) ≡ true → b ≡ true
-right true b e = e
-right false b e = cc
 
 pub same_refl_lem : (a : SampleFact) → same a a ≡ true
 same_refl_lem a = eq-eqb a.face a.face refl
@@ -73,6 +66,6 @@ below_same n [] [] e = refl
 below_same n [] (y ∷ ys) e = cc
 below_same n (x ∷ xs) [] e = cc
 below_same n (x ∷ xs) (y ∷ ys) e =
-    let s = seen_same x.1 y.1 (right (name_eq x.0 y.0) _ (left (name_eq x.0 y.0 && same_state same x.1 y.1) _ e)) in
+    let s = seen_same x.1 y.1 (and-right (name_eq x.0 y.0) _ (and-left (name_eq x.0 y.0 && same_state same x.1 y.1) _ e)) in
     ap (λ k. fold (λ (n : ℕ) (g : List ℕ × State SampleFact). (n * 31 + seen g.1) % 65536) ((n * 31 + k) % 65536) xs) s
-    ∙ below_same ((n * 31 + seen y.1) % 65536) xs ys (right (name_eq x.0 y.0 && same_state same x.1 y.1) _ e)
+    ∙ below_same ((n * 31 + seen y.1) % 65536) xs ys (and-right (name_eq x.0 y.0 && same_state same x.1 y.1) _ e)

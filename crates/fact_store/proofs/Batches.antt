@@ -3,6 +3,7 @@ use Rattle.std.proofs.Common.{◌≡◌, ℕ, zero, suc, ◌+◌, ◌≤◌, Boo
 use Rattle.std.specs.Prelude.{◌||◌, ◌⊎◌, slice_get}
 use Rattle.std.specs.FinMap.{get, get-insert, get-remove, same_map, nat_cmp-IsAntisymmetric, slice_cmp-IsAntisymmetric}
 use Rattle.std.specs.Cmp.Lexicographic.{nat_list_cmp_total}
+use Rattle.std.proofs.lemmas.Bool.{or_left}
 use Rattle.list_laws.proofs.Lists.{drop-at}
 use Rattle.fact_store.specs.declared.slot.Slot.{Slot}
 use Rattle.fact_store.specs.declared.given.NewText.{NewText}
@@ -10,7 +11,7 @@ use Rattle.fact_values.specs.Names.{name_eq, Texts}
 use Rattle.fact_values.specs.States.{State}
 use Rattle.fact_store.specs.Slots.{texts_of, AreSound, CarriesOver}
 use Rattle.fact_store.specs.Holding.{with_text, with_texts, has_text, AreBetween}
-use Rattle.fact_values.proofs.NameLemmas.{true_or_false, same_name, name_eq-same, name_eq-refl, or_left}
+use Rattle.fact_values.proofs.NameLemmas.{true_or_false, same_name, name_eq-same, name_eq-refl}
 use Rattle.fact_store.proofs.SlotLemmas.{text_of-slot, slot_with}
 use Rattle.fact_store.proofs.Dirt.{carries-same, carries-through}
 

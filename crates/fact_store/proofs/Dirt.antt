@@ -17,9 +17,10 @@ use Rattle.fact_values.specs.States.{State, same_given}
 use Rattle.fact_values.specs.Values.{given_in, same_text, is_dirty, dirty}
 use Rattle.fact_store.specs.Given.{states}
 use Rattle.fact_store.specs.Slots.{named_texts, texts_of, source, AreDistinct, HasNoSlot, IsHandedOn, CarriesOver, is_made_from, is_settled, owed}
-use Rattle.fact_values.proofs.NameLemmas.{true_or_false, same_name, name_eq-same, and_both}
+use Rattle.fact_values.proofs.NameLemmas.{true_or_false, same_name, name_eq-same}
 use Rattle.fact_store.proofs.Pairs.{same_given-trans}
 use Rattle.std.proofs.lemmas.List.{length-map}
+use Rattle.std.proofs.lemmas.Bool.{and_from}
 use Rattle.fact_store.proofs.SlotLemmas.{distinct-tail, none_found, text_of-slot, slot_with}
 use Rattle.fact_store.proofs.KeepLemmas.{set_cases}
 use Rattle.fact_store.proofs.TextLemmas.{left_at}
@@ -195,7 +196,7 @@ module _ {Own F : Type 0} (own_of : List ℕ → List ℕ → Own) (needs_of : O
           let t : (name_eq (source kept x.bytes) x.bytes && same_given same (states kept.given) (given_in own_of needs_of fact_of old x.name)) ≡ true = sym (ap (is_made_from own_of needs_of fact_of same old x.name x.bytes) e) ∙ settled in
           let s : source h.0 y.bytes ≡ y.bytes = h.2 ∙ same_name (source kept x.bytes) x.bytes (and-left _ _ t) ∙ bytes in
           ap (is_made_from own_of needs_of fact_of same new y.name y.bytes) h.1
-          ∙ and_both _ _ (name_eq-same (source h.0 y.bytes) y.bytes s)
+          ∙ and_from _ _ (name_eq-same (source h.0 y.bytes) y.bytes s)
           (ap (λ g. same_given same (states g) (given_in own_of needs_of fact_of new y.name)) h.3
           ∙ ap (λ (m : List ℕ). same_given same (states kept.given) (given_in own_of needs_of fact_of new m)) n
           ∙ same_given-trans same same_trans (states kept.given) (given_in own_of needs_of fact_of old x.name) (given_in own_of needs_of fact_of new x.name) (and-right (name_eq (source kept x.bytes) x.bytes) _ t) (and-right (same_text own_of needs_of fact_of (get old x.name) (get new x.name)) _ alike))

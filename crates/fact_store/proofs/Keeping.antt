@@ -2,6 +2,7 @@
 use Rattle.std.proofs.Common.{◌≡◌, ℕ, Bool, true, false, List, Option, Some, None, refl, sym, ap, ◌∙◌, subst}
 use Rattle.std.specs.Prelude.{slice_set, is_none, unwrap_or}
 use Rattle.std.specs.Arc.{arc_value}
+use Rattle.std.proofs.lemmas.Bool.{and_from}
 use Rattle.list_laws.proofs.Tests.{and-right}
 use Rattle.fact_store.specs.declared.slot.Slot.{Slot}
 use Rattle.fact_store.specs.declared.slot.Kept.{Kept}
@@ -11,7 +12,6 @@ use Rattle.fact_values.specs.States.{State, same_given}
 use Rattle.fact_store.specs.Given.{states}
 use Rattle.fact_store.specs.Slots.{source, IsSound}
 use Rattle.fact_store.specs.Right.{is_fresh, with_given, Keeps}
-use Rattle.fact_values.proofs.NameLemmas.{and_both}
 use Rattle.fact_store.proofs.Pairs.{same_given-refl, is_fresh-with_given}
 
 module _ {Own F : Type 0} (own_of : List ℕ → List ℕ → Own) (needs_of : Own → Option (List (List ℕ))) (fact_of : List ℕ → Own → List (List ℕ × State F) → F) (same : F → F → Bool) (same_refl : (a : F) → same a a ≡ true) (old new : List (Slot Own F)) (index : ℕ) (slot : Slot Own F) (given : List (List ℕ × Input F)) (sound : IsSound own_of needs_of fact_of slot) where
@@ -59,6 +59,6 @@ module _ {Own F : Type 0} (own_of : List ℕ → List ℕ → Own) (needs_of : O
         elsewhere = λ k b e f. let s : kept ≡ k = cc in let h : ◌≡◌ {A = Option (List ℕ)} None (Some b) = sym from ∙ ap (λ (z : Kept F). z.from) s ∙ f in cc h;
       };
       fresh =
-          and_both (is_none kept.from) _ (ap is_none from)
+          and_from (is_none kept.from) _ (ap is_none from)
           (ap (λ (xs : List (List ℕ × Input F)). same_given same (states xs) (states given)) with_these ∙ same_given-refl same same_refl (states given));
     }

@@ -7,6 +7,7 @@ use Rattle.std.proofs.lemmas.List.{length-map}
 use Rattle.std.proofs.lemmas.List.Quantifiers.{position-Some}
 use Rattle.std.proofs.lemmas.List.Sums.{sum_by-cons, fails_before_first}
 use Rattle.std.proofs.lemmas.Option.{slice_get-map, slice_get_within, get_or_from_slice_get}
+use Rattle.list_laws.proofs.Lists.{item-at}
 
 module _ {E T : Type 0} where
   -- something is found of each item
@@ -50,11 +51,6 @@ module _ {E T : Type 0} where
       (λ j. cons_option (x.1 j) (found-remove f es i (λ l b q. h (suc l) b q) j))
       ∙ sym (ap (λ (q : Option T). remove (cons_option q (filter_map f es)) (suc i)) x.1)
 
-pub item_at : {A : Type 0} (xs : List A) (i : ℕ) → i < length xs → (x : A) × (slice_get xs i ≡ Some x)
-item_at [] i l = absurd (omega arith)
-item_at (x ∷ xs) zero l = (x, refl)
-item_at (x ∷ xs) (suc i) l = item_at xs i (omega arith)
-
 read_at : {E K : Type 0} (key : E → K) (es : List E) (i : ℕ) (e : E) (d : K) → slice_get es i ≡ Some e → get_or (map key es) i d ≡ key e
 read_at key es i e d at = get_or_from_slice_get (map key es) i (key e) d (slice_get-map key es i ∙ ap (option_map key) at)
 
@@ -63,7 +59,7 @@ pub passes_at : {E K : Type 0} (p : K → Bool) (key : E → K) (es : List E) (i
 passes_at p key [] i h = cc
 passes_at p key (a ∷ es) i h =
     let r = position-Some p (map key (a ∷ es)) i (key a) h in
-    let e = item_at (a ∷ es) i (omega (arith, r.0, length-map (a ∷ es) key)) in
+    let e = item-at (a ∷ es) i (omega (arith, r.0, length-map (a ∷ es) key)) in
     (e.0, e.1, ap p (sym (read_at key (a ∷ es) i e.0 (key a) e.1)) ∙ r.1)
 
 -- no item passes it

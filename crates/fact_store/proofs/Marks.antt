@@ -1,29 +1,22 @@
 -- Marks on indices, and queues of indices that were marked.
 use Rattle.std.proofs.Common.{◌≡◌, ◌≢◌, ℕ, zero, suc, ◌+◌, ◌≤◌, ◌<◌, Bool, true, false, List, [], ◌∷◌, ◌++◌, refl, sym, ap, ◌∙◌, subst, cond, inl, inr, take, length, get_or, arith, nat_eq}
 use Rattle.std.specs.Prelude.{◌⊎◌, ◌||◌, not, count_by, slice_set}
-use Rattle.std.proofs.lemmas.Bool.{eqb-true, eq-eqb}
+use Rattle.std.proofs.lemmas.Bool.{eq-eqb, eqb-true, or_left, or_right}
 use Rattle.std.proofs.Math.Dec.{eqb}
 use Rattle.std.proofs.lemmas.List.{length-append, length-set, take-append-le, take_more}
 use Rattle.std.proofs.Math.Seq.{take-length}
 use Rattle.std.proofs.lemmas.List.Folds.{list_any-append}
 use Rattle.std.proofs.lemmas.List.Sums.{sum_by-set}
 use Rattle.std.proofs.lemmas.List.Elements.{All-push}
-use Rattle.list_laws.proofs.Tests.{or-right}
+use Rattle.list_laws.proofs.Tests.{or-false}
 use Rattle.fact_store.specs.Plans.{among, is_marked, MarksRow}
-use Rattle.fact_values.proofs.NameLemmas.{true_or_false, or_left, or_cases}
-
-pub same_index : (a b : ℕ) → nat_eq a b ≡ true → a ≡ b
-same_index a b e = eqb-true a b e
-
-pub or_false : (a : Bool) → (a || false) ≡ a
-or_false true = refl
-or_false false = refl
+use Rattle.fact_values.proofs.NameLemmas.{true_or_false, or_cases}
 
 pub among-push : (row : List ℕ) (p i : ℕ) → among (row ++ p ∷ []) i ≡ (among row i || nat_eq i p)
-among-push row p i = list_any-append (nat_eq i) row (p ∷ []) ∙ ap (λ b. among row i || b) (or_false (nat_eq i p))
+among-push row p i = list_any-append (nat_eq i) row (p ∷ []) ∙ ap (λ b. among row i || b) (or-false (nat_eq i p))
 
 pub among-last : (row : List ℕ) (p : ℕ) → among (row ++ p ∷ []) p ≡ true
-among-last row p = among-push row p p ∙ or-right (among row p) (nat_eq p p) (eq-eqb p p refl)
+among-last row p = among-push row p p ∙ or_right (among row p) (nat_eq p p) (eq-eqb p p refl)
 
 pub among-before : (row : List ℕ) (p i : ℕ) → among row i ≡ true → among (row ++ p ∷ []) i ≡ true
 among-before row p i m = among-push row p i ∙ or_left (among row i) (nat_eq i p) m
@@ -54,13 +47,13 @@ is_marked-get_or (m ∷ marks) (suc p) d l = is_marked-get_or marks p d (omega a
 -- what is marked after a mark was marked before, or is that one
 marked_cases : (marks : List Bool) (p i : ℕ) → p < length marks → is_marked (slice_set marks p true) i ≡ true → (is_marked marks i ≡ true) ⊎ (i ≡ p)
 marked_cases marks p i l m = elim (true_or_false (nat_eq i p)) as (λ _. (is_marked marks i ≡ true) ⊎ (i ≡ p)) [
-  | inl same ↦ inr (same_index i p same)
+  | inl same ↦ inr (eqb-true i p same)
   | inr other ↦ inl (sym (is_marked-set_other marks p i true (λ e. let h : true ≡ false = sym (eq-eqb i p e) ∙ other in cc h)) ∙ m)
 ]
 
 pub marked_kept : (marks : List Bool) (p i : ℕ) → p < length marks → is_marked marks i ≡ true → is_marked (slice_set marks p true) i ≡ true
 marked_kept marks p i l m = elim (true_or_false (nat_eq i p)) as (λ _. is_marked (slice_set marks p true) i ≡ true) [
-  | inl same ↦ ap (is_marked (slice_set marks p true)) (same_index i p same) ∙ is_marked-set_same marks p true l
+  | inl same ↦ ap (is_marked (slice_set marks p true)) (eqb-true i p same) ∙ is_marked-set_same marks p true l
   | inr other ↦ is_marked-set_other marks p i true (λ e. let h : true ≡ false = sym (eq-eqb i p e) ∙ other in cc h) ∙ m
 ]
 
@@ -89,8 +82,8 @@ pub MarksRow-skip : (row : List ℕ) (p : ℕ) (old new : List Bool) (queue long
 MarksRow-skip row p old new queue longer r on = record {
   long = r.long;
   kept = r.kept;
-  all = λ i m. elim (or_cases (among row i) (nat_eq i p) (sym (among-push row p i) ∙ m)) as (λ _. is_marked new i ≡ true) [ inl before ↦ r.all i before | inr last ↦ ap (is_marked new) (same_index i p last) ∙ on ];
-  only = λ i m. elim (or_cases (is_marked old i) (among row i) (r.only i m)) as (λ _. (is_marked old i || among (row ++ p ∷ []) i) ≡ true) [ inl first ↦ or_left (is_marked old i) _ first | inr later ↦ or-right (is_marked old i) _ (among-before row p i later) ];
+  all = λ i m. elim (or_cases (among row i) (nat_eq i p) (sym (among-push row p i) ∙ m)) as (λ _. is_marked new i ≡ true) [ inl before ↦ r.all i before | inr last ↦ ap (is_marked new) (eqb-true i p last) ∙ on ];
+  only = λ i m. elim (or_cases (is_marked old i) (among row i) (r.only i m)) as (λ _. (is_marked old i || among (row ++ p ∷ []) i) ≡ true) [ inl first ↦ or_left (is_marked old i) _ first | inr later ↦ or_right (is_marked old i) _ (among-before row p i later) ];
   queued = r.queued;
   marked = r.marked;
   front = r.front;
@@ -105,11 +98,11 @@ MarksRow-mark row p old new queue longer r l off = record {
   kept = λ i m. marked_kept new p i l (r.kept i m);
   all = λ i m. elim (or_cases (among row i) (nat_eq i p) (sym (among-push row p i) ∙ m)) as (λ _. is_marked (slice_set new p true) i ≡ true) [
     | inl before ↦ marked_kept new p i l (r.all i before)
-    | inr last ↦ ap (is_marked (slice_set new p true)) (same_index i p last) ∙ is_marked-set_same new p true l
+    | inr last ↦ ap (is_marked (slice_set new p true)) (eqb-true i p last) ∙ is_marked-set_same new p true l
   ];
   only = λ i m. elim (marked_cases new p i l m) as (λ _. (is_marked old i || among (row ++ p ∷ []) i) ≡ true) [
-    | inl was ↦ elim (or_cases (is_marked old i) (among row i) (r.only i was)) as (λ _. (is_marked old i || among (row ++ p ∷ []) i) ≡ true) [ inl first ↦ or_left (is_marked old i) _ first | inr later ↦ or-right (is_marked old i) _ (among-before row p i later) ]
-    | inr this ↦ or-right (is_marked old i) _ (ap (among (row ++ p ∷ [])) this ∙ among-last row p)
+    | inl was ↦ elim (or_cases (is_marked old i) (among row i) (r.only i was)) as (λ _. (is_marked old i || among (row ++ p ∷ []) i) ≡ true) [ inl first ↦ or_left (is_marked old i) _ first | inr later ↦ or_right (is_marked old i) _ (among-before row p i later) ]
+    | inr this ↦ or_right (is_marked old i) _ (ap (among (row ++ p ∷ [])) this ∙ among-last row p)
   ];
   queued = λ h i m. elim (marked_cases new p i l m) as (λ _. among (longer ++ p ∷ []) i ≡ true) [
     | inl was ↦ among-before longer p i (r.queued h i was)
@@ -117,7 +110,7 @@ MarksRow-mark row p old new queue longer r l off = record {
   ];
   marked = λ h i m. elim (or_cases (among longer i) (nat_eq i p) (sym (among-push longer p i) ∙ m)) as (λ _. is_marked (slice_set new p true) i ≡ true) [
     | inl before ↦ marked_kept new p i l (r.marked h i before)
-    | inr last ↦ ap (is_marked (slice_set new p true)) (same_index i p last) ∙ is_marked-set_same new p true l
+    | inr last ↦ ap (is_marked (slice_set new p true)) (eqb-true i p last) ∙ is_marked-set_same new p true l
   ];
   front = take-append-le (length queue) longer (p ∷ []) (le_of_front queue longer r.front) ∙ r.front;
   counted = omega (arith, length-append longer (p ∷ []), open_count new p l off, r.counted);

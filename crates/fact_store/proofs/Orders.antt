@@ -2,11 +2,10 @@
 use Rattle.std.proofs.Common.{◌≡◌, ℕ, suc, ◌+◌, ◌<◌, ◌≤◌, Bool, true, false, List, [], ◌∷◌, Option, Some, refl, sym, ap, ◌∙◌, subst, inl, inr, map, length, get_or, nat_eq, arith}
 use Rattle.std.specs.Prelude.{not, ◌⊎◌, slice_get, slice_index, All, Contains, unwrap_or}
 use Rattle.std.specs.List.Sorted.{IsPermutation, IsNonDecreasingBy}
-use Rattle.std.proofs.lemmas.Bool.{eq-eqb, cases_lt}
+use Rattle.std.proofs.lemmas.Bool.{and_from, cases_lt, eq-eqb, eqb-true, or_left, or_right}
 use Rattle.std.proofs.lemmas.List.Elements.{All-nil, All-cons}
 use Rattle.std.proofs.lemmas.List.Sorted.{All-permutation, Contains-permutation}
 use Rattle.std.proofs.lemmas.Option.{slice_get_read, slice_get_within, get_or_from_slice_get}
-use Rattle.list_laws.proofs.Tests.{or-right}
 use Rattle.list_laws.proofs.Lists.{item-at}
 use Rattle.fact_store.specs.declared.slot.Slot.{Slot}
 use Rattle.fact_store.specs.declared.plan.Plan.{Plan}
@@ -15,8 +14,7 @@ use Rattle.fact_values.specs.States.{State}
 use Rattle.fact_store.specs.Slots.{AreSound}
 use Rattle.fact_store.specs.Plans.{among, is_marked, AreReached, IsRow, IsOrder}
 use Rattle.fact_store.specs.Right.{outlines, IsPlan, IsDone, IsReady}
-use Rattle.fact_values.proofs.NameLemmas.{or_left, or_cases, and_both}
-use Rattle.fact_store.proofs.Marks.{same_index}
+use Rattle.fact_values.proofs.NameLemmas.{or_cases}
 use Rattle.fact_store.proofs.Search.{among-within}
 use Rattle.fact_store.proofs.Ranks.{rank_falls}
 use Rattle.fact_store.proofs.KeepLemmas.{outline_at}
@@ -26,12 +24,12 @@ pub each-ranked : (ranks indices : List ℕ) (all : List ℕ) → ((p : ℕ) →
 each-ranked ranks [] all h = All-nil (λ (entry : ℕ × ℕ). (entry.0 ≡ slice_index ranks entry.1) × (among all entry.1 ≡ true))
 each-ranked ranks (p ∷ indices) all h =
     All-cons (λ (entry : ℕ × ℕ). (entry.0 ≡ slice_index ranks entry.1) × (among all entry.1 ≡ true)) (slice_index ranks p, p) (map (λ index. (slice_index ranks index, index)) indices)
-    (refl, h p (or_left (nat_eq p p) (among indices p) (eq-eqb p p refl))) (each-ranked ranks indices all (λ q m. h q (or-right (nat_eq q p) (among indices q) m)))
+    (refl, h p (or_left (nat_eq p p) (among indices p) (eq-eqb p p refl))) (each-ranked ranks indices all (λ q m. h q (or_right (nat_eq q p) (among indices q) m)))
 
 pub all-ranked : (ranks indices : List ℕ) (p : ℕ) → among indices p ≡ true → Contains {X = ℕ × ℕ} (map (λ index. (slice_index ranks index, index)) indices) (slice_index ranks p, p)
 all-ranked ranks [] p m = cc
 all-ranked ranks (q ∷ indices) p m = elim (or_cases (nat_eq p q) (among indices p) m) as (λ _. Contains {X = ℕ × ℕ} (map (λ index. (slice_index ranks index, index)) (q ∷ indices)) (slice_index ranks p, p)) [
-  | inl same ↦ (0, omega arith, ap (λ (x : ℕ). (slice_index ranks x, x)) (sym (same_index p q same)))
+  | inl same ↦ (0, omega arith, ap (λ (x : ℕ). (slice_index ranks x, x)) (sym (eqb-true p q same)))
   | inr later ↦ let r = all-ranked ranks indices p later in (suc r.0, omega (arith, r.1), r.2)
 ]
 
@@ -99,7 +97,7 @@ module _ {Own F : Type 0} where
             let ground = item-at plan.grounds.items entry.1 (omega (arith, l, is.edges.long, is.grounds.long)) in
             let in_row = (is.edges.rows entry.1 row.0 slot row.1 at).each j other there ∙ need in
             reach.reach.closed entry.1 j ground.0 (reach.only entry.1 here.1) ground.1
-            ((is.grounds.rows entry.1 row.0 ground.0 row.1 ground.1).each j ∙ and_both _ _ in_row (ap not apart))
+            ((is.grounds.rows entry.1 row.0 ground.0 row.1 ground.1).each j ∙ and_from _ _ in_row (ap not apart))
 
         at_j : Contains {X = ℕ × ℕ} order (slice_index plan.ranks.items j, j)
         at_j = sorted.all j (reach.all j marked)

@@ -1,16 +1,17 @@
 -- What was given twice, held against one another.
 use Rattle.std.proofs.Common.{◌≡◌, ◌≢◌, ℕ, zero, suc, ◌+◌, ◌<◌, ◌≤◌, Bool, true, false, List, [], ◌∷◌, Option, Some, None, refl, sym, ap, ◌∙◌, ◌++◌, length, get_or, drop, take, arith}
 use Rattle.std.specs.Prelude.{◌&&◌, is_none}
-use Rattle.list_laws.proofs.Tests.{and-left, and-right, or-right}
+use Rattle.list_laws.proofs.Tests.{and-left, and-right}
 use Rattle.fact_store.specs.declared.given.Input.{Input}
 use Rattle.std.proofs.lemmas.List.{take_more, map-append}
+use Rattle.std.proofs.lemmas.Bool.{and_from, or_left, or_right}
 use Rattle.fact_values.specs.Names.{name_eq, has, Texts}
 use Rattle.fact_values.specs.Values.{gives, all_given}
 use Rattle.fact_values.specs.States.{State, no_text, cyclic, broken, fact, same_state, same_given}
 use Rattle.fact_store.specs.Given.{input_state, states}
 use Rattle.fact_store.specs.declared.slot.Kept.{Kept}
 use Rattle.fact_store.specs.Right.{is_fresh, with_given}
-use Rattle.fact_values.proofs.NameLemmas.{name_eq-refl, name_eq-same, same_name, or_left, and_both}
+use Rattle.fact_values.proofs.NameLemmas.{name_eq-refl, name_eq-same, same_name}
 
 module _ {F : Type 0} (same : F → F → Bool) where
   -- lists of different lengths differ
@@ -63,7 +64,7 @@ module _ {F : Type 0} (same : F → F → Bool) where
 
     pub same_given-refl : (xs : List (List ℕ × State F)) → same_given same xs xs ≡ true
     same_given-refl [] = refl
-    same_given-refl (x ∷ xs) = and_both _ _ (and_both _ _ (name_eq-refl x.0) (same_state-refl x.1)) (same_given-refl xs)
+    same_given-refl (x ∷ xs) = and_from _ _ (and_from _ _ (name_eq-refl x.0) (same_state-refl x.1)) (same_given-refl xs)
 
   module _ (same_trans : (a b c : F) → same a b ≡ true → same b c ≡ true → same a c ≡ true) where
     pub same_state-trans : (a b c : State F) → same_state same a b ≡ true → same_state same b c ≡ true → same_state same a c ≡ true
@@ -95,14 +96,14 @@ module _ {F : Type 0} (same : F → F → Bool) where
     same_given-trans (x ∷ xs) (y ∷ ys) (z ∷ zs) p q =
         let hp = and-left (name_eq x.0 y.0 && same_state same x.1 y.1) _ p in let hq = and-left (name_eq y.0 z.0 && same_state same y.1 z.1) _ q in
         let n : x.0 ≡ z.0 = same_name x.0 y.0 (and-left _ (same_state same x.1 y.1) hp) ∙ same_name y.0 z.0 (and-left _ (same_state same y.1 z.1) hq) in
-        and_both _ _ (and_both _ _ (name_eq-same x.0 z.0 n) (same_state-trans x.1 y.1 z.1 (and-right (name_eq x.0 y.0) _ hp) (and-right (name_eq y.0 z.0) _ hq)))
+        and_from _ _ (and_from _ _ (name_eq-same x.0 z.0 n) (same_state-trans x.1 y.1 z.1 (and-right (name_eq x.0 y.0) _ hp) (and-right (name_eq y.0 z.0) _ hq)))
         (same_given-trans xs ys zs (and-right (name_eq x.0 y.0 && same_state same x.1 y.1) _ p) (and-right (name_eq y.0 z.0 && same_state same y.1 z.1) _ q))
 
 -- a name that was read is among the names
 pub has-read : (names : List (List ℕ)) (k : ℕ) (n : List ℕ) → k < length names → n ≡ get_or names k n → has names n ≡ true
 has-read [] k n l e = absurd (omega arith)
 has-read (m ∷ names) zero n l e = or_left (name_eq n m) (has names n) (name_eq-same n m e)
-has-read (m ∷ names) (suc k) n l e = or-right (name_eq n m) (has names n) (has-read names k n (omega arith) e)
+has-read (m ∷ names) (suc k) n l e = or_right (name_eq n m) (has names n) (has-read names k n (omega arith) e)
 
 -- one more name gives one more pair
 pub all_given-more : {Own F : Type 0} (own_of : List ℕ → List ℕ → Own) (needs_of : Own → Option (List (List ℕ))) (fact_of : List ℕ → Own → List (List ℕ × State F) → F) (texts : Texts) (values : List ℕ → State F) (name : List ℕ) (names : List (List ℕ)) (k : ℕ) (n m : List ℕ) (given new : List (List ℕ × Input F)) (input : Input F) → k < length names → n ≡ get_or names k n → states given ≡ all_given own_of needs_of fact_of texts values name (take k names) → m ≡ n → input_state input ≡ gives own_of needs_of fact_of texts values name m → new ≡ given ++ (m, input) ∷ [] → states new ≡ all_given own_of needs_of fact_of texts values name (take (k + 1) names)
@@ -117,4 +118,4 @@ all_given-more {F = F} own_of needs_of fact_of texts values name names k n m giv
 -- a fact that is fresh stays so with what is given now
 pub is_fresh-with_given : {F : Type 0} (same : F → F → Bool) → ((a : F) → same a a ≡ true) → (kept : Option (Kept F)) (given : List (List ℕ × Input F)) → is_fresh same kept (states given) ≡ true → is_fresh same (with_given kept given) (states given) ≡ true
 is_fresh-with_given same same_refl None given h = cc
-is_fresh-with_given same same_refl (Some kept) given h = and_both _ _ (and-left (is_none kept.from) _ h) (same_given-refl same same_refl (states given))
+is_fresh-with_given same same_refl (Some kept) given h = and_from _ _ (and-left (is_none kept.from) _ h) (same_given-refl same same_refl (states given))

@@ -8,6 +8,7 @@ use Rattle.std.proofs.lemmas.List.{length-set}
 use Rattle.std.proofs.lemmas.Option.{slice_get_within}
 use Rattle.list_laws.proofs.Lists.{pushed-cases}
 use Rattle.list_laws.proofs.Tests.{and-left, and-right}
+use Rattle.list_laws.proofs.Texts.{numbers-equal}
 use Rattle.fact_store.specs.declared.slot.Slot.{Slot}
 use Rattle.fact_store.specs.declared.slot.Kept.{Kept}
 use Rattle.fact_store.specs.declared.plan.Plan.{Plan}
@@ -37,18 +38,11 @@ source_after-elsewhere from before bytes other e = choice (name_eq (unwrap_or fr
     choice true h k = cc
     choice false h k = let s : unwrap_or from before ≡ other = cc in ap (λ x. name_eq x bytes) (sym s) ∙ h
 
--- texts that compare alike are equal
-bytes_same : (a b : List ℕ) → pointwise nat_eq a b ≡ true → a ≡ b
-bytes_same [] [] e = refl
-bytes_same [] (y ∷ b) e = cc
-bytes_same (x ∷ a) [] e = cc
-bytes_same (x ∷ a) (y ∷ b) e = λ i. eqb-true x y (and-left (nat_eq x y) _ e) i ∷ bytes_same a b (and-right (nat_eq x y) _ e) i
-
 pub names_same : (a b : List (List ℕ)) → pointwise (pointwise nat_eq) a b ≡ true → a ≡ b
 names_same [] [] e = refl
 names_same [] (y ∷ b) e = cc
 names_same (x ∷ a) [] e = cc
-names_same (x ∷ a) (y ∷ b) e = λ i. bytes_same x y (and-left (pointwise nat_eq x y) _ e) i ∷ names_same a b (and-right (pointwise nat_eq x y) _ e) i
+names_same (x ∷ a) (y ∷ b) e = λ i. numbers-equal x y (and-left (pointwise nat_eq x y) _ e) i ∷ names_same a b (and-right (pointwise nat_eq x y) _ e) i
 
 module _ {Own F : Type 0} where
   -- a slot with another text

@@ -5,6 +5,7 @@ use Rattle.std.specs.FinMap.{get, keys}
 use Rattle.std.proofs.lemmas.Bool.{eqb-true, eq-eqb}
 use Rattle.std.proofs.lemmas.List.Sums.{sum_by-cons}
 use Rattle.std.proofs.lemmas.Option.{slice_get_within}
+use Rattle.std.specs.Cmp.{both_ways}
 use Rattle.list_laws.proofs.Lists.{item-at}
 use Rattle.fact_store.specs.declared.slot.Slot.{Slot}
 use Rattle.fact_values.specs.Names.{has}
@@ -17,7 +18,7 @@ use Rattle.fact_values.proofs.ReachLemmas.{leads-refl, leads-need, leads-trans, 
 use Rattle.fact_values.proofs.ValueLemmas.{needs_in-none}
 use Rattle.fact_store.proofs.SlotLemmas.{slot_with, text_of-slot}
 use Rattle.fact_store.proofs.Search.{among-within}
-use Rattle.fact_store.proofs.Rows.{slot_at, same_test}
+use Rattle.fact_store.proofs.Rows.{slot_at}
 
 one-le : (a b : Bool) → (a ≡ true → b ≡ true) → cond a 1 0 ≤ cond b 1 0
 one-le true b h = let e : ◌≡◌ {A = ℕ} (cond b 1 0) 1 = ap (λ c. cond c 1 0) (h refl) in omega (arith, e)
@@ -99,7 +100,7 @@ module _ {Own F : Type 0} (own_of : List ℕ → List ℕ → Own) (needs_of : O
 
       pub mark-reaches : (j : ℕ) (y : Slot Own F) → slice_get slots j ≡ Some y → is_marked marks j ≡ reaches own_of needs_of fact_of (texts_of slots) x.name y.name
       unfolding AllMarked
-      mark-reaches j y e = same_test (is_marked marks j) (reaches own_of needs_of fact_of (texts_of slots) x.name y.name) (mark_reaches j y e) back
+      mark-reaches j y e = both_ways (is_marked marks j) (reaches own_of needs_of fact_of (texts_of slots) x.name y.name) (mark_reaches j y e) back
         where
           start : AllMarked x.name
           start k z ez n = ap (is_marked marks) (sound.distinct k i z x ez at n) ∙ r.first
@@ -130,7 +131,7 @@ module _ {Own F : Type 0} (own_of : List ℕ → List ℕ → Own) (needs_of : O
       back_mark = mark-reaches j y there (rank_at j y there).1.marks (rank_at j y there).1.reach i x at
 
       pub rank_tells : nat_eq (slice_index ranks j) (slice_index ranks i) ≡ reaches own_of needs_of fact_of (texts_of slots) y.name x.name
-      rank_tells = same_test _ _ (λ e. there_and_back (true_or_false (is_marked (rank_at j y there).1.marks i)) (eqb-true _ _ e)) (λ l. eq-eqb _ _ (equal (back_mark ∙ l)))
+      rank_tells = both_ways _ _ (λ e. there_and_back (true_or_false (is_marked (rank_at j y there).1.marks i)) (eqb-true _ _ e)) (λ l. eq-eqb _ _ (equal (back_mark ∙ l)))
         where
           there_and_back : (is_marked (rank_at j y there).1.marks i ≡ true) ⊎ (is_marked (rank_at j y there).1.marks i ≡ false) → slice_index ranks j ≡ slice_index ranks i → reaches own_of needs_of fact_of (texts_of slots) y.name x.name ≡ true
           there_and_back (inl on) e = sym back_mark ∙ on

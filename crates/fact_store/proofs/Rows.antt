@@ -2,35 +2,30 @@
 use Rattle.std.proofs.Common.{◌≡◌, ◌≢◌, ℕ, zero, suc, ◌+◌, ◌<◌, Bool, true, false, List, [], ◌∷◌, ◌++◌, Option, Some, refl, sym, ap, ◌∙◌, subst, inl, inr, take, length, get_or, arith, nat_eq, cond, Vec, Global}
 use Rattle.std.specs.Prelude.{not, ◌⊎◌, ◌||◌, ◌&&◌, slice_get, slice_index, unwrap_or}
 use Rattle.std.specs.List.{list_any}
-use Rattle.std.proofs.lemmas.Bool.{eqb-true, eq-eqb, cases_lt}
+use Rattle.std.proofs.lemmas.Bool.{and_from, cases_lt, eq-eqb, eqb-true, or_left, or_right}
 use Rattle.std.proofs.lemmas.List.{take_more, length-append}
 use Rattle.std.proofs.lemmas.List.Folds.{list_any-append}
 use Rattle.std.proofs.lemmas.List.Elements.{All-push}
 use Rattle.std.proofs.lemmas.Option.{slice_get_within}
+use Rattle.std.specs.Cmp.{both_ways}
 use Rattle.list_laws.proofs.Lists.{pushed-cases}
-use Rattle.list_laws.proofs.Tests.{and-left, and-right, or-right}
+use Rattle.list_laws.proofs.Tests.{and-left, and-right, or-false}
 use Rattle.list_laws.proofs.Lists.{item-at}
 use Rattle.fact_store.specs.declared.slot.Slot.{Slot}
 use Rattle.fact_values.specs.Names.{name_eq, has}
 use Rattle.fact_store.specs.Slots.{AreDistinct, HasNoSlot, IsIndexOf}
 use Rattle.fact_store.specs.Plans.{among, row_with, Edges, HasIndices, IsRow, AreEdges, AreReached, IsRank, IsGround, AreGrounds}
-use Rattle.fact_values.proofs.NameLemmas.{true_or_false, same_name, name_eq-same, or_left, or_cases, and_both}
-use Rattle.fact_store.proofs.Marks.{among-push, or_false, same_index}
-
--- tests that hold alike are equal
-pub same_test : (a b : Bool) → (a ≡ true → b ≡ true) → (b ≡ true → a ≡ true) → a ≡ b
-same_test true b f g = sym (f refl)
-same_test false true f g = g refl
-same_test false false f g = refl
+use Rattle.fact_values.proofs.NameLemmas.{true_or_false, same_name, name_eq-same, or_cases}
+use Rattle.fact_store.proofs.Marks.{among-push}
 
 has-push : (names : List (List ℕ)) (n x : List ℕ) → has (names ++ n ∷ []) x ≡ (has names x || name_eq x n)
-has-push names n x = list_any-append (name_eq x) names (n ∷ []) ∙ ap (λ b. has names x || b) (or_false (name_eq x n))
+has-push names n x = list_any-append (name_eq x) names (n ∷ []) ∙ ap (λ b. has names x || b) (or-false (name_eq x n))
 
 -- what stands in a row is among it
 among-at : (row : List ℕ) (i x : ℕ) → slice_get row i ≡ Some x → among row x ≡ true
 among-at [] i x e = cc
 among-at (y ∷ row) zero x e = let s : y ≡ x = cc in or_left (nat_eq x y) (among row x) (eq-eqb x y (sym s))
-among-at (y ∷ row) (suc i) x e = or-right (nat_eq x y) (among row x) (among-at row i x e)
+among-at (y ∷ row) (suc i) x e = or_right (nat_eq x y) (among row x) (among-at row i x e)
 
 -- what stands in a row once still does behind one that is not there
 once-push : (row : List ℕ) (index : ℕ) → ((i j x : ℕ) → slice_get row i ≡ Some x → slice_get row j ≡ Some x → i ≡ j) → among row index ≡ false → (i j x : ℕ) → slice_get (row ++ index ∷ []) i ≡ Some x → slice_get (row ++ index ∷ []) j ≡ Some x → i ≡ j
@@ -54,7 +49,7 @@ row_with-new row index e = sym (ap (λ b. cond b row (row ++ index ∷ [])) e)
 -- the test of each item against an index is that of the index against each
 pub among-turned : (row : List ℕ) (index : ℕ) → list_any (λ other. nat_eq other index) row ≡ among row index
 among-turned [] index = refl
-among-turned (x ∷ row) index = λ j. same_test (nat_eq x index) (nat_eq index x) (λ m. eq-eqb index x (sym (same_index x index m))) (λ m. eq-eqb x index (sym (same_index index x m))) j || among-turned row index j
+among-turned (x ∷ row) index = λ j. both_ways (nat_eq x index) (nat_eq index x) (λ m. eq-eqb index x (sym (eqb-true x index m))) (λ m. eq-eqb x index (sym (eqb-true index x m))) j || among-turned row index j
 
 -- a test that follows from another adds nothing to it
 or_known : (a b : Bool) → (b ≡ true → a ≡ true) → a ≡ (a || b)
@@ -68,7 +63,7 @@ module _ {Own F : Type 0} where
 
   pub IsRow-skip : (slots : List (Slot Own F)) (names : List (List ℕ)) (row : List ℕ) (n : List ℕ) → IsRow slots names row → HasNoSlot slots n → IsRow slots (names ++ n ∷ []) row
   IsRow-skip slots names row n r h = record {
-    each = λ j slot e. r.each j slot e ∙ sym (has-push names n slot.name ∙ ap (λ b. has names slot.name || b) (other j slot e) ∙ or_false (has names slot.name));
+    each = λ j slot e. r.each j slot e ∙ sym (has-push names n slot.name ∙ ap (λ b. has names slot.name || b) (other j slot e) ∙ or-false (has names slot.name));
     within = r.within;
     once = r.once;
   }
@@ -81,8 +76,8 @@ module _ {Own F : Type 0} where
 
   -- an index stands for a name exactly where its slot has it
   here : (slots : List (Slot Own F)) (n : List ℕ) (index : ℕ) → AreDistinct slots → IsIndexOf slots n index → (j : ℕ) (slot : Slot Own F) → slice_get slots j ≡ Some slot → nat_eq j index ≡ name_eq slot.name n
-  here slots n index d p j slot e = same_test (nat_eq j index) (name_eq slot.name n)
-      (λ m. let k : ◌≡◌ {A = Option (Slot Own F)} (Some slot) (Some p.0) = sym e ∙ ap (slice_get slots) (same_index j index m) ∙ p.1 in let s : slot ≡ p.0 = cc in name_eq-same slot.name n (ap (λ (x : Slot Own F). x.name) s ∙ p.2))
+  here slots n index d p j slot e = both_ways (nat_eq j index) (name_eq slot.name n)
+      (λ m. let k : ◌≡◌ {A = Option (Slot Own F)} (Some slot) (Some p.0) = sym e ∙ ap (slice_get slots) (eqb-true j index m) ∙ p.1 in let s : slot ≡ p.0 = cc in name_eq-same slot.name n (ap (λ (x : Slot Own F). x.name) s ∙ p.2))
       (λ m. eq-eqb j index (d j index slot p.0 e p.1 (same_name slot.name n m ∙ sym p.2)))
 
   IsRow-more : (slots : List (Slot Own F)) (names : List (List ℕ)) (row : List ℕ) (n : List ℕ) (index : ℕ) → AreDistinct slots → IsRow slots names row → IsIndexOf slots n index → among row index ≡ false → IsRow slots (names ++ n ∷ []) (row ++ index ∷ [])
@@ -95,7 +90,7 @@ module _ {Own F : Type 0} where
   -- a name whose index stands there already
   IsRow-again : (slots : List (Slot Own F)) (names : List (List ℕ)) (row : List ℕ) (n : List ℕ) (index : ℕ) → AreDistinct slots → IsRow slots names row → IsIndexOf slots n index → among row index ≡ true → IsRow slots (names ++ n ∷ []) row
   IsRow-again slots names row n index d r p there = record {
-    each = λ j slot e. r.each j slot e ∙ or_known (has names slot.name) (name_eq slot.name n) (λ m. sym (r.each j slot e) ∙ ap (among row) (same_index j index (here slots n index d p j slot e ∙ m)) ∙ there) ∙ sym (has-push names n slot.name);
+    each = λ j slot e. r.each j slot e ∙ or_known (has names slot.name) (name_eq slot.name n) (λ m. sym (r.each j slot e) ∙ ap (among row) (eqb-true j index (here slots n index d p j slot e ∙ m)) ∙ there) ∙ sym (has-push names n slot.name);
     within = r.within;
     once = r.once;
   }
@@ -162,7 +157,7 @@ ranks-more edges ranks new index rank indices long each r e en = (
   where
     choice : (i : ℕ) → i < length ranks + 1 → (nat_eq i (length ranks) ≡ true) ⊎ (nat_eq i (length ranks) ≡ false) → IsRank edges i (slice_index (ranks ++ rank ∷ []) i)
     choice i l (inl last) =
-        let k = same_index i (length ranks) last in
+        let k = eqb-true i (length ranks) last in
         subst (λ (j : ℕ). IsRank edges j (slice_index (ranks ++ rank ∷ []) j)) (sym k)
         (indices, subst (λ (j : ℕ). AreReached edges j indices) (sym long) r, slice_index-push_last ranks rank ∙ e)
     choice i l (inr other) =
@@ -178,12 +173,12 @@ ranks-more edges ranks new index rank indices long each r e en = (
 -- the next index of a row is of the rank
 IsGround-skip : (ranks : List ℕ) (rank : ℕ) (row ground : List ℕ) (p : ℕ) → IsGround ranks rank row ground → slice_index ranks p ≡ rank → IsGround ranks rank (row ++ p ∷ []) ground
 IsGround-skip ranks rank row ground p g e = record {
-  each = λ j. g.each j ∙ same_test _ _
-      (λ m. and_both _ _ (among-push row p j ∙ or_left (among row j) (nat_eq j p) (and-left (among row j) _ m)) (and-right (among row j) _ m))
+  each = λ j. g.each j ∙ both_ways _ _
+      (λ m. and_from _ _ (among-push row p j ∙ or_left (among row j) (nat_eq j p) (and-left (among row j) _ m)) (and-right (among row j) _ m))
       (λ m. let n = and-right (among (row ++ p ∷ []) j) _ m in
       elim (or_cases (among row j) (nat_eq j p) (sym (among-push row p j) ∙ and-left (among (row ++ p ∷ []) j) _ m)) as (λ _. (among row j && not (nat_eq (slice_index ranks j) rank)) ≡ true) [
-        | inl before ↦ and_both _ _ before n
-        | inr this ↦ let h : not true ≡ true = sym (ap not (eq-eqb (slice_index ranks j) rank (ap (slice_index ranks) (same_index j p this) ∙ e))) ∙ n in cc h
+        | inl before ↦ and_from _ _ before n
+        | inr this ↦ let h : not true ≡ true = sym (ap not (eq-eqb (slice_index ranks j) rank (ap (slice_index ranks) (eqb-true j p this) ∙ e))) ∙ n in cc h
       ]);
   within = g.within;
 }
@@ -191,15 +186,15 @@ IsGround-skip ranks rank row ground p g e = record {
 -- the next index of a row is of another rank
 IsGround-more : (ranks : List ℕ) (rank : ℕ) (row ground : List ℕ) (p : ℕ) → IsGround ranks rank row ground → nat_eq (slice_index ranks p) rank ≡ false → p < length ranks → IsGround ranks rank (row ++ p ∷ []) (ground ++ p ∷ [])
 IsGround-more ranks rank row ground p g ne l = record {
-  each = λ j. same_test _ _
+  each = λ j. both_ways _ _
       (λ m. elim (or_cases (among ground j) (nat_eq j p) (sym (among-push ground p j) ∙ m)) as (λ _. (among (row ++ p ∷ []) j && not (nat_eq (slice_index ranks j) rank)) ≡ true) [
-        | inl before ↦ let k = sym (g.each j) ∙ before in and_both _ _ (among-push row p j ∙ or_left (among row j) (nat_eq j p) (and-left (among row j) _ k)) (and-right (among row j) _ k)
-        | inr this ↦ and_both _ _ (among-push row p j ∙ or-right (among row j) (nat_eq j p) this) (ap (λ (q : ℕ). not (nat_eq (slice_index ranks q) rank)) (same_index j p this) ∙ ap not ne)
+        | inl before ↦ let k = sym (g.each j) ∙ before in and_from _ _ (among-push row p j ∙ or_left (among row j) (nat_eq j p) (and-left (among row j) _ k)) (and-right (among row j) _ k)
+        | inr this ↦ and_from _ _ (among-push row p j ∙ or_right (among row j) (nat_eq j p) this) (ap (λ (q : ℕ). not (nat_eq (slice_index ranks q) rank)) (eqb-true j p this) ∙ ap not ne)
       ])
       (λ m. let n = and-right (among (row ++ p ∷ []) j) _ m in
       elim (or_cases (among row j) (nat_eq j p) (sym (among-push row p j) ∙ and-left (among (row ++ p ∷ []) j) _ m)) as (λ _. among (ground ++ p ∷ []) j ≡ true) [
-        | inl before ↦ among-push ground p j ∙ or_left (among ground j) (nat_eq j p) (g.each j ∙ and_both _ _ before n)
-        | inr this ↦ among-push ground p j ∙ or-right (among ground j) (nat_eq j p) this
+        | inl before ↦ among-push ground p j ∙ or_left (among ground j) (nat_eq j p) (g.each j ∙ and_from _ _ before n)
+        | inr this ↦ among-push ground p j ∙ or_right (among ground j) (nat_eq j p) this
       ]);
   within = All-push (λ x. x < length ranks) ground p g.within l;
 }

@@ -2,16 +2,15 @@
 use Rattle.std.proofs.Common.{◌≡◌, ℕ, zero, suc, ◌+◌, ◌≤◌, ◌<◌, Bool, true, false, List, [], ◌∷◌, Option, Some, refl, sym, ap, ◌∙◌, subst, cond, inl, inr, take, length, get_or, arith, nat_eq, Vec, Global}
 use Rattle.std.specs.Prelude.{◌||◌, not, count_by, slice_get, slice_set, All}
 use Rattle.std.specs.List.{list_any}
-use Rattle.std.proofs.lemmas.Bool.{eq-eqb}
+use Rattle.std.proofs.lemmas.Bool.{eq-eqb, eqb-true, or_left, or_right}
 use Rattle.std.proofs.lemmas.List.{take_more, length-take, length-set, take-take}
 use Rattle.std.proofs.lemmas.List.Elements.{All-cons, All-nil}
 use Rattle.std.proofs.lemmas.Grind.{get_or_default_zero}
 use Rattle.std.proofs.lemmas.List.Sums.{sum_by-cons}
 use Rattle.std.proofs.lemmas.Option.{slice_get_read}
-use Rattle.list_laws.proofs.Tests.{or-right}
 use Rattle.fact_store.specs.Plans.{among, is_marked, Edges, AreClosed, MarksRow, AreReached}
-use Rattle.fact_values.proofs.NameLemmas.{true_or_false, or_left, or_cases}
-use Rattle.fact_store.proofs.Marks.{among-push, is_marked-set_same, is_marked-set_other, same_index, open_count}
+use Rattle.fact_values.proofs.NameLemmas.{true_or_false, or_cases}
+use Rattle.fact_store.proofs.Marks.{among-push, is_marked-set_same, is_marked-set_other, open_count}
 
 -- the rows of the indices before `next` in the queue are marked
 abbrev pub RowsDone : Edges → List Bool → List ℕ → ℕ → Type 0
@@ -33,13 +32,13 @@ list_any-take p zero xs h = cc
 list_any-take p (suc n) [] h = h
 list_any-take p (suc n) (x ∷ xs) h = elim (or_cases (p x) (list_any p (take n xs)) h) as (λ _. (p x || list_any p xs) ≡ true) [
   | inl here ↦ or_left (p x) (list_any p xs) here
-  | inr later ↦ or-right (p x) (list_any p xs) (list_any-take p n xs later)
+  | inr later ↦ or_right (p x) (list_any p xs) (list_any-take p n xs later)
 ]
 
 pub among-within : (xs : List ℕ) (n i : ℕ) → All (λ x. x < n) xs → among xs i ≡ true → i < n
 among-within [] n i h m = cc
 among-within (x ∷ xs) n i h m = elim (or_cases (nat_eq i x) (among xs i) m) as (λ _. i < n) [
-  | inl same ↦ let e = same_index i x same in let b : x < n = h 0 0 (omega arith) in omega arith
+  | inl same ↦ let e = eqb-true i x same in let b : x < n = h 0 0 (omega arith) in omega arith
   | inr later ↦ among-within xs n i (λ k d l. h (suc k) d (omega arith)) later
 ]
 
@@ -55,7 +54,7 @@ IsSearch-start edges start clear marks queue l long none em eq =
   where
     this : (i : ℕ) → is_marked (slice_set clear start true) i ≡ true → i ≡ start
     this i m = elim (true_or_false (nat_eq i start)) as (λ _. i ≡ start) [
-      | inl same ↦ same_index i start same
+      | inl same ↦ eqb-true i start same
       | inr other ↦ let h : false ≡ true = sym (none i) ∙ sym (is_marked-set_other clear start i true (λ e. let k : true ≡ false = sym (eq-eqb i start e) ∙ other in cc k)) ∙ m in cc h
     ]
 
@@ -68,7 +67,7 @@ IsSearch-start edges start clear marks queue l long none em eq =
       counted = omega (arith, open_count clear start (omega arith) (none start), clear_count clear none, long);
       waiting = λ i m. or_left (nat_eq i start) false (eq-eqb i start (this i m));
       only = λ i m. elim (or_cases (nat_eq i start) false m) as (λ _. is_marked (slice_set clear start true) i ≡ true) [
-        | inl same ↦ ap (is_marked (slice_set clear start true)) (same_index i start same) ∙ is_marked-set_same clear start true (omega arith)
+        | inl same ↦ ap (is_marked (slice_set clear start true)) (eqb-true i start same) ∙ is_marked-set_same clear start true (omega arith)
         | inr past ↦ cc past
       ];
       done = λ i j row m e n. cc m;
@@ -87,7 +86,7 @@ IsSearch-next edges start marks new queue longer next row s l er r = record {
   only = only;
   done = λ i j row' m e n. elim (or_cases (among (take next queue) i) (nat_eq i index) (sym (among-push (take next queue) index i) ∙ ap (λ (xs : List ℕ). among xs i) (sym (take_more queue next 0 l) ∙ sym front) ∙ m)) as (λ _. is_marked new j ≡ true) [
     | inl before ↦ r.kept j (s.done i j row' before e n)
-    | inr this ↦ let same : ◌≡◌ {A = Option (Vec ℕ Global)} (Some row') (Some row) = sym e ∙ ap (slice_get edges) (same_index i index this) ∙ er in let er' : row' ≡ row = cc in r.all j (ap (λ (x : Vec ℕ Global). among x.items j) (sym er') ∙ n)
+    | inr this ↦ let same : ◌≡◌ {A = Option (Vec ℕ Global)} (Some row') (Some row) = sym e ∙ ap (slice_get edges) (eqb-true i index this) ∙ er in let er' : row' ≡ row = cc in r.all j (ap (λ (x : Vec ℕ Global). among x.items j) (sym er') ∙ n)
   ];
   least = λ p h c i m. elim (or_cases (is_marked marks i) (among row.items i) (r.only i m)) as (λ _. p i ≡ true) [
     | inl was ↦ s.least p h c i was
@@ -101,7 +100,7 @@ IsSearch-next edges start marks new queue longer next row s l er r = record {
     at_index : (xs : List ℕ) (k : ℕ) → k < length xs → among xs (get_or xs k 0) ≡ true
     at_index [] k h = absurd (omega arith)
     at_index (x ∷ xs) zero h = or_left (nat_eq x x) (among xs x) (eq-eqb x x refl)
-    at_index (x ∷ xs) (suc k) h = or-right (nat_eq (get_or xs k 0) x) (among xs (get_or xs k 0)) (at_index xs k (omega arith))
+    at_index (x ∷ xs) (suc k) h = or_right (nat_eq (get_or xs k 0) x) (among xs (get_or xs k 0)) (at_index xs k (omega arith))
 
     length-front : length queue ≤ length longer
     length-front = omega (arith, ap length r.front, length-take (length queue) longer)

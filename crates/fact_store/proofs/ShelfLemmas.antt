@@ -16,14 +16,14 @@ use Rattle.indexmap.specs.IndexMap.{IndexMap, insert_entry}
 use Rattle.indexmap.specs.IndexMap.{get as find}
 use Rattle.indexmap.proofs.CallerLemmas.{insert_entry-new}
 use Rattle.slab.specs.Slab.{Slab, get, slab_len, with_value, ContainsKey, Updates}
-use Rattle.list_laws.proofs.Lists.{pushed-cases}
+use Rattle.list_laws.proofs.Lists.{item-at, pushed-cases}
 use Rattle.list_laws.proofs.Tests.{same-or-other}
 use Rattle.fact_store.specs.declared.slot.Slot.{Slot}
 use Rattle.fact_values.specs.Names.{name_eq}
 use Rattle.fact_store.specs.Shelf.{Names, shelved, IsShelf}
 use Rattle.fact_store.specs.Slots.{HasNoSlot, IsIndexOf}
 use Rattle.fact_values.proofs.NameLemmas.{name_eq-same, same_name}
-use Rattle.fact_store.proofs.Lookups.{AllFound, found_at, length-found, found-same, found-set, found-remove, item_at, passes_at, passes_not, write_same, write_other, write_count}
+use Rattle.fact_store.proofs.Lookups.{AllFound, found_at, length-found, found-same, found-set, found-remove, passes_at, passes_not, write_same, write_other, write_count}
 use Rattle.fact_store.proofs.TextLemmas.{skip, skip-injective, skip-other, slice_get-remove}
 
 abbrev Entry : Type 0
@@ -38,7 +38,7 @@ module _ {Own F : Type 0} (slab : Slab (Slot Own F)) (names : Names) (shelf : Is
 
   -- the name that has this index
   entry_at : (i : ℕ) → i < length (shelved slab names) → (e : Entry) × (slice_get names i ≡ Some e)
-  entry_at i l = item_at names i (omega (arith, l, length-shelved))
+  entry_at i l = item-at names i (omega (arith, l, length-shelved))
 
   -- its key was read
   key_of : (i key : ℕ) (e : Entry) → slice_get names i ≡ Some e → slice_get (values_of names) i ≡ Some key → e.1 ≡ key

@@ -4,6 +4,7 @@ use Rattle.std.specs.Prelude.{◌⊎◌, ◌||◌, ◌&&◌}
 use Rattle.std.specs.Cmp.Lexicographic.{nat_list_cmp_total}
 use Rattle.std.specs.Cmp.{eq_by_cmp_equiv}
 use Rattle.std.specs.FinMap.{nat_cmp-IsAntisymmetric, slice_cmp-IsAntisymmetric}
+use Rattle.std.proofs.lemmas.Bool.{or_left}
 use Rattle.list_laws.proofs.Tests.{equal-is}
 use Rattle.fact_values.specs.Names.{name_cmp, name_eq, has}
 
@@ -21,17 +22,9 @@ name_eq-refl a = (eq_by_cmp_equiv nat_list_cmp_total).refl a
 pub name_eq-same : (a b : List ℕ) → a ≡ b → name_eq a b ≡ true
 name_eq-same a b e = ap (name_eq a) (sym e) ∙ name_eq-refl a
 
-pub or_left : (a b : Bool) → a ≡ true → (a || b) ≡ true
-or_left true b e = refl
-or_left false b e = cc
-
 pub or_cases : (a b : Bool) → (a || b) ≡ true → (a ≡ true) ⊎ (b ≡ true)
 or_cases true b e = inl refl
 or_cases false b e = inr e
-
-pub and_both : (a b : Bool) → a ≡ true → b ≡ true → (a && b) ≡ true
-and_both true b p q = q
-and_both false b p q = cc
 
 pub has_head : (x : List ℕ) (xs : List (List ℕ)) → has (x ∷ xs) x ≡ true
 has_head x xs = or_left (name_eq x x) (has xs x) (name_eq-refl x)

@@ -2,10 +2,11 @@
 use Rattle.std.proofs.Common.{◌≡◌, ℕ, ◌≤◌, ◌<◌, Bool, true, false, List, [], ◌∷◌, ◌++◌, refl, sym, ap, ◌∙◌, subst, cond, inl, inr, arith}
 use Rattle.std.specs.Prelude.{◌||◌, ◌&&◌, count_by}
 use Rattle.std.proofs.lemmas.List.Sums.{sum_by-cons}
-use Rattle.list_laws.proofs.Tests.{and-left, and-right, or-right}
+use Rattle.std.proofs.lemmas.Bool.{and_from, or_left, or_right}
+use Rattle.list_laws.proofs.Tests.{and-left, and-right}
 use Rattle.fact_values.specs.Names.{name_eq, has}
 use Rattle.fact_values.specs.Reach.{IsPath, Reaches, leads, rank}
-use Rattle.fact_values.proofs.NameLemmas.{true_or_false, same_name, name_eq-refl, or_left, or_cases, and_both}
+use Rattle.fact_values.proofs.NameLemmas.{true_or_false, same_name, name_eq-refl, or_cases}
 
 -- what a test adds to a count
 abbrev one : Bool → ℕ
@@ -40,7 +41,7 @@ module _ (needs : List ℕ → List (List ℕ)) where
 
   pub leads-need : (vs : List (List ℕ)) (a b : List ℕ) → has (needs a) b ≡ true → leads needs vs a b ≡ true
   unfolding leads
-  leads-need [] a b h = or-right (name_eq a b) _ h
+  leads-need [] a b h = or_right (name_eq a b) _ h
   leads-need (v ∷ vs) a b h = or_left (leads needs vs a b) _ (leads-need vs a b h)
 
   -- first a need that is one of the names, and then on
@@ -51,14 +52,14 @@ module _ (needs : List ℕ → List (List ℕ)) where
     | inl same ↦ over (same_name c v same)
     | inr later ↦ elim (or_cases (leads needs vs c b) _ l) as (λ _. leads needs (v ∷ vs) a b ≡ true) [
       | inl direct ↦ or_left (leads needs vs a b) _ (leads-through vs a c b later h direct)
-      | inr round ↦ or-right (leads needs vs a b) _ (and_both (leads needs vs a v) (leads needs vs v b) (leads-through vs a c v later h (and-left (leads needs vs c v) (leads needs vs v b) round)) (and-right (leads needs vs c v) (leads needs vs v b) round))
+      | inr round ↦ or_right (leads needs vs a b) _ (and_from (leads needs vs a v) (leads needs vs v b) (leads-through vs a c v later h (and-left (leads needs vs c v) (leads needs vs v b) round)) (and-right (leads needs vs c v) (leads needs vs v b) round))
     ]
   ]
     where
       over : c ≡ v → (leads needs vs a b || (leads needs vs a v && leads needs vs v b)) ≡ true
       over e = elim (or_cases (leads needs vs c b) _ l) as (λ _. (leads needs vs a b || (leads needs vs a v && leads needs vs v b)) ≡ true) [
-        | inl direct ↦ or-right (leads needs vs a b) _ (and_both (leads needs vs a v) (leads needs vs v b) (leads-need vs a v (ap (has (needs a)) (sym e) ∙ h)) (ap (λ x. leads needs vs x b) (sym e) ∙ direct))
-        | inr round ↦ or-right (leads needs vs a b) _ (and_both (leads needs vs a v) (leads needs vs v b) (leads-need vs a v (ap (has (needs a)) (sym e) ∙ h)) (and-right (leads needs vs c v) (leads needs vs v b) round))
+        | inl direct ↦ or_right (leads needs vs a b) _ (and_from (leads needs vs a v) (leads needs vs v b) (leads-need vs a v (ap (has (needs a)) (sym e) ∙ h)) (ap (λ x. leads needs vs x b) (sym e) ∙ direct))
+        | inr round ↦ or_right (leads needs vs a b) _ (and_from (leads needs vs a v) (leads needs vs v b) (leads-need vs a v (ap (has (needs a)) (sym e) ∙ h)) (and-right (leads needs vs c v) (leads needs vs v b) round))
       ]
 
   -- a name without needs leads to itself alone

@@ -2,9 +2,9 @@
 use Rattle.std.proofs.Common.{◌≡◌, ℕ, Bool, true, false, List, [], ◌∷◌, Option, Some, None, refl, sym, ap, ◌∙◌, cond, inl, inr, map}
 use Rattle.std.specs.Prelude.{is_some, unwrap_or}
 use Rattle.std.specs.FinMap.{get, keys, contains_key-keys}
+use Rattle.std.proofs.lemmas.Bool.{or_right}
 use Rattle.order_rec.specs.Ranked.{lower, ranked}
 use Rattle.order_rec.proofs.Rank.{ranked-step, lower-lt}
-use Rattle.list_laws.proofs.Tests.{or-right}
 use Rattle.fact_values.specs.Names.{name_eq, has, Texts}
 use Rattle.fact_values.specs.Reach.{rank}
 use Rattle.fact_values.specs.States.{State, no_text, cyclic, fact}
@@ -15,7 +15,7 @@ use Rattle.fact_values.proofs.ReachLemmas.{leads-need, rank-lt}
 -- only what is among the names counts
 pub map-same : {B : Type 0} (f g : List ℕ → B) (xs : List (List ℕ)) → ((x : List ℕ) → has xs x ≡ true → f x ≡ g x) → map f xs ≡ map g xs
 map-same f g [] h = refl
-map-same f g (x ∷ xs) h = λ i. h x (has_head x xs) i ∷ map-same f g xs (λ y m. h y (or-right (name_eq y x) (has xs y) m)) i
+map-same f g (x ∷ xs) h = λ i. h x (has_head x xs) i ∷ map-same f g xs (λ y m. h y (or_right (name_eq y x) (has xs y) m)) i
 
 module _ {Own F : Type 0} (own_of : List ℕ → List ℕ → Own) (needs_of : Own → Option (List (List ℕ))) (fact_of : List ℕ → Own → List (List ℕ × State F) → F) where
   -- a name without text has no needs

@@ -5,6 +5,7 @@ use Rattle.std.specs.Prelude.{◌||◌, Contains, unwrap_or}
 use Rattle.std.specs.Cmp.Lexicographic.{nat_list_cmp_total}
 use Rattle.std.specs.FinMap.{find, get, get-from_entries, keys}
 use Rattle.std.specs.Str.{bytes_eq}
+use Rattle.std.proofs.lemmas.Bool.{or_left}
 use Rattle.list_laws.proofs.Texts.{same-text, text-itself}
 use Rattle.tla_model.specs.declared.Diagnostic.{Diagnostic}
 use Rattle.module_model.specs.Bindings.{AreInOrder}
@@ -21,7 +22,7 @@ use Rattle.fact_values.specs.Names.{Texts, has, name_cmp, name_eq}
 use Rattle.fact_values.specs.Reach.{IsPath}
 use Rattle.fact_values.specs.States.{State, no_text, cyclic, broken, fact}
 use Rattle.fact_values.specs.Values as values
-use Rattle.fact_values.proofs.NameLemmas.{name_eq-same, or_cases, or_left, same_name}
+use Rattle.fact_values.proofs.NameLemmas.{name_eq-same, or_cases, same_name}
 use Rattle.fact_values.proofs.ReachLemmas.{leads_from-path, reaches_from-leads}
 use Rattle.fact_values.proofs.ValueLemmas.{needs_in-none, value-step}
 use Rattle.family_facts.specs.Family as families

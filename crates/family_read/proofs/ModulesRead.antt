@@ -6,6 +6,7 @@ use Rattle.std.specs.Str.{bytes_eq}
 use Rattle.std.proofs.lemmas.Bool.{cases_Bool}
 use Rattle.std.proofs.lemmas.List.{take_more, map-append, append-nil}
 use Rattle.std.proofs.lemmas.List.Folds.{list_any-append}
+use Rattle.std.proofs.lemmas.Option.{slice_get-get_or}
 use Rattle.tla_tree.specs.declared.unit.ModuleTree.{ModuleTree}
 use Rattle.tla_symbols.specs.declared.lexeme.Lexeme.{Lexeme}
 use Rattle.tla_model.specs.Entities.{declaring}
@@ -15,7 +16,7 @@ use Rattle.unit_grammar.specs.Units.{ModuleUnits}
 use Rattle.unit_grammar.specs.UnitNodes.{module_of}
 use Rattle.std_modules.specs.StdTexts.{std_text}
 use Rattle.list_laws.proofs.Options.{some-there}
-use Rattle.list_laws.proofs.Tests.{and-both}
+use Rattle.list_laws.proofs.Tests.{and-both, or-false}
 use Rattle.family_facts.specs.Family.{Member, is_there}
 use Rattle.family_facts.specs.Verdicts.{AreDistinct, built_in, member_of}
 use Rattle.family_tables.specs.Modules.{Entry, IsEntry, IsModule, IsTreeOf, AreModules, added}
@@ -50,11 +51,6 @@ tree-of name bytes tree found front is lie few =
 
 -- ---- files
 
-at-item : {A : Type 0} (xs : List A) (i : ℕ) (d : A) → i < length xs → slice_get xs i ≡ Some (get_or xs i d)
-at-item [] i d l = absurd (omega (arith, l))
-at-item (x ∷ xs) zero d l = refl
-at-item (x ∷ xs) (suc i) d l = at-item xs i d (omega (arith, l))
-
 -- the name of the next file is none of those before it
 pub file-fresh : (files : List File) (i : ℕ) (d : File) (entries : List Entry) (name : List ℕ) → AreDistinct files → i < length files → AreModules (map member_of (take i files)) entries → name ≡ (get_or files i d).name → entry_of entries name ≡ None
 file-fresh files i d entries name distinct l are is = entry-none entries name (λ h.
@@ -63,7 +59,7 @@ file-fresh files i d entries name distinct l are is = entry-none entries name (�
     let k = contains-at (take i files) f.0 f.1 in
     let at = at-taken i files k.0 f.0 k.1 in
     let names : (f.0).name ≡ (get_or files i d).name = ap (λ (x : Member). x.name) f.2 ∙ (m.2 ∙ is) in
-    let place : k.0 ≡ i = distinct k.0 i f.0 (get_or files i d) at.0 (at-item files i d l) names in
+    let place : k.0 ≡ i = distinct k.0 i f.0 (get_or files i d) at.0 (slice_get-get_or files i d l) names in
     let less : k.0 < i = at.1 in
     absurd (omega (arith, place, less)))
 
@@ -113,10 +109,6 @@ built-in-more members entries entries' name bytes o m e none isbytes is same are
     let next : IsEntry (built_in name) (name, m) = record { named = refl; is = subst (λ b. IsModule name b m) isbytes is } in
     subst (λ ms. AreModules ms entries') (sym (ap (λ b. cond b members (members ++ built_in name ∷ [])) new))
     (subst (λ es. AreModules (members ++ built_in name ∷ []) es) (sym same) (zip-push IsEntry members entries (built_in name) (name, m) are next))
-
-or-false : (b : Bool) → (b || false) ≡ b
-or-false true = refl
-or-false false = refl
 
 abbrev visible : List Member → Member → Bool
 visible members m = not (is_there members m.name)

@@ -261,13 +261,6 @@ no-path count (variant.Name path d) none = absurd none
 no-path count (variant.Symbol rule) none = tt
 no-path count (variant.Lambda d) none = tt
 
--- ---- calls
-
--- a fact holds whatever a call answers
-pub always : {T E P : Type 0} (r : Result T E) → P → OnErr r P
-always (Ok value) holds = tt
-always (Err fault) holds = holds
-
 module _ (t : table.FlatModule) where
   -- what is made of earlier nodes of the view is so of the tables
   pub made-at : (flat : FlatModule) (x : Node) → flat ≡ flat_of t → IsMadeOfEarlier flat (length flat.nodes) x → IsMadeOfEarlier (flat_of t) (length t.nodes.items) x

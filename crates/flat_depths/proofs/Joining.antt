@@ -3,6 +3,7 @@ use Rattle.std.proofs.Common.{◌≡◌, ℕ, ◌≤◌, max, Bool, true, false,
 use Rattle.std.specs.Prelude.{is_some, slice_get}
 use Rattle.std.specs.List.{AllByRecursion}
 use Rattle.std.proofs.Math.Nat.{max-zero, zero-max}
+use Rattle.std.proofs.Math.Seq.{drop-append_seam}
 use Rattle.tla_symbols.specs.declared.lexeme.Lexeme.{Lexeme}
 use Rattle.tla_symbols.specs.declared.lexeme.Span.{Span}
 use Rattle.tla_tree.specs.declared.form.Form.TheVariants as Form
@@ -38,10 +39,6 @@ roots-join f (r ∷ rest) made all =
 take-front : (first more : List ℕ) → take (length first) (first ++ more) ≡ first
 take-front [] more = refl
 take-front (i ∷ first) more = ap (λ is. i ∷ is) (take-front first more)
-
-drop-front : (first more : List ℕ) → drop (length first) (first ++ more) ≡ more
-drop-front [] more = refl
-drop-front (i ∷ first) more = drop-front first more
 
 append-append : (a b c : List ℕ) → (a ++ b) ++ c ≡ a ++ (b ++ c)
 append-append [] b c = refl
@@ -103,7 +100,7 @@ module _ (flat : FlatModule) where
   split-counts path before own n many e =
       ap (λ k. max (greatest (depth_at flat) (take k (before ++ own))) (greatest (operator_depth flat (depth_at flat)) (drop k (before ++ own)))) (sym many)
       ∙ ap (λ is. max (greatest (depth_at flat) is) (greatest (operator_depth flat (depth_at flat)) (drop (length before) (before ++ own)))) (take-front before own)
-      ∙ ap (λ is. max (greatest (depth_at flat) before) (greatest (operator_depth flat (depth_at flat)) is)) (drop-front before own)
+      ∙ ap (λ is. max (greatest (depth_at flat) before) (greatest (operator_depth flat (depth_at flat)) is)) (drop-append_seam before own)
       ∙ e
 
   within-counts : (before own : List ℕ) (n : ℕ) → max (greatest (depth_at flat) before) (greatest (operator_depth flat (depth_at flat)) own) ≡ n → n ≤ greatest (depth_at flat) (before ++ own)

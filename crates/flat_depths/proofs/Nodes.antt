@@ -3,6 +3,7 @@ use Rattle.std.proofs.Common.{◌≡◌, ℕ, ◌+◌, ◌≤◌, max, cond, Boo
 use Rattle.std.specs.Prelude.{◌||◌, ◌&&◌, is_some, slice_get}
 use Rattle.std.specs.Option.{option_or}
 use Rattle.std.proofs.Math.Nat.{max-zero, zero-max}
+use Rattle.std.proofs.lemmas.Bool.{or_left, or_right}
 use Rattle.tla_symbols.specs.declared.level.Rule.{Rule}
 use Rattle.tla_symbols.specs.declared.level.Rule.TheVariants.{Plain}
 use Rattle.tla_symbols.specs.declared.lexeme.LexKind.TheVariants as LexKind
@@ -56,15 +57,6 @@ prefix-is-none true false false q true e some = sym some
 prefix-is-none false i true q true e some = e
 prefix-is-none false i false q true e some = sym some
 
-or-second : (a b : Bool) → b ≡ true → (a || b) ≡ true
-or-second true b e = refl
-or-second false b e = e
-
-or-first : (a b : Bool) → a ≡ true → (a || b) ≡ true
-or-first true b e = refl
-or-first false true e = refl
-or-first false false e = e
-
 some-bare : (a b c : Option Rule) (r : Rule) → option_or a (option_or b c) ≡ Some r → (is_some a || is_some b || is_some c) ≡ true
 some-bare (Some x) b c r e = refl
 some-bare None (Some x) c r e = refl
@@ -85,11 +77,11 @@ spelled-none beneath op some =
     free-none beneath as_spelled op (first-is-none (is_free op) (is_some (rule_of op Infix)) (is_some (rule_of op Prefix)) (is_some (rule_of op Postfix)) (is_free (prefixed op)) (table op) some)
 
 infix-none : (beneath : Beneath) (kind : LexKind.the_data) (r : Rule) → symbol_rule Infix kind ≡ Some r → symbol_depth beneath as_spelled kind ≡ 0
-infix-none beneath (LexKind.Sym op) r e = spelled-none beneath op (or-first (is_some (rule_of op Infix) || is_some (rule_of op Prefix)) (is_some (rule_of op Postfix)) (or-first (is_some (rule_of op Infix)) (is_some (rule_of op Prefix)) (ap is_some e)))
+infix-none beneath (LexKind.Sym op) r e = spelled-none beneath op (or_left (is_some (rule_of op Infix) || is_some (rule_of op Prefix)) (is_some (rule_of op Postfix)) (or_left (is_some (rule_of op Infix)) (is_some (rule_of op Prefix)) (ap is_some e)))
 infix-none beneath kind r e = refl
 
 postfix-none : (beneath : Beneath) (kind : LexKind.the_data) (r : Rule) → symbol_rule Postfix kind ≡ Some r → symbol_depth beneath as_spelled kind ≡ 0
-postfix-none beneath (LexKind.Sym op) r e = spelled-none beneath op (or-second (is_some (rule_of op Infix) || is_some (rule_of op Prefix)) (is_some (rule_of op Postfix)) (ap is_some e))
+postfix-none beneath (LexKind.Sym op) r e = spelled-none beneath op (or_right (is_some (rule_of op Infix) || is_some (rule_of op Prefix)) (is_some (rule_of op Postfix)) (ap is_some e))
 postfix-none beneath kind r e = refl
 
 bare-none : (beneath : Beneath) (kind : LexKind.the_data) (r : Rule) → bare_rule kind ≡ Some r → symbol_depth beneath as_spelled kind ≡ 0

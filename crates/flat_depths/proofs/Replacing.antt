@@ -2,6 +2,7 @@
 use Rattle.std.proofs.Common.{◌≡◌, ℕ, ◌≤◌, max, Bool, true, false, cond, List, [], ◌∷◌, ◌++◌, map, refl, sym, ap, ◌∙◌, subst, arith}
 use Rattle.std.specs.Prelude.{◌||◌}
 use Rattle.std.proofs.Math.Nat.{zero-max}
+use Rattle.std.proofs.lemmas.Bool.{or_parts}
 use Rattle.tla_symbols.specs.declared.lexeme.Lexeme.{Lexeme}
 use Rattle.tla_symbols.specs.declared.lexeme.Span.{Span}
 use Rattle.tla_tree.specs.declared.form.Form.TheVariants as Form
@@ -29,10 +30,6 @@ above-next false a whole right rest later name e l = omega (arith, l)
 implied-next : (b a : Bool) (right later name : ℕ) → cond a 0 name ≤ later → cond (b || a) 0 name ≤ cond b right later
 implied-next true a right later name l = omega arith
 implied-next false a right later name l = l
-
-either-false : (a b : Bool) → (a || b) ≡ false → (a ≡ false) × (b ≡ false)
-either-false true b e = cc
-either-false false b e = (refl, e)
 
 most-next : (a b c d e : ℕ) → a ≤ max b c → d ≤ max b e → max a d ≤ max b (max c e)
 most-next a b c d e l m = omega (arith, l, m)
@@ -120,7 +117,7 @@ module _ (flat : FlatModule) (text : Text) (known : Known) (named : List ℕ →
       ∙ sym (right-alone l s at form parts plain))
       (among-most whole parameters (name_of text.source l) there))
       (rights-most whole parameters (name_of text.source l ∷ before) rest more (λ name others.
-      let both = either-false (same_named name (name_of text.source l)) (is_among before name) others in
+      let both = or_parts (same_named name (name_of text.source l)) (is_among before name) others in
       first name both.1
       ∙ ap (λ b. cond b (parts_depth text known named around around (Cons (Node form at parts) Nil)) (right_depth text known named around rest name)) both.0))
   rights-most whole parameters before (Cons x rest) sides first = absurd sides

@@ -18,6 +18,7 @@ use Rattle.tla_model.specs.EntityKinds.{is_meant, stands_behind}
 use Rattle.tla_model.specs.Lexemes.{spelled}
 use Rattle.tla_model.specs.Scopes.{definition}
 use Rattle.tla_model.specs.Tables.{Table, Named, Word, Symbol, added, has, lookup, put, same_symbol}
+use Rattle.tla_model.proofs.Same.{decl-equal}
 use Rattle.module_scope.specs.Environments.{Environment, Scope, begun, ended, meaning as module_meaning, first as first_scope}
 use Rattle.module_model.specs.Exports.{Exports, Known, ModuleView, exported, exports_by, exports_of, instantiable, of_symbols, of_words}
 use Rattle.module_model.specs.Instances.{brought_by, nested_view, passed, through}
@@ -27,9 +28,8 @@ use Rattle.module_model.specs.Resolution.{ReadState, instance_brings, words_of, 
 use Rattle.tree_kinds.specs.Standing.{Environment as Standing, Outside, name_among}
 use Rattle.module_kinds.specs.ModuleKinds.{KindState, after, first, module_under, named_in, nested_outside, outside, read_all, views}
 use Rattle.flat_kinds.specs.Declarations.{Declarations, AreDeclared, AreNamesDeclared, AreUnitsDeclared, EachOnce, IsOnce, KeepsDeclarations, IsDeclared, IsNoDefinition, IsOutsideDeclared, IsReadingDeclared, IsStateDeclared, IsViewDeclared, OfAllKnown, OfKnown, declared_names}
-use Rattle.list_laws.proofs.Lists.{all-both}
+use Rattle.list_laws.proofs.Lists.{all-both, all-weaker}
 use Rattle.flat_trees.specs.Stands.{Stand, Unsaid}
-use Rattle.flat_trees.proofs.Meanings.{decl-equal}
 use Rattle.flat_trees.specs.Layouts.{Layout, StandsBefore}
 use Rattle.flat_kinds.specs.Readings.{AreNew, BringNone, Leaves, is_among}
 use Rattle.flat_kinds.specs.Symbols.{SaysNothing, symbols_at}
@@ -37,10 +37,6 @@ use Rattle.flat_kinds.proofs.Leaving.{extended-left, meaning-left}
 use Rattle.flat_kinds.proofs.Symbols.{symbols-none}
 
 -- ---- lists
-
-all-weaker : {A : Type 0} (P Q : A → Type 0) → ((x : A) → P x → Q x) → (xs : List A) → AllByRecursion P xs → AllByRecursion Q xs
-all-weaker P Q weaker [] all = tt
-all-weaker P Q weaker (x ∷ xs) all = (weaker x all.0, all-weaker P Q weaker xs all.1)
 
 -- ---- names once
 

@@ -15,6 +15,7 @@ use Rattle.tla_model.specs.Contexts.{Context}
 use Rattle.tla_model.specs.Entities.{Entity, Meaning, Text, same_decl, same_meaning, same_units}
 use Rattle.tla_model.specs.EntityKinds.{is_meant, stands_behind, stands_for_parameter}
 use Rattle.tla_model.specs.Tables.{Table, Named, Word, Symbol, has, same_symbol}
+use Rattle.tla_model.proofs.Same.{decl-equal}
 use Rattle.module_model.specs.Exports.{Exports, exports_of, of_symbols, of_words, parameters_in}
 use Rattle.module_model.specs.Instances.{own_parameters}
 use Rattle.module_model.specs.Modules.{Reading, text_of}
@@ -23,7 +24,6 @@ use Rattle.tree_kinds.specs.Standing.{Outside}
 use Rattle.module_kinds.specs.ModuleKinds.{KindState, first, last, nested_outside, outside}
 use Rattle.list_laws.proofs.Lists.{all-both}
 use Rattle.flat_trees.specs.Instances.{symbols_of}
-use Rattle.flat_trees.proofs.Meanings.{decl-equal}
 use Rattle.flat_trees.specs.Stands.{Stand, Unsaid}
 use Rattle.flat_kinds.specs.Declarations.{AreDeclared, AreSymbols, AreUnitsDeclared, Declarations, EachOnce, IsDeclared, IsNoDefinition, IsOnce, IsOutsideDeclared, IsSymbol, KeepsDeclarations}
 use Rattle.flat_kinds.specs.Readings.{is_among}

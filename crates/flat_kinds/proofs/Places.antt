@@ -13,6 +13,7 @@ use Rattle.tla_model.specs.Entities.{Binding, all_placed, binding_in, binding_of
 use Rattle.tla_model.specs.Lexemes.{spelled}
 use Rattle.tla_model.specs.Scopes.{definition}
 use Rattle.module_model.specs.Modules.{text_of}
+use Rattle.list_laws.proofs.Lists.{at-map}
 use Rattle.flat_kinds.specs.Declarations.{AreUnitsDeclared, Declarations, HasPlaces, IsDeclared, StandApart, declared_names}
 
 -- ---- numbers at places
@@ -27,11 +28,6 @@ place-found (first ∷ starts) (suc i) x at = by_first (nat_eq first x) refl (pl
     by_first : (b : Bool) → nat_eq first x ≡ b → slice_get starts (place_in starts x) ≡ Some x → slice_get (first ∷ starts) (cond b zero (suc (place_in starts x))) ≡ Some x
     by_first true is rest = ap Some ((Decides-eqb first x).0 is)
     by_first false is rest = rest
-
-at-mapped : {A B : Type 0} (f : A → B) (xs : List A) (i : ℕ) (x : A) → slice_get xs i ≡ Some x → slice_get (map f xs) i ≡ Some (f x)
-at-mapped f [] i x at = cc at
-at-mapped f (y ∷ xs) zero x at = let same : y ≡ x = cc in ap (λ z. Some (f z)) same
-at-mapped f (y ∷ xs) (suc i) x at = at-mapped f xs i x at
 
 -- ---- names of units
 
@@ -100,6 +96,6 @@ places-declared declares source units apart places =
     one : (i : ℕ) (binder : Binder) → slice_get (declaring units.units) i ≡ Some binder → IsDeclared declares (name_of source binder.name) (meant (text_of source units) binder)
     one i binder at =
         let starts : List ℕ = (text_of source units).starts in
-        let there = at-mapped (λ (b : Binder). b.name.span.start) (declaring units.units) i binder at in
+        let there = at-map (λ (b : Binder). b.name.span.start) (declaring units.units) i binder at in
         let found = place-found starts i binder.name.span.start there in
         ap (λ n. declares (record { «module» = spelled source units.name; place = n })) (apart (place_in starts binder.name.span.start) i binder.name.span.start found there) ∙ places i binder at

@@ -15,6 +15,7 @@ use Rattle.flat_trees.specs.Layouts.{StandsBefore, order_of}
 use Rattle.flat_trees.specs.Instances.{IsModule, with_symbols}
 use Rattle.flat_trees.proofs.Agreeing.{append-append, at-behind, item-value}
 use Rattle.flat_trees.proofs.Meanings.{same-alike}
+use Rattle.flat_trees.proofs.Reaching.{at-append}
 use Rattle.flat_kinds.specs.Readings.{SaysLess, StandsItself, is_among, or_stand, with_own}
 use Rattle.flat_kinds.specs.Symbols.{AreDistinct, SaysNothing, item_itself, same_declared, same_symbol, symbols_at}
 
@@ -67,16 +68,11 @@ symbol-place : (frame : List Item) (place order : ℕ) (a b : Meaning) → same_
 symbol-place frame place order BuiltIn b same room is = cc
 symbol-place frame place order (Declared e x) b same room is = (room, is)
 
-at-longer : (s more : List Item) (i : ℕ) → i < length s → at (s ++ more) i ≡ at s i
-at-longer [] more i l = absurd (omega (arith, l))
-at-longer (x ∷ s) more zero l = refl
-at-longer (x ∷ s) more (suc i) l = at-longer s more i (omega (arith, l))
-
 longer-itself : (s more : List Item) (stand : Stand) (meaning : Meaning) → StandsItself s stand meaning → StandsItself (s ++ more) stand meaning
 longer-itself s more Unsaid meaning holds = tt
 longer-itself s more (Leaf kind) meaning holds = holds
 longer-itself s more (Place place order) BuiltIn holds = absurd holds
-longer-itself s more (Place place order) (Declared e callee) (room, is) = let e = length-append s more in (omega (arith, e, room), at-longer s more place room ∙ is)
+longer-itself s more (Place place order) (Declared e callee) (room, is) = let e = length-append s more in (omega (arith, e, room), at-append s more place room ∙ is)
 longer-itself s more (Defined d orders) meaning holds = absurd holds
 longer-itself s more (Through j orders inner) meaning holds = absurd holds
 longer-itself s more (Brought j inner) meaning holds = absurd holds

@@ -9,6 +9,7 @@ use Rattle.tla_model.specs.Entities.{Meaning, Text, same_decl, same_meaning, sam
 use Rattle.tla_model.specs.EntityKinds.{is_meant, stands_behind}
 use Rattle.tla_model.specs.Lexemes.{spelled}
 use Rattle.tla_model.specs.Tables.{Named, same_named}
+use Rattle.tla_model.proofs.Same.{decl-equal, units-equal}
 use Rattle.module_scope.specs.Environments.{Environment as Modules, Scope, begun, ended, first as first_scope, meaning as module_meaning}
 use Rattle.module_model.specs.Exports.{Exports, entry_of, exported, exports_of, instantiable}
 use Rattle.module_model.specs.Modules.{Reading, text_of}
@@ -20,7 +21,7 @@ use Rattle.tree_kinds.specs.Standing.{Environment, Outside, Steps, Value, coming
 use Rattle.module_kinds.specs.ModuleKinds.{KindState, after, extended, first, last, module_under, named_in, nested_outside, outside, standing_behind}
 use Rattle.flat_trees.specs.Stands.{IsStanding, Stand, Unsaid}
 use Rattle.flat_trees.specs.Layouts.{Layout}
-use Rattle.flat_trees.proofs.Meanings.{decl-equal, named-equal, named-itself, units-equal}
+use Rattle.flat_trees.proofs.Meanings.{named-equal, named-itself}
 use Rattle.flat_kinds.specs.Declarations.{IsOnce, OfAllKnown, OfKnown}
 use Rattle.flat_kinds.specs.Readings.{BringNone, KeepsStanding, Leaves, StaysBehind}
 use Rattle.flat_kinds.specs.Yields.{AreYielding, ComesAgain, EndsYielding, HasExported, HasYielded, IsYielding, Yields, yielded}

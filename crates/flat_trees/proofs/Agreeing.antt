@@ -1,6 +1,6 @@
 -- Frames that agree with what stands round a tree, and how that is kept.
 use Rattle.std.proofs.Common.{◌≡◌, inl, inr, ℕ, zero, suc, ◌+◌, ◌<◌, Bool, true, false, cond, List, [], ◌∷◌, ◌++◌, Option, Some, None, map, refl, sym, ap, ◌∙◌, subst, length, arith}
-use Rattle.std.proofs.lemmas.List.{length-append}
+use Rattle.std.proofs.lemmas.List.{length-append, length-map}
 use Rattle.tla_tree.specs.declared.form.Form.TheVariants as Form
 use Rattle.tla_tree.specs.Syntax.{Tree, Trees}
 use Rattle.tla_model.specs.Tables.{Named}
@@ -47,10 +47,6 @@ fits-length [] (x ∷ xs) ys fits = absurd fits
 fits-length (n ∷ orders) [] ys fits = absurd fits
 fits-length (n ∷ orders) (x ∷ xs) [] fits = absurd fits
 fits-length (n ∷ orders) (x ∷ xs) (y ∷ ys) fits = ap suc (fits-length orders xs ys fits.1)
-
-pub map-length : {A B : Type 0} (f : A → B) (xs : List A) → length (map f xs) ≡ length xs
-map-length f [] = refl
-map-length f (x ∷ xs) = ap suc (map-length f xs)
 
 module _ (flat : FlatModule) where
   pub with-stand-stands : (s : List Item) (stands : Meaning → Stand) (standing : Environment) (meaning : Meaning) (stand : Stand) (value : Value) → AreStanding flat s stands standing → IsStanding flat s [] stand value → AreStanding flat s (with_stand stands meaning stand) (with_value standing meaning value)
@@ -143,7 +139,7 @@ module _ (flat : FlatModule) where
     with-agrees form parts made arguments fits =
         record {
           context = ap (λ context. scope text context form parts) agrees.context;
-          places = length-append frame made ∙ ap (λ n. n + length made) agrees.places ∙ ap (λ n. layout.places + n) (fits-length _ made arguments fits ∙ map-length order_of (parameters_of text form parts));
+          places = length-append frame made ∙ ap (λ n. n + length made) agrees.places ∙ ap (λ n. layout.places + n) (fits-length _ made arguments fits ∙ length-map (parameters_of text form parts) order_of);
           standing =
               subst (λ place. AreStanding flat (frame ++ made) (with_places layout.stands (parameters_of text form parts) place) (with_items around.standing (parameters_of text form parts) arguments)) agrees.places
               (with-places-stand frame (parameters_of text form parts) made arguments layout.stands around.standing (all-grown frame made layout.stands around.standing agrees.standing) fits);

@@ -1,7 +1,7 @@
 -- Instances of a flat module stand for what is behind the written ones.
 use Rattle.std.proofs.Common.{◌≡◌, ℕ, zero, suc, ◌+◌, ◌<◌, ◌≤◌, Bool, true, false, cond, List, [], ◌∷◌, ◌++◌, Option, Some, None, map, refl, sym, ap, ◌∙◌, subst, take, length, nat_eq, arith}
 use Rattle.std.proofs.lemmas.Bool.Decides.{nat_tests}
-use Rattle.std.proofs.lemmas.List.{length-append}
+use Rattle.std.proofs.lemmas.List.{length-append, length-map}
 use Rattle.std.proofs.lemmas.Option.{slice_get_within}
 use Rattle.std.specs.Prelude.{slice_get}
 use Rattle.std.specs.List.{AllByRecursion}
@@ -24,7 +24,7 @@ use Rattle.tree_kinds.specs.Expanding.{Around, Replaced, Written, behind_instanc
 use Rattle.flat_trees.specs.Stands.{AreStanding, IsItem, IsStanding, Matches, Stand, Unsaid, Leaf, Place, Defined, Through, Brought, count, passed}
 use Rattle.flat_trees.specs.Layouts.{Agrees, Layout, Stands, layout_with, order_of, parameters_of, with_brought}
 use Rattle.flat_trees.specs.Instances.{AllStay, AreReplaced, ArePutIn, IsMadeInstance, IsModule, IsModuleBehind, IsStaying, PutsInBehind, StaysIn, exported_value, instance_in, symbols_of, with_symbols}
-use Rattle.flat_trees.proofs.Agreeing.{all-grown, append-append, at-behind, brought-stand, item-value, map-length, with-agrees, with-stand-stands}
+use Rattle.flat_trees.proofs.Agreeing.{all-grown, append-append, at-behind, brought-stand, item-value, with-agrees, with-stand-stands}
 use Rattle.flat_trees.proofs.Definitions.{take-all}
 use Rattle.flat_trees.proofs.Reaching.{append-nil}
 
@@ -217,7 +217,7 @@ module _ (flat : FlatModule) where
         let symbols = symbols_of (module_of text known named l) in
         let names : map (λ (r : Replaced). r.parameter) rs ≡ symbols = parameters-of around l (right_sides text known named around rights) (module_of text known named l).view.parameters in
         let many : length (put-items made s) ≡ length symbols =
-        replaced-length (module_of text known named l).is_constant s made rs all ∙ sym (map-length (λ (r : Replaced). r.parameter) rs) ∙ ap length names in
+        replaced-length (module_of text known named l).is_constant s made rs all ∙ sym (length-map rs (λ (r : Replaced). r.parameter)) ∙ ap length names in
         let front : length (put-items staying s) ≡ length staying = put-length s staying in
         let both : length (put-items staying s ++ put-items made s) ≡ length staying + length symbols =
         let e = length-append (put-items staying s) (put-items made s) in omega (arith, e, many, front) in
@@ -233,7 +233,7 @@ module _ (flat : FlatModule) where
     instance-stands layout own sp parts j x l rights staying made base inner is behind first kept stays put frame around agrees =
         let room : x.outer ≤ length frame = let outer = is.outer in let e = agrees.places in omega (arith, e, outer) in (
           x,
-          (is.there, is.parameters ∙ sym (map-length order_of (parameters_of text (Form.ModuleDefinition own) parts)), room),
+          (is.there, is.parameters ∙ sym (length-map (parameters_of text (Form.ModuleDefinition own) parts) order_of), room),
           λ given arguments fits name.
               let scoped = with_parameters text known named around (Form.ModuleDefinition own) parts arguments in
               let more = layout_with text layout (Form.ModuleDefinition own) parts in

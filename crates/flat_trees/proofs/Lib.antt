@@ -1,4 +1,4 @@
-mod Reaching
+pub mod Reaching
 mod BuiltNodes
 pub mod Agreeing
 mod Definitions

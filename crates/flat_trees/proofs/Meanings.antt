@@ -12,6 +12,7 @@ use Rattle.tla_model.specs.declared.ids.DeclId.{DeclId}
 use Rattle.tla_model.specs.declared.ids.UnitId.{UnitId}
 use Rattle.tla_model.specs.Tables.{Named, Word, Symbol, same_named}
 use Rattle.tla_model.specs.Entities.{Meaning, same_decl, same_meaning, same_units}
+use Rattle.tla_model.proofs.Same.{decl-equal, units-equal}
 use Rattle.flat_trees.specs.Stands.{Stand, Place}
 use Rattle.flat_trees.specs.Layouts.{order_of}
 use Rattle.flat_trees.specs.Instances.{with_symbols}
@@ -25,25 +26,6 @@ named-equal (Symbol a) (Word b) same = cc same
 pub named-itself : (a : Named) → same_named a a ≡ true
 named-itself (Word a) = (bytes_eq-Decides a a).1 refl
 named-itself (Symbol a) = true_same op.the_type a a refl
-
-pub decl-equal : (a b : DeclId) → same_decl a b ≡ true → a ≡ b
-decl-equal a b same =
-    let parts = and_parts (bytes_eq a.«module» b.«module») (nat_eq a.place b.place) same in
-    let names : a.«module» ≡ b.«module» = (bytes_eq-Decides a.«module» b.«module»).0 parts.0 in
-    let places : a.place ≡ b.place = (Decides-eqb a.place b.place).0 parts.1 in
-    λ i. record { «module» = names i; place = places i }
-
-pub units-equal : (a b : List UnitId) → same_units a b ≡ true → a ≡ b
-units-equal [] [] same = refl
-units-equal [] (y ∷ b) same = cc
-units-equal (x ∷ a) [] same = cc
-units-equal (x ∷ a) (y ∷ b) same =
-    let parts = and_parts (bytes_eq x.«module» y.«module» && nat_eq x.place y.place) (same_units a b) same in
-    let first = and_parts (bytes_eq x.«module» y.«module») (nat_eq x.place y.place) parts.0 in
-    let names : x.«module» ≡ y.«module» = (bytes_eq-Decides x.«module» y.«module»).0 first.0 in
-    let places : x.place ≡ y.place = (Decides-eqb x.place y.place).0 first.1 in
-    let rest = units-equal a b parts.1 in
-    λ i. record { «module» = names i; place = places i } ∷ rest i
 
 -- what is the same is the same as the same others
 pub same-alike : (a b c : Meaning) → same_meaning a b ≡ true → same_meaning a c ≡ same_meaning b c

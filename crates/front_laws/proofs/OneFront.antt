@@ -56,7 +56,7 @@ some-of-lexemes law name text lexemes ends =
     (λ (f : (index : ℕ) × (index < length lexemes) × IsFirstBad lexemes index). some-bad name text lexemes f.0 f.1 f.2)
     (law lexemes ends)
 
-greatest-le : (p : ℕ → Bool) (n : ℕ) → greatest p n ≤ n
+pub greatest-le : (p : ℕ → Bool) (n : ℕ) → greatest p n ≤ n
 greatest-le p zero = omega arith
 greatest-le p (suc n) =
     ⊎_elim

@@ -8,6 +8,7 @@ use mathlib.Core.Path.{fun_ext}
 use denote.Enum.Bare.{same_true, true_same}
 use Rattle.std.proofs.lemmas.List.{map-append, take_all, take_more}
 use Rattle.list_laws.proofs.Lists.{all-both, all-left, all-right}
+use Rattle.list_laws.proofs.Texts.{same-text}
 use Rattle.tla_symbols.specs.declared.op.Op.{Op}
 use Rattle.tla_symbols.specs.contracts.op.Op as op
 use Rattle.tla_model.specs.declared.ids.DeclId.{DeclId}
@@ -23,13 +24,14 @@ use Rattle.module_model.specs.Exports.{Behind, Exports, Known, and_known, behind
 use Rattle.module_model.specs.Given.{AreReached, IsWhole}
 use Rattle.module_model.specs.NamedModules.{exported_known}
 use Rattle.module_model.specs.Parts.{reached}
+use Rattle.module_model.proofs.Entries.{entry-of-table}
 use Rattle.tree_tasks.specs.declared.held.Held.{Held}
 use Rattle.instance_leads.specs.declared.ended.Ended.{Ended}
 use Rattle.instance_leads.specs.Found.{AreOfFace, AreTold, IsLedBy, IsOfFace, IsTold, along, known_here}
 use Rattle.instance_leads.specs.Leading.{Leads, known_in}
 use Rattle.instance_leads.proofs.Faces.{led-along}
 use Rattle.instance_leads.proofs.Knowing.{added-cases, and-assoc, and-none, known-added}
-use Rattle.instance_leads.proofs.Naming.{all-found, entry-of-table, word-equal, word-itself}
+use Rattle.instance_leads.proofs.Naming.{all-found, word-itself}
 
 -- ---- one more
 
@@ -102,7 +104,7 @@ symbol-itself one = true_same op.the_type one one refl
 pub table-found : (table : Table Meaning) → AreNew bytes_eq [] table.words → AreNew same_symbol [] table.symbols → AreFound (exports_of table) (exports_of table)
 table-found table words symbols =
     all-both (λ (entry : Named × Meaning). entry_of (exports_of table) entry.0 ≡ Some entry.1) (of_words table.words) (of_symbols table.symbols)
-    (found-words table table.words (all-found bytes_eq word-equal word-itself (λ (m : Meaning). true) [] table.words words))
+    (found-words table table.words (all-found bytes_eq same-text word-itself (λ (m : Meaning). true) [] table.words words))
     (found-symbols table table.symbols (all-found same_symbol (λ (a b : Op). same_true op.the_type tt a b) symbol-itself (λ (m : Meaning). true) [] table.symbols symbols))
 
 values-words : (words : List (List ℕ × Meaning)) → map (λ (entry : Named × Meaning). entry.1) (of_words words) ≡ map (λ (word : List ℕ × Meaning). word.1) words

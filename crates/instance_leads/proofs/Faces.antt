@@ -17,7 +17,7 @@ use Rattle.instance_leads.specs.Found.{IsLedBy, led_by, module_shown, table_on}
 use Rattle.instance_leads.specs.Leading.{behind_at}
 
 -- from no entries no path leads on
-along-nothing : (instances : Instances) (path : Path) → behind_along instances [] path ≡ []
+pub along-nothing : (instances : Instances) (path : Path) → behind_along instances [] path ≡ []
 along-nothing instances [] = refl
 along-nothing instances (name ∷ path) = along-nothing instances path
 

@@ -9,36 +9,22 @@ use Rattle.tla_model.specs.declared.ids.DeclId.{DeclId}
 use Rattle.tla_model.specs.Entities.{same_decl}
 use Rattle.tla_model.specs.Tables.{added, lookup}
 use Rattle.tla_model.proofs.Stretching.{found-first, found-next}
+use Rattle.tla_model.proofs.Same.{decl-equal, decl-itself}
 use Rattle.module_model.specs.Exports.{Known, and_known, known_as, none_known}
 use Rattle.module_model.specs.Parts.{first_of}
+use Rattle.module_model.proofs.PartTables.{first-assoc, first-none}
 use Rattle.tree_tasks.specs.declared.held.Held.{Held}
 use Rattle.instance_leads.specs.declared.ended.Ended.{Ended}
 use Rattle.instance_leads.specs.Found.{AreIn}
 use Rattle.instance_leads.specs.Keys.{joined_leads}
 use Rattle.instance_leads.specs.Leading.{Leads, behind_at, behind_found, known_in}
 
--- what is the same is equal
-pub decl-equal : (a b : DeclId) → same_decl a b ≡ true → a ≡ b
-decl-equal a b same =
-    let parts = and_parts (bytes_eq a.«module» b.«module») (nat_eq a.place b.place) same in
-    let names : a.«module» ≡ b.«module» = (bytes_eq-Decides a.«module» b.«module»).0 parts.0 in
-    let places : a.place ≡ b.place = (Decides-eqb a.place b.place).0 parts.1 in
-    λ i. record { «module» = names i; place = places i }
-
 -- ---- the first of what is found
-
-pub first-none : {A : Type 0} (found : Option A) → first_of found None ≡ found
-first-none None = refl
-first-none (Some x) = refl
 
 first-three : {A : Type 0} (found : Option A) (b : Bool) (x : A) (rest : Option A) → first_of (first_of found (cond b (Some x) None)) rest ≡ first_of found (cond b (Some x) rest)
 first-three None true x rest = refl
 first-three None false x rest = refl
 first-three (Some y) b x rest = refl
-
-pub first-assoc : {A : Type 0} (a b c : Option A) → first_of (first_of a b) c ≡ first_of a (first_of b c)
-first-assoc None b c = refl
-first-assoc (Some x) b c = refl
 
 -- ---- one more
 
@@ -115,9 +101,6 @@ and-none a = fun_ext (λ decl. first-none (a decl))
 
 pub added-first : (leads : Leads) (decl : DeclId) (held : Held) (other : DeclId) (found : Held) → lookup same_decl leads other ≡ Some found → lookup same_decl (added same_decl leads decl held) other ≡ Some found
 added-first leads decl held other found at = found-added leads decl held other ∙ ap (λ z. first_of z (cond (same_decl other decl) (Some held) None)) at
-
-decl-itself : (decl : DeclId) → same_decl decl decl ≡ true
-decl-itself decl = and_from (bytes_eq decl.«module» decl.«module») (nat_eq decl.place decl.place) ((bytes_eq-Decides decl.«module» decl.«module»).1 refl) ((Decides-eqb decl.place decl.place).1 refl)
 
 added-is : (leads : Leads) (decl : DeclId) (held : Held) → is_some (lookup same_decl (added same_decl leads decl held) decl) ≡ true
 added-is leads decl held = ap is_some (found-added leads decl held decl ∙ ap (λ b. first_of (lookup same_decl leads decl) (cond b (Some held) None)) (decl-itself decl)) ∙ by (lookup same_decl leads decl)

@@ -8,6 +8,7 @@ use Rattle.std.proofs.lemmas.List.{map-append, take_more}
 use Rattle.tla_model.specs.Stretches.{shown}
 use Rattle.std.proofs.Math.Seq.{take-length}
 use Rattle.list_laws.proofs.Lists.{drop-from}
+use Rattle.list_laws.proofs.Texts.{same-text}
 use Rattle.std.proofs.lemmas.Slice.Eq.{bytes_eq-Decides}
 use Rattle.tla_symbols.specs.declared.op.Op.{Op}
 use Rattle.tla_model.specs.Entities.{Entity, Meaning}
@@ -15,27 +16,9 @@ use Rattle.tla_model.specs.EntityKinds.{is_meant, words_meant}
 use Rattle.tla_model.specs.Tables.{AreNew, Named, Word, Symbol, Table, find, lookup, same_named, same_symbol}
 use Rattle.tla_model.proofs.Stretching.{found-first, found-next}
 use Rattle.module_model.specs.Exports.{entry_of, exports_of, of_symbols, of_words}
+use Rattle.module_model.proofs.Entries.{entry-of-table}
+use Rattle.name_exports.proofs.Bringing.{of_words-append}
 use Rattle.instance_leads.specs.Found.{if_kept}
-
--- ---- what a table has under a name
-
-no-word : (symbols : List (Op × Meaning)) (bytes : List ℕ) → lookup same_named (of_symbols symbols) (Word bytes) ≡ None
-no-word [] bytes = refl
-no-word (entry ∷ rest) bytes = no-word rest bytes
-
-at-symbol : (symbols : List (Op × Meaning)) (op : Op) → lookup same_named (of_symbols symbols) (Symbol op) ≡ lookup same_symbol symbols op
-at-symbol [] op = refl
-at-symbol (entry ∷ rest) op = ap (λ z. cond (same_symbol op entry.0) (Some entry.1) z) (at-symbol rest op)
-
-words-first : (words : List (List ℕ × Meaning)) (symbols : List (Op × Meaning)) (name : Named) → entry_of (of_words words ++ of_symbols symbols) name ≡ find (record { words = words; symbols = symbols }) name
-words-first [] symbols (Word bytes) = no-word symbols bytes
-words-first [] symbols (Symbol op) = at-symbol symbols op
-words-first (entry ∷ rest) symbols (Word bytes) = ap (λ z. cond (bytes_eq bytes entry.0) (Some entry.1) z) (words-first rest symbols (Word bytes))
-words-first (entry ∷ rest) symbols (Symbol op) = words-first rest symbols (Symbol op)
-
--- an entry of a table is what stands there under its name
-pub entry-of-table : (table : Table Meaning) (name : Named) → entry_of (exports_of table) name ≡ find table name
-entry-of-table table name = words-first table.words table.symbols name
 
 -- ---- entries of a kind
 
@@ -143,15 +126,12 @@ module _ {K V : Type 0} (same : K → K → Bool) (equal : (a b : K) → same a 
 
 -- ---- words and symbols
 
-pub word-equal : (a b : List ℕ) → bytes_eq a b ≡ true → a ≡ b
-word-equal a b is = (bytes_eq-Decides a b).0 is
-
 pub word-itself : (a : List ℕ) → bytes_eq a a ≡ true
 word-itself a = (bytes_eq-Decides a a).1 refl
 
 -- what a word means among those of a kind
 pub word-kept : (which : Entity → Bool) (words : List (List ℕ × Meaning)) (word : List ℕ) → AreNew bytes_eq [] words → lookup bytes_eq (words_meant which words) word ≡ if_kept which (lookup bytes_eq words word)
-word-kept which words word new = found-kept bytes_eq word-equal word-itself (is_meant which) [] words word new ∙ same (lookup bytes_eq words word)
+word-kept which words word new = found-kept bytes_eq same-text word-itself (is_meant which) [] words word new ∙ same (lookup bytes_eq words word)
   where
     same : (found : Option Meaning) → if_so (is_meant which) found ≡ if_kept which found
     same None = refl
@@ -192,10 +172,6 @@ pub grown-by : {A B : Type 0} (of : List A → List B) → ((a b : List A) → o
 grown-by of both before now new xs i x lt is at more =
     more ∙ ap (λ z. z ++ of (x ∷ [])) at ∙ append_assoc before (of (take i xs)) (of (x ∷ []))
     ∙ ap (λ z. before ++ z) (sym (both (take i xs) (x ∷ [])) ∙ ap of (ap (λ z. take i xs ++ z ∷ []) is ∙ sym (take_more xs i x lt)))
-
-pub of_words-append : (a b : List (List ℕ × Meaning)) → of_words (a ++ b) ≡ of_words a ++ of_words b
-of_words-append [] b = refl
-of_words-append (word ∷ a) b = ap (λ z. (Word word.0, word.1) ∷ z) (of_words-append a b)
 
 pub of_symbols-append : (a b : List (Op × Meaning)) → of_symbols (a ++ b) ≡ of_symbols a ++ of_symbols b
 of_symbols-append [] b = refl

@@ -7,13 +7,13 @@ use Rattle.std.specs.Map as entries
 use Rattle.std.specs.Map.{keys_of}
 use Rattle.std.specs.Str.{bytes_eq}
 use Rattle.std.proofs.lemmas.List.Quantifiers.{position-Some}
-use Rattle.instance_leads.proofs.Knowing.{decl-equal}
 use Rattle.std.proofs.lemmas.List.{map-append}
 use Rattle.indexmap.specs.IndexMap.{IndexMap, insert_entry}
 use Rattle.indexmap.proofs.CallerLemmas.{insert_entry-new}
 use Rattle.tla_model.specs.declared.ids.DeclId.{DeclId}
 use Rattle.tla_model.specs.Entities.{same_decl}
 use Rattle.tla_model.specs.Tables.{added, lookup}
+use Rattle.tla_model.proofs.Same.{decl-equal}
 use Rattle.tree_tasks.specs.declared.held.Held.{Held}
 use Rattle.name_context.proofs.Words.{added-new, added-there}
 use Rattle.instance_leads.specs.Keys.{decl_of, joined_leads, leads_of}

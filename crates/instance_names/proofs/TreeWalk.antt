@@ -7,6 +7,7 @@ use Rattle.tla_tree.specs.Arena.{Node as ArenaNode, AreThere, node_at, tree_at}
 use Rattle.tla_tree.specs.Syntax.{Tree, Node, trees}
 use Rattle.tla_tree.specs.declared.unit.Unit.TheVariants as unit
 use Rattle.tla_tree.proofs.Nodes.{tree_at-node, before-there}
+use Rattle.tla_tree.proofs.Walks.{turned}
 use Rattle.unit_grammar.specs.UnitNodes.{nodes_in, unit_at}
 use Rattle.module_model.specs.Instances.{unit_trees}
 use Rattle.instance_names.specs.Walking.{AreDue, IsTaken, due_trees, parts_of, root_in, sizes}
@@ -15,36 +16,20 @@ sizes-append : (a b : List Tree) → sizes (trees (a ++ b)) ≡ sizes (trees a) 
 sizes-append [] b = omega arith
 sizes-append (x ∷ a) b = omega (arith, sizes-append a b)
 
-there-append : (nodes : List ArenaNode) (a b : List ℕ) → AreThere nodes a → AreThere nodes b → AreThere nodes (a ++ b)
-there-append nodes [] b first second = second
-there-append nodes (x ∷ a) b first second = (first.0, there-append nodes a b first.1 second)
-
-popped : (node : ℕ) (old rest : List ℕ) → old ≡ rest ++ node ∷ [] → reverse old ≡ node ∷ reverse rest
-popped node old rest is = ap (λ z. reverse z) is ∙ reverse-append rest (node ∷ [])
-
-pub taken-there : (nodes : List ArenaNode) (node : ℕ) (old rest : List ℕ) → AreDue nodes old → old ≡ rest ++ node ∷ [] → node < length nodes
-taken-there nodes node old rest due is = (subst (AreThere nodes) (popped node old rest is) due).0
-
 pub taken : (nodes : List ArenaNode) (node : ℕ) (children old rest new : List ℕ) → AreDue nodes old → old ≡ rest ++ node ∷ [] → children ≡ (node_at nodes node).children → AllByRecursion (λ child. child < node) children → new ≡ rest ++ reverse children → IsTaken nodes node old new
 taken nodes node children old rest new due is are before pushed =
-    let back : reverse old ≡ node ∷ reverse rest = popped node old rest is in
-    let there : AreThere nodes (node ∷ reverse rest) = subst (AreThere nodes) back due in
-    let onward : reverse new ≡ children ++ reverse rest = ap (λ z. reverse z) pushed ∙ reverse-append rest (reverse children) ∙ ap (λ z. z ++ reverse rest) (reverse-reverse children) in
-    let below : AllByRecursion (λ child. child < node) (node_at nodes node).children = subst (AllByRecursion (λ child. child < node)) are before in
-    let tree : tree_at nodes node ≡ Node (node_at nodes node).form (node_at nodes node).span (trees (parts_of nodes node)) = tree_at-node nodes node there.0 below in
-    let late = map (tree_at nodes) (reverse rest) in
-    let first : due_trees nodes old ≡ tree_at nodes node ∷ late = ap (map (tree_at nodes)) back in
-    let next : due_trees nodes new ≡ parts_of nodes node ++ late =
-    ap (map (tree_at nodes)) onward ∙ map-append (tree_at nodes) children (reverse rest) ∙ ap (λ z. map (tree_at nodes) z ++ late) are
-    in
+    let turn = turned nodes node children old rest new due is are before pushed in
+    let late = map (tree_at nodes) turn.rest in
+    let first : due_trees nodes old ≡ tree_at nodes node ∷ late = ap (map (tree_at nodes)) turn.before in
+    let next : due_trees nodes new ≡ parts_of nodes node ++ late = ap (map (tree_at nodes)) turn.after ∙ map-append (tree_at nodes) (node_at nodes node).children turn.rest in
     record {
-      there = there.0;
-      due = subst (AreThere nodes) (sym onward) (there-append nodes children (reverse rest) (before-there nodes node children there.0 before) there.1);
-      tree = tree;
+      there = turn.there;
+      due = turn.due;
+      tree = turn.tree;
       rest = late;
       before = first;
       after = next;
-      less = rw (first, next, tree, sizes-append (parts_of nodes node) late) (omega arith);
+      less = rw (first, next, turn.tree, sizes-append (parts_of nodes node) late) (omega arith);
     }
 
 -- what is due before a walk over a unit

@@ -11,6 +11,7 @@ use Rattle.tla_model.specs.declared.names.Meaning.TheVariants.{Declared}
 use Rattle.tla_model.specs.Entities.{Entity, Meaning, same_decl}
 use Rattle.tla_model.specs.EntityKinds.{is_instance, is_meant, words_meant}
 use Rattle.tla_model.specs.Tables.{Named, Symbol, Table, Word, lookup, same_named}
+use Rattle.tla_model.proofs.Same.{decl-equal, decl-itself}
 use Rattle.module_model.specs.Exports.{Exports, entry_of, exports_of, of_symbols, of_words}
 use Rattle.module_model.specs.Given.{AreReached}
 use Rattle.tree_tasks.specs.declared.held.Held.{Held}
@@ -64,23 +65,12 @@ pub record StandsAt (leads : Leads) (decl : DeclId) (held : Held) : Type 0 where
   pub within : place < length leads
   pub is : slice_get leads place ≡ Some (decl, held)
 
-same-decl : (a b : DeclId) → same_decl a b ≡ true → a ≡ b
-same-decl a b same = λ i. record { «module» = (bytes_eq-Decides a.«module» b.«module»).0 (both-true _ _ same).0 i; place = equal a.place b.place (both-true _ _ same).1 i }
-  where
-    both-true : (x y : Bool) → (x && y) ≡ true → (x ≡ true) × (y ≡ true)
-    both-true true true e = (refl, refl)
-    both-true true false e = cc
-    both-true false y e = cc
-
-    equal : (m n : ℕ) → nat_eq m n ≡ true → m ≡ n
-    equal m n e = grind (arith, nat_tests, e)
-
 pub stands-at : (leads : Leads) (decl : DeclId) (held : Held) → lookup same_decl leads decl ≡ Some held → StandsAt leads decl held
 stands-at [] decl held is = cc
 stands-at (lead ∷ leads) decl held is = by (same_decl decl lead.0) refl is (stands-at leads decl held)
   where
     by : (b : Bool) → same_decl decl lead.0 ≡ b → cond b (Some lead.1) (lookup same_decl leads decl) ≡ Some held → (lookup same_decl leads decl ≡ Some held → StandsAt leads decl held) → StandsAt (lead ∷ leads) decl held
-    by true same is rest = record { place = zero; within = omega arith; is = ap Some (λ i. (sym (same-decl decl lead.0 same) i, some-held lead.1 held is i)) }
+    by true same is rest = record { place = zero; within = omega arith; is = ap Some (λ i. (sym (decl-equal decl lead.0 same) i, some-held lead.1 held is i)) }
       where
         some-held : (a b : Held) → Some a ≡ Some b → a ≡ b
         some-held a b e = cc
@@ -190,15 +180,6 @@ rooted-all g meanings index end before place entity callee is known = before pla
 
 pub not-true : (b : Bool) → b ≡ true → b ≡ false → ⊥
 not-true b passes fails = absurd (true≢false (sym passes ∙ fails))
-
-pub mapped-at : {A B : Type 0} (f : A → B) (xs : List A) (place : ℕ) (x : A) → slice_get xs place ≡ Some x → slice_get (map f xs) place ≡ Some (f x)
-mapped-at f [] place x is = cc
-mapped-at f (y ∷ xs) zero x is = ap (option_map f) is
-mapped-at f (y ∷ xs) (suc place) x is = mapped-at f xs place x is
-
-pub mapped-length : {A B : Type 0} (f : A → B) (xs : List A) → length (map f xs) ≡ length xs
-mapped-length f [] = refl
-mapped-length f (x ∷ xs) = ap suc (mapped-length f xs)
 
 -- ---- the instances that a table names
 

@@ -4,6 +4,7 @@ use Rattle.std.specs.Prelude.{⊤, slice_get}
 use Rattle.std.specs.Str.{bytes_eq}
 use Rattle.std.proofs.lemmas.Bool.Decides.{nat_tests}
 use Rattle.std.proofs.lemmas.Slice.Eq.{bytes_eq-Decides}
+use Rattle.std.proofs.lemmas.Bool.{eq-eqb, eqb-true}
 use Rattle.tla_model.specs.declared.ids.DeclId.{DeclId}
 use Rattle.tla_model.specs.Entities.{Meaning, same_decl}
 use Rattle.tla_model.specs.Tables.{Table, added, lookup}
@@ -16,6 +17,7 @@ use Rattle.tree_tasks.specs.declared.held.Held.{Held}
 use Rattle.tree_tasks.specs.declared.held.Held.TheVariants.{Nowhere, Imported, Reached, Nested}
 use Rattle.instance_leads.specs.declared.ended.Ended.{Ended}
 use Rattle.instance_scope.specs.declared.scope.Scope.{Scope}
+use Rattle.list_laws.proofs.Texts.{same-text, text-itself}
 use Rattle.instance_parts.specs.Gathering.{AreGathered, AreTaken, HaveGrown, IsClosed, IsForeign, IsOwn, IsTold, exported_at, told_by}
 use Rattle.instance_leads.specs.Keys.{decl_of}
 use Rattle.instance_leads.specs.Leading.{IsOfImport}
@@ -55,9 +57,6 @@ lookup-kept entries key value other found is = by (is_some (lookup nat_eq entrie
             at true e rest = e
             at false e rest = rest e
 
-number-same : (n : ℕ) → nat_eq n n ≡ true
-number-same n = grind (arith, nat_tests)
-
 behind-all : {V : Type 0} (xs : List (ℕ × V)) (key : ℕ) (value : V) (other : ℕ) → lookup nat_eq xs other ≡ None → lookup nat_eq (xs ++ (key, value) ∷ []) other ≡ cond (nat_eq other key) (Some value) None
 behind-all [] key value other none = refl
 behind-all (x ∷ xs) key value other none = at (nat_eq other x.0) none (behind-all xs key value other)
@@ -69,7 +68,7 @@ behind-all (x ∷ xs) key value other none = at (nat_eq other x.0) none (behind-
 lookup-put : {V : Type 0} (entries : List (ℕ × V)) (key : ℕ) (value : V) → lookup nat_eq entries key ≡ None → lookup nat_eq (added nat_eq entries key value) key ≡ Some value
 lookup-put entries key value none =
     ap (λ found. lookup nat_eq (cond (is_some found) entries (entries ++ (key, value) ∷ [])) key) none
-    ∙ behind-all entries key value key none ∙ ap (λ b. cond b (Some value) None) (number-same key)
+    ∙ behind-all entries key value key none ∙ ap (λ b. cond b (Some value) None) (eq-eqb key key refl)
 
 lookup-other : {V : Type 0} (entries : List (ℕ × V)) (key : ℕ) (value : V) (other : ℕ) → nat_eq other key ≡ false → lookup nat_eq (added nat_eq entries key value) other ≡ lookup nat_eq entries other
 lookup-other entries key value other apart = by (is_some (lookup nat_eq entries key))
@@ -82,20 +81,11 @@ lookup-other entries key value other apart = by (is_some (lookup nat_eq entries 
         behind [] = ap (λ b. cond b (Some value) None) apart
         behind (x ∷ xs) = ap (λ rest. cond (nat_eq other x.0) (Some x.1) rest) (behind xs)
 
-bytes-same : (title : List ℕ) → bytes_eq title title ≡ true
-bytes-same title = (bytes_eq-Decides title title).1 refl
-
-bytes-equal : (a b : List ℕ) → bytes_eq a b ≡ true → a ≡ b
-bytes-equal a b e = (bytes_eq-Decides a b).0 e
-
 some-same : (a b : Held) → Some a ≡ Some b → a ≡ b
 some-same a b e = cc
 
 some-equal : (a b : Exports) → Some a ≡ Some b → a ≡ b
 some-equal a b e = cc
-
-place-equal : (a b : ℕ) → nat_eq a b ≡ true → a ≡ b
-place-equal a b e = grind (arith, nat_tests, e)
 
 set-more : (seen : List Bool) (number other : ℕ) → slice_get seen other ≡ Some true → slice_get (slice_set seen number true) other ≡ Some true
 set-more [] number other is = cc
@@ -269,17 +259,17 @@ module _ (scope : Scope) (sound : IsSound scope) (mine : InText) (parts : ByText
     put-is = by (lookup nat_eq mine place) refl
       where
         here : reached parts (decl_of title place) ≡ None
-        here = none-own (decl_of title place) (bytes-same title)
+        here = none-own (decl_of title place) (text-itself title title refl)
 
         at : own (decl_of title place) ≡ lookup nat_eq mine place
-        at = own-at title mine (decl_of title place) (bytes-same title)
+        at = own-at title mine (decl_of title place) (text-itself title title refl)
 
         by : (found : Found) → lookup nat_eq mine place ≡ found → put (decl_of title place) ≡ Some (exported_at scope.nested.items held)
         by None is =
-            (λ i. standing (first_of (here i) ((own-at title with_own (decl_of title place) (bytes-same title) ∙ lookup-put mine place table is) i))) ∙ ap Some same
+            (λ i. standing (first_of (here i) ((own-at title with_own (decl_of title place) (text-itself title title refl) ∙ lookup-put mine place table is) i))) ∙ ap Some same
         by (Some found) is =
             let before : told (decl_of title place) ≡ Some (exports_of found) = (λ i. standing (first_of (here i) ((at ∙ is) i))) in
-            let one : IsOwn scope told seen (decl_of title place) (exports_of found) = gathered.own (decl_of title place) (exports_of found) (bytes-same title) before in
+            let one : IsOwn scope told seen (decl_of title place) (exports_of found) = gathered.own (decl_of title place) (exports_of found) (text-itself title title refl) before in
             put-told (decl_of title place) (exports_of found) before ∙ ap Some (one.same ∙ ap (exported_at scope.nested.items) (some-same one.held held (sym one.known ∙ known)))
 
     pub put-grown : HaveGrown told put seen seen
@@ -296,7 +286,7 @@ module _ (scope : Scope) (sound : IsSound scope) (mine : InText) (parts : ByText
       where
         own-put : (decl : DeclId) (entries : Exports) → bytes_eq decl.«module» title ≡ true → put decl ≡ Some entries → (b : Bool) → nat_eq decl.place place ≡ b → IsOwn scope put seen decl entries
         own-put decl entries mine is true e =
-            let that : decl ≡ decl_of title place = (λ i. record { «module» = bytes-equal decl.«module» title mine i; place = place-equal decl.place place e i }) in
+            let that : decl ≡ decl_of title place = (λ i. record { «module» = same-text decl.«module» title mine i; place = eqb-true decl.place place e i }) in
             record { held = held; known = ap (lookup same_decl scope.known) that ∙ known; same = some-equal entries (exported_at scope.nested.items held) (sym is ∙ ap put that ∙ put-is); closed = closed-on told put seen seen put-grown held closed }
         own-put decl entries of is false e =
             let before : told decl ≡ Some entries = (ap (λ z. standing (first_of (reached parts decl) z)) (own-at title mine decl of ∙ sym (lookup-other mine place table decl.place e) ∙ sym (own-at title with_own decl of))) ∙ is in
@@ -331,7 +321,7 @@ noted-cases : {V : Type 0} (noted : List (List ℕ × V)) (key name : List ℕ) 
 noted-cases [] key name value P there before now = by (bytes_eq name key) refl there
   where
     by : (b : Bool) → bytes_eq name key ≡ b → is_some (cond b (Some value) None) ≡ true → P
-    by true same there = now (bytes-equal name key same)
+    by true same there = now (same-text name key same)
     by false same there = absurd (true≢false (sym there))
 noted-cases (one ∷ noted) key name value P there before now = by (bytes_eq name one.0) there before (noted-cases noted key name value P)
   where

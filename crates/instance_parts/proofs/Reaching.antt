@@ -18,12 +18,8 @@ use Rattle.instance_scope.specs.declared.scope.Scope.{Scope}
 use Rattle.instance_leads.specs.Found.{AreTold, IsTold as IsSaid}
 use Rattle.instance_parts.specs.Gathering.{AreRoots, IsClosed, IsGained, IsRoot, IsTold, exported_at}
 use Rattle.instance_leads.specs.Leading.{IsOfImport, IsThere, behind_at, behind_found, exports_shown, leads_on, leads_shown, or_nowhere}
+use Rattle.instance_leads.proofs.Faces.{along-nothing}
 use Rattle.instance_scope.specs.Scoped.{IsSound, known_of}
-
--- nothing stands behind nothing
-nothing-along : (told : Instances) (path : Path) → behind_along told [] path ≡ []
-nothing-along told [] = refl
-nothing-along told (name ∷ path) = nothing-along told path
 
 -- what is no instance has nothing behind it; what is one has what is told of it
 found-by : (told : Instances) (meaning : Option Meaning) (P : Exports → Type 0) → P [] →
@@ -47,13 +43,13 @@ none-within (x ∷ xs) (suc number) none within = none-within xs number none (om
 meaning-along : (told other : Instances) (path : Path) (meaning : Option Meaning) →
     ((entity : Entity) (callee : Callee) → meaning ≡ Some (Declared entity callee) → is_instance entity ≡ true → behind_along told (or_none (told callee.decl)) path ≡ behind_along other (or_none (other callee.decl)) path) →
     behind_along told (found_behind told meaning) path ≡ behind_along other (found_behind other meaning) path
-meaning-along told other path None same = nothing-along told path ∙ sym (nothing-along other path)
-meaning-along told other path (Some BuiltIn) same = nothing-along told path ∙ sym (nothing-along other path)
+meaning-along told other path None same = along-nothing told path ∙ sym (along-nothing other path)
+meaning-along told other path (Some BuiltIn) same = along-nothing told path ∙ sym (along-nothing other path)
 meaning-along told other path (Some (Declared entity callee)) same = by (is_instance entity) refl
   where
     by : (b : Bool) → is_instance entity ≡ b → behind_along told (cond b (or_none (told callee.decl)) []) path ≡ behind_along other (cond b (or_none (other callee.decl)) []) path
     by true is = same entity callee refl is
-    by false is = nothing-along told path ∙ sym (nothing-along other path)
+    by false is = along-nothing told path ∙ sym (along-nothing other path)
 
 -- each instance that some entries name is told of, where a face tells of it
 pub told-reached : (told : Instances) (face : Face) → IsTold told face → (entries : Exports) → AreReached (face_instances face) entries → AreReached told entries
@@ -122,7 +118,7 @@ module _ (scope : Scope) (sound : IsSound scope) (told : Instances) (seen : List
   held-along [] (Imported face) there closed = refl
   held-along [] (Reached face exports) there closed = refl
   held-along [] (Nested number) there closed = refl
-  held-along (name ∷ path) Nowhere there closed = nothing-along told path
+  held-along (name ∷ path) Nowhere there closed = along-nothing told path
   held-along (name ∷ path) (Imported face) there closed = within-along told face.now (whole-of face.now there) closed (name ∷ path) (face_exports face.now) (whole-of face.now there).exports
   held-along (name ∷ path) (Reached face exports) there closed =
       let whole : IsWhole face.now = whole-of face.now there.import in
@@ -134,12 +130,12 @@ module _ (scope : Scope) (sound : IsSound scope) (told : Instances) (seen : List
     where
       on : ((held : Held) → IsThere scope.imported.now (length nested) held → IsClosed told seen held → behind_along told (exported_at nested held) path ≡ behind_at nested held path) → (ended : Ended) → slice_get nested number ≡ Some ended → (meaning : Option Meaning) → entry_of (exports_of ended.exports) name ≡ meaning →
           behind_along told (found_behind told meaning) path ≡ behind_at nested (leads_on ended.instances meaning) path
-      on rest ended is None met = nothing-along told path ∙ sym (nowhere-behind nested path)
-      on rest ended is (Some BuiltIn) met = nothing-along told path ∙ sym (nowhere-behind nested path)
+      on rest ended is None met = along-nothing told path ∙ sym (nowhere-behind nested path)
+      on rest ended is (Some BuiltIn) met = along-nothing told path ∙ sym (nowhere-behind nested path)
       on rest ended is (Some (Declared entity callee)) met = by (is_instance entity) refl
         where
           by : (b : Bool) → is_instance entity ≡ b → behind_along told (cond b (or_none (told callee.decl)) []) path ≡ behind_at nested (cond b (or_nowhere (lookup same_decl ended.instances callee.decl)) Nowhere) path
-          by false e = nothing-along told path ∙ sym (nowhere-behind nested path)
+          by false e = along-nothing told path ∙ sym (nowhere-behind nested path)
           by true e = found (lookup same_decl ended.instances callee.decl) refl (all-reached (lookup same_decl ended.instances) (exports_of ended.exports) (sound.told number ended is) name entity callee met e)
             where
               found : (o : Option Held) → lookup same_decl ended.instances callee.decl ≡ o → is_some (lookup same_decl ended.instances callee.decl) ≡ true → behind_along told (or_none (told callee.decl)) path ≡ behind_at nested (or_nowhere (lookup same_decl ended.instances callee.decl)) path
@@ -156,12 +152,12 @@ module _ (scope : Scope) (sound : IsSound scope) (told : Instances) (seen : List
   roots-along shown roots (name ∷ path) = on (entry_of shown name) refl
     where
       on : (meaning : Option Meaning) → entry_of shown name ≡ meaning → behind_along told (found_behind told meaning) path ≡ behind_meaning (known_of scope) meaning path
-      on None met = nothing-along told path
-      on (Some BuiltIn) met = nothing-along told path
+      on None met = along-nothing told path
+      on (Some BuiltIn) met = along-nothing told path
       on (Some (Declared entity callee)) met = by (is_instance entity) refl
         where
           by : (b : Bool) → is_instance entity ≡ b → behind_along told (cond b (or_none (told callee.decl)) []) path ≡ cond b (at_path (known_of scope callee.decl) path) []
-          by false e = nothing-along told path
+          by false e = along-nothing told path
           by true e =
               let root : IsRoot scope told seen callee.decl = roots name entity callee met e in
               ap (λ z. behind_along told (or_none z) path) root.gained.is

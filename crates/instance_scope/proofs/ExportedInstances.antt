@@ -7,12 +7,14 @@ use Rattle.tla_model.specs.declared.names.Meaning.TheVariants.{BuiltIn, Declared
 use Rattle.tla_model.specs.Entities.{Meaning, same_decl}
 use Rattle.tla_model.specs.EntityKinds.{is_instance}
 use Rattle.tla_model.specs.Tables.{lookup}
+use Rattle.tla_model.proofs.Same.{decl-equal}
 use Rattle.module_model.specs.declared.face.Face.{Face}
 use Rattle.module_model.specs.Exports.{Behind, Exports, Known, ModuleView, and_known, exports_of, face_instances, known_among, known_as, known_by, none_known, onward, standing}
 use Rattle.module_model.specs.Given.{imported}
 use Rattle.module_model.specs.Imports.{Imports}
 use Rattle.module_model.specs.NamedModules.{exported_known}
 use Rattle.module_model.specs.Parts.{first_of}
+use Rattle.module_model.proofs.PartTables.{first-none}
 use Rattle.tree_tasks.specs.declared.held.Held.{Held}
 use Rattle.tree_tasks.specs.declared.held.Held.TheVariants.{Nowhere, Imported, Reached, Nested}
 use Rattle.instance_leads.specs.declared.ended.Ended.{Ended}
@@ -20,7 +22,6 @@ use Rattle.instance_scope.specs.declared.scope.Scope.{Scope}
 use Rattle.instance_leads.specs.Found.{AreOfFace, AreTold, IsLedBy, IsOfFace, IsTold}
 use Rattle.instance_leads.specs.Leading.{IsNoted, IsThere, Leads, behind_found, exports_shown, known_in, view_at}
 use Rattle.instance_scope.specs.Scoped.{AreGiven, IsBroughtBy, IsSound, known_of}
-use Rattle.instance_leads.proofs.Knowing.{decl-equal, first-none}
 
 -- ---- imported modules
 

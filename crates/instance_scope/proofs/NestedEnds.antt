@@ -6,7 +6,7 @@ use Rattle.std.specs.List.{AllByRecursion}
 use Rattle.std.specs.Str.{bytes_eq}
 use mathlib.Core.Path.{fun_ext}
 use Rattle.std.proofs.lemmas.List.{take_more}
-use Rattle.list_laws.proofs.Lists.{all-both, pushed-cases}
+use Rattle.list_laws.proofs.Lists.{all-both, at-end, pushed-cases}
 use Rattle.tla_symbols.specs.declared.op.Op.{Op}
 use Rattle.tla_model.specs.declared.ids.DeclId.{DeclId}
 use Rattle.tla_model.specs.declared.names.Meaning.TheVariants.{BuiltIn, Declared}
@@ -142,10 +142,6 @@ own-all context table own entries symbols all same words others =
 
 -- ---- one nested module more
 
-pub at-last : {A : Type 0} (xs : List A) (x : A) → slice_get (xs ++ x ∷ []) (length xs) ≡ Some x
-at-last [] x = refl
-at-last (y ∷ xs) x = at-last xs x
-
 told-entry : (said : DeclId → Option Held) (entries : Exports) (name : Named) (one : Meaning) → AreTold said entries → entry_of entries name ≡ Some one → IsTold said one
 told-entry said [] name one told is = cc
 told-entry said (entry ∷ rest) name one told is = by (same_named name entry.0) is (told-entry said rest name one told.1)
@@ -187,7 +183,7 @@ module _ (scope : Scope) (ended : Ended) (sound : IsSound scope) (known : AreIn 
   -- it is to others what its exports and the context round it make of it
   pub view-end : (context : Context) → parameters_in (exports_of ended.parameters) ≡ own_parameters context (exports_of ended.exports) → view_at (scope.nested.items ++ ended ∷ []) (length scope.nested.items) ≡ nested_view (known_of scope) context (exports_of ended.exports)
   view-end context own =
-      (λ i. record { entries = entries_of (scope.nested.items ++ ended ∷ []) (at-last scope.nested.items ended i); parameters = parameters_shown (at-last scope.nested.items ended i) })
+      (λ i. record { entries = entries_of (scope.nested.items ++ ended ∷ []) (at-end scope.nested.items ended i); parameters = parameters_shown (at-end scope.nested.items ended i) })
       ∙ (λ i. record { entries = fun_ext entries-end i; parameters = own i })
 
   pub known-end : known_in (scope.nested.items ++ ended ∷ []) scope.known ≡ known_of scope

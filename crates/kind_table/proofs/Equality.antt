@@ -12,19 +12,14 @@ use Rattle.tla_symbols.specs.declared.level.Rule.{Rule}
 use Rattle.tla_symbols.specs.declared.level.Rule.TheVariants.{Plain, Boolean, Prime, Unchanged, Enabled, Always, Eventually, Leads, Compose, Square, Angle, Fair}
 use Rattle.tla_symbols.specs.contracts.level.KindPartialEq as kind_eq
 use Rattle.tla_symbols.specs.contracts.level.RulePartialEq as rule_eq
+use Rattle.list_laws.proofs.Lists.{at-end}
+use Rattle.list_laws.proofs.Texts.{numbers-equal}
 use Rattle.kind_table.specs.contracts.argument.ArgPartialEq as arg
 use Rattle.kind_table.specs.declared.argument.Arg.{Arg}
 use Rattle.kind_table.specs.declared.argument.Arg.TheVariants.{Value, Parameter, BuiltIn, Operator}
 use Rattle.kind_table.specs.Table.{Grows, IsArg, IsStored, IsTable}
 use Rattle.kind_table.proofs.Unfolding.{slice_get-more}
 use Rattle.kind_table.proofs.Growth.{grows_not}
-
-pub pointwise-exact : (xs ys : List ℕ) → pointwise nat_eq xs ys ≡ true → xs ≡ ys
-pointwise-exact [] [] h = refl
-pointwise-exact [] (y ∷ ys) h = cc
-pointwise-exact (x ∷ xs) [] h = cc
-pointwise-exact (x ∷ xs) (y ∷ ys) h =
-    let p = and_parts _ _ h in let e = eqb-true x y p.0 in let es = pointwise-exact xs ys p.1 in cc
 
 abbrev arg_eq : Arg → Arg → Bool
 arg_eq = (arg.TheImpl.eq-value).it
@@ -60,13 +55,9 @@ arg-exact table n Parameter Parameter e h = e
 arg-exact table n (BuiltIn k) (BuiltIn l) e h = e ∙ ap (λ x. Some (BuiltIn x)) (sym (rule-exact k l h))
 arg-exact table n (Operator d ns) (Operator c ms) e h =
     let p = and_parts (nat_eq d c) (pointwise nat_eq ns.items ms.items) h in
-    let same = eqb-true d c p.0 in let f = pointwise-exact ns.items ms.items p.1 in
+    let same = eqb-true d c p.0 in let f = numbers-equal ns.items ms.items p.1 in
     (ms, e ∙ ap (λ x. Some (Operator x ms)) (sym same), sym f)
 arg-exact table n a b e h = cc
-
-slice_get-end : {A : Type 0} (xs : List A) (a : A) → slice_get (xs ++ a ∷ []) (length xs) ≡ Some a
-slice_get-end [] a = refl
-slice_get-end (x ∷ xs) a = slice_get-end xs a
 
 table-push : (ks : List Arg) (a : Arg) → IsTable ks → IsArg (length ks) a → IsTable (ks ++ a ∷ [])
 table-push ks a h n = record { each = λ i x e. one i x e (cases_lt i (length ks)) }
@@ -77,7 +68,7 @@ table-push ks a h n = record { each = λ i x e. one i x e (cases_lt i (length ks
       | inr l ↦
           let w = slice_get_within (ks ++ a ∷ []) i x e in
           let at : i ≡ length ks = omega (arith, w, length-append ks (a ∷ [])) in
-          let here : Some a ≡ Some x = sym (slice_get-end ks a) ∙ ap (slice_get (ks ++ a ∷ [])) (sym at) ∙ e in
+          let here : Some a ≡ Some x = sym (at-end ks a) ∙ ap (slice_get (ks ++ a ∷ [])) (sym at) ∙ e in
           let same : a ≡ x = cc in
           subst (λ y. IsArg i y) same (subst (λ j. IsArg j a) (sym at) n)
     ]

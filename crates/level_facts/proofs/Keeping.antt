@@ -17,7 +17,7 @@ use Rattle.kind_table.specs.declared.argument.Arg.TheVariants as arg
 use Rattle.kind_table.specs.Table.{AllWithin, Grows, IsStored, IsTable, meaning, meanings}
 use Rattle.kind_table.proofs.Unfolding.{meaning-step}
 use Rattle.kind_table.proofs.Growth.{grows_not, grows_on, meanings-push, meanings_on, within-push, within_on}
-use Rattle.kind_table.proofs.Equality.{pointwise-exact}
+use Rattle.list_laws.proofs.Texts.{numbers-equal}
 use Rattle.level_facts.specs.contracts.facts.KeyPartialEq as key
 use Rattle.level_facts.specs.declared.facts.Key.{Key}
 use Rattle.level_facts.specs.declared.facts.Argument.{Argument}
@@ -27,7 +27,7 @@ use Rattle.level_facts.specs.Facts.{AddsArguments, IsKept, Remembers, argument_i
 key-exact : (a b : Key) → (key.TheImpl.eq-value).it a b ≡ true → (a.definition ≡ b.definition) × (a.frame.items ≡ b.frame.items)
 key-exact a b h =
     let p = and_parts (nat_eq a.definition b.definition) (pointwise nat_eq a.frame.items b.frame.items) h in
-    (eqb-true _ _ p.0, pointwise-exact _ _ p.1)
+    (eqb-true _ _ p.0, numbers-equal _ _ p.1)
 
 abbrev key_eq : Key → Key → Bool
 key_eq = (key.TheImpl.eq-value).it

@@ -1,7 +1,8 @@
 -- What holds of the items of lists.
-use Rattle.std.proofs.Common.{◌≡◌, ℕ, zero, suc, ◌+◌, ◌<◌, ◌⊎◌, List, [], ◌∷◌, ◌++◌, Some, refl, sym, ap, ◌∙◌, inl, inr, length, drop, get_or, add-one, arith}
+use Rattle.std.proofs.Common.{◌≡◌, ℕ, zero, suc, ◌+◌, ◌<◌, ◌⊎◌, List, [], ◌∷◌, ◌++◌, Some, refl, sym, ap, ◌∙◌, inl, inr, length, drop, drop-cons, get_or, reverse, add-one, arith}
 use Rattle.std.specs.Prelude.{Contains, map, option_map, slice_get}
 use Rattle.std.specs.List.{AllByRecursion}
+use Rattle.std.proofs.lemmas.List.{reverse-append}
 use Rattle.std.proofs.lemmas.Option.{slice_get-map, slice_get-get_or, slice_get_within, get_or_from_slice_get}
 
 -- what holds of all items of two lists in a row holds of those of each
@@ -18,6 +19,10 @@ all-both P [] b all more = more
 all-both P (x ∷ a) b all more = (all.0, all-both P a b all.1 more)
 
 -- each place of a list has an item
+pub all-weaker : {A : Type 0} (P Q : A → Type 0) → ((x : A) → P x → Q x) → (xs : List A) → AllByRecursion P xs → AllByRecursion Q xs
+all-weaker P Q weaker [] all = tt
+all-weaker P Q weaker (x ∷ xs) all = (weaker x all.0, all-weaker P Q weaker xs all.1)
+
 pub item-at : {A : Type 0} (xs : List A) (i : ℕ) → i < length xs → (x : A) × (slice_get xs i ≡ Some x)
 item-at [] i l = absurd (omega arith)
 item-at (x ∷ xs) zero l = (x, refl)
@@ -46,7 +51,7 @@ pushed-cases [] x y (suc i) e = cc
 pushed-cases (z ∷ xs) x y zero e = inl e
 pushed-cases (z ∷ xs) x y (suc i) e = elim (pushed-cases xs x y i e) as (λ _. (slice_get xs i ≡ Some y) ⊎ ((suc i ≡ length (z ∷ xs)) × (x ≡ y))) [ inl before ↦ inl before | inr last ↦ inr (ap suc last.0, last.1) ]
 
-drop-next : {A : Type 0} (xs : List A) (i : ℕ) (x : A) → slice_get xs i ≡ Some x → drop i xs ≡ x ∷ drop (suc i) xs
+pub drop-next : {A : Type 0} (xs : List A) (i : ℕ) (x : A) → slice_get xs i ≡ Some x → drop i xs ≡ x ∷ drop (suc i) xs
 drop-next [] zero x e = cc
 drop-next [] (suc i) x e = cc
 drop-next (y ∷ xs) zero x e = cc
@@ -58,3 +63,18 @@ drop-at xs i x e = rw add-one (drop-next xs i x e)
 
 pub drop-from : {A : Type 0} (xs : List A) (i : ℕ) (x : A) → i < length xs → x ≡ get_or xs i x → drop i xs ≡ x ∷ drop (i + 1) xs
 drop-from xs i x lt is = drop-at xs i x (slice_get-get_or xs i x lt ∙ ap Some (sym is))
+
+-- what is left of a list, from a place within it on
+pub rest-at : {A : Type 0} (xs : List A) (i : ℕ) (d : A) → i < length xs → drop i xs ≡ get_or xs i d ∷ drop (i + 1) xs
+rest-at xs i d within = rw (add-one, drop-cons xs i d) refl
+
+pub first-there : {A : Type 0} (x : A) (xs : List A) → Contains (x ∷ xs) x
+first-there x xs = (zero, omega arith, refl)
+
+pub at-end : {A : Type 0} (xs : List A) (x : A) → slice_get (xs ++ x ∷ []) (length xs) ≡ Some x
+at-end [] x = refl
+at-end (y ∷ xs) x = at-end xs x
+
+-- the last of a list is the first from its end
+pub reverse-last : {A : Type 0} (x : A) (all rest : List A) → all ≡ rest ++ x ∷ [] → reverse all ≡ x ∷ reverse rest
+reverse-last x all rest is = ap reverse is ∙ reverse-append rest (x ∷ [])

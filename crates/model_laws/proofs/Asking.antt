@@ -7,7 +7,7 @@ use Rattle.tla_symbols.specs.declared.lexeme.Lexeme.{Lexeme}
 use Rattle.tla_tree.specs.declared.form.Form.TheVariants as Form
 use Rattle.tla_tree.specs.Syntax.{Tree, Trees, Node, Nil, Cons}
 use Rattle.unit_grammar.specs.Units.{UnitTree, Variables, Constants, OperatorDefinition, FunctionDefinition, ModuleDefinition, Instance, Assumption, Theorem, Line, ModuleBegin, ModuleEnd, ModuleUnits}
-use Rattle.list_laws.proofs.Lists.{all-both, all-left, all-right}
+use Rattle.list_laws.proofs.Lists.{all-both, all-left, all-right, all-weaker}
 use Rattle.tla_model.specs.declared.names.Finding.TheVariants.{Clashes, InstanceClashes, Taken}
 use Rattle.tla_model.specs.Entities.{Text, declaration}
 use Rattle.tla_model.specs.Lexemes.{spelled}
@@ -24,7 +24,7 @@ use Rattle.module_model.specs.Resolution as r
 use Rattle.module_model.specs.Resolution.{ReadState}
 use Rattle.module_model.specs.TreeFindings.{walk}
 use Rattle.model_laws.proofs.Forgetting.{extends-keep, forget, forget-added, joined-keeps, scope_of, scope-after, taken-forget}
-use Rattle.model_laws.proofs.Items.{all-kept, all-weaker}
+use Rattle.model_laws.proofs.Items.{all-kept}
 use Rattle.model_laws.proofs.Walking.{walk-same}
 
 -- the names of modules of instances are among the names behind INSTANCE

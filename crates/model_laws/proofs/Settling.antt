@@ -21,6 +21,7 @@ use Rattle.tla_model.specs.EntityKinds.{is_instance}
 use Rattle.tla_model.specs.Lexemes.{spelled}
 use Rattle.tla_model.specs.Scopes.{definition}
 use Rattle.tla_model.specs.Tables.{Table, Named, Word, Symbol, added, empty, find, has, lookup, put, same_named, same_symbol}
+use Rattle.tla_model.proofs.Same.{decl-itself}
 use Rattle.module_scope.specs.Environments.{Environment, meaning}
 use Rattle.module_model.specs.Exports.{Behind, Exports, Known, ModuleView, and_known, entry_of, exported, exports_by, exports_of, instantiable, is_meant, known_among, known_as, known_by, none_known, of_symbols, of_words, onward, stands_behind}
 use Rattle.module_model.specs.Given.{AreReached}
@@ -31,9 +32,11 @@ use Rattle.module_model.specs.NamedModules as n
 use Rattle.module_model.specs.Parts.{first_of}
 use Rattle.module_model.specs.Resolution as r
 use Rattle.module_model.specs.Resolution.{ReadState}
+use Rattle.module_model.proofs.Entries.{entry-of-table}
+use Rattle.list_laws.proofs.Lists.{all-weaker}
 use Rattle.model_laws.specs.Settled.{IsKnown, IsSettled}
 use Rattle.model_laws.proofs.Forgetting.{extends-keep, joined-keeps}
-use Rattle.model_laws.proofs.Items.{all-mapped, all-passing, all-weaker}
+use Rattle.model_laws.proofs.Items.{all-mapped, all-passing}
 
 -- ---- tables
 
@@ -63,24 +66,6 @@ put-gives table (Word bytes) value (Word other) found at = added-gives bytes_eq 
 put-gives table (Symbol op) value (Symbol other) found at = added-gives same_symbol table.symbols op value other found at
 put-gives table (Word bytes) value (Symbol other) found at = inl at
 put-gives table (Symbol op) value (Word other) found at = inl at
-
-no-word : (symbols : List (Op × Meaning)) (bytes : List ℕ) → lookup same_named (of_symbols symbols) (Word bytes) ≡ None
-no-word [] bytes = refl
-no-word (entry ∷ rest) bytes = no-word rest bytes
-
-at-symbol : (symbols : List (Op × Meaning)) (op : Op) → lookup same_named (of_symbols symbols) (Symbol op) ≡ lookup same_symbol symbols op
-at-symbol [] op = refl
-at-symbol (entry ∷ rest) op = ap (λ z. cond (same_symbol op entry.0) (Some entry.1) z) (at-symbol rest op)
-
-words-first : (words : List (List ℕ × Meaning)) (symbols : List (Op × Meaning)) (name : Named) → entry_of (of_words words ++ of_symbols symbols) name ≡ find (record { words = words; symbols = symbols }) name
-words-first [] symbols (Word bytes) = no-word symbols bytes
-words-first [] symbols (Symbol op) = at-symbol symbols op
-words-first (entry ∷ rest) symbols (Word bytes) = ap (λ z. cond (bytes_eq bytes entry.0) (Some entry.1) z) (words-first rest symbols (Word bytes))
-words-first (entry ∷ rest) symbols (Symbol op) = words-first rest symbols (Symbol op)
-
--- an entry of a table is what stands there under its name
-pub entry-of-table : (table : Table Meaning) (name : Named) → entry_of (exports_of table) name ≡ find table name
-entry-of-table table name = words-first table.words table.symbols name
 
 -- ---- what is said of a meaning
 
@@ -144,9 +129,6 @@ round-more : (known more : Known) (round : List Reading) → AllByRecursion (IsK
 round-more known more round all = all-weaker (IsKnown known) (IsKnown (and_known known more)) (λ (reading : Reading) one. reached-more known more (exports_of reading.exports) one) round all
 
 -- ---- what is known of a module
-
-decl-itself : (decl : DeclId) → same_decl decl decl ≡ true
-decl-itself decl = and_from (bytes_eq decl.«module» decl.«module») (nat_eq decl.place decl.place) ((bytes_eq-Decides decl.«module» decl.«module»).1 refl) ((Decides-eqb decl.place decl.place).1 refl)
 
 known-itself : (decl : DeclId) (behind : Behind) → is_some (known_as decl behind decl) ≡ true
 known-itself decl behind = ap (λ b. is_some (if b then Some behind else None)) (decl-itself decl)

@@ -1,11 +1,12 @@
 -- Diagnostics that are put in one by one stand in order.
 use Rattle.std.proofs.Common.{◌≡◌, ◌<◌, ℕ, zero, suc, Bool, true, false, ◌&&◌, ◌||◌, List, [], ◌∷◌, Some, nat_eq, nat_lt, refl, sym, ap, ◌∙◌, subst, inl, inr, cond, arith, ⊎_elim}
 use Rattle.std.specs.Prelude.{◌⊎◌, Contains, slice_get}
-use Rattle.std.proofs.lemmas.Bool.{cases_lt}
+use Rattle.std.proofs.lemmas.Bool.{and_from, cases_lt, lt-ltb, or_left, or_right}
 use Rattle.std.proofs.lemmas.Bool.Decides.{nat_tests}
 use Rattle.std.proofs.lemmas.Option.{get_or_from_slice_get, slice_get_within}
 use Rattle.tla_model.specs.declared.Diagnostic.{Diagnostic}
 use Rattle.module_model.specs.Bindings.{AreInOrder, is_before}
+use Rattle.list_laws.proofs.Lists.{first-there}
 use Rattle.module_facts.specs.Ordered.{in_order, with_one}
 
 -- ---- what comes before what
@@ -40,31 +41,16 @@ compared a b = elim (less-or-more a.span.start b.span.start) as (λ _. Compared 
   ]
 ]
 
-is-less : (m n : ℕ) → m < n → nat_lt m n ≡ true
-is-less m n l = grind (arith, nat_tests, l)
-
 is-no-less : (m n : ℕ) → m ≡ n → nat_lt m n ≡ false
 is-no-less m n e = grind (arith, nat_tests, e)
 
 is-same : (m n : ℕ) → m ≡ n → nat_eq m n ≡ true
 is-same m n e = grind (arith, nat_tests, e)
 
-or-there : (a b : Bool) → a ≡ true → (a || b) ≡ true
-or-there true b e = refl
-or-there false b e = cc
-
-or-behind : (a b : Bool) → b ≡ true → (a || b) ≡ true
-or-behind true b e = refl
-or-behind false b e = e
-
-and-there : (a b : Bool) → a ≡ true → b ≡ true → (a && b) ≡ true
-and-there true b t e = e
-and-there false b t e = cc
-
 test-before : (a b : Diagnostic) → Before a b → is_before a b ≡ true
-test-before a b (by_start l) = or-there (nat_lt a.span.start b.span.start) _ (is-less a.span.start b.span.start l)
-test-before a b (by_end s l) = or-behind (nat_lt a.span.start b.span.start) _ (and-there (nat_eq a.span.start b.span.start) _ (is-same a.span.start b.span.start s) (or-there (nat_lt a.span.end b.span.end) _ (is-less a.span.end b.span.end l)))
-test-before a b (by_code s e l) = or-behind (nat_lt a.span.start b.span.start) _ (and-there (nat_eq a.span.start b.span.start) _ (is-same a.span.start b.span.start s) (or-behind (nat_lt a.span.end b.span.end) _ (and-there (nat_eq a.span.end b.span.end) _ (is-same a.span.end b.span.end e) (is-less a.code b.code l))))
+test-before a b (by_start l) = or_left (nat_lt a.span.start b.span.start) _ (lt-ltb a.span.start b.span.start l)
+test-before a b (by_end s l) = or_right (nat_lt a.span.start b.span.start) _ (and_from (nat_eq a.span.start b.span.start) _ (is-same a.span.start b.span.start s) (or_left (nat_lt a.span.end b.span.end) _ (lt-ltb a.span.end b.span.end l)))
+test-before a b (by_code s e l) = or_right (nat_lt a.span.start b.span.start) _ (and_from (nat_eq a.span.start b.span.start) _ (is-same a.span.start b.span.start s) (or_right (nat_lt a.span.end b.span.end) _ (and_from (nat_eq a.span.end b.span.end) _ (is-same a.span.end b.span.end e) (lt-ltb a.code b.code l))))
 
 further : (a b c : Diagnostic) → Before a b → Before b c → Before a c
 further a b c (by_start l) (by_start k) = by_start (omega (arith, l, k))
@@ -131,9 +117,6 @@ tested-before a b t = elim (compared a b) as (λ _. Before a b) [
 
 -- ---- lists in order
 
-here : (x : Diagnostic) (xs : List Diagnostic) → Contains (x ∷ xs) x
-here x xs = (0, omega arith, refl)
-
 later : (y : Diagnostic) (xs : List Diagnostic) (x : Diagnostic) → Contains xs x → Contains (y ∷ xs) x
 later y xs x h = (suc h.0, omega (arith, h.1), h.2)
 
@@ -164,7 +147,7 @@ by-tests d x xs up rest true second p q =
         ],
         up,
       );
-      there = here d (x ∷ xs);
+      there = first-there d (x ∷ xs);
       kept = λ y at. later d (x ∷ xs) y at;
       from = λ y at. first-or-later d (x ∷ xs) y at;
     }
@@ -180,11 +163,11 @@ by-tests d x xs up rest false true p q =
       );
       there = later x (with_one d xs) d rest.there;
       kept = λ y at. elim (first-or-later x xs y at) as (λ _. Contains (x ∷ with_one d xs) y) [
-        | inl e ↦ subst (λ z. Contains (x ∷ with_one d xs) z) e (here x (with_one d xs))
+        | inl e ↦ subst (λ z. Contains (x ∷ with_one d xs) z) e (first-there x (with_one d xs))
         | inr h ↦ later x (with_one d xs) y (rest.kept y h)
       ];
       from = λ y at. elim (first-or-later x (with_one d xs) y at) as (λ _. (d ≡ y) ⊎ Contains (x ∷ xs) y) [
-        | inl e ↦ inr (subst (λ z. Contains (x ∷ xs) z) e (here x xs))
+        | inl e ↦ inr (subst (λ z. Contains (x ∷ xs) z) e (first-there x xs))
         | inr h ↦ elim (rest.from y h) as (λ _. (d ≡ y) ⊎ Contains (x ∷ xs) y) [ inl e ↦ inl e | inr k ↦ inr (later x xs y k) ]
       ];
     }
@@ -196,7 +179,7 @@ by-tests d x xs up rest false false p q =
     ] in
     record {
       up = up;
-      there = subst (λ z. Contains (x ∷ xs) z) (sym equal) (here x xs);
+      there = subst (λ z. Contains (x ∷ xs) z) (sym equal) (first-there x xs);
       kept = λ y at. at;
       from = λ y at. inr at;
     }
@@ -204,7 +187,7 @@ by-tests d x xs up rest false false p q =
 with-one : (d : Diagnostic) (xs : List Diagnostic) → Rises xs → IsWith d xs (with_one d xs)
 with-one d [] up = record {
   up = (λ y at. absurd (omega (arith, at.1)), tt);
-  there = here d [];
+  there = first-there d [];
   kept = λ y at. absurd (omega (arith, at.1));
   from = λ y at. first-or-later d [] y at;
 }
@@ -224,7 +207,7 @@ holds (d ∷ ds) y at = elim (first-or-later d ds y at) as (λ _. Contains (with
 held : (all : List Diagnostic) (y : Diagnostic) → Contains (in_order all) y → Contains all y
 held [] y at = at
 held (d ∷ ds) y at = elim ((with-one d (in_order ds) (rises ds)).from y at) as (λ _. Contains (d ∷ ds) y) [
-  | inl e ↦ subst (λ z. Contains (d ∷ ds) z) e (here d ds)
+  | inl e ↦ subst (λ z. Contains (d ∷ ds) z) e (first-there d ds)
   | inr h ↦ later d ds y (held ds y h)
 ]
 

@@ -10,10 +10,7 @@ use Rattle.unit_grammar.specs.UnitNodes.{unit_at}
 use Rattle.tla_model.specs.ModuleNames.{module_names}
 use Rattle.module_scope.specs.Environments.{Scope}
 use Rattle.module_scope.specs.Imports.{scope_at}
-
--- what is left of a list, from this place on
-rest-at : {A : Type 0} (xs : List A) (i : ℕ) (d : A) → i < length xs → drop i xs ≡ get_or xs i d ∷ drop (i + 1) xs
-rest-at xs i d there = rw (add-one, drop-cons xs i d) refl
+use Rattle.list_laws.proofs.Lists.{rest-at}
 
 -- over one unit: those of its module names that pass a test, and then those of the units behind it
 pub named-step : (text : List ℕ) (test : Scope ⊤ → Lexeme → Bool) (from : Scope ⊤ → List UnitTree → List Lexeme)

@@ -7,6 +7,7 @@ use Rattle.tla_symbols.specs.declared.lexeme.Lexeme.{Lexeme}
 use Rattle.tla_tree.specs.Arena.{Node as ArenaNode, AreThere, node_at, tree_at}
 use Rattle.tla_tree.specs.Syntax.{Tree, Trees, Node, Nil, Cons, trees}
 use Rattle.tla_tree.proofs.Nodes.{tree_at-node, before-there}
+use Rattle.tla_tree.proofs.Walks.{turned}
 use Rattle.tla_model.specs.ModuleNames.{instantiated, instances, instances_in}
 
 -- how many nodes trees have
@@ -36,33 +37,20 @@ sizes-append : (nodes : List ArenaNode) (a b : List ℕ) → sizes (trees (map (
 sizes-append nodes [] b = omega arith
 sizes-append nodes (x ∷ a) b = omega (arith, sizes-append nodes a b)
 
-there-append : (nodes : List ArenaNode) (a b : List ℕ) → AreThere nodes a → AreThere nodes b → AreThere nodes (a ++ b)
-there-append nodes [] b first second = second
-there-append nodes (x ∷ a) b first second = (first.0, there-append nodes a b first.1 second)
-
 -- what is due once a node is taken, and its children are due in its place
 pub record IsTaken (nodes : List ArenaNode) (node : ℕ) (old new : List ℕ) : Type 0 where
   pub due : AreDue nodes new
   pub names : due_names nodes old ≡ instantiated (node_at nodes node).form ++ due_names nodes new
   pub less : due_size nodes new < due_size nodes old
 
-popped : (node : ℕ) (old rest : List ℕ) → old ≡ rest ++ node ∷ [] → reverse old ≡ node ∷ reverse rest
-popped node old rest is = ap (λ z. reverse z) is ∙ reverse-append rest (node ∷ [])
-
-pub taken-there : (nodes : List ArenaNode) (node : ℕ) (old rest : List ℕ) → AreDue nodes old → old ≡ rest ++ node ∷ [] → node < length nodes
-taken-there nodes node old rest due is = (subst (AreThere nodes) (popped node old rest is) due).0
-
 pub taken : (nodes : List ArenaNode) (node : ℕ) (children old rest new : List ℕ) → AreDue nodes old → old ≡ rest ++ node ∷ [] → children ≡ (node_at nodes node).children → AllByRecursion (λ child. child < node) children → new ≡ rest ++ reverse children → IsTaken nodes node old new
 taken nodes node children old rest new due is are before pushed =
-    let back : reverse old ≡ node ∷ reverse rest = popped node old rest is in
-    let there : AreThere nodes (node ∷ reverse rest) = subst (AreThere nodes) back due in
-    let onward : reverse new ≡ children ++ reverse rest = ap (λ z. reverse z) pushed ∙ reverse-append rest (reverse children) ∙ ap (λ z. z ++ reverse rest) (reverse-reverse children) in
-    let below : AllByRecursion (λ child. child < node) (node_at nodes node).children = subst (AllByRecursion (λ child. child < node)) are before in
-    let tree : tree_at nodes node ≡ Node (node_at nodes node).form (node_at nodes node).span (trees (map (tree_at nodes) (node_at nodes node).children)) = tree_at-node nodes node there.0 below in
+    let turn = turned nodes node children old rest new due is are before pushed in
+    let children = (node_at nodes node).children in
     record {
-      due = rw onward (there-append nodes children (reverse rest) (before-there nodes node children there.0 before) there.1);
-      names = rw (back, onward, names-append nodes children (reverse rest), are, tree) (append_assoc (instantiated (node_at nodes node).form) _ _);
-      less = rw (back, onward, sizes-append nodes children (reverse rest), are, tree) (omega arith);
+      due = turn.due;
+      names = rw (turn.before, turn.after, names-append nodes children turn.rest, turn.tree) (append_assoc (instantiated (node_at nodes node).form) _ _);
+      less = rw (turn.before, turn.after, sizes-append nodes children turn.rest, turn.tree) (omega arith);
     }
 
 pub names-taken : (nodes : List ArenaNode) (node : ℕ) (old new : List ℕ) (names names' all : List Lexeme) → IsTaken nodes node old new → names' ≡ names ++ instantiated (node_at nodes node).form → names ++ due_names nodes old ≡ all → names' ++ due_names nodes new ≡ all

@@ -1,3 +1,4 @@
+pub mod Entries
 mod Importing
 pub mod Ordering
 pub mod PartTables

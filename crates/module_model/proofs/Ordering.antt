@@ -15,6 +15,7 @@ use Rattle.std.proofs.lemmas.List.Sorted.{Contains-permutation, IsPermutation-sy
 use Rattle.std.proofs.lemmas.Map.Keys.{Less-from_sorted}
 use Rattle.std.proofs.lemmas.Option.{slice_get_within, get_or_from_slice_get, slice_get-get_or}
 use Rattle.list_laws.proofs.Tests.{and-both, less-is}
+use Rattle.list_laws.proofs.Lists.{first-there}
 use Rattle.tla_model.specs.declared.Diagnostic.{Diagnostic}
 use Rattle.module_model.specs.Bindings.{AreInOrder, is_before}
 
@@ -118,9 +119,6 @@ stands xs x there = (there.0, slice_get-get_or xs there.0 x there.1 ∙ ap Some 
 rises-head : (x y : Diagnostic) (xs : List Diagnostic) → Rises (x ∷ xs) → Contains xs y → is_before x y ≡ true
 rises-head x y xs rises there = let at = stands xs y there in rises zero (suc at.0) x y refl at.1 (omega arith)
 
-first-of : (x : Diagnostic) (xs : List Diagnostic) → Contains (x ∷ xs) x
-first-of x xs = (zero, omega arith, refl)
-
 later-of : (x y : Diagnostic) (xs : List Diagnostic) → Contains xs y → Contains (x ∷ xs) y
 later-of x y xs there = (suc there.0, omega (arith, there.1), there.2)
 
@@ -162,10 +160,10 @@ holds-tail x y xs ys same rises holds = λ z there. elim (first-or-later y z ys 
 
 lists-same : (xs ys : List Diagnostic) → Rises xs → Rises ys → Holds xs ys → Holds ys xs → xs ≡ ys
 lists-same [] [] rises rises' holds holds' = refl
-lists-same [] (y ∷ ys) rises rises' holds holds' = absurd (none-there y (holds' y (first-of y ys)))
-lists-same (x ∷ xs) [] rises rises' holds holds' = absurd (none-there x (holds x (first-of x xs)))
+lists-same [] (y ∷ ys) rises rises' holds holds' = absurd (none-there y (holds' y (first-there y ys)))
+lists-same (x ∷ xs) [] rises rises' holds holds' = absurd (none-there x (holds x (first-there x xs)))
 lists-same (x ∷ xs) (y ∷ ys) rises rises' holds holds' =
-    let same : x ≡ y = heads-same x y xs ys rises rises' (holds x (first-of x xs)) (holds' y (first-of y ys)) in
+    let same : x ≡ y = heads-same x y xs ys rises rises' (holds x (first-there x xs)) (holds' y (first-there y ys)) in
     let rest : xs ≡ ys = lists-same xs ys (rises-tail x xs rises) (rises-tail y ys rises') (holds-tail x y xs ys same rises holds) (holds-tail y x ys xs (sym same) rises' holds') in
     ap (λ z. z ∷ xs) same ∙ ap (λ z. y ∷ z) rest
 
@@ -175,7 +173,7 @@ order-is-one all found other one two =
 
 nothing : (xs : List Diagnostic) → ((x : Diagnostic) → Contains xs x → ⊥) → xs ≡ []
 nothing [] none = refl
-nothing (x ∷ xs) none = absurd (none x (first-of x xs))
+nothing (x ∷ xs) none = absurd (none x (first-there x xs))
 
 pub none-found : (found : List Diagnostic) → AreInOrder [] found → found ≡ []
 none-found found order = nothing found (λ x there. none-there x ((order.same x).0 there))

@@ -241,7 +241,7 @@ join-all new old rest all done so decl = sym (first-none (reached new decl)) ∙
 
 -- ---- tables in code
 
-some-mapped : {A B : Type 0} (f : A → B) (found : Option A) → is_some (option_map f found) ≡ is_some found
+pub some-mapped : {A B : Type 0} (f : A → B) (found : Option A) → is_some (option_map f found) ≡ is_some found
 some-mapped f None = refl
 some-mapped f (Some x) = refl
 

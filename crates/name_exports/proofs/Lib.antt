@@ -1,5 +1,4 @@
-mod Bringing
-mod Equal
+pub mod Bringing
 mod Exporting
 mod Firsts
 mod Keeping

@@ -10,6 +10,7 @@ use Rattle.module_model.specs.Exports.{of_words}
 use Rattle.module_model.specs.Modules.{Reading, brings_clash, clashes, differs, extended, with_entry}
 use Rattle.tla_model.specs.Tables.{AreNew, Named, Word, lookup}
 use Rattle.tla_model.proofs.Stretching.{found-next, none-next}
+use Rattle.list_laws.proofs.Texts.{texts-apart}
 use Rattle.name_exports.specs.declared.names.Names.{Names}
 use Rattle.name_context.specs.AsTables.{AreApart, CanTake, context_of, usable_words}
 use Rattle.name_exports.specs.Brought.{IsBrought, ModuleNames, as_read, brought}
@@ -17,18 +18,12 @@ use Rattle.name_context.proofs.Looking.{all-apart, lookup-usable, something-appe
 
 -- ---- words apart
 
-bytes-apart : (a b : List ℕ) → bytes_eq a b ≡ false → bytes_eq b a ≡ false
-bytes-apart a b f = ⊎_elim
-    (λ (t : bytes_eq b a ≡ true). let e : true ≡ false = sym ((bytes_eq-Decides a b).1 (sym ((bytes_eq-Decides b a).0 t))) ∙ f in cc)
-    (λ (f : bytes_eq b a ≡ false). f)
-    (cases_Bool (bytes_eq b a))
-
 pub apart-first : (word : List ℕ × Meaning) (words : List (List ℕ × Meaning)) (others : List (List ℕ × Option Meaning)) → AreApart (word ∷ words) others → lookup bytes_eq others word.0 ≡ None
 apart-first word words [] apart = refl
 apart-first word words (other ∷ others) apart = ⊎_elim
     (λ (t : bytes_eq other.0 word.0 ≡ true). let e = sym (ap (λ (b : Bool). cond b (Some word.1) (lookup bytes_eq words other.0)) t) ∙ apart.0 in cc)
     (λ (f : bytes_eq other.0 word.0 ≡ false).
-    ap (λ (b : Bool). cond b (Some other.1) (lookup bytes_eq others word.0)) (bytes-apart other.0 word.0 f) ∙ apart-first word words others apart.1)
+    ap (λ (b : Bool). cond b (Some other.1) (lookup bytes_eq others word.0)) (texts-apart other.0 word.0 f) ∙ apart-first word words others apart.1)
     (cases_Bool (bytes_eq other.0 word.0))
 
 pub apart-rest : (word : List ℕ × Meaning) (words : List (List ℕ × Meaning)) (others : List (List ℕ × Option Meaning)) → AreApart (word ∷ words) others → AreApart words others

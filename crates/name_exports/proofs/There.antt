@@ -9,11 +9,12 @@ use Rattle.module_model.specs.Exports.{of_words}
 use Rattle.module_model.specs.Modules.{Reading, brings_clash, clashes, differs, extended, with_entry}
 use Rattle.tla_model.specs.Tables.{AreNew, Named, Word, lookup}
 use Rattle.tla_model.proofs.Stretching.{found-next, new-first, new-next, none-among, none-next}
+use Rattle.tla_model.proofs.Same.{meaning-itself}
+use Rattle.list_laws.proofs.Texts.{text-itself}
 use Rattle.name_exports.specs.declared.names.Names.{Names}
 use Rattle.name_context.specs.AsTables.{AreApart, behind, context_of, first_words, usable_words}
 use Rattle.name_exports.specs.Brought.{AreFirst, IsBrought, ModuleNames, as_read, brought}
 use Rattle.name_exports.proofs.Bringing.{bring-both, of_words-append}
-use Rattle.name_exports.proofs.Equal.{bytes-itself, meaning-itself}
 use Rattle.name_context.proofs.Looking.{something-append}
 use Rattle.name_exports.proofs.Over.{IsOver, all-over, new-behind}
 
@@ -50,7 +51,7 @@ all-there reading (word ∷ words) there =
 found-own : {V : Type 0} (before words after : List (List ℕ × V)) → AreNew bytes_eq before words → AllByRecursion (λ (word : List ℕ × V). lookup bytes_eq (before ++ (words ++ after)) word.0 ≡ Some word.1) words
 found-own before [] after new = tt
 found-own {V} before (word ∷ words) after new = (
-  found-next bytes_eq before ((word ∷ words) ++ after) word.0 new.0 ∙ ap (λ (b : Bool). cond b (Some word.1) (lookup bytes_eq (words ++ after) word.0)) (bytes-itself word.0),
+  found-next bytes_eq before ((word ∷ words) ++ after) word.0 new.0 ∙ ap (λ (b : Bool). cond b (Some word.1) (lookup bytes_eq (words ++ after) word.0)) (text-itself word.0 word.0 refl),
   subst (λ z. AllByRecursion (λ (word : List ℕ × V). lookup bytes_eq z word.0 ≡ Some word.1) words) (append_assoc before (word ∷ []) (words ++ after)) (found-own (before ++ word ∷ []) words after new.1),
 )
 

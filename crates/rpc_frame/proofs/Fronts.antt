@@ -13,7 +13,7 @@ use Rattle.rpc_frame.specs.declared.header.Found.TheVariants.{Frame}
 use Rattle.rpc_frame.specs.Framing.{IsFound}
 use Rattle.rpc_frame.proofs.Acceptor.{Remains}
 use Rattle.rpc_frame.proofs.Runs.{completes, IsWhole, whole_from}
-use Rattle.rpc_frame.proofs.Headers.{IsRead, live_read, read_from_begins, read_header, read_on, header_from_rest, header_from_whole, front_begins, read_more, whole_is_all}
+use Rattle.rpc_frame.proofs.Headers.{IsRead, front_begins, header_from_rest, header_from_whole, live_read, none_is_some, read_from_begins, read_header, read_more, read_on, whole_is_all}
 
 -- so many bytes are read
 abbrev pub HasReadTo : List ℕ → ℕ → Header → Type 0
@@ -85,9 +85,6 @@ two_splits (x ∷ a) b (y ∷ c) d e =
     ⊎_elim (λ p. inl (p.0, ap (λ t. y ∷ t) p.1 ∙ ap (λ z. z ∷ (a ++ p.0)) (sym heads), p.2))
     (λ p. inr (p.0, ap (λ t. x ∷ t) p.1 ∙ ap (λ z. z ∷ (c ++ p.0)) heads, p.2)) (two_splits a b c d tails)
 
-none_read : (h : Header) → None ≡ Some h → ⊥
-none_read h e = cc
-
 no_header : (bytes : List ℕ) (read : ℕ) (h : Header) → HasReadTo bytes read h → read < length bytes → (h.part ≡ Whole → ⊥) → step h (get_or bytes read 0) ≡ None → (header more : List ℕ) (said : ℕ) → bytes ≡ header ++ more → IsHeader header said → ⊥
 no_header bytes read h r within open_ stops header more said e is =
     ⊎_elim (λ p. open_ (whole_is_all header p.0 said h is (ap (run start) (sym p.1) ∙ r.1)).1.0)
@@ -102,7 +99,7 @@ no_header bytes read h r within open_ stops header more said e is =
         let at : get_or bytes read 0 ∷ drop (read + 1) bytes ≡ c ∷ (rest ++ more) = sym (drop_more bytes read 0 within) ∙ g in
         let same : get_or bytes read 0 ≡ c = cc in
         let none : run start (take read bytes ++ c ∷ rest) ≡ None = read_on (take read bytes) (c ∷ rest) h r.1 ∙ ap (option_and_then (λ next. run next rest)) (ap (step h) (sym same) ∙ stops) in
-        none_read w.0 (sym none ∙ ap (run start) (sym f) ∙ w.1)
+        none_is_some w.0 (sym none ∙ ap (run start) (sym f) ∙ w.1)
 
 pub bad_found : (bytes : List ℕ) (read : ℕ) (h : Header) → HasReadTo bytes read h → read < length bytes → (h.part ≡ Whole → ⊥) → step h (get_or bytes read 0) ≡ None → IsBad bytes read
 bad_found bytes read h r within open_ stops =
@@ -111,7 +108,7 @@ bad_found bytes read h r within open_ stops =
       none = no_header bytes read h r within open_ stops;
       bad = λ b.
           let g = read_from_begins (take (read + 1) bytes) b in
-          none_read g.0 (sym (read_more bytes read h within r.1 ∙ stops) ∙ g.1);
+          none_is_some g.0 (sym (read_more bytes read h within r.1 ∙ stops) ∙ g.1);
       least = λ k less. front_begins bytes read (k + 1) h (omega arith) r.1;
     }
 

@@ -100,7 +100,7 @@ whole_stops h b n w = step_whole h.part h.length h.typed b w.0
 pub whole_says : (h : Header) (m n : ℕ) → IsWhole h m → IsWhole h n → m ≡ n
 whole_says h m n v w = cc
 
-none_is_some : (h : Header) → None ≡ Some h → ⊥
+pub none_is_some : (h : Header) → None ≡ Some h → ⊥
 none_is_some h e = cc
 
 -- a whole header that begins what is read is all of it

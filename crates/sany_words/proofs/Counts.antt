@@ -4,12 +4,8 @@ use Rattle.std.specs.Prelude.{◌&&◌, ◌==◌}
 use Rattle.std.specs.List.{list_all}
 use Rattle.std.specs.Char.{digit_value, is_digit}
 use Rattle.std.specs.Str.Parse.{AllDigits, ParsesUnsigned, digits_value, without_leading_plus}
-use Rattle.std.proofs.lemmas.Bool.{lt-ltb, ltb-true, le-leb, leb-true, ne_eqb}
+use Rattle.std.proofs.lemmas.Bool.{and_parts, le-leb, leb-true, lt-ltb, ltb-true, ne_eqb}
 use Rattle.sany_words.specs.Words.{begins_count, count_in, is_count}
-
-both : (a b : Bool) → (a && b) ≡ true → (a ≡ true) × (b ≡ true)
-both true b e = (refl, e)
-both false b e = cc
 
 -- ---- digits
 
@@ -19,13 +15,13 @@ digits-pass (d ∷ ds) h = rw (lt-ltb (digit_value d) 10 h.0) (digits-pass ds h.
 
 digits-from : (ds : List ℕ) → list_all (λ c. is_digit c 10) ds ≡ true → AllDigits 10 ds
 digits-from [] e = tt
-digits-from (d ∷ ds) e = let parts = both _ _ e in (ltb-true _ _ parts.0, digits-from ds parts.1)
+digits-from (d ∷ ds) e = let parts = and_parts _ _ e in (ltb-true _ _ parts.0, digits-from ds parts.1)
 
 -- a text that begins with a digit has no plus before it
 no-plus : (text : List ℕ) → begins_count text ≡ true → without_leading_plus text ≡ text
 no-plus [] e = cc
 no-plus (c ∷ cs) e =
-    let least : 49 ≤ c = leb-true _ _ (both _ _ e).0 in
+    let least : 49 ≤ c = leb-true _ _ (and_parts _ _ e).0 in
     let plus : (c == 43) ≡ false = ne_eqb c 43 (λ same. omega arith) in
     rw plus refl
 
@@ -58,4 +54,4 @@ not-counted {E = E} text r begins h none = by (is_count text) refl
 
     by : (b : Bool) → is_count text ≡ b → None ≡ count_in text
     by false f = rw f refl
-    by true t = let parts = both _ _ t in let rest = both _ _ parts.1 in absurd (among r h (digits-from text rest.0) (leb-true _ _ rest.1) none)
+    by true t = let parts = and_parts _ _ t in let rest = and_parts _ _ parts.1 in absurd (among r h (digits-from text rest.0) (leb-true _ _ rest.1) none)

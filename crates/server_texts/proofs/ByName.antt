@@ -10,26 +10,17 @@ use Rattle.std.specs.Cmp.Lexicographic.{slice_cmp, nat_list_eq_equiv}
 use Rattle.std.specs.Str.{bytes_eq}
 use Rattle.std.proofs.lemmas.Map.Text.{is_eq-slice_cmp}
 use Rattle.std.proofs.lemmas.Slice.Eq.{bytes_eq-Decides}
+use Rattle.list_laws.proofs.Texts.{text-itself, texts-apart}
 use Rattle.server_texts.specs.Documents.{named, put, without}
 use Rattle.server_texts.specs.Kept.{AreInByteOrder}
 use Rattle.server_texts.proofs.ByteOrder.{ordered-first, ordered-rest}
 
 -- ---- names
 
-itself : (a : List ℕ) → bytes_eq a a ≡ true
-itself a = (bytes_eq-Decides a a).1 refl
-
 compared : (a b : List ℕ) (o : Ordering) → slice_cmp nat_cmp a b ≡ o → bytes_eq a b ≡ is_eq o
 compared a b o e = sym (is_eq-slice_cmp a b) ∙ ap is_eq e
 
-pub other-way : (a b : List ℕ) → bytes_eq a b ≡ false → bytes_eq b a ≡ false
-other-way a b e = nat_list_eq_equiv.symm b a ∙ e
-
 -- ---- all items
-
-pub all-then : {A : Type 0} (P Q : A → Type 0) → ((x : A) → P x → Q x) → (xs : List A) → AllByRecursion P xs → AllByRecursion Q xs
-all-then P Q f [] h = tt
-all-then P Q f (x ∷ xs) h = (f x h.0, all-then P Q f xs h.1)
 
 all-at : {A : Type 0} (f : A → List ℕ) (P : List ℕ → Type 0) (xs : List A) (i : ℕ) (x : A) → AllByRecursion P (map f xs) → slice_get xs i ≡ Some x → P (f x)
 all-at f P [] zero x h e = cc
@@ -62,7 +53,7 @@ module _ {A : Type 0} (name_of : A → List ℕ) where
     where
       at : (b : Bool) → bytes_eq name (name_of y) ≡ b → AllByRecursion (λ z. bytes_eq (name_of z) name ≡ false) (without name_of name ys) → AllByRecursion (λ z. bytes_eq (name_of z) name ≡ false) (cond (not b) (y ∷ without name_of name ys) (without name_of name ys))
       at true e rest = rest
-      at false e rest = (other-way name (name_of y) e, rest)
+      at false e rest = (texts-apart name (name_of y) e, rest)
 
   -- ---- one item
 
@@ -81,7 +72,7 @@ module _ {A : Type 0} (name_of : A → List ℕ) where
     where
       at : (b : Bool) → bytes_eq name (name_of y) ≡ b → (is_some (named name_of name ys) ≡ false → AllByRecursion (λ z. bytes_eq (name_of z) name ≡ false) ys) → is_some (cond b (Some y) (named name_of name ys)) ≡ false → AllByRecursion (λ z. bytes_eq (name_of z) name ≡ false) (y ∷ ys)
       at true e rest none = cc
-      at false e rest none = (other-way name (name_of y) e, rest none)
+      at false e rest none = (texts-apart name (name_of y) e, rest none)
 
   -- an item in byte order is the only one of its name
   pub found-only : (ys : List A) (i : ℕ) (y : A) → AreInByteOrder (map name_of ys) → slice_get ys i ≡ Some y → named name_of (name_of y) ys ≡ Some y
@@ -89,22 +80,22 @@ module _ {A : Type 0} (name_of : A → List ℕ) where
   found-only [] (suc i) y h e = cc
   found-only (x ∷ ys) zero y h e =
       let same : x ≡ y = cc in
-      subst (λ z. named name_of (name_of z) (x ∷ ys) ≡ Some z) same (ap (λ b. cond b (Some x) (named name_of (name_of x) ys)) (itself (name_of x)))
+      subst (λ z. named name_of (name_of z) (x ∷ ys) ≡ Some z) same (ap (λ b. cond b (Some x) (named name_of (name_of x) ys)) (text-itself (name_of x) (name_of x) refl))
   found-only (x ∷ ys) (suc i) y h e =
       let less : slice_cmp nat_cmp (name_of x) (name_of y) ≡ Less = all-at name_of (λ b. slice_cmp nat_cmp (name_of x) b ≡ Less) ys i y (ordered-first (name_of x) (map name_of ys) h) e in
-      let apart : bytes_eq (name_of y) (name_of x) ≡ false = other-way (name_of x) (name_of y) (compared (name_of x) (name_of y) Less less) in
+      let apart : bytes_eq (name_of y) (name_of x) ≡ false = texts-apart (name_of x) (name_of y) (compared (name_of x) (name_of y) Less less) in
       ap (λ b. cond b (Some x) (named name_of (name_of y) ys)) apart ∙ found-only ys i y (ordered-rest (name_of x) (map name_of ys) h) e
 
   -- ---- after an item is put in its place
 
   put-found-at : (o : Ordering) (x y : A) (ys : List A) → slice_cmp nat_cmp (name_of x) (name_of y) ≡ o → named name_of (name_of x) (put name_of x ys) ≡ Some x → named name_of (name_of x) (match_ordering o (x ∷ y ∷ ys) (x ∷ ys) (y ∷ put name_of x ys)) ≡ Some x
-  put-found-at Less x y ys e rest = ap (λ b. cond b (Some x) (named name_of (name_of x) (y ∷ ys))) (itself (name_of x))
-  put-found-at Equal x y ys e rest = ap (λ b. cond b (Some x) (named name_of (name_of x) ys)) (itself (name_of x))
+  put-found-at Less x y ys e rest = ap (λ b. cond b (Some x) (named name_of (name_of x) (y ∷ ys))) (text-itself (name_of x) (name_of x) refl)
+  put-found-at Equal x y ys e rest = ap (λ b. cond b (Some x) (named name_of (name_of x) ys)) (text-itself (name_of x) (name_of x) refl)
   put-found-at Greater x y ys e rest =
       ap (λ b. cond b (Some y) (named name_of (name_of x) (put name_of x ys))) (compared (name_of x) (name_of y) Greater e) ∙ rest
 
   pub put-found : (x : A) (ys : List A) → named name_of (name_of x) (put name_of x ys) ≡ Some x
-  put-found x [] = ap (λ b. cond b (Some x) None) (itself (name_of x))
+  put-found x [] = ap (λ b. cond b (Some x) None) (text-itself (name_of x) (name_of x) refl)
   put-found x (y ∷ ys) = put-found-at (slice_cmp nat_cmp (name_of x) (name_of y)) x y ys refl (put-found x ys)
 
   put-others-at : (o : Ordering) (name : List ℕ) (x y : A) (ys : List A) → slice_cmp nat_cmp (name_of x) (name_of y) ≡ o → bytes_eq name (name_of x) ≡ false → named name_of name (put name_of x ys) ≡ named name_of name ys → named name_of name (match_ordering o (x ∷ y ∷ ys) (x ∷ ys) (y ∷ put name_of x ys)) ≡ named name_of name (y ∷ ys)

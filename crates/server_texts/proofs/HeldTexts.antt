@@ -9,12 +9,13 @@ use Rattle.lsp_wire.specs.declared.types.Change.{Change}
 use Rattle.lsp_wire.specs.declared.types.Note.{Note}
 use Rattle.lsp_answers.specs.States.{State, ModuleText, Opened, after_dues, judged_root}
 use Rattle.doc_edit.specs.Edits.{after_changes}
+use Rattle.list_laws.proofs.Lists.{all-weaker}
 use Rattle.server_texts.specs.Documents.{after_change, after_close, after_open, called, closed_as, edited_at, file_changed, file_in, file_told, from_folder, opened_as, opened_at, path_of, rooted, text_of, with_changes, with_file, with_opened, with_text, without, Edited}
 use Rattle.server_texts.specs.Kept.{HasNamesInOrder, HasTexts, IsKept}
 use Rattle.server_texts.specs.Notes.{notes_of}
 use Rattle.server_texts.specs.Server.{server_meaning}
 use Rattle.server_texts.specs.Uris.{module_of}
-use Rattle.server_texts.proofs.ByName.{absent, all-put, all-then, all-without, found-only, put-found, put-others, without-apart, without-none, without-others}
+use Rattle.server_texts.proofs.ByName.{absent, all-put, all-without, found-only, put-found, put-others, without-apart, without-none, without-others}
 use Rattle.server_texts.proofs.Stepping.{kept-by, opened_name, root-opened, text_name}
 
 -- ---- the text of a name
@@ -63,7 +64,7 @@ given-at s name bytes n false e h = ap is_some (apart-kept s name n (Some bytes)
 
 given-texts : (s : State) (name bytes : List ℕ) (os : List Opened) → Have s os → Have (with_text s name (Some bytes)) os
 given-texts s name bytes os h =
-    all-then (λ o. IsSome (text_of s o.name)) (λ o. IsSome (text_of (with_text s name (Some bytes)) o.name)) (λ o has. given-at s name bytes o.name (bytes_eq o.name name) refl has) os h
+    all-weaker (λ o. IsSome (text_of s o.name)) (λ o. IsSome (text_of (with_text s name (Some bytes)) o.name)) (λ o has. given-at s name bytes o.name (bytes_eq o.name name) refl has) os h
 
 -- other modules keep theirs
 others-texts : (s : State) (name : List ℕ) (bytes : Option (List ℕ)) (os : List Opened) → AreOthers name os → Have s os → Have (with_text s name bytes) os

@@ -5,6 +5,7 @@ use Rattle.std.specs.List.{starts_with, ends_with}
 use Rattle.std.proofs.lemmas.Bool.Decides.{Decides-eqb}
 use Rattle.std.proofs.lemmas.List.{take-append-le, drop-append-le, drop_all, take_all}
 use Rattle.std.proofs.lemmas.Slice.Eq.{starts_is, ends_is}
+use Rattle.std.proofs.Math.Seq.{drop-append_seam}
 use Rattle.tla_lexeme.specs.LexemeSets.{is_identifier}
 use Rattle.sany_files.specs.Files.{file_of, module_of_file}
 use Rattle.server_texts.specs.Uris.{module_behind, IsModuleText}
@@ -62,16 +63,12 @@ module_from root text name e =
     let begun = (starts_is Decides-eqb text (base root) starts refl).0 in
     behind_if root text name (drop (length root + 1) text) starts (λ t. begun t ∙ ap (λ k. base root ++ drop k text) (base_long root)) e
 
-drop_front : (front rest : List ℕ) → drop (length front) (front ++ rest) ≡ rest
-drop_front front rest =
-    drop-append-le (length front) front rest (omega arith) ∙ ap (λ t. t ++ rest) (drop_all (length front) front (omega arith))
-
 module_is : (root text name : List ℕ) → IsModuleText root text name → module_behind root text ≡ Some name
 module_is root text name is =
     let written : text ≡ base root ++ file_of name = is.written ∙ sym (append_assoc root (codes "/") (file_of name)) in
     let starts : starts_with nat_eq text (base root) ≡ true = (starts_is Decides-eqb text (base root) (starts_with nat_eq text (base root)) refl).1 (file_of name) written in
     let behind : drop (length root + 1) text ≡ file_of name =
-    ap (λ t. drop (length root + 1) t) written ∙ ap (λ k. drop k (base root ++ file_of name)) (sym (base_long root)) ∙ drop_front (base root) (file_of name) in
+    ap (λ t. drop (length root + 1) t) written ∙ ap (λ k. drop k (base root ++ file_of name)) (sym (base_long root)) ∙ drop-append_seam (base root) (file_of name) in
     ap (λ b. option_and_then module_of_file (if b then Some (drop (length root + 1) text) else None)) starts ∙ ap module_of_file behind ∙ name_is_file name is.identifier
 
 pub module_text_is : (root text name : List ℕ) → (module_behind root text ≡ Some name) ↔ IsModuleText root text name

@@ -12,6 +12,7 @@ use Rattle.tla_lexeme.specs.LexemeSets.{is_in, kind_of}
 use Rattle.tla_lexeme.specs.Lexing.{begins, line_len, comment_end, comment_len}
 use Rattle.tla_lexeme.specs.Longest.{IsGap, Passes, IsTaken}
 use Rattle.tla_lexeme.proofs.LastLemmas.{end-low}
+use Rattle.tla_lexeme.proofs.StepLemmas.{blank-low, comment_low, line-stops}
 
 -- behind a byte of ASCII
 behind-low : (text : List ℕ) (at n : ℕ) → IsUtf8 text → suc n ≤ length (drop at text) → get_or (drop at text) n 0 < 128 → IsCharBoundary text (at + suc n)
@@ -21,50 +22,11 @@ behind-low text at n utf8 inside low =
 
 -- ---- comments
 
-begins-longer : (f xs : List ℕ) → begins xs f ≡ true → length f ≤ length xs
-begins-longer f xs h = let e : f ≡ take (length f) xs = (bytes_eq-Decides f (take (length f) xs)).0 h in omega (arith, ap length e, length-take (length f) xs)
-
-front-byte : (f xs : List ℕ) (i : ℕ) → begins xs f ≡ true → i < length f → get_or xs i 0 ≡ get_or f i 0
-front-byte f xs i h l = let e : f ≡ take (length f) xs = (bytes_eq-Decides f (take (length f) xs)).0 h in sym (get_or-take (length f) xs i 0 l) ∙ sym (ap (λ k. get_or k i 0) e)
-
--- where a comment ends, its last byte is a parenthesis
-record EndsComment (at n : ℕ) (xs : List ℕ) : Type 0 where
-  pub last_at : ℕ
-  pub size : n ≡ at + suc last_at
-  pub inside : last_at < length xs
-  pub paren : get_or xs last_at 0 ≡ 41
-
-comment-shift : (at n c : ℕ) (cs : List ℕ) → EndsComment (at + 1) n cs → EndsComment at n (c ∷ cs)
-comment-shift at n c cs h = record { last_at = suc h.last_at; size = omega (arith, h.size); inside = omega (arith, h.inside); paren = h.paren }
-
-some-same : (a b : ℕ) → (let o : Option ℕ = Some a in o) ≡ Some b → a ≡ b
-some-same a b e = cc
-
-comment-ends : (at depth skip : ℕ) (xs : List ℕ) (n : ℕ) → comment_end at depth skip xs ≡ Some n → EndsComment at n xs
-comment-ends at depth skip [] n h = absurd (cc)
-comment-ends at depth (suc skip) (c ∷ cs) n h = comment-shift at n c cs (comment-ends (at + 1) depth skip cs n h)
-comment-ends at depth zero (c ∷ cs) n h = by_begin (begins (c ∷ cs) (codes "(*")) (begins (c ∷ cs) (codes "*)")) (leb depth 1) refl h (λ d s g. comment-shift at n c cs (comment-ends (at + 1) d s cs n g))
-  where
-    by_begin : (opens closes ends : Bool) → begins (c ∷ cs) (codes "*)") ≡ closes → cond opens (comment_end (at + 1) (depth + 1) 1 cs) (cond closes (cond ends (Some (at + 2)) (comment_end (at + 1) (depth - 1) 1 cs)) (comment_end (at + 1) depth 0 cs)) ≡ Some n → ((d s : ℕ) → comment_end (at + 1) d s cs ≡ Some n → EndsComment at n (c ∷ cs)) → EndsComment at n (c ∷ cs)
-    by_begin true closes ends e g more = more (depth + 1) 1 g
-    by_begin false true true e g more = record {
-      last_at = 1;
-      size = let same = some-same (at + 2) n g in omega (arith, same);
-      inside = omega (arith, begins-longer (codes "*)") (c ∷ cs) e);
-      paren = front-byte (codes "*)") (c ∷ cs) 1 e (omega arith);
-    }
-    by_begin false true false e g more = more (depth - 1) 1 g
-    by_begin false false ends e g more = more depth 0 g
-
 comment-cut : (text : List ℕ) (at len : ℕ) → IsUtf8 text → comment_len (drop at text) ≡ Some len → IsCharBoundary text (at + len)
 comment-cut text at len utf8 e =
-    let ends = comment-ends 0 0 0 (drop at text) len e in
+    let ends = comment_low 0 0 0 (drop at text) len e in
     let size : suc ends.last_at ≡ len = omega (arith, ends.size) in
     subst (λ n. IsCharBoundary text (at + n)) size (behind-low text at ends.last_at utf8 ends.inside (omega (arith, ends.paren)))
-
--- a comment to the line's end stops at a byte of a line end, or at the text's end
-line-stops : (b : ℕ) → is_in InLine b ≡ false → b < 128
-line-stops b h = ⊎_elim (λ (e : eqb b 10 ≡ true). omega (arith, eqb-true b 10 e)) (λ (e : eqb b 13 ≡ true). omega (arith, eqb-true b 13 e)) (or_cases (eqb b 10) (eqb b 13) (not-false (eqb b 10 || eqb b 13) h))
 
 line-cut : (text : List ℕ) (at : ℕ) → at ≤ length text → IsCharBoundary text (at + line_len (drop at text))
 line-cut text at l =
@@ -76,19 +38,6 @@ line-cut text at l =
     (cases_lt (at + n) (length text))
 
 -- ---- blanks
-
-blank-low : (b : ℕ) → is_in Blank b ≡ true → b < 128
-blank-low b h =
-    ⊎_elim
-    (λ (first : (eqb b 32 || eqb b 9 || eqb b 12 || eqb b 10) ≡ true).
-    ⊎_elim
-    (λ (second : (eqb b 32 || eqb b 9 || eqb b 12) ≡ true).
-    ⊎_elim (λ (third : (eqb b 32 || eqb b 9) ≡ true). ⊎_elim (λ (e : eqb b 32 ≡ true). omega (arith, eqb-true b 32 e)) (λ (e : eqb b 9 ≡ true). omega (arith, eqb-true b 9 e)) (or_cases (eqb b 32) (eqb b 9) third)) (λ (e : eqb b 12 ≡ true). omega (arith, eqb-true b 12 e))
-    (or_cases (eqb b 32 || eqb b 9) (eqb b 12) second))
-    (λ (e : eqb b 10 ≡ true). omega (arith, eqb-true b 10 e))
-    (or_cases (eqb b 32 || eqb b 9 || eqb b 12) (eqb b 10) first))
-    (λ (e : eqb b 13 ≡ true). omega (arith, eqb-true b 13 e))
-    (or_cases (eqb b 32 || eqb b 9 || eqb b 12 || eqb b 10) (eqb b 13) h)
 
 blank-first : (xs : List ℕ) → is_in Blank (slice_index xs 0) ≡ true → (1 ≤ length xs) × (get_or xs 0 0 < 128)
 blank-first [] h = absurd (both_ways false refl h)

@@ -16,8 +16,10 @@ use Rattle.tla_lexeme.specs.LexemeSets.{is_in}
 use Rattle.tla_lexeme.specs.Lexing.{lexemes_after}
 use Rattle.tla_lexeme.specs.Longest.{IsEnd, IsTaken, IsNext, Lexes, ReadsLongest}
 use Rattle.tla_lexeme.specs.ModulePart.{begins_with_header, begins_with_module, behind, closed, header_from, header_of, is_equals, is_module_word, module_part, part_from, up_to_close}
+use Rattle.tla_lexeme.proofs.StringLemmas.{some_same}
 use Rattle.tla_model.specs.Lexemes.{LiesIn}
 use Rattle.front_laws.specs.Fronts.{greatest, readable_len}
+use Rattle.front_laws.proofs.OneFront.{greatest-le}
 use Rattle.span_laws.proofs.Gaps.{gaps-cut, taken-cut}
 
 -- all lexemes lie in a text
@@ -110,16 +112,13 @@ header-dash c cs h =
     let four = leb-true 4 (prefix_len (is_in Dash) (c ∷ cs)) (and_parts (leb 4 (prefix_len (is_in Dash) (c ∷ cs))) (begins_with_module (behind (is_in Space) (behind (is_in Dash) (c ∷ cs)))) h).0 in
     eqb-true c 45 (prefix_len_passes (is_in Dash) (c ∷ cs) 0 0 (omega (arith, four)))
 
-some-same : (a b : ℕ) → (let o : Option ℕ = Some a in o) ≡ Some b → a ≡ b
-some-same a b e = cc
-
 -- a header begins at a character
 header-cut : (text : List ℕ) (at : ℕ) (xs : List ℕ) (n : ℕ) → drop at text ≡ xs → header_from at xs ≡ Some n → IsCharBoundary text n
 header-cut text at [] n e h = absurd (cc)
 header-cut text at (c ∷ cs) n e h =
     ⊎_elim
     (λ (yes : begins_with_header (c ∷ cs) ≡ true).
-    let same : at ≡ n = some-same at n (sym (cond-true (begins_with_header (c ∷ cs)) (Some at) (header_from (at + 1) cs) yes) ∙ h) in
+    let same : at ≡ n = some_same at n (sym (cond-true (begins_with_header (c ∷ cs)) (Some at) (header_from (at + 1) cs) yes) ∙ h) in
     let first : get_or text at 0 ≡ c = ap (λ i. get_or text i 0) (sym (add-zero at)) ∙ sym (get_or-drop at text 0 0) ∙ ap (λ r. get_or r 0 0) e in
     subst (IsCharBoundary text) same (IsCharBoundary-before_ascii text at (omega (arith, ap length e, length-drop at text)) (omega (arith, first, header-dash c cs yes))))
     (λ (later : begins_with_header (c ∷ cs) ≡ false).
@@ -127,14 +126,6 @@ header-cut text at (c ∷ cs) n e h =
     (cases_Bool (begins_with_header (c ∷ cs)))
 
 -- ---- of bytes that are read
-
-greatest-le : (p : ℕ → Bool) (n : ℕ) → greatest p n ≤ n
-greatest-le p zero = omega arith
-greatest-le p (suc n) =
-    ⊎_elim
-    (λ (yes : p (suc n) ≡ true). omega (arith, cond-true (p (suc n)) (suc n) (greatest p n) yes))
-    (λ (no_one : p (suc n) ≡ false). omega (arith, cond-false (p (suc n)) (suc n) (greatest p n) no_one, greatest-le p n))
-    (cases_Bool (p (suc n)))
 
 greatest-passes : (p : ℕ → Bool) (n : ℕ) → greatest p n ≡ n → p 0 ≡ true → p n ≡ true
 greatest-passes p zero e first = first

@@ -3,12 +3,12 @@ mod TableLemmas
 mod SetLemmas
 mod KindLemmas
 mod WordLemmas
-mod StringLemmas
+pub mod StringLemmas
 mod SignLemmas
-mod CommentLemmas
+pub mod CommentLemmas
 mod HeaderLemmas
 pub mod LastLemmas
-mod StepLemmas
+pub mod StepLemmas
 mod CutLemmas
 mod PartLemmas
 mod TakesLongestLemmas

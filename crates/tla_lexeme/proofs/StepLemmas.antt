@@ -86,7 +86,7 @@ pub front_byte : (f xs : List ℕ) (i : ℕ) → begins xs f ≡ true → i < le
 front_byte f xs i h l = let e : f ≡ take (length f) xs = (bytes_eq-Decides f (take (length f) xs)).0 h in sym (get_or-take (length f) xs i 0 l) ∙ sym (ap (λ k. get_or k i 0) e)
 
 -- where a comment ends, its last byte is a parenthesis
-record EndsComment (at n : ℕ) (xs : List ℕ) : Type 0 where
+pub record EndsComment (at n : ℕ) (xs : List ℕ) : Type 0 where
   pub last_at : ℕ
   pub size : n ≡ at + suc last_at
   pub inside : last_at < length xs
@@ -95,7 +95,7 @@ record EndsComment (at n : ℕ) (xs : List ℕ) : Type 0 where
 comment_shift : (at n c : ℕ) (cs : List ℕ) → EndsComment (at + 1) n cs → EndsComment at n (c ∷ cs)
 comment_shift at n c cs h = record { last_at = suc h.last_at; size = omega (arith, h.size); inside = omega (arith, h.inside); paren = h.paren }
 
-comment_low : (at depth skip : ℕ) (xs : List ℕ) (n : ℕ) → comment_end at depth skip xs ≡ Some n → EndsComment at n xs
+pub comment_low : (at depth skip : ℕ) (xs : List ℕ) (n : ℕ) → comment_end at depth skip xs ≡ Some n → EndsComment at n xs
 comment_low at depth skip [] n h = absurd (none_some n h)
 comment_low at depth (suc skip) (c ∷ cs) n h = comment_shift at n c cs (comment_low (at + 1) depth skip cs n h)
 comment_low at depth zero (c ∷ cs) n h = by_begin (begins (c ∷ cs) (codes "(*")) (begins (c ∷ cs) (codes "*)")) (leb depth 1) refl h (λ d s g. comment_shift at n c cs (comment_low (at + 1) d s cs n g))
@@ -120,7 +120,7 @@ low_comment c cs n h =
     }
 
 -- a comment to the line's end stops at a byte of a line end, or at the text's end
-line-stops : (b : ℕ) → is_in InLine b ≡ false → b < 128
+pub line-stops : (b : ℕ) → is_in InLine b ≡ false → b < 128
 line-stops b h = ⊎_elim (λ (e : eqb b 10 ≡ true). omega (arith, eqb-true b 10 e)) (λ (e : eqb b 13 ≡ true). omega (arith, eqb-true b 13 e)) (or_cases (eqb b 10) (eqb b 13) (not-false (eqb b 10 || eqb b 13) h))
 
 pub line-some : (c : ℕ) (cs : List ℕ) → begins (c ∷ cs) (codes "\\*") ≡ true → 0 < line_len (c ∷ cs)
@@ -151,7 +151,7 @@ IsSound text at (Longest m) = IsStep text at m.len
 IsSound text at (Nothing len) = len ≤ 4
 IsSound text at TextEnd = ⊥
 
-blank-low : (b : ℕ) → is_in Blank b ≡ true → b < 128
+pub blank-low : (b : ℕ) → is_in Blank b ≡ true → b < 128
 blank-low b h =
     ⊎_elim
     (λ (first : (eqb b 32 || eqb b 9 || eqb b 12 || eqb b 10) ≡ true).

@@ -109,7 +109,7 @@ only-end cs end k e l not_there = false_from_ne_true (closes_string false (take 
 none_some : (n : ℕ) → (let o : Option ℕ = None in o) ≡ Some n → ⊥
 none_some n h = cc
 
-some_same : (a b : ℕ) → (let o : Option ℕ = Some a in o) ≡ Some b → a ≡ b
+pub some_same : (a b : ℕ) → (let o : Option ℕ = Some a in o) ≡ Some b → a ≡ b
 some_same a b e = cc
 
 string_none : (cs : List ℕ) → string_end 1 false cs ≡ None → lexeme_at (34 ∷ cs) ≡ None

@@ -1,3 +1,4 @@
 mod Noting
+pub mod Same
 pub mod Stretching
 mod Placing

@@ -12,20 +12,12 @@ use Rattle.std.specs.String.{string_eq}
 use Rattle.std.specs.declared.alloc.Global.{Global}
 use Rattle.indexmap.specs.IndexMap.{IndexMap, insert_entry}
 use Rattle.indexmap.proofs.CallerLemmas.{insert_entry-new}
-use Rattle.list_laws.proofs.Lists.{at-map, drop-at}
+use Rattle.list_laws.proofs.Lists.{at-map, drop-at, drop-from, drop-next}
 use Rattle.tla_model.specs.Entities.{Meaning}
 use Rattle.tla_model.specs.Stretches.{words_of}
 use Rattle.tla_model.specs.Tables.{AreNew, lookup}
 
 -- ---- lists
-
-drop-next : {A : Type 0} (xs : List A) (i : ℕ) (x : A) → slice_get xs i ≡ Some x → drop i xs ≡ x ∷ drop (suc i) xs
-drop-next [] i x at = cc
-drop-next (y ∷ xs) zero x at = ap (λ z. z ∷ xs) (some-same y x at)
-  where
-    some-same : {A : Type 0} (a b : A) → Some a ≡ Some b → a ≡ b
-    some-same a b e = cc
-drop-next (y ∷ xs) (suc i) x at = drop-next xs i x at
 
 take-next : {A : Type 0} (xs : List A) (i : ℕ) (x : A) → slice_get xs i ≡ Some x → take (suc i) xs ≡ take i xs ++ x ∷ []
 take-next [] i x at = cc
@@ -59,9 +51,6 @@ flat-more f xs x = flat_map-append f xs (x ∷ []) ∙ ap (λ z. flat_map f xs +
 pub stretch-next : {X A : Type 0} (f : X → List A) (xs : List X) (i : ℕ) (x : X) → i < length xs → x ≡ get_or xs i x → flat_map f (take (i + 1) xs) ≡ flat_map f (take i xs) ++ f x
 stretch-next f xs i x lt is = ap (λ z. flat_map f z) (take_more xs i x lt ∙ ap (λ z. take i xs ++ z ∷ []) (sym is)) ∙ flat-more f (take i xs) x
 
-at-place : {X : Type 0} (xs : List X) (i : ℕ) (x : X) → i < length xs → x ≡ get_or xs i x → drop i xs ≡ x ∷ drop (i + 1) xs
-at-place xs i x lt is = drop_more xs i x lt ∙ ap (λ z. z ∷ drop (i + 1) xs) (sym is)
-
 -- what stands at a place of two lists
 pub at-first : {A : Type 0} (a b : List A) (n : ℕ) (x : A) → slice_get a n ≡ Some x → slice_get (a ++ b) n ≡ Some x
 at-first [] b n x at = cc
@@ -77,10 +66,10 @@ at-next (y ∷ a) b (suc n) none =
 
 -- and of stretches: it stands in the one at a place, or so many places on in those behind it
 pub stretch-at : {X A : Type 0} (f : X → List A) (xs : List X) (i left : ℕ) (x : X) (entry : A) → i < length xs → x ≡ get_or xs i x → slice_get (f x) left ≡ Some entry → slice_get (flat_map f (drop i xs)) left ≡ Some entry
-stretch-at f xs i left x entry lt is at = ap (λ z. slice_get (flat_map f z) left) (at-place xs i x lt is) ∙ at-first (f x) (flat_map f (drop (i + 1) xs)) left entry at
+stretch-at f xs i left x entry lt is at = ap (λ z. slice_get (flat_map f z) left) (drop-from xs i x lt is) ∙ at-first (f x) (flat_map f (drop (i + 1) xs)) left entry at
 
 pub stretch-past : {X A : Type 0} (f : X → List A) (xs : List X) (i left : ℕ) (x : X) → i < length xs → x ≡ get_or xs i x → slice_get (f x) left ≡ None → slice_get (flat_map f (drop (i + 1) xs)) (left - length (f x)) ≡ slice_get (flat_map f (drop i xs)) left
-stretch-past f xs i left x lt is none = sym (ap (λ z. slice_get (flat_map f z) left) (at-place xs i x lt is) ∙ at-next (f x) (flat_map f (drop (i + 1) xs)) left none)
+stretch-past f xs i left x lt is none = sym (ap (λ z. slice_get (flat_map f z) left) (drop-from xs i x lt is) ∙ at-next (f x) (flat_map f (drop (i + 1) xs)) left none)
 
 -- ---- look-ups
 
@@ -131,14 +120,14 @@ module _ {K V : Type 0} (same : K → K → Bool) where
   stretch-found f xs i left x key value lt is found =
       let rest = flat_map f (drop (i + 1) xs) in
       sym (found-first (take left (f x)) (take (left - length (f x)) rest) key value (sym found))
-      ∙ ap (λ z. lookup same z key) (sym (take-both left (f x) rest) ∙ ap (λ z. take left (flat_map f z)) (sym (at-place xs i x lt is)))
+      ∙ ap (λ z. lookup same z key) (sym (take-both left (f x) rest) ∙ ap (λ z. take left (flat_map f z)) (sym (drop-from xs i x lt is)))
 
   -- and what it has not is looked up in those behind it, among as many fewer as it has
   pub stretch-missed : {X : Type 0} (f : X → List (K × V)) (xs : List X) (i left : ℕ) (x : X) (key : K) → i < length xs → x ≡ get_or xs i x → lookup same (take left (f x)) key ≡ None → lookup same (take (left - length (f x)) (flat_map f (drop (i + 1) xs))) key ≡ lookup same (take left (flat_map f (drop i xs))) key
   stretch-missed f xs i left x key lt is none =
       let rest = flat_map f (drop (i + 1) xs) in
       sym (found-next (take left (f x)) (take (left - length (f x)) rest) key none)
-      ∙ ap (λ z. lookup same z key) (sym (take-both left (f x) rest) ∙ ap (λ z. take left (flat_map f z)) (sym (at-place xs i x lt is)))
+      ∙ ap (λ z. lookup same z key) (sym (take-both left (f x) rest) ∙ ap (λ z. take left (flat_map f z)) (sym (drop-from xs i x lt is)))
 
   -- ---- what is new
 

@@ -1,2 +1,3 @@
 pub mod Nodes
 mod Kept
+pub mod Walks

@@ -43,10 +43,6 @@ node_at-rest nodes (node ∷ rest) number there =
 pub node_at-grows : (nodes more : List Node) (number : ℕ) → Grows nodes more → number < length nodes → node_at more number ≡ node_at nodes number
 node_at-grows nodes more number g there = ap (λ z. node_at z number) g.1 ∙ node_at-rest nodes g.0 number there
 
-pub before-there : (nodes : List Node) (node : ℕ) (numbers : List ℕ) → node < length nodes → AllByRecursion (λ child. child < node) numbers → AreThere nodes numbers
-before-there nodes node [] l all = tt
-before-there nodes node (number ∷ numbers) l all = (let k : number < node = all.0 in omega (arith, k, l), before-there nodes node numbers l all.1)
-
 pub there-longer : (m n : ℕ) (numbers : List ℕ) (nodes more : List Node) → length nodes ≤ length more → AreThere nodes numbers → AreThere more numbers
 there-longer m n [] nodes more l all = tt
 there-longer m n (number ∷ numbers) nodes more l all = (omega (arith, all.0, l), there-longer m n numbers nodes more l all.1)

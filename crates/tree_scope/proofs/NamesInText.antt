@@ -1,5 +1,6 @@
 -- Names that lie in a text, since the lexemes of trees do.
 use Rattle.std.proofs.Common.{◌≡◌, ℕ, ◌<◌, List, [], ◌∷◌, ◌++◌, Bool, true, false, length, refl, subst}
+use Rattle.std.specs.Prelude.{Option, Some, None}
 use Rattle.std.specs.List.{AllByRecursion}
 use Rattle.tla_symbols.specs.declared.lexeme.Lexeme.{Lexeme}
 use Rattle.tla_tree.specs.declared.form.Form.TheVariants as Form
@@ -12,6 +13,18 @@ use Rattle.tla_model.specs.Scopes.{all_grouped, binders, names_in}
 use Rattle.list_laws.proofs.Lists.{all-both, all-left, all-right}
 use Rattle.tree_names.specs.Lying.{BindersLie}
 use Rattle.declared_names.specs.Nodes.{form_at, parts_at}
+
+-- ---- a lexeme that may be there
+
+pub is_named : Option Lexeme → Bool
+is_named None = false
+is_named (Some l) = true
+
+pub or_else : Lexeme → Option Lexeme → Lexeme
+or_else d None = d
+or_else d (Some l) = l
+
+-- ---- names in a text
 
 module _ (source : List ℕ) where
   abbrev L : Lexeme → Type 0

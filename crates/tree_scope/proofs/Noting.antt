@@ -7,10 +7,7 @@ use denote.Enum.Bare.{same_true}
 use Rattle.tla_model.specs.Contexts.{Context}
 use Rattle.tla_model.specs.Tables.{Named, Word, Symbol, added, has, is_among, lookup, put, same_named, same_symbol}
 use Rattle.list_laws.proofs.Texts.{same-text}
-
-or-false : (a : Bool) → (a || false) ≡ a
-or-false true = refl
-or-false false = refl
+use Rattle.list_laws.proofs.Tests.{or-false}
 
 or-true : (a : Bool) → (a || true) ≡ true
 or-true true = refl

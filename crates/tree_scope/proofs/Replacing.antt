@@ -27,19 +27,11 @@ use Rattle.tree_tasks.specs.declared.tasks.Naming.TheVariants as how
 use Rattle.tree_tasks.specs.declared.tasks.Task.TheVariants as task
 use Rattle.tree_scope.specs.TasksDone.{AreReady, IsDone, IsNode, IsPath, all_size, emit, run, size, sizes, trees_at}
 use Rattle.tree_tasks.specs.WalkTasks.{Task, AreWhole, implied_of, instance_tasks, left_of, naming, noted, noted_all, replacements, replacing, visits}
-use Rattle.tree_scope.proofs.NamesInText.{held-lies, parts-lie}
+use Rattle.tree_scope.proofs.NamesInText.{held-lies, is_named, or_else, parts-lie}
 use Rattle.tree_scope.proofs.NodeTasks.{done, ready-append, size-append, size-is, visits-ready, visits-size, walk-is}
 use Rattle.tree_scope.proofs.Noting.{HasThese, or-assoc, or-past, put-found, these-more}
 use Rattle.tree_scope.proofs.Shapes.{walk-instance}
 use Rattle.tree_scope.proofs.TaskFindings.{each-run, emit-append}
-
-is_left : Option Lexeme → Bool
-is_left None = false
-is_left (Some l) = true
-
-or_else : Lexeme → Option Lexeme → Lexeme
-or_else d None = d
-or_else d (Some l) = l
 
 -- ---- left sides
 
@@ -50,9 +42,9 @@ names_of source (Some l) = name_of source l ∷ []
 
 -- the left side of a replacement lies where its lexemes do
 left-lies : (source : List ℕ) (form : Form.the_data) (l : Lexeme) → left_of form ≡ Some l → AllByRecursion (LiesIn source) (form_lexemes form) → LiesIn source l
-unfolding is_left or_else
+unfolding is_named or_else
 left-lies source (Form.Replacement n) l e lie = subst (LiesIn source) (ap (or_else n) e) lie.0
-left-lies source _ l e lie = absurd (true≢false (sym (ap is_left e)))
+left-lies source _ l e lie = absurd (true≢false (sym (ap is_named e)))
 
 left-one : (source : List ℕ) (form : Form.the_data) (s : Span) (parts rest : Trees) → left_sides source (Cons (Node form s parts) rest) ≡ names_of source (left_of form) ++ left_sides source rest
 unfolding names_of

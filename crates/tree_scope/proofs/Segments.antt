@@ -24,15 +24,7 @@ use Rattle.tree_scope.specs.TasksDone.{AreFound, AreReady, IsDone, IsPath, all_s
 use Rattle.tree_tasks.specs.WalkTasks.{Task, called, leads, path_tasks, segment_of, visits}
 use Rattle.tree_scope.proofs.TaskFindings.{each-run, emit-append}
 use Rattle.tree_scope.proofs.NodeTasks.{ready-append, size-append, visits-ready, visits-size}
-use Rattle.tree_scope.proofs.NamesInText.{held-lies, parts-lie}
-
-is_named : Option Lexeme → Bool
-is_named None = false
-is_named (Some l) = true
-
-or_else : Lexeme → Option Lexeme → Lexeme
-or_else d None = d
-or_else d (Some l) = l
+use Rattle.tree_scope.proofs.NamesInText.{held-lies, is_named, or_else, parts-lie}
 
 -- the name of a segment lies where its lexemes do
 segment-lies : (source : List ℕ) (form : Form.the_data) (l : Lexeme) → segment_of form ≡ Some l → AllByRecursion (LiesIn source) (form_lexemes form) → LiesIn source l

@@ -28,6 +28,3 @@ chain-pushed nodes old new is = ap reverse is ∙ reverse-append old (chain_back
 
 pub one-pushed : (t : Task) (old new : List Task) → new ≡ old ++ t ∷ [] → stack new ≡ t ∷ stack old
 one-pushed t old new is = ap reverse is ∙ reverse-append old (t ∷ [])
-
-pub popped : (t : Task) (old rest : List Task) → old ≡ rest ++ t ∷ [] → stack old ≡ t ∷ stack rest
-popped t old rest is = ap reverse is ∙ reverse-append rest (t ∷ [])

@@ -10,11 +10,11 @@ use Rattle.tla_tree.specs.Arena.{node_at, tree_at}
 use Rattle.tla_tree.specs.Lexemes.{built, then, place}
 use Rattle.tla_tree.specs.Syntax as Syntax
 use Rattle.tla_tree.specs.Syntax.{Tree, Trees, Nil, trees}
-use Rattle.tla_tree.proofs.Nodes.{tree_at-node}
+use Rattle.tla_tree.proofs.Nodes.{before-there, tree_at-node}
 use Rattle.expr_laws.proofs.Viewing.{trees-then}
 use Rattle.tree_parts.specs.declared.part.Part.{Part}
 use Rattle.tree_parts.specs.Parts.{parts_of, IsPart, Adds, span_of, joined, covered}
-use Rattle.tree_parts.proofs.Growing.{grows-one, before-there, new-node, map-append, there-append}
+use Rattle.tree_parts.proofs.Growing.{grows-one, new-node, map-append, there-append}
 use Rattle.tree_parts.proofs.Spans.{span-append, covered-span}
 use Rattle.unit_machine.specs.declared.wait.Wait.{Wait}
 use Rattle.unit_machine.specs.Machine as Machine

@@ -11,6 +11,7 @@ use Rattle.tla_tree.specs.Derivation.{DerivesDefinition, operator, prefix_operat
 use Rattle.unit_grammar.specs.Units.{UnitTree, Variables, Constants, Instance, Assumption, Theorem, Line, ModuleBegin, ModuleEnd, ModuleUnits, defined}
 use Rattle.unit_grammar.specs.Derivation.{BeginsModule, alone, extending, SpellsLocal, exported, kept, first, DerivesUnit, variables, constants, definition, instance, assumption, theorem, line, nested, DerivesUnits, no_units, more_units, DerivesModule, outermost}
 use Rattle.unit_grammar.specs.Heights.{unit_height, highest_unit, module_height}
+use Rattle.unit_grammar.proofs.Singles.{defined-single, is_single, one-less, single-height}
 use Rattle.unit_heights.specs.TooHigh.{MOST_HEIGHT, IsFirstHigh}
 use Rattle.unit_heights.specs.FirstHigh.{BeginsFurther, depth_after, outer, high_unit, begins_with, begins_at, begun_before, place_of, lexemes_before, before_high}
 use Rattle.unit_heights.proofs.Places.{place_of-there}
@@ -23,25 +24,10 @@ step-low depth begun u us low = rw (le-ltb MOST_HEIGHT (highest_unit depth (u �
 step-high : (depth : ℕ) (begun u : UnitTree) (us : List UnitTree) → MOST_HEIGHT < highest_unit depth (u ∷ []) → high_unit depth begun (u ∷ us) ≡ outer depth begun u
 step-high depth begun u us high = rw (lt-ltb MOST_HEIGHT (highest_unit depth (u ∷ [])) high) refl
 
-abbrev is_single : UnitTree → Bool
-is_single (ModuleBegin name extends) = false
-is_single (ModuleEnd closing) = false
-is_single _ = true
-
-single-height : (u : UnitTree) → is_single u ≡ true → (inside : ℕ) (vs : List UnitTree) → highest_unit inside (u ∷ vs) ≡ max (inside + unit_height u) (highest_unit inside vs)
-single-height (ModuleBegin name extends) e inside vs = absurd (cc)
-single-height (ModuleEnd closing) e inside vs = absurd (cc)
-single-height _ e inside vs = refl
-
 single-depth : (u : UnitTree) → is_single u ≡ true → (depth : ℕ) → depth_after depth u ≡ depth
 single-depth (ModuleBegin name extends) e depth = absurd (cc)
 single-depth (ModuleEnd closing) e depth = absurd (cc)
 single-depth _ e depth = refl
-
-defined-single : (local : Option Lexeme) (x : Tree) → is_single (defined local x) ≡ true
-defined-single local (Node (Form.FunctionDefinition n) s parts) = refl
-defined-single local (Node (Form.ModuleDefinition n) s parts) = refl
-defined-single local (Node _ s parts) = refl
 
 -- ---- whole units
 
@@ -66,9 +52,6 @@ walks-single u e = record {
   low = λ depth begun more low. step-low depth begun u more low ∙ ap (λ d. high_unit d (outer depth begun u) more) (single-depth u e depth);
   high = λ depth begun more high. step-high depth begun u more high;
 }
-
-one-less : (depth : ℕ) → suc depth - 1 ≡ depth
-one-less depth = omega arith
 
 walks-nested : (n : Lexeme) (names : List Lexeme) (us : List UnitTree) (e : Lexeme) → WalksUnits us → WalksUnit (ModuleBegin n names) (ModuleBegin n names ∷ (us ++ ModuleEnd e ∷ []))
 walks-nested n names us e h = record { beside = beside; low = low; high = high }

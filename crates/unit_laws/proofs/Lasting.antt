@@ -102,7 +102,7 @@ last-bullet first t l = by t.kind l t.span t.line t.col
 within-none : (fs : List Frame) (e : Tree) (b : List Lexeme) (t : Lexeme) → Last t.kind → within fs e b t ≡ None
 within-none fs e b t l = ap (λ z. cond z (operator_step fs e b t) (part_step fs e b t)) (last-mark t.kind l) ∙ part-none fs e b t l
 
-either-none : (c : Bool) (m n : Option State) → m ≡ None → n ≡ None → cond c m n ≡ None
+pub either-none : (c : Bool) (m n : Option State) → m ≡ None → n ≡ None → cond c m n ≡ None
 either-none true m n h k = h
 either-none false m n h k = k
 

@@ -6,41 +6,24 @@ use Rattle.tla_tree.specs.Syntax.{Tree, Node}
 use Rattle.unit_grammar.specs.Units.{UnitTree, ModuleBegin, ModuleEnd, defined}
 use Rattle.unit_grammar.specs.Derivation.{DerivesUnit, variables, constants, definition, instance, assumption, theorem, line, nested, DerivesUnits, no_units, more_units}
 use Rattle.unit_grammar.specs.Heights.{unit_height, highest_unit}
+use Rattle.unit_grammar.proofs.Singles.{defined-single, is_single, one-less, single-height}
 
 -- units that stand whole: the heights of others add nothing to theirs, and one more module round them adds 1
 record Stands (us : List UnitTree) : Type 0 where
   pub beside : (inside : ℕ) (vs : List UnitTree) → highest_unit inside (us ++ vs) ≡ max (highest_unit inside us) (highest_unit inside vs)
   pub within : (inside : ℕ) → max (suc inside) (highest_unit (suc inside) us) ≡ suc (max inside (highest_unit inside us))
 
-abbrev is_single : UnitTree → Bool
-is_single (ModuleBegin name extends) = false
-is_single (ModuleEnd closing) = false
-is_single _ = true
-
-single-first : (u : UnitTree) → is_single u ≡ true → (inside : ℕ) (vs : List UnitTree) → highest_unit inside (u ∷ vs) ≡ max (inside + unit_height u) (highest_unit inside vs)
-single-first (ModuleBegin name extends) e inside vs = cc
-single-first (ModuleEnd closing) e inside vs = cc
-single-first _ e inside vs = refl
-
 single-stands : (u : UnitTree) → is_single u ≡ true → Stands (u ∷ [])
 single-stands u e = record {
   beside = λ inside vs.
-      let a : highest_unit inside (u ∷ vs) ≡ max (inside + unit_height u) (highest_unit inside vs) = single-first u e inside vs in
-      let b : highest_unit inside (u ∷ []) ≡ max (inside + unit_height u) 0 = single-first u e inside [] in
+      let a : highest_unit inside (u ∷ vs) ≡ max (inside + unit_height u) (highest_unit inside vs) = single-height u e inside vs in
+      let b : highest_unit inside (u ∷ []) ≡ max (inside + unit_height u) 0 = single-height u e inside [] in
       omega arith;
   within = λ inside.
-      let a : highest_unit (suc inside) (u ∷ []) ≡ max (suc inside + unit_height u) 0 = single-first u e (suc inside) [] in
-      let b : highest_unit inside (u ∷ []) ≡ max (inside + unit_height u) 0 = single-first u e inside [] in
+      let a : highest_unit (suc inside) (u ∷ []) ≡ max (suc inside + unit_height u) 0 = single-height u e (suc inside) [] in
+      let b : highest_unit inside (u ∷ []) ≡ max (inside + unit_height u) 0 = single-height u e inside [] in
       omega arith;
 }
-
-defined-single : (before : Option Lexeme) (x : Tree) → is_single (defined before x) ≡ true
-defined-single before (Node (Form.FunctionDefinition n) s parts) = refl
-defined-single before (Node (Form.ModuleDefinition n) s parts) = refl
-defined-single before (Node _ s parts) = refl
-
-one-less : (inside : ℕ) → suc inside - 1 ≡ inside
-one-less inside = omega arith
 
 nested-stands : (n : Lexeme) (names : List Lexeme) (us : List UnitTree) (e : Lexeme) → Stands us → Stands (ModuleBegin n names ∷ (us ++ ModuleEnd e ∷ []))
 nested-stands n names us e h = record {

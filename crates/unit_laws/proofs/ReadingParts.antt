@@ -22,6 +22,7 @@ use Rattle.expr_laws.proofs.Following.{before-quiet}
 use Rattle.expr_laws.proofs.Heading.{derives-bounds}
 use Rattle.expr_laws.proofs.Viewing.{given-is}
 use Rattle.expr_laws.proofs.Defining.{replaceable, given-quiet}
+use Rattle.expr_laws.proofs.Membering.{postfix-no_infix}
 use Rattle.unit_grammar.specs.Units.{UnitTree}
 use Rattle.unit_machine.specs.declared.wait.Wait.{Wait}
 use Rattle.unit_machine.specs.declared.wait.Move.{Move}
@@ -55,10 +56,6 @@ read-places (more_places {p = q} {t = c} {places = m} {a = a} e g d) k h n p r u
     ∙ (read-places d k h n (p + 1) ((r ++ q ∷ []) ++ c ∷ []) u t ts f
     ∙ (ap (λ z. run (took k (built (Form.OperatorParameter n ((p + 1) + m)) Nil z) z t) ts) l
     ∙ ap (λ z. run (took k (built (Form.OperatorParameter n z) Nil (r ++ q ∷ c ∷ (a ++ u ∷ []))) (r ++ q ∷ c ∷ (a ++ u ∷ [])) t) ts) s)))
-
-postfix-no_infix : (op : Op) → IsTrue (is_definable op Fix.Postfix) → is_definable op Fix.Infix ≡ false
-postfix-no_infix Op.Plus h = cc
-postfix-no_infix _ h = cc
 
 pub read-declaration : {x : Tree} {a : List Lexeme} → DerivesParameter x a → (k : Around) → Concludes k.begun k.frames → (t : Lexeme) (ts : List Lexeme) → is_left_paren t.kind ≡ false → run (at k Wait.Declaration Nil []) (a ++ t ∷ ts) ≡ run (took k x a t) ts
 read-declaration (plain {n = n} e) k h t ts p =

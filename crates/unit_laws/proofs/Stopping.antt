@@ -21,6 +21,7 @@ use Rattle.expr_grammar.specs.Following.{stops}
 use Rattle.expr_laws.proofs.KindTests.{right_bracket-is}
 use Rattle.expr_laws.proofs.CompletingKinds.{Kind, Goal, makes, wanted, meets}
 use Rattle.expr_laws.proofs.CompletingStates.{Under, Stacked, Fits, FitsNext, run-fits, start-fits}
+use Rattle.unit_laws.proofs.Lasting.{either-none}
 
 -- what such a lexeme is not
 record Quiet (k : LexKind) : Type 0 where
@@ -79,10 +80,6 @@ data Closes (t : Lexeme) : List Frame → Tree → List Lexeme → Type 0 where
   above : {f g : Frame} {fs : List Frame} {e : Tree} {b : List Lexeme} (form : Form)
       → finishes f.wait (shape e) ≡ Some form → Settles f.wait t → Closes t (g ∷ fs) (node_with form f e b) (f.read ++ b)
       → Closes t (f ∷ g ∷ fs) e b
-
-either-none : (c : Bool) (m n : Option State) → m ≡ None → n ≡ None → cond c m n ≡ None
-either-none true m n h k = h
-either-none false m n h k = k
 
 no-bullet : (o : Option Lexeme) (f : Frame) (fs : List Frame) (e : Tree) (b : List Lexeme) (t : Lexeme) (out : Option State) → is_junction t.kind ≡ false → on_bullet o f fs e b t out ≡ out
 no-bullet None f fs e b t out h = refl

@@ -26,9 +26,10 @@ use Rattle.module_model.specs.Resolution.{ReadState}
 use Rattle.module_model.specs.Resolution as resolution
 use Rattle.instance_leads.specs.Leading.{view_at, views}
 use Rattle.instance_leads.specs.declared.ended.Ended.{Ended}
+use Rattle.instance_leads.proofs.Knowing.{and-assoc}
 use Rattle.instance_scope.specs.Scoped.{IsSame, IsSound, known_of, module_in}
 use Rattle.instance_scope.specs.declared.scope.Scope.{Scope}
-use Rattle.list_laws.proofs.Lists.{all-left, all-right}
+use Rattle.list_laws.proofs.Lists.{all-left, all-right, rest-at}
 use Rattle.model_laws.proofs.Settling.{settled-all}
 use Rattle.unit_scope.specs.declared.nesting.Nesting.{Nesting}
 use Rattle.unit_scope.specs.declared.reading.Reading.{Reading as Read}
@@ -46,21 +47,6 @@ abbrev pub Unit : Type 0
 Unit = unit.the_data
 
 -- ---- what is known
-
-first-none : {A : Type 0} (found : Option A) → first_of found None ≡ found
-first-none None = refl
-first-none (Some x) = refl
-
-first-joined : {A : Type 0} (a b c : Option A) → first_of (first_of a b) c ≡ first_of a (first_of b c)
-first-joined None b c = refl
-first-joined (Some x) b c = refl
-
--- nothing more is known
-pub known-still : (known : Known) → and_known known none_known ≡ known
-known-still known = fun_ext (λ decl. first-none (known decl))
-
-pub known-joined : (a b c : Known) → and_known (and_known a b) c ≡ and_known a (and_known b c)
-known-joined a b c = fun_ext (λ decl. first-joined (a decl) (b decl) (c decl))
 
 -- ---- from place to place
 
@@ -180,16 +166,13 @@ extended-known text names over state =
     ap (λ modules. resolution.with_known text (files_over over) over.words (extending text names over state) (known_from_all text (module_at (files_over over) modules) names))
     (sym (went-extends text (exports_by (files_over over)) state.place.here names).same)
 
-rest-at : {A : Type 0} (xs : List A) (i : ℕ) (d : A) → i < length xs → drop i xs ≡ get_or xs i d ∷ drop (i + 1) xs
-rest-at xs i d within = rw (add-one, drop-cons xs i d) refl
-
 -- what is known behind one more module that is extended
 pub known-more : (text : Text) (named : List ℕ → ModuleView) (names : List Lexeme) (i : ℕ) (d : Lexeme) → i < length names → (old mid new : Known) (name : List ℕ) → name ≡ spelled text.source (get_or names i d) → new ≡ and_known mid (exported_known (named name))
     → and_known mid (known_from_all text named (drop i names)) ≡ and_known old (known_from_all text named names) → and_known new (known_from_all text named (drop (i + 1) names)) ≡ and_known old (known_from_all text named names)
 known-more text named names i d within old mid new name spells more before =
     let rest : List Lexeme = drop (i + 1) names in
     ap (λ known. and_known known (known_from_all text named rest)) more
-    ∙ known-joined mid (exported_known (named name)) (known_from_all text named rest)
+    ∙ and-assoc mid (exported_known (named name)) (known_from_all text named rest)
     ∙ ap (λ n. and_known mid (and_known (exported_known (named n)) (known_from_all text named rest))) spells
     ∙ ap (λ ls. and_known mid (known_from_all text named ls)) (sym (rest-at names i d within))
     ∙ before

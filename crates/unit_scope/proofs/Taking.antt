@@ -7,16 +7,13 @@ use Rattle.tla_model.specs.declared.names.Binder.{Binder}
 use Rattle.tla_model.specs.Contexts.{bind}
 use Rattle.tla_model.specs.Entities.{Meaning, Text, meant, name_of}
 use Rattle.module_model.specs.Modules.{Reading, declare, with_entry}
+use Rattle.module_model.proofs.PartTables.{some-mapped}
 use Rattle.tla_model.specs.Tables.{Named, Table, Word, Symbol, added, find, put}
 use Rattle.module_scope.specs.Environments.{Environment, is_taken, meaning}
 use Rattle.instance_leads.specs.Leading.{AreNumbered, view_at, view_of, views}
 use Rattle.instance_leads.specs.declared.ended.Ended.{Ended}
 use Rattle.list_laws.proofs.Lists.{all-both}
 use Rattle.unit_scope.specs.EnclosingReadings.{AreEnded, IsEndedOf}
-
-pub mapped-some : {A B : Type 0} (f : A → B) (found : Option A) → is_some (option_map f found) ≡ is_some found
-mapped-some f None = refl
-mapped-some f (Some x) = refl
 
 -- ---- nested modules by their numbers
 
@@ -31,7 +28,7 @@ module _ (nested : List Ended) where
       by false rest = rest
 
   pub views-taken : (modules : Environment ℕ) (name : List ℕ) → is_taken modules name ≡ is_taken (views nested modules) name
-  views-taken modules name = sym (mapped-some (view_of nested) (meaning modules name)) ∙ ap is_some (views-found modules name)
+  views-taken modules name = sym (some-mapped (view_of nested) (meaning modules name)) ∙ ap is_some (views-found modules name)
 
   pub views-added : (modules : Environment ℕ) (name : List ℕ) (found : Option ℕ) → views nested (added bytes_eq modules name found) ≡ added bytes_eq (views nested modules) name (view_of nested found)
   views-added modules name found = by (is_taken modules name) (views-taken modules name)

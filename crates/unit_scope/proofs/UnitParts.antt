@@ -19,11 +19,12 @@ use Rattle.unit_grammar.specs.UnitNodes.{unit_at}
 use Rattle.module_model.specs.Exports.{Known, and_known, none_known}
 use Rattle.module_model.specs.Modules.{Place, constants}
 use Rattle.module_model.specs.Resolution.{ReadState, clash_by, known_in}
+use Rattle.instance_leads.proofs.Knowing.{and-none}
 use Rattle.unit_scope.specs.EnclosingReadings.{IsAt}
 use Rattle.unit_scope.specs.Readings.{Over, files_over}
 use Rattle.unit_scope.specs.Steps.{IsRead, Leads, Tells, brought_with, clashes_at, declared, declaring, found_below, found_instanced, instanced, noted, refused}
 use Rattle.unit_scope.specs.declared.nesting.Nesting.{Nesting}
-use Rattle.unit_scope.proofs.Onward.{Unit, known-still}
+use Rattle.unit_scope.proofs.Onward.{Unit}
 
 -- ---- declarations
 
@@ -38,14 +39,14 @@ module _ (text : Text) (old new : Nesting) (found now : List Finding) (binders :
   pub variables-read : (names : List Lexeme) → binders ≡ variables names → IsRead text (Variables names) old new found now
   variables-read names is = record {
     state = λ over state at.
-        subst (IsAt text over new) (ap (λ bs. declaring text bs over state) is ∙ still (declaring text (variables names) over state).place state.known (known_in text (files_over over) over.words state (Variables names)) (known-still state.known)) (leads over state at);
+        subst (IsAt text over new) (ap (λ bs. declaring text bs over state) is ∙ still (declaring text (variables names) over state).place state.known (known_in text (files_over over) over.words state (Variables names)) (and-none state.known)) (leads over state at);
     findings = λ over state at. tells over state at ∙ ap (λ bs. found ++ refused text bs over state) is;
   }
 
   pub constants-read : (declarations : Trees) → binders ≡ constants declarations → IsRead text (Constants declarations) old new found now
   constants-read declarations is = record {
     state = λ over state at.
-        subst (IsAt text over new) (ap (λ bs. declaring text bs over state) is ∙ still (declaring text (constants declarations) over state).place state.known (known_in text (files_over over) over.words state (Constants declarations)) (known-still state.known)) (leads over state at);
+        subst (IsAt text over new) (ap (λ bs. declaring text bs over state) is ∙ still (declaring text (constants declarations) over state).place state.known (known_in text (files_over over) over.words state (Constants declarations)) (and-none state.known)) (leads over state at);
     findings = λ over state at. tells over state at ∙ ap (λ bs. found ++ refused text bs over state) is;
   }
 
@@ -81,7 +82,7 @@ module _ (text : Text) (unit : UnitTree) (local : Bool) (nodes : List ArenaNode)
       before = noted text unit over state
 
       nothing : at-place before.place before.known ≡ at-place before.place (and_known before.known none_known)
-      nothing = still before.place before.known (and_known before.known none_known) (known-still before.known)
+      nothing = still before.place before.known (and_known before.known none_known) (and-none before.known)
 
       by : (f : Form.the_data) → ((l : Lexeme) → f ≡ Form.Instance l → ⊥) → noted text unit over state ≡ instanced text unit local (Node f (node_at nodes node).span parts) over state
       by (Form.Instance l) isnt = absurd (isnt l refl)

@@ -3,9 +3,8 @@ use Rattle.std.specs.Prelude.{map}
 use Rattle.std.specs.List.{AllByRecursion}
 use Rattle.tla_tree.specs.Arena.{node_at, tree_at}
 use Rattle.tla_tree.specs.Syntax.{Node, trees, form}
-use Rattle.tla_tree.proofs.Nodes.{tree_at-node, tree_at-form}
+use Rattle.tla_tree.proofs.Nodes.{before-there, tree_at-form, tree_at-node}
 use Rattle.expr_parse.specs.TurnMeaning.{AreOperands, AreTwo}
-use Rattle.tree_parts.proofs.Growing.{before-there}
 use Rattle.expr_parse.proofs.Renaming.{infix-operands, other-operands}
 use Rattle.expr_parse.proofs.convert.operands_of.Goals as goal
 

@@ -1,12 +1,13 @@
 use Rattle.std.proofs.Common.{sym, ◌∙◌}
-use Rattle.flat_builder.proofs.Growing.{always, built-nodes, flat-nodes, nodes-length, same-nodes}
+use Rattle.list_laws.proofs.Options.{holds-on-err}
+use Rattle.flat_builder.proofs.Growing.{built-nodes, flat-nodes, nodes-length, same-nodes}
 use Rattle.flat_builder.proofs.builder.push_node.Goals as goal
 
 pub returns-in_err-push-clause-built : goal.returns-in_err-push-clause-built
 returns-in_err-push-clause-built c = (same-nodes c.args.flat.now c.push.new.self c.in_err-push.ensures.items).0 c.requires.built
 
 pub returns-in_err-push-clause-kept : goal.returns-in_err-push-clause-kept
-returns-in_err-push-clause-kept c = always c.from_residual.result (same-nodes c.args.flat.now c.push.new.self c.in_err-push.ensures.items).1
+returns-in_err-push-clause-kept c = holds-on-err c.from_residual.result (same-nodes c.args.flat.now c.push.new.self c.in_err-push.ensures.items).1
 
 pub returns-clause-built : goal.returns-clause-built
 returns-clause-built c = built-nodes c.args.flat.now c.push.new.self c.args.node c.in_ok-push.ensures.items c.requires.built c.requires.path c.requires.earlier

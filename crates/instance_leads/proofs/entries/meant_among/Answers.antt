@@ -1,6 +1,6 @@
 use Rattle.std.proofs.Common.{◌∙◌, sym}
 use Rattle.name_context.specs.AsTables.{meant_by}
-use Rattle.instance_leads.proofs.Naming.{entry-of-table}
+use Rattle.module_model.proofs.Entries.{entry-of-table}
 use Rattle.instance_leads.proofs.entries.meant_among.Goals as goal
 
 pub returns : goal.returns

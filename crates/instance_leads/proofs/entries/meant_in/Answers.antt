@@ -1,8 +1,9 @@
 use Rattle.std.proofs.Common.{◌∙◌, sym, ap}
 use Rattle.module_model.specs.Exports.{entry_of, exports_of}
+use Rattle.module_model.proofs.Entries.{entry-of-table}
 use Rattle.name_context.specs.AsTables.{meant_by}
 use Rattle.tla_model.specs.Tables.{Symbol, Word, lookup, same_symbol}
-use Rattle.instance_leads.proofs.Naming.{among-all, entry-of-table}
+use Rattle.instance_leads.proofs.Naming.{among-all}
 use Rattle.instance_leads.proofs.entries.meant_in.Goals as goal
 
 pub returns-in-Word : goal.returns-in-Word

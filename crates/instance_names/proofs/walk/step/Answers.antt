@@ -1,4 +1,5 @@
-use Rattle.instance_names.proofs.TreeWalk.{taken, taken-there}
+use Rattle.tla_tree.proofs.Walks.{taken-there}
+use Rattle.instance_names.proofs.TreeWalk.{taken}
 use Rattle.instance_names.proofs.walk.step.Goals as goal
 
 pub children-requires : goal.children-requires

@@ -5,7 +5,8 @@ use Rattle.tla_symbols.specs.declared.lexeme.Lexeme.{Lexeme}
 use Rattle.instance_scope.specs.Scoped.{known_of, module_in}
 use Rattle.module_model.specs.Exports.{and_known}
 use Rattle.module_model.specs.NamedModules.{exported_known, known_from_all}
-use Rattle.unit_scope.proofs.Onward.{known-more, known-still, same-module-in, same-on}
+use Rattle.instance_leads.proofs.Knowing.{and-none}
+use Rattle.unit_scope.proofs.Onward.{known-more, same-module-in, same-on}
 use Rattle.unit_scope.proofs.reading.note_all.Goals as goal
 
 pub loop-name-preserved : goal.loop-name-preserved
@@ -26,4 +27,4 @@ pub returns-clause-known : goal.returns-clause-known
 returns-clause-known c =
     let old = c.args.scope.now in
     let named = module_in old c.args.modules.now in
-    sym (known-still (known_of c.loop-name.scope)) ∙ ap (λ names. and_known (known_of c.loop-name.scope) (known_from_all c.args.text.now named names)) (sym (drop_all c.loop-name.name-index c.args.names.now c.loop-name-test.false)) ∙ c.loop-name.invariant.known
+    sym (and-none (known_of c.loop-name.scope)) ∙ ap (λ names. and_known (known_of c.loop-name.scope) (known_from_all c.args.text.now named names)) (sym (drop_all c.loop-name.name-index c.args.names.now c.loop-name-test.false)) ∙ c.loop-name.invariant.known

@@ -1,9 +1,9 @@
 use Rattle.std.proofs.Common.{◌≡◌, ◌<◌, List, Option, Some, None, length, ℕ, ap, sym, subst, ◌∙◌, arith}
 use Rattle.std.specs.Prelude.{remove, String}
 use Rattle.std.specs.declared.alloc.Global.{Global}
+use Rattle.list_laws.proofs.Lists.{item-at}
 use Rattle.fact_store.specs.declared.slot.Slot.{Slot}
 use Rattle.fact_store.specs.Shelf.{Names, shelved, IsShelf}
-use Rattle.fact_store.proofs.Lookups.{item_at}
 use Rattle.fact_store.proofs.ShelfLemmas.{length-shelved, entry_contained, shelf-remove, shelved-remove}
 use Rattle.fact_store.proofs.shelf.Shelf.remove.Goals as goal
 
@@ -27,5 +27,5 @@ pub unreachable-requires : goal.unreachable-requires
 unreachable-requires g c =
     let s = c.self.inside in
     let l : c.args.index < length s.names.entries = omega (arith, c.requires, ap length c.self.view_is, length-shelved s.slots s.names.entries c.self.invariant) in
-    let e = item_at s.names.entries c.args.index l in
+    let e = item-at s.names.entries c.args.index l in
     let k : ◌≡◌ {A = Option (String Global × ℕ)} None (Some e.0) = c.in_default.ensures.entry ∙ e.1 in cc k

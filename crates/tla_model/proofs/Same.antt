@@ -1,35 +1,29 @@
--- Meanings that are equal, and those that are the same.
+-- Declarations, units and meanings that are the same are equal, and each is the same as itself.
 use Rattle.std.proofs.Common.{◌≡◌, ℕ, true, List, [], ◌∷◌, refl}
-use Rattle.std.specs.Prelude.{nat_eq}
+use Rattle.std.specs.Prelude.{◌&&◌, nat_eq}
 use Rattle.std.specs.Str.{bytes_eq}
-use Rattle.std.proofs.lemmas.Bool.{and_from, and_parts}
+use Rattle.std.proofs.lemmas.Bool.{and_from, and_parts, eq-eqb}
 use Rattle.std.proofs.lemmas.Bool.Decides.{Decides-eqb}
-use Rattle.std.proofs.lemmas.Slice.Eq.{bytes_eq-Decides}
+use Rattle.list_laws.proofs.Texts.{same-text, text-itself}
 use Rattle.tla_model.specs.declared.names.Meaning.TheVariants.{BuiltIn, Declared}
-use Rattle.tla_model.specs.Entities.{Meaning, same_decl, same_meaning, same_units}
 use Rattle.tla_model.specs.declared.ids.Callee.{Callee}
 use Rattle.tla_model.specs.declared.ids.DeclId.{DeclId}
 use Rattle.tla_model.specs.declared.ids.UnitId.{UnitId}
-use Rattle.name_exports.specs.Brought.{same_unit}
+use Rattle.tla_model.specs.Entities.{Meaning, same_decl, same_meaning, same_units}
 
-pub bytes-itself : (a : List ℕ) → bytes_eq a a ≡ true
-bytes-itself a = (bytes_eq-Decides a a).1 refl
+-- ---- what is the same is equal
 
-place-itself : (n : ℕ) → nat_eq n n ≡ true
-place-itself n = (Decides-eqb n n).1 refl
-
--- what is the same is equal
 pub decl-equal : (a b : DeclId) → same_decl a b ≡ true → a ≡ b
 decl-equal a b same =
     let parts = and_parts (bytes_eq a.«module» b.«module») (nat_eq a.place b.place) same in
-    let names : a.«module» ≡ b.«module» = (bytes_eq-Decides a.«module» b.«module»).0 parts.0 in
+    let names = same-text a.«module» b.«module» parts.0 in
     let places : a.place ≡ b.place = (Decides-eqb a.place b.place).0 parts.1 in
     λ i. record { «module» = names i; place = places i }
 
-unit-equal : (a b : UnitId) → same_unit a b ≡ true → a ≡ b
+unit-equal : (a b : UnitId) → (bytes_eq a.«module» b.«module» && nat_eq a.place b.place) ≡ true → a ≡ b
 unit-equal a b same =
     let parts = and_parts (bytes_eq a.«module» b.«module») (nat_eq a.place b.place) same in
-    let names : a.«module» ≡ b.«module» = (bytes_eq-Decides a.«module» b.«module»).0 parts.0 in
+    let names = same-text a.«module» b.«module» parts.0 in
     let places : a.place ≡ b.place = (Decides-eqb a.place b.place).0 parts.1 in
     λ i. record { «module» = names i; place = places i }
 
@@ -38,7 +32,7 @@ units-equal [] [] same = refl
 units-equal [] (y ∷ b) same = cc
 units-equal (x ∷ a) [] same = cc
 units-equal (x ∷ a) (y ∷ b) same =
-    let parts = and_parts (same_unit x y) (same_units a b) same in
+    let parts = and_parts (bytes_eq x.«module» y.«module» && nat_eq x.place y.place) (same_units a b) same in
     let first = unit-equal x y parts.0 in
     let rest = units-equal a b parts.1 in
     λ i. first i ∷ rest i
@@ -49,13 +43,16 @@ callee-equal a b instances decls units =
     let via = units-equal a.via b.via units in
     λ i. record { instance = instances i; decl = decl i; via = via i }
 
--- what is equal is the same
-decl-itself : (a : DeclId) → same_decl a a ≡ true
-decl-itself a = and_from (bytes_eq a.«module» a.«module») (nat_eq a.place a.place) (bytes-itself a.«module») (place-itself a.place)
+-- ---- what is equal is the same
 
-units-itself : (a : List UnitId) → same_units a a ≡ true
+pub decl-itself : (a : DeclId) → same_decl a a ≡ true
+decl-itself a = and_from (bytes_eq a.«module» a.«module») (nat_eq a.place a.place) (text-itself a.«module» a.«module» refl) (eq-eqb a.place a.place refl)
+
+pub units-itself : (a : List UnitId) → same_units a a ≡ true
 units-itself [] = refl
-units-itself (x ∷ a) = and_from (same_unit x x) (same_units a a) (and_from (bytes_eq x.«module» x.«module») (nat_eq x.place x.place) (bytes-itself x.«module») (place-itself x.place)) (units-itself a)
+units-itself (x ∷ a) =
+    and_from (bytes_eq x.«module» x.«module» && nat_eq x.place x.place) (same_units a a)
+    (and_from (bytes_eq x.«module» x.«module») (nat_eq x.place x.place) (text-itself x.«module» x.«module» refl) (eq-eqb x.place x.place refl)) (units-itself a)
 
 pub meaning-itself : (meaning : Meaning) → same_meaning meaning meaning ≡ true
 meaning-itself BuiltIn = refl
