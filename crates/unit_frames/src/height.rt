@@ -1,5 +1,5 @@
 // How high modules are.
-ghost use Rattle.std.specs.Prelude.{◌≡◌, ◌<◌, ℕ, List, ◌∷◌, IfOk, length, map, max};
+ghost use Rattle.std.specs.Prelude.{◌≡◌, ◌≤◌, ◌<◌, ◌^◌, ℕ, List, ◌∷◌, IfOk, OnErr, length, map, max};
 ghost use Rattle.std.specs.List.{AllByRecursion};
 ghost use Rattle.tla_tree.specs.Arena.{AreThere, height_at};
 ghost use Rattle.unit_grammar.specs.Units.{UnitTree};
@@ -42,12 +42,14 @@ struct Measured {
 }
 
 impl Measured {
-    // One unit more. `Memory` where the height can't be counted further.
+    // One unit more. `Memory` only where the height is 2^32 or more.
     fn with(self, tree: &Tree, unit: &Unit) -> Result<Measured, Memory>
         requires { AreThere tree.now (nodes_in unit.now) }
-        ensures { IfOk result (λ more. (rest : List UnitTree)
+        ensures ok { IfOk result (λ more. (rest : List UnitTree)
             → max more.highest (highest_unit more.inside rest)
             ≡ max self.highest (highest_unit self.inside (unit_at tree.now unit.now ∷ rest))) }
+        ensures bound { OnErr result ((rest : List UnitTree)
+            → 2 ^ 32 ≤ highest_unit self.inside (unit_at tree.now unit.now ∷ rest)) }
     {
         let Measured { inside, highest } = self;
         match unit {
@@ -73,10 +75,13 @@ impl Measured {
     }
 }
 
-/// The height of the highest of units. `Memory` where it can't be counted.
+/// The height of the highest of units. `Memory` only where it is 2^32 or more.
 pub fn highest(tree: &Tree, units: &[Unit]) -> Result<u32, Memory>
     requires { AllByRecursion (λ unit. AreThere tree.now (nodes_in unit)) units.now }
-    ensures { IfOk result (λ height. height ≡ highest_unit 0 (map (unit_at tree.now) units.now)) }
+    ensures ok { IfOk result
+        (λ height. height ≡ highest_unit 0 (map (unit_at tree.now) units.now)) }
+    ensures bound { OnErr result
+        (2 ^ 32 ≤ highest_unit 0 (map (unit_at tree.now) units.now)) }
 {
     let mut measured = Measured {
         inside: 0,
