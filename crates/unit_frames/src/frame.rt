@@ -1,5 +1,5 @@
 // Frames: parts of units that wait for what is due next.
-ghost use Rattle.std.specs.Prelude.{◌≡◌, ◌<◌, List, [], ◌∷◌, ◌++◌, IfOk, OnOk, length};
+ghost use Rattle.std.specs.Prelude.{◌≡◌, ◌+◌, ◌<◌, ◌≤◌, List, [], ◌∷◌, ◌++◌, IfOk, OnOk, length};
 ghost use Rattle.tla_symbols.specs.declared.lexeme.Lexeme.{Lexeme};
 ghost use Rattle.tla_tree.specs.Arena.{Node, AreThere};
 ghost use Rattle.tla_tree.specs.Syntax as syntax;
@@ -106,7 +106,7 @@ impl Frame {
     }
 
     /// The frame takes a leaf that is made of a lexeme, reads a lexeme, which may be another, and
-    /// waits for this.
+    /// waits for this. `Memory` also where the tree can number no further node.
     pub fn takes_leaf(
         &mut self,
         tree: &mut Tree,
@@ -115,10 +115,11 @@ impl Frame {
         wait: Wait,
         lexeme: Lexeme,
     ) -> Result<(), Memory>
-        ensures { OnOk result ((frame : machine.Frame) → IsFrame tree.old self.old frame
+        ensures takes { OnOk result ((frame : machine.Frame) → IsFrame tree.old self.old frame
             → Takes tree.old tree.new self.new (machine.frame wait
             (lexemes.then frame.parts (built form Nil (name ∷ [])))
             (frame.read ++ lexeme ∷ []))) }
+        ensures few { OnOk result (length tree.new ≤ length tree.old + 1) }
     {
         let part = leaf(tree, form, name)?;
         let part = Part {
@@ -128,11 +129,13 @@ impl Frame {
         self.takes(wait, part)
     }
 
-    /// The node of a frame that ends.
+    /// The node of a frame that ends. `Memory` as in [`Frame::takes_leaf`].
     pub fn node(&self, tree: &mut Tree, form: Form) -> Result<Part, Memory>
         requires { AreThere tree.old self.now.parts }
-        ensures { IfOk result (λ part. (frame : machine.Frame) → IsFrame tree.old self.now frame
+        ensures made { IfOk result (λ part. (frame : machine.Frame)
+            → IsFrame tree.old self.now frame
             → Makes tree.old tree.new part (machine.node form frame) frame.read) }
+        ensures few { OnOk result (length tree.new ≤ length tree.old + 1) }
     {
         let node = add(tree, form, self.parts.as_slice(), covered(self.span))?;
         Ok(Part {
@@ -141,12 +144,13 @@ impl Frame {
         })
     }
 
-    /// The node of a frame that ends with a lexeme.
+    /// The node of a frame that ends with a lexeme. `Memory` as in [`Frame::takes_leaf`].
     pub fn closed(self, tree: &mut Tree, form: Form, lexeme: Lexeme) -> Result<Part, Memory>
         requires { (frame : machine.Frame) × IsFrame tree.old self frame }
-        ensures { IfOk result (λ part. (frame : machine.Frame) → IsFrame tree.old self frame
+        ensures made { IfOk result (λ part. (frame : machine.Frame) → IsFrame tree.old self frame
             → Makes tree.old tree.new part (built form frame.parts (frame.read ++ lexeme ∷ []))
             (frame.read ++ lexeme ∷ [])) }
+        ensures few { OnOk result (length tree.new ≤ length tree.old + 1) }
     {
         let wait = self.wait;
         let frame = self.reads(wait, lexeme);

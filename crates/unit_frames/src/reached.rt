@@ -1,5 +1,5 @@
 // What was read of a module.
-ghost use Rattle.std.specs.Prelude.{◌<◌, ℕ, suc, List, [], ◌∷◌, ◌++◌, IfOk};
+ghost use Rattle.std.specs.Prelude.{◌+◌, ◌≤◌, ◌<◌, ◌^◌, ℕ, suc, List, [], ◌∷◌, ◌++◌, IfOk, OnErr};
 ghost use Rattle.tla_tree.specs.Arena.{Node};
 ghost use Rattle.unit_grammar.specs.Units.{UnitTree};
 ghost use Rattle.unit_grammar.specs.UnitNodes.{AreUnits};
@@ -45,10 +45,12 @@ impl Reached {
         })
     }
 
-    /// A module is open inside those that were.
+    /// A module is open inside those that were. `Memory` only where they would be 2^64.
     pub fn opens(self) -> Result<Reached, Memory>
-        ensures { IfOk result (λ more. (nodes : List Node) → (depth : ℕ) → (units : List UnitTree)
-            → IsReached nodes self depth units → IsReached nodes more (suc depth) units) }
+        ensures opens { IfOk result (λ more. (nodes : List Node) → (depth : ℕ)
+            → (units : List UnitTree) → IsReached nodes self depth units
+            → IsReached nodes more (suc depth) units) }
+        ensures bound { OnErr result (2 ^ 64 ≤ self.depth + 1) }
     {
         let Some(depth) = self.depth.checked_add(1) else {
             return Err(Memory);

@@ -1,5 +1,5 @@
 // The unit that is read, and its frames that wait for their parts.
-ghost use Rattle.std.specs.Prelude.{◌≡◌, ℕ, List, [], ◌∷◌, OnOk};
+ghost use Rattle.std.specs.Prelude.{◌≡◌, ◌+◌, ℕ, List, [], ◌∷◌, OnOk, length};
 ghost use Rattle.tla_tree.specs.Arena as arena;
 ghost use Rattle.unit_grammar.specs.Units as units;
 ghost use Rattle.unit_machine.specs.Machine as machine;
@@ -44,10 +44,12 @@ impl Drop for Unfinished {
 impl Unfinished {
     /// A frame waits for a part above those that do.
     pub fn under(&mut self, frame: Frame) -> Result<(), Memory>
-        ensures { OnOk result ((nodes : List arena.Node) → (depth : ℕ) → (us : List units.UnitTree)
-            → (b : machine.Begun) → (fs : List machine.Frame) → (f : machine.Frame)
-            → IsUnder nodes self.old b fs depth us → IsFrame nodes frame f
+        ensures under { OnOk result ((nodes : List arena.Node) → (depth : ℕ)
+            → (us : List units.UnitTree) → (b : machine.Begun) → (fs : List machine.Frame)
+            → (f : machine.Frame) → IsUnder nodes self.old b fs depth us → IsFrame nodes frame f
             → IsUnder nodes self.new b (f ∷ fs) depth us) }
+        ensures one { OnOk result (length self.new.below.items
+            ≡ length self.old.below.items + 1) }
     {
         self.below.push(frame)?;
         Ok(())
@@ -67,9 +69,10 @@ impl Unfinished {
 
     /// No frame waits below.
     pub fn alone(self) -> Unfinished
-        ensures { (nodes : List arena.Node) → (depth : ℕ) → (us : List units.UnitTree)
+        ensures under { (nodes : List arena.Node) → (depth : ℕ) → (us : List units.UnitTree)
             → (b : machine.Begun) → (fs : List machine.Frame) → IsUnder nodes self b fs depth us
             → IsUnder nodes result b [] depth us }
+        ensures none { length result.below.items ≡ 0 }
     {
         let (reached, begun) = self.into_begun();
         let below = Vec::new(reached.alloc);

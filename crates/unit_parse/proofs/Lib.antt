@@ -1,3 +1,4 @@
+mod Counting
 mod Feeding
 mod Stepping
 mod Parsing

@@ -1,5 +1,5 @@
 // What a lexeme does where an expression, or the bounds in a function's head, are read.
-ghost use Rattle.std.specs.Prelude.{ℕ, List, [], Some, IfOk};
+ghost use Rattle.std.specs.Prelude.{◌+◌, ℕ, List, [], Some, IfOk, length};
 ghost use Rattle.tla_symbols.specs.declared.lexeme.Lexeme.{Lexeme};
 ghost use Rattle.expr_grammar.specs.Machine as expressions;
 ghost use Rattle.expr_grammar.specs.Following.{done_before};
@@ -8,6 +8,7 @@ ghost use Rattle.unit_grammar.specs.Units as units;
 ghost use Rattle.unit_machine.specs.Machine as machine;
 ghost use Rattle.unit_frames.specs.FrameMeaning.{IsFrame, IsUnder};
 ghost use Rattle.unit_parse.specs.ReaderMeaning.{IsReading, IsFed, HasFedExpression, HasFedBounds, Moves, IsReadyExpression, IsReadyBounds};
+ghost use Rattle.unit_parse.specs.NodeCounts.{IsFewRead, IsFewFed, IsFewMoved};
 
 use crate::enter::enter;
 use crate::reader::{ExprReader, Fed};
@@ -27,13 +28,17 @@ fn expression_fed(
     lexeme: Lexeme,
 ) -> Result<Option<State>, Memory>
     requires { HasFedExpression tree.old unfinished reader lexeme fed }
-    ensures { IfOk result (λ moved. (depth : ℕ) → (us : List units.UnitTree) → (b : machine.Begun)
-        → (fs : List machine.Frame) → (st : expressions.State) → (read : List Lexeme)
+    ensures moves { IfOk result (λ moved. (depth : ℕ) → (us : List units.UnitTree)
+        → (b : machine.Begun) → (fs : List machine.Frame) → (st : expressions.State)
+        → (read : List Lexeme)
         → IsUnder tree.old unfinished b fs depth us
         → IsFed tree.old reader goals.Expression st read lexeme fed
         → Moves tree.old tree.new moved
         (machine.expression_step (done_before (Some st) lexeme.kind) b fs st read depth us
         lexeme)) }
+    ensures few { IfOk result (λ moved. (count : ℕ)
+        → IsFewFed tree.old reader.machine (length unfinished.below.items) count lexeme fed
+        → IsFewMoved tree.new moved (count + 1)) }
 {
     match fed {
         Fed::Going => Ok(Some(State::Expression(unfinished, reader))),
@@ -50,13 +55,17 @@ pub(crate) fn expression_step(
     lexeme: Lexeme,
 ) -> Result<Option<State>, Memory>
     requires { IsReadyExpression tree.old unfinished reader }
-    ensures { IfOk result (λ moved. (depth : ℕ) → (us : List units.UnitTree) → (b : machine.Begun)
-        → (fs : List machine.Frame) → (st : expressions.State) → (read : List Lexeme)
+    ensures moves { IfOk result (λ moved. (depth : ℕ) → (us : List units.UnitTree)
+        → (b : machine.Begun) → (fs : List machine.Frame) → (st : expressions.State)
+        → (read : List Lexeme)
         → IsUnder tree.old unfinished b fs depth us
         → IsReading tree.old reader goals.Expression st read
         → Moves tree.old tree.new moved
         (machine.expression_step (done_before (Some st) lexeme.kind) b fs st read depth us
         lexeme)) }
+    ensures few { IfOk result (λ moved. (count : ℕ)
+        → IsFewRead tree.old reader.machine (length unfinished.below.items) count
+        → IsFewMoved tree.new moved (count + 1)) }
 {
     let mut reader = reader;
     let Ok(fed) = reader.feed(tree, lexeme) else {
@@ -75,13 +84,17 @@ fn bounds_fed(
     lexeme: Lexeme,
 ) -> Result<Option<State>, Memory>
     requires { HasFedBounds tree.old unfinished frame reader lexeme fed }
-    ensures { IfOk result (λ moved. (depth : ℕ) → (us : List units.UnitTree) → (b : machine.Begun)
-        → (f : machine.Frame) → (st : expressions.State) → (read : List Lexeme)
+    ensures moves { IfOk result (λ moved. (depth : ℕ) → (us : List units.UnitTree)
+        → (b : machine.Begun) → (f : machine.Frame) → (st : expressions.State)
+        → (read : List Lexeme)
         → IsUnder tree.old unfinished b [] depth us → IsFrame tree.old frame f
         → IsFed tree.old reader goals.Bounds st read lexeme fed
         → Moves tree.old tree.new moved
         (machine.bounds_step (machine.bounds_before (Some st) lexeme.kind) b f st read depth us
         lexeme)) }
+    ensures few { IfOk result (λ moved. (count : ℕ)
+        → IsFewFed tree.old reader.machine (length unfinished.below.items + 1) count lexeme fed
+        → IsFewMoved tree.new moved (count + 1)) }
 {
     match fed {
         Fed::Going => Ok(Some(State::Bounds(unfinished, frame, reader))),
@@ -99,13 +112,17 @@ pub(crate) fn bounds_step(
     lexeme: Lexeme,
 ) -> Result<Option<State>, Memory>
     requires { IsReadyBounds tree.old unfinished frame reader }
-    ensures { IfOk result (λ moved. (depth : ℕ) → (us : List units.UnitTree) → (b : machine.Begun)
-        → (f : machine.Frame) → (st : expressions.State) → (read : List Lexeme)
+    ensures moves { IfOk result (λ moved. (depth : ℕ) → (us : List units.UnitTree)
+        → (b : machine.Begun) → (f : machine.Frame) → (st : expressions.State)
+        → (read : List Lexeme)
         → IsUnder tree.old unfinished b [] depth us → IsFrame tree.old frame f
         → IsReading tree.old reader goals.Bounds st read
         → Moves tree.old tree.new moved
         (machine.bounds_step (machine.bounds_before (Some st) lexeme.kind) b f st read depth us
         lexeme)) }
+    ensures few { IfOk result (λ moved. (count : ℕ)
+        → IsFewRead tree.old reader.machine (length unfinished.below.items + 1) count
+        → IsFewMoved tree.new moved (count + 1)) }
 {
     let mut reader = reader;
     let Ok(fed) = reader.feed(tree, lexeme) else {

@@ -1,10 +1,11 @@
 // Expressions, and the bounds in heads of functions, as they are read in a unit.
-ghost use Rattle.std.specs.Prelude.{◌≡◌, List, [], IfOk};
+ghost use Rattle.std.specs.Prelude.{◌≡◌, ℕ, List, [], IfOk, length};
 ghost use Rattle.tla_symbols.specs.declared.lexeme.Lexeme.{Lexeme};
 ghost use Rattle.tla_tree.specs.Arena.{Node};
 ghost use Rattle.expr_grammar.specs.Machine as expressions;
-ghost use Rattle.expr_parse.specs.Reading.{IsReady, start_of};
+ghost use Rattle.expr_parse.specs.Reading.{HasRead, IsReady, start_of};
 ghost use Rattle.unit_parse.specs.ReaderMeaning.{IsReading, Feeds};
+ghost use Rattle.unit_parse.specs.NodeCounts.{FeedsFew};
 
 use expr_parse::{ExprMachine, Goal, Step};
 use std::alloc::Global;
@@ -42,7 +43,8 @@ pub(crate) enum Fed {
 impl ExprReader {
     /// Nothing was read.
     pub(crate) fn new(alloc: Global, goal: Goal) -> ExprReader
-        ensures { (nodes : List Node) → IsReading nodes result goal (start_of goal) [] }
+        ensures reading { (nodes : List Node) → IsReading nodes result goal (start_of goal) [] }
+        ensures read { (nodes : List Node) → HasRead nodes result.machine (length nodes) [] }
     {
         ExprReader {
             machine: ExprMachine::new(alloc, goal),
@@ -53,9 +55,12 @@ impl ExprReader {
     /// Reads a lexeme after those that were read.
     pub(crate) fn feed(&mut self, tree: &mut Tree, lexeme: Lexeme) -> Result<Fed, Memory>
         requires { IsReady tree.old self.old.machine }
-        ensures { IfOk result (λ fed. (goal : Goal) → (state : expressions.State)
+        ensures feeds { IfOk result (λ fed. (goal : Goal) → (state : expressions.State)
             → (read : List Lexeme) → IsReading tree.old self.old goal state read
             → Feeds tree.old tree.new self.new goal state read lexeme fed) }
+        ensures few { IfOk result (λ fed. (before : ℕ) → (read : List Lexeme)
+            → HasRead tree.old self.old.machine before read
+            → FeedsFew tree.new self.new.machine before read lexeme fed) }
     {
         match self.machine.step(&lexeme, &lexeme, tree)? {
             Step::Going => {

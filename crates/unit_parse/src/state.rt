@@ -1,8 +1,9 @@
 // Where in a module the reading stands.
-ghost use Rattle.std.specs.Prelude.{◌≡◌, List};
+ghost use Rattle.std.specs.Prelude.{◌≡◌, List, []};
 ghost use Rattle.tla_tree.specs.Arena.{Node};
 ghost use Rattle.unit_machine.specs.Machine as machine;
 ghost use Rattle.unit_parse.specs.ReaderMeaning.{IsState};
+ghost use Rattle.unit_parse.specs.NodeCounts.{IsFew};
 
 use crate::reader::ExprReader;
 use std::alloc::Global;
@@ -22,7 +23,8 @@ pub(crate) enum State {
 impl State {
     /// Nothing was read.
     pub(crate) fn opening(alloc: Global) -> State
-        ensures { (nodes : List Node) → IsState nodes result machine.opening }
+        ensures stands { (nodes : List Node) → IsState nodes result machine.opening }
+        ensures few { IsFew [] result 0 }
     {
         State::At(Point::opening(alloc))
     }

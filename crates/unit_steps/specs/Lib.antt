@@ -1,1 +1,2 @@
 pub mod PointMeaning
+pub mod Waiting

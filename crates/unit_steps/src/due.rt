@@ -1,5 +1,5 @@
 // What a lexeme does where a unit, or a lexeme of the module's own form, is due.
-ghost use Rattle.std.specs.Prelude.{◌≡◌, ℕ, suc, List, [], ◌∷◌, ◌++◌, Some, None, IfOk};
+ghost use Rattle.std.specs.Prelude.{◌≡◌, ◌≤◌, ℕ, suc, List, [], ◌∷◌, ◌++◌, Some, None, IfOk};
 ghost use Rattle.tla_tree.specs.Arena as arena;
 ghost use Rattle.tla_tree.specs.Syntax as syntax;
 ghost use Rattle.expr_grammar.specs.Machine as expressions;
@@ -8,6 +8,7 @@ ghost use Rattle.unit_machine.specs.Machine as machine;
 ghost use Rattle.unit_grammar.specs.UnitNodes.{AreUnits};
 ghost use Rattle.unit_frames.specs.FrameMeaning.{AreParts, IsFrame, IsBegun, IsReached};
 ghost use Rattle.unit_steps.specs.PointMeaning.{IsMoved};
+ghost use Rattle.unit_steps.specs.Waiting.{waiting, waiting_next};
 
 use crate::point::{Next, Point};
 use expr_kinds::is_comma;
@@ -20,9 +21,10 @@ use unit_tables::unit_start;
 
 // The run of `=` that ends a nested module.
 fn end_module(reached: Reached, lexeme: Lexeme) -> Result<Option<Next>, Memory>
-    ensures { IfOk result (λ moved. (nodes : List arena.Node) → (depth : ℕ)
+    ensures moves { IfOk result (λ moved. (nodes : List arena.Node) → (depth : ℕ)
         → (us : List units.UnitTree) → IsReached nodes reached depth us
         → IsMoved nodes moved (machine.ended depth us lexeme)) }
+    ensures few { IfOk result (λ moved. waiting moved ≤ 1) }
 {
     if reached.depth < 2 {
         return Ok(None);
@@ -36,8 +38,9 @@ fn end_module(reached: Reached, lexeme: Lexeme) -> Result<Option<Next>, Memory>
 
 // The run of `=` that closes the outermost module.
 fn close_module(reached: Reached) -> Option<Next>
-    ensures { (nodes : List arena.Node) → (depth : ℕ) → (us : List units.UnitTree)
+    ensures moves { (nodes : List arena.Node) → (depth : ℕ) → (us : List units.UnitTree)
         → IsReached nodes reached depth us → IsMoved nodes result (machine.closed depth us) }
+    ensures few { waiting result ≤ 1 }
 {
     if reached.depth != 1 {
         return None;
@@ -48,10 +51,11 @@ fn close_module(reached: Reached) -> Option<Next>
 
 // A unit begins of which a frame waits for its next lexeme.
 fn begin_part(reached: Reached, begun: Begun, frame: Frame) -> Next
-    ensures { (nodes : List arena.Node) → (depth : ℕ) → (us : List units.UnitTree)
+    ensures moves { (nodes : List arena.Node) → (depth : ℕ) → (us : List units.UnitTree)
         → (b : machine.Begun) → (f : machine.Frame) → IsReached nodes reached depth us
         → IsBegun nodes begun b → IsFrame nodes frame f
         → IsMoved nodes (Some result) (Some (machine.state depth us (machine.Focus.Part b f []))) }
+    ensures few { waiting_next result ≤ 1 }
 {
     let below = Vec::new(reached.alloc);
     let unfinished = Unfinished {
@@ -64,10 +68,11 @@ fn begin_part(reached: Reached, begun: Begun, frame: Frame) -> Next
 
 // A unit begins that is an expression.
 fn begin_claim(reached: Reached, begun: Begun) -> Next
-    ensures { (nodes : List arena.Node) → (depth : ℕ) → (us : List units.UnitTree)
+    ensures moves { (nodes : List arena.Node) → (depth : ℕ) → (us : List units.UnitTree)
         → (b : machine.Begun) → IsReached nodes reached depth us → IsBegun nodes begun b
         → IsMoved nodes (Some result)
         (Some (machine.state depth us (machine.Focus.Expression b [] expressions.start []))) }
+    ensures few { waiting_next result ≤ 1 }
 {
     let below = Vec::new(reached.alloc);
     Next::Awaits(Unfinished {
@@ -84,9 +89,10 @@ fn start(
     local: Option<Lexeme>,
     lexeme: Lexeme,
 ) -> Result<Option<Next>, Memory>
-    ensures { IfOk result (λ moved. (nodes : List arena.Node) → (depth : ℕ)
+    ensures moves { IfOk result (λ moved. (nodes : List arena.Node) → (depth : ℕ)
         → (us : List units.UnitTree) → IsReached nodes reached depth us
         → IsMoved nodes moved (machine.started begins local depth us lexeme)) }
+    ensures few { IfOk result (λ moved. waiting moved ≤ 1) }
 {
     let alloc = reached.alloc;
     let span = Some(lexeme.span);
@@ -117,9 +123,10 @@ fn start(
 
 // A lexeme where a unit is due.
 fn unit_due(reached: Reached, local: Option<Lexeme>, lexeme: Lexeme) -> Result<Option<Next>, Memory>
-    ensures { IfOk result (λ moved. (nodes : List arena.Node) → (depth : ℕ)
+    ensures moves { IfOk result (λ moved. (nodes : List arena.Node) → (depth : ℕ)
         → (us : List units.UnitTree) → IsReached nodes reached depth us
         → IsMoved nodes moved (machine.unit_due local depth us lexeme)) }
+    ensures few { IfOk result (λ moved. waiting moved ≤ 1) }
 {
     start(reached, unit_start(lexeme), local, lexeme)
 }
@@ -130,10 +137,11 @@ pub(crate) fn after_unit(
     unit: Unit,
     lexeme: Lexeme,
 ) -> Result<Option<Next>, Memory>
-    ensures { IfOk result (λ moved. (nodes : List arena.Node) → (depth : ℕ)
+    ensures moves { IfOk result (λ moved. (nodes : List arena.Node) → (depth : ℕ)
         → (us : List units.UnitTree) → (last : units.UnitTree) → IsReached nodes reached depth us
         → AreUnits nodes (unit ∷ []) (last ∷ [])
         → IsMoved nodes moved (machine.unit_due None depth (us ++ last ∷ []) lexeme)) }
+    ensures few { IfOk result (λ moved. waiting moved ≤ 1) }
 {
     let Ok(reached) = reached.with(unit) else {
         return Err(Memory);
@@ -148,10 +156,11 @@ fn begin_module(
     extends: List<Lexeme>,
     lexeme: Lexeme,
 ) -> Result<Option<Next>, Memory>
-    ensures { IfOk result (λ moved. (nodes : List arena.Node) → (depth : ℕ)
+    ensures moves { IfOk result (λ moved. (nodes : List arena.Node) → (depth : ℕ)
         → (us : List units.UnitTree) → IsReached nodes reached depth us
         → IsMoved nodes moved
         (machine.unit_due None (suc depth) (us ++ units.ModuleBegin name extends ∷ []) lexeme)) }
+    ensures few { IfOk result (λ moved. waiting moved ≤ 1) }
 {
     let Ok(reached) = reached.opens() else {
         return Err(Memory);
@@ -175,9 +184,10 @@ pub(crate) fn move_due(
     names: List<Lexeme>,
     lexeme: Lexeme,
 ) -> Result<Option<Next>, Memory>
-    ensures { IfOk result (λ moved. (nodes : List arena.Node) → (depth : ℕ)
+    ensures moves { IfOk result (λ moved. (nodes : List arena.Node) → (depth : ℕ)
         → (us : List units.UnitTree) → IsReached nodes reached depth us
         → IsMoved nodes moved (machine.due_moved to names depth us lexeme)) }
+    ensures few { IfOk result (λ moved. waiting moved ≤ 1) }
 {
     match to {
         DueMove::Goes(due) => Ok(Some(Next::At(Point::Stands(reached, due, names)))),
@@ -201,10 +211,11 @@ pub(crate) fn after_declared(
     declarations: List<u32>,
     lexeme: Lexeme,
 ) -> Result<Option<Next>, Memory>
-    ensures { IfOk result (λ moved. (nodes : List arena.Node) → (depth : ℕ)
+    ensures moves { IfOk result (λ moved. (nodes : List arena.Node) → (depth : ℕ)
         → (us : List units.UnitTree) → (xs : syntax.Trees) → IsReached nodes reached depth us
         → AreParts nodes declarations xs
         → IsMoved nodes moved (machine.after_declared xs depth us lexeme)) }
+    ensures few { IfOk result (λ moved. waiting moved ≤ 1) }
 {
     if is_comma(lexeme.kind) {
         let frame = Frame::new(reached.alloc, Wait::Declaration, None);

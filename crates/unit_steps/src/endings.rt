@@ -1,10 +1,11 @@
 // Which frames end before a lexeme.
-ghost use Rattle.std.specs.Prelude.{◌≡◌, ◌↔◌, ◌-◌, ◌^◌, ◌<◌, List, reverse, None, IsTrue, IfOk, length};
+ghost use Rattle.std.specs.Prelude.{◌≡◌, ◌↔◌, ◌+◌, ◌-◌, ◌^◌, ◌<◌, ◌≤◌, List, reverse, None, IsTrue, IfOk, length};
 ghost use Rattle.tla_tree.specs.Arena.{AreThere};
 ghost use Rattle.unit_machine.specs.Tables as tables;
 ghost use Rattle.unit_machine.specs.Machine as machine;
 ghost use Rattle.unit_frames.specs.FrameMeaning.{AreFrames, IsFrame};
 ghost use Rattle.unit_steps.specs.PointMeaning.{EndsFrame, Ends, form_of_end};
+ghost use Rattle.unit_steps.specs.Waiting.{waiting_ended};
 
 use tla_symbols::Lexeme;
 use tla_tree::{Form, Tree};
@@ -14,7 +15,8 @@ use unit_frames::Frame;
 use unit_machine::{Move, Wait};
 use unit_tables::{after_part, frame_move};
 
-/// Whether there is room to count one place more of an operator's declaration.
+/// Whether there is room to count one place more of an operator's declaration: it has fewer than
+/// 2^32 - 1 so far.
 pub(crate) fn counts(wait: Wait) -> bool
     ensures { IsTrue result ↔ (tables.places_of wait < 2 ^ 32 - 1) }
 {
@@ -50,6 +52,8 @@ fn end_frame(
         → EndsFrame tree.old tree.new below.new.items frame.new form f fs ended) }
     ensures fewer { IfOk result (λ ended. ended ≡ None
         → length below.new.items < length below.old.items) }
+    ensures few { IfOk result (λ ended. length tree.new + waiting_ended below.new.items ended
+        ≤ length tree.old + (length below.old.items + 1)) }
 {
     let part = frame.node(tree, form)?;
     let Some(outer) = below.pop() else {
@@ -71,9 +75,11 @@ pub(crate) fn end_frames(
 ) -> Result<Option<Part>, Memory>
     requires { (f : machine.Frame) × (fs : List machine.Frame)
         × IsFrame tree.old frame.old f × AreFrames tree.old (reverse below.old.items) fs }
-    ensures { IfOk result (λ whole. (f : machine.Frame) → (fs : List machine.Frame)
+    ensures ends { IfOk result (λ whole. (f : machine.Frame) → (fs : List machine.Frame)
         → IsFrame tree.old frame.old f → AreFrames tree.old (reverse below.old.items) fs
         → Ends tree.old tree.new below.new.items frame.new whole f fs lexeme) }
+    ensures few { IfOk result (λ whole. length tree.new + waiting_ended below.new.items whole
+        ≤ length tree.old + (length below.old.items + 1)) }
 {
     'ending: loop {
         let Some(form) = form_ended(frame.wait, lexeme) else {

@@ -1,5 +1,5 @@
 // What a lexeme does to a frame that does not end before it.
-ghost use Rattle.std.specs.Prelude.{◌≡◌, ℕ, List, [], ◌∷◌, Some, None, OnOk, IfOk};
+ghost use Rattle.std.specs.Prelude.{◌≡◌, ◌+◌, ◌≤◌, ℕ, List, [], ◌∷◌, Some, None, OnOk, IfOk, length};
 ghost use Rattle.tla_symbols.specs.declared.lexeme.Lexeme.{Lexeme};
 ghost use Rattle.tla_tree.specs.Arena as arena;
 ghost use Rattle.tla_tree.specs.Syntax.{Nil};
@@ -10,6 +10,7 @@ ghost use Rattle.unit_machine.specs.Machine as machine;
 ghost use Rattle.unit_machine.specs.declared.wait.Move.TheVariants as Move;
 ghost use Rattle.unit_frames.specs.FrameMeaning.{IsFrame, IsUnder};
 ghost use Rattle.unit_steps.specs.PointMeaning.{IsMoved, Moves};
+ghost use Rattle.unit_steps.specs.Waiting.{waiting};
 
 use crate::point::{Next, Point};
 use crate::whole::shut;
@@ -25,11 +26,12 @@ fn begin_expression(
     frame: Frame,
     lexeme: Lexeme,
 ) -> Result<Option<Next>, Memory>
-    ensures { IfOk result (λ moved. (nodes : List arena.Node) → (depth : ℕ)
+    ensures moves { IfOk result (λ moved. (nodes : List arena.Node) → (depth : ℕ)
         → (us : List units.UnitTree) → (b : machine.Begun) → (fs : List machine.Frame)
         → (f : machine.Frame) → IsUnder nodes unfinished b fs depth us → IsFrame nodes frame f
         → IsMoved nodes moved (machine.reading (expressions.step expressions.start lexeme) b
         (f ∷ fs) (lexeme ∷ []) depth us)) }
+    ensures few { IfOk result (λ moved. waiting moved ≤ length unfinished.below.items + 1) }
 {
     let mut unfinished = unfinished;
     let Ok(()) = unfinished.under(frame) else {
@@ -46,12 +48,13 @@ fn begin_part(
     wait: Wait,
     span: Option<Span>,
 ) -> Result<Option<Next>, Memory>
-    ensures { IfOk result (λ moved. (nodes : List arena.Node) → (depth : ℕ)
+    ensures moves { IfOk result (λ moved. (nodes : List arena.Node) → (depth : ℕ)
         → (us : List units.UnitTree) → (b : machine.Begun) → (fs : List machine.Frame)
         → (f : machine.Frame) → (read : List Lexeme) → IsUnder nodes unfinished b fs depth us
         → IsFrame nodes frame f → span ≡ span_of read
         → IsMoved nodes moved
         (Some (machine.state depth us (machine.Part b (machine.frame wait Nil read) (f ∷ fs))))) }
+    ensures few { IfOk result (λ moved. waiting moved ≤ length unfinished.below.items + 2) }
 {
     let mut unfinished = unfinished;
     let Ok(()) = unfinished.under(frame) else {
@@ -71,11 +74,13 @@ fn take_leaf(
     wait: Wait,
     lexeme: Lexeme,
 ) -> Result<Option<Next>, Memory>
-    ensures { IfOk result (λ moved. (depth : ℕ) → (us : List units.UnitTree) → (b : machine.Begun)
-        → (fs : List machine.Frame) → (f : machine.Frame)
+    ensures moves { IfOk result (λ moved. (depth : ℕ) → (us : List units.UnitTree)
+        → (b : machine.Begun) → (fs : List machine.Frame) → (f : machine.Frame)
         → IsUnder tree.old unfinished b fs depth us → IsFrame tree.old frame f
         → Moves tree.old tree.new moved
         (machine.moved (Move.LeafOf form name wait) b f fs depth us lexeme (λ x. None))) }
+    ensures few { IfOk result (λ moved. length tree.new + waiting moved
+        ≤ length tree.old + (length unfinished.below.items + 2)) }
 {
     let mut frame = frame;
     let Ok(()) = frame.takes_leaf(tree, form, name, wait, lexeme) else {
@@ -93,11 +98,13 @@ fn close(
     lexeme: Lexeme,
 ) -> Result<Option<Next>, Memory>
     requires { (f : machine.Frame) × IsFrame tree.old frame f }
-    ensures { IfOk result (λ moved. (depth : ℕ) → (us : List units.UnitTree) → (b : machine.Begun)
-        → (fs : List machine.Frame) → (f : machine.Frame)
+    ensures moves { IfOk result (λ moved. (depth : ℕ) → (us : List units.UnitTree)
+        → (b : machine.Begun) → (fs : List machine.Frame) → (f : machine.Frame)
         → IsUnder tree.old unfinished b fs depth us → IsFrame tree.old frame f
         → Moves tree.old tree.new moved (machine.moved (Move.Close form) b f fs depth us lexeme
         (λ x. None))) }
+    ensures few { IfOk result (λ moved. length tree.new + waiting moved
+        ≤ length tree.old + (length unfinished.below.items + 1)) }
 {
     let Ok(part) = frame.closed(tree, form, lexeme) else {
         return Err(Memory);
@@ -114,10 +121,12 @@ pub(crate) fn move_frame(
     lexeme: Lexeme,
 ) -> Result<Option<Next>, Memory>
     requires { (f : machine.Frame) × IsFrame tree.old frame f }
-    ensures { IfOk result (λ moved. (depth : ℕ) → (us : List units.UnitTree) → (b : machine.Begun)
-        → (fs : List machine.Frame) → (f : machine.Frame)
+    ensures moves { IfOk result (λ moved. (depth : ℕ) → (us : List units.UnitTree)
+        → (b : machine.Begun) → (fs : List machine.Frame) → (f : machine.Frame)
         → IsUnder tree.old unfinished b fs depth us → IsFrame tree.old frame f
         → Moves tree.old tree.new moved (machine.moved to b f fs depth us lexeme (λ form. None))) }
+    ensures few { IfOk result (λ moved. length tree.new + waiting moved
+        ≤ length tree.old + (length unfinished.below.items + 2)) }
 {
     match to {
         Move::Shift(wait) => Ok(Some(Next::At(Point::Part(unfinished, frame.reads(wait, lexeme))))),

@@ -1,5 +1,5 @@
 // What a lexeme does to the parts of a unit: frames end before it, and it moves the one that is left.
-ghost use Rattle.std.specs.Prelude.{◌≡◌, ℕ, List, ◌++◌, IfOk};
+ghost use Rattle.std.specs.Prelude.{◌≡◌, ◌+◌, ◌≤◌, ℕ, List, ◌++◌, IfOk, length};
 ghost use Rattle.tla_symbols.specs.declared.lexeme.Lexeme.{Lexeme};
 ghost use Rattle.tla_tree.specs.Syntax as syntax;
 ghost use Rattle.tla_tree.specs.Lexemes as lexemes;
@@ -9,6 +9,7 @@ ghost use Rattle.unit_machine.specs.Tables as tables;
 ghost use Rattle.unit_machine.specs.Machine as machine;
 ghost use Rattle.unit_frames.specs.FrameMeaning.{IsFrame, IsBegun, IsReached, IsUnder};
 ghost use Rattle.unit_steps.specs.PointMeaning.{Moves, IsEnded, IsReadyEnded, IsReadyPart, IsReadyTaking, IsReadyWhole};
+ghost use Rattle.unit_steps.specs.Waiting.{waiting, waiting_ended};
 
 use crate::endings::{counts, end_frames};
 use crate::moves::move_frame;
@@ -21,8 +22,8 @@ use tree_parts::Part;
 use unit_frames::{Frame, Unfinished};
 use unit_tables::{after_bounds, after_expression, frame_move};
 
-/// What a lexeme does once the frames that end before it have ended. `Memory` also where no further
-/// place of an operator can be counted.
+/// What a lexeme does once the frames that end before it have ended. `Memory` also where an operator
+/// that is declared has 2^32 - 1 places, and where the tree can number no further node.
 fn go_on(
     unfinished: Unfinished,
     frame: Frame,
@@ -31,11 +32,13 @@ fn go_on(
     lexeme: Lexeme,
 ) -> Result<Option<Next>, Memory>
     requires { IsReadyEnded tree.old unfinished frame whole lexeme }
-    ensures { IfOk result (λ moved. (depth : ℕ) → (us : List units.UnitTree) → (b : machine.Begun)
-        → (fs : List machine.Frame) → (f : machine.Frame)
+    ensures moves { IfOk result (λ moved. (depth : ℕ) → (us : List units.UnitTree)
+        → (b : machine.Begun) → (fs : List machine.Frame) → (f : machine.Frame)
         → IsReached tree.old unfinished.reached depth us → IsBegun tree.old unfinished.begun b
         → IsEnded tree.old unfinished.below.items frame whole f fs lexeme
         → Moves tree.old tree.new moved (machine.part_step fs b f depth us lexeme)) }
+    ensures few { IfOk result (λ moved. length tree.new + waiting moved
+        ≤ length tree.old + (waiting_ended unfinished.below.items whole + 1)) }
 {
     if let Some(part) = whole {
         return finish(unfinished, tree, part, lexeme);
@@ -55,10 +58,12 @@ pub(crate) fn part_step(
     lexeme: Lexeme,
 ) -> Result<Option<Next>, Memory>
     requires { IsReadyPart tree.old unfinished frame }
-    ensures { IfOk result (λ moved. (depth : ℕ) → (us : List units.UnitTree) → (b : machine.Begun)
-        → (fs : List machine.Frame) → (f : machine.Frame)
+    ensures moves { IfOk result (λ moved. (depth : ℕ) → (us : List units.UnitTree)
+        → (b : machine.Begun) → (fs : List machine.Frame) → (f : machine.Frame)
         → IsUnder tree.old unfinished b fs depth us → IsFrame tree.old frame f
         → Moves tree.old tree.new moved (machine.part_step fs b f depth us lexeme)) }
+    ensures few { IfOk result (λ moved. length tree.new + waiting moved
+        ≤ length tree.old + (length unfinished.below.items + 2)) }
 {
     let mut unfinished = unfinished;
     let mut frame = frame;
@@ -77,13 +82,15 @@ fn give_to(
     lexeme: Lexeme,
 ) -> Result<Option<Next>, Memory>
     requires { IsReadyTaking tree.old unfinished frame part }
-    ensures { IfOk result (λ moved. (depth : ℕ) → (us : List units.UnitTree) → (b : machine.Begun)
-        → (fs : List machine.Frame) → (f : machine.Frame) → (x : syntax.Tree)
+    ensures moves { IfOk result (λ moved. (depth : ℕ) → (us : List units.UnitTree)
+        → (b : machine.Begun) → (fs : List machine.Frame) → (f : machine.Frame) → (x : syntax.Tree)
         → (spelled : List Lexeme) → IsUnder tree.old unfinished b fs depth us
         → IsFrame tree.old frame f → IsPart tree.old part x spelled
         → Moves tree.old tree.new moved (machine.part_step fs b
         (machine.frame (tables.after_expression f.wait) (lexemes.then f.parts x)
         (f.read ++ spelled)) depth us lexeme)) }
+    ensures few { IfOk result (λ moved. length tree.new + waiting moved
+        ≤ length tree.old + (length unfinished.below.items + 2)) }
 {
     let mut frame = frame;
     let wait = after_expression(frame.wait);
@@ -101,10 +108,13 @@ pub fn give(
     lexeme: Lexeme,
 ) -> Result<Option<Next>, Memory>
     requires { IsReadyWhole tree.old unfinished part }
-    ensures { IfOk result (λ moved. (depth : ℕ) → (us : List units.UnitTree) → (b : machine.Begun)
-        → (fs : List machine.Frame) → (x : syntax.Tree) → (spelled : List Lexeme)
+    ensures moves { IfOk result (λ moved. (depth : ℕ) → (us : List units.UnitTree)
+        → (b : machine.Begun) → (fs : List machine.Frame) → (x : syntax.Tree)
+        → (spelled : List Lexeme)
         → IsUnder tree.old unfinished b fs depth us → IsPart tree.old part x spelled
         → Moves tree.old tree.new moved (machine.given fs b x spelled depth us lexeme)) }
+    ensures few { IfOk result (λ moved. length tree.new + waiting moved
+        ≤ length tree.old + (length unfinished.below.items + 1)) }
 {
     let mut unfinished = unfinished;
     match unfinished.below.pop() {
@@ -122,13 +132,15 @@ pub fn take_bounds(
     lexeme: Lexeme,
 ) -> Result<Option<Next>, Memory>
     requires { IsReadyTaking tree.old unfinished frame part }
-    ensures { IfOk result (λ moved. (depth : ℕ) → (us : List units.UnitTree) → (b : machine.Begun)
-        → (fs : List machine.Frame) → (f : machine.Frame) → (x : syntax.Tree)
+    ensures moves { IfOk result (λ moved. (depth : ℕ) → (us : List units.UnitTree)
+        → (b : machine.Begun) → (fs : List machine.Frame) → (f : machine.Frame) → (x : syntax.Tree)
         → (spelled : List Lexeme) → IsUnder tree.old unfinished b fs depth us
         → IsFrame tree.old frame f → IsPart tree.old part x spelled
         → Moves tree.old tree.new moved (machine.part_step fs b
         (machine.frame (tables.after_bounds f.wait) (parts_of x) (f.read ++ spelled))
         depth us lexeme)) }
+    ensures few { IfOk result (λ moved. length tree.new + waiting moved
+        ≤ length tree.old + (length unfinished.below.items + 2)) }
 {
     let mut frame = frame;
     let wait = after_bounds(frame.wait);

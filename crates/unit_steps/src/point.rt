@@ -3,6 +3,7 @@ ghost use Rattle.std.specs.Prelude.{◌≡◌, List};
 ghost use Rattle.tla_tree.specs.Arena.{Node};
 ghost use Rattle.unit_machine.specs.Machine as machine;
 ghost use Rattle.unit_steps.specs.PointMeaning.{IsPoint};
+ghost use Rattle.unit_steps.specs.Waiting.{waiting_at};
 
 use std::alloc::Global;
 use tla_symbols::Lexeme;
@@ -37,7 +38,8 @@ pub enum Next {
 impl Point {
     /// Nothing was read.
     pub fn opening(alloc: Global) -> Point
-        ensures { (nodes : List Node) → IsPoint nodes result machine.opening }
+        ensures stands { (nodes : List Node) → IsPoint nodes result machine.opening }
+        ensures few { waiting_at result ≡ 0 }
     {
         Point::Stands(Reached::new(alloc), Due::Opening, List::new(alloc))
     }

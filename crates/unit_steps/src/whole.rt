@@ -1,5 +1,5 @@
 // Where a whole part goes: into its unit, or to the frame that waits for it.
-ghost use Rattle.std.specs.Prelude.{◌≡◌, ◌<◌, ℕ, List, [], ◌∷◌, length, IfOk};
+ghost use Rattle.std.specs.Prelude.{◌≡◌, ◌<◌, ◌≤◌, ℕ, List, [], ◌∷◌, length, IfOk};
 ghost use Rattle.tla_symbols.specs.declared.lexeme.Lexeme.{Lexeme};
 ghost use Rattle.tla_tree.specs.Arena as arena;
 ghost use Rattle.tla_tree.specs.Arena.{tree_at};
@@ -11,6 +11,7 @@ ghost use Rattle.unit_machine.specs.Machine as machine;
 ghost use Rattle.unit_grammar.specs.UnitNodes.{AreUnits};
 ghost use Rattle.unit_frames.specs.FrameMeaning.{AreParts, IsBegun, IsReached, IsUnder};
 ghost use Rattle.unit_steps.specs.PointMeaning.{IsMoved};
+ghost use Rattle.unit_steps.specs.Waiting.{waiting};
 
 use crate::due::{after_declared, after_unit};
 use crate::point::{Next, Point};
@@ -40,11 +41,12 @@ fn declare(
     node: u32,
     lexeme: Lexeme,
 ) -> Result<Option<Next>, Memory>
-    ensures { IfOk result (λ moved. (nodes : List arena.Node) → (depth : ℕ)
+    ensures moves { IfOk result (λ moved. (nodes : List arena.Node) → (depth : ℕ)
         → (us : List units.UnitTree) → (xs : syntax.Trees) → (x : syntax.Tree)
         → (spelled : List Lexeme) → (part : Part) → IsReached nodes reached depth us
         → AreParts nodes declarations xs → part.node ≡ node → IsPart nodes part x spelled
         → IsMoved nodes moved (machine.after_declared (lexemes.then xs x) depth us lexeme)) }
+    ensures few { IfOk result (λ moved. waiting moved ≤ 1) }
 {
     let Ok(declarations) = then(declarations, node) else {
         return Err(Memory);
@@ -61,11 +63,12 @@ fn finished(
     lexeme: Lexeme,
 ) -> Result<Option<Next>, Memory>
     requires { node < length tree.now }
-    ensures { IfOk result (λ moved. (depth : ℕ) → (us : List units.UnitTree) → (b : machine.Begun)
-        → (x : syntax.Tree) → (spelled : List Lexeme) → (part : Part)
+    ensures moves { IfOk result (λ moved. (depth : ℕ) → (us : List units.UnitTree)
+        → (b : machine.Begun) → (x : syntax.Tree) → (spelled : List Lexeme) → (part : Part)
         → IsReached tree.now reached depth us → IsBegun tree.now begun b → part.node ≡ node
         → IsPart tree.now part x spelled
         → IsMoved tree.now moved (machine.finished b x depth us lexeme)) }
+    ensures few { IfOk result (λ moved. waiting moved ≤ 1) }
 {
     match begun {
         Begun::Constants(declarations) => declare(reached, declarations, node, lexeme),
@@ -100,11 +103,12 @@ pub(crate) fn finish(
     lexeme: Lexeme,
 ) -> Result<Option<Next>, Memory>
     requires { part.node < length tree.now }
-    ensures { IfOk result (λ moved. (depth : ℕ) → (us : List units.UnitTree) → (b : machine.Begun)
-        → (x : syntax.Tree) → (spelled : List Lexeme)
+    ensures moves { IfOk result (λ moved. (depth : ℕ) → (us : List units.UnitTree)
+        → (b : machine.Begun) → (x : syntax.Tree) → (spelled : List Lexeme)
         → IsReached tree.now unfinished.reached depth us → IsBegun tree.now unfinished.begun b
         → IsPart tree.now part x spelled
         → IsMoved tree.now moved (machine.finished b x depth us lexeme)) }
+    ensures few { IfOk result (λ moved. waiting moved ≤ 1) }
 {
     let (reached, begun) = unfinished.into_begun();
     finished(reached, begun, tree, part.node, lexeme)
@@ -113,11 +117,12 @@ pub(crate) fn finish(
 // A whole part of a unit that was read after others, with its last lexeme: declarations of
 // constants may end so.
 fn conclude(reached: Reached, begun: Begun, node: u32) -> Result<Option<Next>, Memory>
-    ensures { IfOk result (λ moved. (nodes : List arena.Node) → (depth : ℕ)
+    ensures moves { IfOk result (λ moved. (nodes : List arena.Node) → (depth : ℕ)
         → (us : List units.UnitTree) → (b : machine.Begun) → (x : syntax.Tree)
         → (spelled : List Lexeme) → (part : Part) → IsReached nodes reached depth us
         → IsBegun nodes begun b → part.node ≡ node → IsPart nodes part x spelled
         → IsMoved nodes moved (machine.concluded b x depth us)) }
+    ensures few { IfOk result (λ moved. waiting moved ≡ 0) }
 {
     match begun {
         Begun::Constants(declarations) => {
@@ -132,11 +137,12 @@ fn conclude(reached: Reached, begun: Begun, node: u32) -> Result<Option<Next>, M
 
 /// A frame has ended with its last lexeme, and the one below takes its part.
 pub(crate) fn shut(unfinished: Unfinished, part: Part) -> Result<Option<Next>, Memory>
-    ensures { IfOk result (λ moved. (nodes : List arena.Node) → (depth : ℕ)
+    ensures moves { IfOk result (λ moved. (nodes : List arena.Node) → (depth : ℕ)
         → (us : List units.UnitTree) → (b : machine.Begun) → (fs : List machine.Frame)
         → (x : syntax.Tree) → (spelled : List Lexeme) → IsUnder nodes unfinished b fs depth us
         → IsPart nodes part x spelled
         → IsMoved nodes moved (machine.shut b fs x spelled depth us)) }
+    ensures few { IfOk result (λ moved. waiting moved ≤ length unfinished.below.items) }
 {
     let mut unfinished = unfinished;
     let Some(mut frame) = unfinished.below.pop() else {

@@ -1,4 +1,4 @@
 use Rattle.unit_steps.proofs.due.unit_due.Goals as goal
 
-pub returns : goal.returns
-returns c = rw (← c.unit_start.ensures) c.start.ensures
+pub returns-clause-moves : goal.returns-clause-moves
+returns-clause-moves c = rw (← c.unit_start.ensures) c.start.ensures.moves

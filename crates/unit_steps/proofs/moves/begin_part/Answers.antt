@@ -1,4 +1,4 @@
 use Rattle.unit_steps.proofs.moves.begin_part.Goals as goal
 
-pub returns : goal.returns
-returns c nodes d us b fs f read u i p = (c.in-Ok.ensures nodes d us b fs f u i, c.new-frame.ensures nodes read p)
+pub returns-clause-moves : goal.returns-clause-moves
+returns-clause-moves c nodes d us b fs f read u i p = (c.in-Ok.ensures.under nodes d us b fs f u i, c.new-frame.ensures nodes read p)

@@ -10,19 +10,19 @@ move_frame-requires c =
     let w = ended-moves _ _ c.args.frame _ _ _ c.args.lexeme (not-some _ c.in_default.not-Some) c.requires.2 in
     (w.frame, w.is)
 
-pub returns-in-Some : goal.returns-in-Some
-returns-in-Some c =
+pub returns-in-Some-clause-moves : goal.returns-in-Some-clause-moves
+returns-in-Some-clause-moves c =
     IfOk-weaker c.finish.result _ _
     (λ moved h d us b fs f r g e.
     let w = ended-whole _ _ c.args.frame _ c.in-Some.part f fs c.args.lexeme c.in-Some.is e in
     step-whole-is _ c.in-Some.part b f fs d us c.args.lexeme _ w (h d us b w.tree w.spelled r g w.is))
-    c.finish.ensures
+    c.finish.ensures.moves
 
-pub returns : goal.returns
-returns c =
+pub returns-clause-moves : goal.returns-clause-moves
+returns-clause-moves c =
     IfOk-weaker c.move_frame.result _ _
     (λ moved h d us b fs f r g e.
     let w = ended-moves _ _ c.args.frame _ f fs c.args.lexeme (not-some _ c.in_default.not-Some) e in
     step-moves-is _ _ _ c.args.frame c.frame_move-to.result b f fs d us c.args.lexeme _ c.frame_move-to.ensures w
     (h d us b w.frames w.frame (record { reached = r; begun = g; below = w.below }) w.is))
-    c.move_frame.ensures
+    c.move_frame.ensures.moves
