@@ -1,5 +1,5 @@
 // From bytes to a tree.
-ghost use Rattle.std.specs.Prelude.{◌≡◌, ◌<◌, ◌≤◌, ◌^◌, ℕ, List, Some, None, length, take, IfOk, IfErr};
+ghost use Rattle.std.specs.Prelude.{◌≡◌, ◌+◌, ◌*◌, ◌<◌, ◌≤◌, ◌^◌, ℕ, List, Some, None, length, take, IfOk, IfErr};
 ghost use Rattle.std.specs.List.{All, AllByRecursion};
 ghost use Rattle.unit_grammar.specs.Units.{ModuleUnits};
 ghost use Rattle.unit_grammar.specs.FirstBad.{EndsOnce};
@@ -55,13 +55,15 @@ impl From<Memory> for FrontError {
 /// 101 where the bytes are not UTF-8, 104 where they are more than 2^20, 102 where no header begins a
 /// module, 201 or 202 at the first bad lexeme, 105 at the first unit that is higher than 1,000, and 103
 /// where the module has another name than its file. `Memory` comes where there is no room.
-/// The names and symbols of a tree lie in the bytes, and it declares fewer than 2^32 names.
+/// The names and symbols of a tree lie in the bytes, it declares fewer than 2^32 names, and it has at
+/// most 17 nodes for each byte, and 17.
 pub fn front(alloc: Global, name: &str, bytes: &[u8]) -> Result<ModuleTree, FrontError>
     requires { length bytes.now < 2 ^ 31 }
     ensures tree { IfOk result (λ tree. (found : ModuleUnits)
         × IsFront name.now bytes.now (Front.Tree found) × IsTree tree found bytes.now) }
     ensures lexemes { IfOk result (λ tree. LexemesLie bytes.now (module_of tree)) }
     ensures few { IfOk result (λ tree. length (declaring (module_of tree).units) < 2 ^ 32) }
+    ensures nodes { IfOk result (λ tree. length tree.tree ≤ 17 * (length bytes.now + 1)) }
     ensures fault { IfErr result (λ error. IsFrontFault name.now bytes.now error) }
     ensures placed { IfErr result
         (λ error. IsFaultPlaced (take (readable_len bytes.now) bytes.now) error) }
@@ -90,6 +92,7 @@ fn front_of_text(alloc: Global, name: &str, source: &str) -> Result<ModuleTree, 
         × IsFront name.now source.now (Front.Tree found) × IsTree tree found source.now) }
     ensures lexemes { IfOk result (λ tree. LexemesLie source.now (module_of tree)) }
     ensures few { IfOk result (λ tree. length (declaring (module_of tree).units) < 2 ^ 32) }
+    ensures nodes { IfOk result (λ tree. length tree.tree ≤ 17 * (length source.now + 1)) }
     ensures fault { IfErr result (λ error. IsFrontFault name.now source.now error) }
     ensures placed { IfErr result (λ error. IsFaultPlaced source.now error) }
 {
@@ -116,6 +119,7 @@ fn front_of_lexemes(
     ensures tree { IfOk result (λ tree. IsReadFront name.now source.now lexemes.now tree) }
     ensures lexemes { IfOk result (λ tree. LexemesLie source.now (module_of tree)) }
     ensures few { IfOk result (λ tree. length (declaring (module_of tree).units) < 2 ^ 32) }
+    ensures nodes { IfOk result (λ tree. length tree.tree ≤ 17 * (length source.now + 1)) }
     ensures fault { IfErr result (λ error. IsFaultOfLexemes name.now source.now lexemes.now error) }
     ensures placed { IfErr result (λ error. IsFaultPlaced source.now error) }
 {
@@ -148,11 +152,13 @@ fn front_of_tree(
     requires read { IsRead tree lexemes.now }
     requires further { BeginsFurther 0 lexemes.now }
     requires few { length lexemes.now < 2 ^ 32 }
+    requires nodes { length tree.tree ≤ 17 * length lexemes.now }
     requires placed { All (λ l. IsPlaced source.now l.span) lexemes.now }
     requires lie { AllByRecursion (LiesIn source.now) lexemes.now }
     ensures tree { IfOk result (λ tree. IsReadFront name.now source.now lexemes.now tree) }
     ensures lexemes { IfOk result (λ tree. LexemesLie source.now (module_of tree)) }
     ensures few { IfOk result (λ tree. length (declaring (module_of tree).units) < 2 ^ 32) }
+    ensures nodes { IfOk result (λ whole. length whole.tree ≤ 17 * length lexemes.now) }
     ensures fault { IfErr result (λ error. IsFaultOfLexemes name.now source.now lexemes.now error) }
     ensures placed { IfErr result (λ error. IsFaultPlaced source.now error) }
 {

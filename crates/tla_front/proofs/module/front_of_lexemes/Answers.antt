@@ -1,4 +1,5 @@
-use Rattle.std.proofs.Common.{◌<◌, ◌^◌, length, arith, subst, sym}
+use Rattle.std.proofs.Common.{◌+◌, ◌*◌, ◌≤◌, ◌<◌, ◌^◌, length, arith, ap, subst, sym}
+use Rattle.std.proofs.lemmas.Result.{IfOk-weaker}
 use Rattle.std.specs.List.{AllByRecursion}
 use Rattle.tla_model.specs.Lexemes.{LiesIn}
 use Rattle.unit_heights.specs.FirstHigh.{BeginsFurther}
@@ -27,6 +28,9 @@ front_of_tree-requires-clause-few c =
     (arith, c.requires.small, few-lexemes c.args.source.now c.args.lexemes.now (text-further c.reads_longest.ensures c.args.source.now c.args.lexemes.now c.requires.part) c.requires.placed) in
     subst (λ ls. length ls < 2 ^ 32) (sym c.as_slice.ensures) few
 
+pub front_of_tree-requires-clause-nodes : goal.front_of_tree-requires-clause-nodes
+front_of_tree-requires-clause-nodes c = subst (λ ls. length c.in-Ok.tree.tree ≤ 17 * length ls) (sym c.as_slice.ensures) c.in-Ok.ensures.few
+
 pub front_of_tree-requires-clause-lie : goal.front_of_tree-requires-clause-lie
 front_of_tree-requires-clause-lie c =
     subst (λ ls. AllByRecursion (LiesIn c.args.source.now) ls) (sym c.as_slice.ensures) (text-lies c.reads_longest.ensures c.args.source.now c.args.lexemes.now c.requires.part c.requires.placed)
@@ -40,3 +44,10 @@ returns-in-Err-FirstBad-clause-fault c =
 pub returns-in-Err-FirstBad-clause-placed : goal.returns-in-Err-FirstBad-clause-placed
 returns-in-Err-FirstBad-clause-placed c =
     bad-placed c.args.source.now c.args.lexemes.now c.as_slice-in-Err-FirstBad.result.now _ c.bad_lexeme.result c.as_slice-in-Err-FirstBad.ensures c.bad_lexeme.ensures c.requires.placed
+
+pub returns-in-Ok-clause-nodes : goal.returns-in-Ok-clause-nodes
+returns-in-Ok-clause-nodes c =
+    let few : length c.args.lexemes.now ≤ length c.args.source.now + 1 =
+    few-lexemes c.args.source.now c.args.lexemes.now (text-further c.reads_longest.ensures c.args.source.now c.args.lexemes.now c.requires.part) c.requires.placed in
+    let same = ap length c.as_slice.ensures in
+    IfOk-weaker c.front_of_tree.result _ _ (λ tree nodes. omega (arith, few, same, nodes)) c.front_of_tree.ensures.nodes
