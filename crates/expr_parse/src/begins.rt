@@ -170,7 +170,8 @@ fn end(stack: &mut Stack, tree: &mut Tree, frame: Frame, lexeme: Lexeme) -> Resu
     Ok(turn)
 }
 
-// Whether there is room to count one place more of an operator's parameter.
+// Whether there is room to count one place more of an operator's parameter: it has fewer than
+// 2^32 - 1 so far.
 fn counts(wait: Wait) -> bool
     ensures { IsTrue result ↔ tables.places_of wait < 2 ^ 32 - 1 }
 {
@@ -180,7 +181,8 @@ fn counts(wait: Wait) -> bool
     }
 }
 
-// A lexeme of the frame's own form.
+// A lexeme of the frame's own form. `Memory` also where an operator's parameter that is read has
+// 2^32 - 1 places.
 fn mark(stack: &mut Stack, tree: &mut Tree, frame: Frame, lexeme: Lexeme) -> Result<Turn, Memory>
     requires { IsOpen tree.old stack.old frame.opening }
     ensures { IfOk result (λ turn. (top : machine.Frame) → (below : List machine.Frame)

@@ -97,7 +97,8 @@ impl ExprMachine {
     /// `=`, or the run that closes the module; for bounds `]`. `Refused` comes exactly where it is not
     /// `Done` and nothing that is derivable begins with the lexemes so far. After either, and after
     /// `Memory`, it refuses whatever comes. All its steps together add at most eight nodes for each,
-    /// and leave the nodes that were there.
+    /// and leave the nodes that were there. `Memory` comes only where there is no room, where the tree
+    /// has 2^32 - 1 nodes, or where an operator's parameter has as many places.
     pub fn step(&mut self, lexeme: &Lexeme, _next: &Lexeme, tree: &mut Tree) -> Result<Step, Memory>
         requires { IsReady tree.old self.old }
         ensures answer { IfOk result (λ step. (before : ℕ) → (lexemes : List Lexeme)

@@ -145,7 +145,7 @@ impl Stack {
         }
     }
 
-    /// Puts a frame on the stack.
+    /// Puts a frame on the stack. `Memory` only where there is no room: it counts nothing.
     pub fn put(&mut self, wait: Wait, opening: Opening) -> Result<(), Memory>
         ensures { OnOk result ((nodes : List Node) → (parts : List syntax.Tree)
             → (read : List Lexeme) → (below : List machine.Frame)
@@ -177,7 +177,8 @@ impl Stack {
         Ok(opening.reads(part.span))
     }
 
-    /// The node of a frame that ends: it is no longer on the stack.
+    /// The node of a frame that ends: it is no longer on the stack. `Memory` also where the tree can
+    /// number no further node.
     pub fn node(&mut self, tree: &mut Tree, form: Form, opening: Opening) -> Result<Part, Memory>
         requires { IsOpen tree.old self.old opening }
         ensures same { OnOk result (self.new.frames.items ≡ self.old.frames.items) }
@@ -194,7 +195,7 @@ impl Stack {
         })
     }
 
-    /// The node of a frame that ends with a last part.
+    /// The node of a frame that ends with a last part. `Memory` as in [`Stack::node`].
     pub fn close(
         &mut self,
         tree: &mut Tree,

@@ -44,7 +44,8 @@ pub fn covered(span: Option<Span>) -> Span
     }
 }
 
-/// Adds a node and answers its number. `Memory` also where the tree can number no further node.
+/// Adds a node and answers its number. `Memory` also where the tree can number no further node: it
+/// has 2^32 - 1.
 pub fn add(tree: &mut Tree, form: Form, children: &[u32], span: Span) -> Result<u32, Memory>
     requires there { AreThere tree.old children.now }
     ensures number { IfOk result (λ number. number ≡ length tree.old) }
