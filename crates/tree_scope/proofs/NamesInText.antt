@@ -16,11 +16,11 @@ use Rattle.declared_names.specs.Nodes.{form_at, parts_at}
 
 -- ---- a lexeme that may be there
 
-pub is_named : Option Lexeme → Bool
+unfoldable pub is_named : Option Lexeme → Bool
 is_named None = false
 is_named (Some l) = true
 
-pub or_else : Lexeme → Option Lexeme → Lexeme
+unfoldable pub or_else : Lexeme → Option Lexeme → Lexeme
 or_else d None = d
 or_else d (Some l) = l
 
