@@ -9,7 +9,8 @@ use Rattle.family_facts.specs.Verdicts.{AreDistinct}
 use Rattle.family_facts.specs.declared.verdict.File.{File}
 use Rattle.list_laws.proofs.Lists.{pushed-cases}
 use Rattle.tla_lexeme.specs.LexemeSets.{is_identifier}
-use Rattle.sany_files.specs.Files.{module_of_file, modules_of_listing, with_read}
+use Rattle.file_names.specs.Files.{module_of_file, modules_of_listing}
+use Rattle.sany_files.specs.Files.{with_read}
 use Rattle.name_graph.specs.Family.{AreOnce}
 use Rattle.sany_files.specs.Reading.{AreNamed}
 use Rattle.sany_files.proofs.DistinctLemmas.{file-name, filter_map-apart, sorted-apart}

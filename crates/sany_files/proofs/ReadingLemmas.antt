@@ -7,18 +7,11 @@ use Rattle.std.proofs.lemmas.List.Sums.{sum_by-append}
 use Rattle.std.proofs.lemmas.Bool.{lt-ltb}
 use Rattle.tool_io.specs.Folder.{Told, after_call, read_at}
 use Rattle.family_facts.specs.declared.verdict.File.{File}
+use Rattle.file_names.specs.Files.{file_of, module_of_file, modules_of_file, modules_of_listing}
 use Rattle.sany_files.specs.Calls.{after_calls, read_len}
-use Rattle.sany_files.specs.Files.{byte_count, file_of, module_of_file, modules_of_listing, reads, with_read, MOST, MOST_BYTES}
-use Rattle.sany_files.specs.Reading.{modules_of_file, within}
+use Rattle.sany_files.specs.Files.{byte_count, reads, with_read, MOST, MOST_BYTES}
+use Rattle.sany_files.specs.Reading.{within}
 
--- one more file of a listing
-pub modules-more : (names : List (List ℕ)) (i : ℕ) (d name : List ℕ) (found found' : List (List ℕ)) → i < length names → name ≡ get_or names i d →
-    found ≡ modules_of_listing (take i names) → found' ≡ found ++ modules_of_file name → found' ≡ modules_of_listing (take (i + 1) names)
-modules-more names i d name found found' lt isname inv more =
-    more
-    ∙ (ap (λ f. f ++ modules_of_file name) inv
-    ∙ (ap (λ n. modules_of_listing (take i names) ++ modules_of_file n) isname
-    ∙ (sym (filter_map-append module_of_file (take i names) (get_or names i d ∷ [])) ∙ ap (λ ns. modules_of_listing ns) (sym (take_more names i d lt)))))
 
 after_calls-suc : (i : ℕ) (t : Told) → after_calls (suc i) t ≡ after_call (after_calls i t)
 after_calls-suc zero t = refl

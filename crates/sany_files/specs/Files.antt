@@ -7,23 +7,11 @@ use Rattle.family_facts.specs.declared.verdict.File.{File}
 use Rattle.gen_texts.specs.Generated.{generated}
 use Rattle.sany_words.specs.Words.{request_of}
 use Rattle.sany_words.specs.declared.request.Request.{Request}
-
--- the module that a file stands for, by its name
-abbrev pub module_of_file : List ℕ → Option (List ℕ)
-module_of_file file =
-    if ends_with nat_eq file (codes ".tla") && is_identifier (take (length file - 4) file) then Some (take (length file - 4) file) else None
-
--- the modules of a listing, in order
-abbrev pub modules_of_listing : List (List ℕ) → List (List ℕ)
-modules_of_listing names = filter_map module_of_file names
+use Rattle.file_names.specs.Files.{file_of, modules_of_listing}
 
 -- the modules of a folder, by one listing of it
 abbrev pub module_names : Told → List ℕ → List (List ℕ)
 module_names t folder = modules_of_listing (names_at t folder)
-
--- the file of a module
-abbrev pub file_of : List ℕ → List ℕ
-file_of name = name ++ codes ".tla"
 
 -- the most bytes that are read of a file
 abbrev pub MOST : ℕ

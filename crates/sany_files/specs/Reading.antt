@@ -3,12 +3,9 @@ use Rattle.std.specs.Prelude.{◌≡◌, ◌<◌, ℕ, List, [], ◌∷◌, leng
 use Rattle.tool_io.specs.Folder.{Told, after_call}
 use Rattle.tool_io.specs.declared.IoFault.{IoFault}
 use Rattle.family_facts.specs.declared.verdict.File.{File}
-use Rattle.sany_files.specs.Files.{modules_of_listing, module_names, byte_count, files_of, MOST_BYTES, MOST_MODULES}
+use Rattle.file_names.specs.Files.{modules_of_listing}
+use Rattle.sany_files.specs.Files.{module_names, byte_count, files_of, MOST_BYTES, MOST_MODULES}
 use Rattle.sany_files.specs.Calls.{after_calls, calls_of_folder, reads_made}
-
--- the module that a file stands for, if it stands for one, as a list
-abbrev pub modules_of_file : List ℕ → List (List ℕ)
-modules_of_file file = modules_of_listing (file ∷ [])
 
 -- the files are of the first so many names
 abbrev pub AreNamed : List File → List (List ℕ) → ℕ → Type 0

@@ -6,13 +6,14 @@ ghost use Rattle.tool_io.specs.Folder.{after_call, read_at};
 ghost use Rattle.family_facts.specs.Verdicts.{AreDistinct};
 ghost use Rattle.sany_files.specs.Calls.{IsLeftAfter};
 ghost use Rattle.sany_files.specs.Calls as calls;
+ghost use Rattle.file_names.specs.Files as file_names_in;
 ghost use Rattle.sany_files.specs.Files as files_in;
 ghost use Rattle.name_graph.specs.Family.{AreOnce};
 ghost use Rattle.sany_files.specs.Reading as reading;
 
 use family_facts::File;
+use file_names::file_of;
 use std::alloc::Global;
-use tla_lexeme::is_identifier;
 use tool_io::{Folder, IoFault};
 use tool_list::{Chars, List, Memory};
 
@@ -21,39 +22,6 @@ const MOST: u64 = (1 << 25) + 1;
 
 // The most bytes of all files of a folder.
 const MOST_BYTES: u64 = 1 << 25;
-
-// The module that a file stands for, by its name.
-fn module_of_file(file: &str) -> Option<&str>
-    ensures { option_copied result ≡ files_in.module_of_file file.now }
-{
-    let stem = file.strip_suffix(".tla")?;
-    if is_identifier(stem.as_bytes()) {
-        Some(stem)
-    } else {
-        None
-    }
-}
-
-// Appends the name of the module that a file stands for, if it stands for one.
-fn add_module(alloc: Global, found: &mut List<Chars>, file: &str) -> Result<(), Memory>
-    ensures { OnOk result (found.new ≡ found.old ++ reading.modules_of_file file.now) }
-{
-    let Some(name) = module_of_file(file) else {
-        return Ok(());
-    };
-    found.push(Chars::from_str(alloc, name)?)
-}
-
-/// The modules of a listing, in order.
-pub fn modules_of(alloc: Global, names: &[Chars]) -> Result<List<Chars>, Memory>
-    ensures { IfOk result (λ found. found ≡ files_in.modules_of_listing names.now) }
-{
-    let mut found = List::new(alloc);
-    for name in names {
-        add_module(alloc, &mut found, name.as_str())?;
-    }
-    Ok(found)
-}
 
 // Reads the file of a module. None where it is gone.
 fn read_module<F: Folder>(
@@ -66,10 +34,10 @@ fn read_module<F: Folder>(
     ensures part { OnErr result
         (IfSome (F.told folder.old) (λ t. IsLeftAfter 0 1 t (F.told folder.new))) }
     ensures bytes { IfOk result (λ bytes. IfSome (F.told folder.new) (λ t. bytes
-        ≡ read_at t path.now (files_in.file_of name.now) files_in.MOST)) }
+        ≡ read_at t path.now (file_names_in.file_of name.now) files_in.MOST)) }
     ensures cause { HasCause (F.fault_count folder.old) (F.fault_count folder.new) result }
 {
-    let Ok(file) = format!(in alloc; "{name}.tla") else {
+    let Ok(file) = file_of(alloc, name) else {
         return Err(IoFault::Memory);
     };
     folder.read(alloc, path, file.as_str(), MOST)

@@ -8,8 +8,9 @@ ghost use Rattle.sany_files.specs.Calls.{IsLeftAfter};
 ghost use Rattle.sany_files.specs.Files as files_in;
 ghost use Rattle.sany_files.specs.Reading as reading;
 
-use crate::files::{modules_of, read_files};
+use crate::files::read_files;
 use family_facts::File;
+use file_names::modules_of;
 use std::alloc::Global;
 use tool_io::{Folder, IoFault};
 use tool_list::List;

@@ -14,7 +14,7 @@ use Rattle.server_texts.specs.Documents.{after_change, after_close, after_open, 
 use Rattle.server_texts.specs.Kept.{HasNamesInOrder, HasTexts, IsKept}
 use Rattle.server_texts.specs.Notes.{notes_of}
 use Rattle.server_texts.specs.Server.{server_meaning}
-use Rattle.server_texts.specs.Uris.{module_of}
+use Rattle.server_uris.specs.Uris.{module_of}
 use Rattle.server_texts.proofs.ByName.{absent, all-put, all-without, found-only, put-found, put-others, without-apart, without-none, without-others}
 use Rattle.server_texts.proofs.Stepping.{kept-by, opened_name, root-opened, text_name}
 

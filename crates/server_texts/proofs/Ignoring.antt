@@ -6,7 +6,7 @@ use Rattle.lsp_answers.specs.States.{State, Root, Opened, first_too_long, judged
 use Rattle.doc_edit.specs.Edits.{after_change, first_backward, first_excess, most_bytes}
 use Rattle.server_texts.specs.Documents.{after_close, after_open, closed_as, edited_at, edited_if, edited_texts, opened_at, rooted, texts_after, with_changes, with_its_text, with_opened, Edited, IsRooted}
 use Rattle.server_texts.specs.Server.{server_meaning}
-use Rattle.server_texts.specs.Uris.{document_root, module_of}
+use Rattle.server_uris.specs.Uris.{document_root, module_of}
 
 -- where changes change nothing, the state is judged as it is
 as_is : (s : State) (changes : List Change) (e : Option Edited) → e ≡ None → unless_limit (first_too_long (edited_texts changes e)) s (judged (with_changes s changes e)) ≡ judged s

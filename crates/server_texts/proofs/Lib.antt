@@ -5,8 +5,6 @@ pub mod Ignoring
 pub mod Listing
 pub mod Looking
 pub mod Members
-pub mod ModuleTexts
 pub mod Noticing
 pub mod Ordering
-pub mod Slashes
 pub mod Stepping

@@ -15,13 +15,13 @@ use Rattle.tool_io.specs.Folder.{Told, files_at, names_at, names_of, with_names}
 use Rattle.tool_io.specs.declared.FileBytes.{FileBytes}
 use Rattle.tla_lexeme.specs.LexemeSets.{is_fair, is_identifier, is_in, is_name, table_kind}
 use Rattle.tla_lexeme.specs.declared.class.Class.TheVariants.{Letter, WordChar}
-use Rattle.sany_files.specs.Files.{file_of, module_of_file, modules_of_listing}
 use Rattle.lsp_answers.specs.States.{State}
+use Rattle.file_names.specs.Files.{file_of, module_of_file, modules_of_listing}
 use Rattle.server_texts.specs.Documents.{called, modules_in, names_in, root_modules}
 use Rattle.server_texts.specs.Kept.{AreInByteOrder}
-use Rattle.server_texts.specs.Uris.{client_root_of}
+use Rattle.server_uris.specs.Uris.{client_root_of}
 use Rattle.server_texts.proofs.ByteOrder.{before-trans, ordered-first, ordered-more, ordered-none, ordered-rest, turned, IsBeforeAll}
-use Rattle.server_texts.proofs.ModuleTexts.{file_named}
+use Rattle.file_names.proofs.Named.{file_named}
 
 -- ---- the names of files
 

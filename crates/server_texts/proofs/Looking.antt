@@ -5,7 +5,7 @@ use Rattle.lsp_answers.specs.States.{State, Root, LooksAtTexts}
 use Rattle.server_texts.specs.Documents.{after_root, called, file_in, from_folder, listed, named, path_of, with_client_root, with_text}
 use Rattle.server_texts.specs.Notes.{notes_in}
 use Rattle.server_texts.specs.Server.{server_meaning}
-use Rattle.server_texts.specs.Uris.{client_root_of}
+use Rattle.server_uris.specs.Uris.{client_root_of}
 
 -- two states have the same documents
 abbrev Keeps : State → State → Type 0

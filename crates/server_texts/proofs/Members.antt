@@ -11,7 +11,7 @@ use Rattle.server_texts.specs.Documents.{after_change, after_close, after_open, 
 use Rattle.server_texts.specs.Kept.{HasMembers, IsKept}
 use Rattle.server_texts.specs.Notes.{notes_of}
 use Rattle.server_texts.specs.Server.{server_meaning}
-use Rattle.server_texts.specs.Uris.{document_root, module_of}
+use Rattle.server_uris.specs.Uris.{document_root, module_of}
 use Rattle.server_texts.proofs.ByName.{all-put, all-without, found-holds}
 use Rattle.server_texts.proofs.Stepping.{kept-by, opened_name, root-due, root-opened}
 

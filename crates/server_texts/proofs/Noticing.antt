@@ -11,7 +11,7 @@ use Rattle.lsp_answers.specs.declared.Due.{Due}
 use Rattle.lsp_answers.specs.States.{State, Root, Named, Opened, all_notices, closing, dues_of, notice, notices, others_notice, others_notices, was_sent}
 use Rattle.server_texts.specs.Kept.{AreInByteOrder, HasMembers, HasNamesInOrder}
 use Rattle.server_texts.specs.Notes.{notes_of}
-use Rattle.server_texts.specs.Uris.{module_of}
+use Rattle.server_uris.specs.Uris.{module_of}
 use Rattle.server_texts.proofs.ByteOrder.{before-trans, ordered-first, ordered-more, ordered-none, ordered-rest, turned, IsBeforeAll}
 use Rattle.server_texts.proofs.Stepping.{opened_name}
 

@@ -9,7 +9,7 @@ use Rattle.server_texts.specs.Documents.{after_change, after_close, after_open, 
 use Rattle.server_texts.specs.Kept.{AreInByteOrder, HasNamesInOrder, IsKept}
 use Rattle.server_texts.specs.Notes.{notes_of}
 use Rattle.server_texts.specs.Server.{server_meaning}
-use Rattle.server_texts.specs.Uris.{client_root_of, module_of}
+use Rattle.server_uris.specs.Uris.{client_root_of, module_of}
 use Rattle.server_texts.proofs.ByteOrder.{ordered-none, put-ordered, without-ordered}
 use Rattle.server_texts.proofs.Stepping.{kept-by, opened_name, root-keeps, text_name}
 

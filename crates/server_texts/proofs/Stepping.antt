@@ -7,7 +7,7 @@ use Rattle.server_texts.specs.Documents.{after_change, after_close, after_files,
 use Rattle.server_texts.specs.Kept.{IsKept}
 use Rattle.server_texts.specs.Notes.{notes_of}
 use Rattle.server_texts.specs.Server.{server_meaning}
-use Rattle.server_texts.specs.Uris.{module_of}
+use Rattle.server_uris.specs.Uris.{module_of}
 use Rattle.server_texts.proofs.Looking.{looks}
 
 abbrev pub text_name : ModuleText → List ℕ

@@ -9,7 +9,7 @@ use Rattle.lsp_wire.specs.declared.types.Change.{Change}
 use Rattle.lsp_wire.specs.declared.types.FileEvent.{FileEvent}
 use Rattle.lsp_answers.specs.States.{State, Meaning, after_dues, judged_change}
 use Rattle.server_texts.specs.Documents.{text_of}
-use Rattle.server_texts.specs.Uris.{module_of}
+use Rattle.server_uris.specs.Uris.{module_of}
 
 -- names stand in byte order, none of them twice
 abbrev pub AreInByteOrder : List (List ℕ) → Type 0

@@ -4,4 +4,3 @@ pub mod Kept
 pub mod Notes
 pub mod Outlines
 pub mod Server
-pub mod Uris

@@ -13,15 +13,7 @@ ghost use Rattle.server_texts.specs.Kept.{AreInByteOrder, HasMembers, HasNamesIn
 ghost use Rattle.server_texts.specs.Kept.{IsKept};
 ghost use Rattle.server_texts.specs.Notes.{notes_of};
 ghost use Rattle.server_texts.specs.Server.{server_meaning};
-ghost use Rattle.server_texts.specs.Uris.{before_last_slash, client_root_of, cut_path, document_root};
-ghost use Rattle.server_texts.specs.Uris.{module_behind, module_of, without_slash, IsBeforeLastSlash, IsModuleText};
-
-/// A text behind a root's is a module's exactly where it is the root's text, `/`, an identifier, which
-/// is the module's name, and `.tla`. So a document is one module, and a module has one such text.
-pub fn module_text()
-    ensures { (root text name : List ℕ)
-        → (module_behind root text ≡ Some name) ↔ IsModuleText root text name }
-{}
+ghost use Rattle.server_uris.specs.Uris.{module_of};
 
 /// Notes look at the texts alone, and a root that is taken and a file that is read open and close no
 /// document.
@@ -80,12 +72,6 @@ pub fn texts_by_name()
         → other ≢ name → text_of (with_text s name bytes) other ≡ text_of s other }
 {}
 
-/// The root that the first document makes is what stands before the last `/` of its URL's text.
-pub fn last_slash()
-    ensures { (text front : List ℕ)
-        → (before_last_slash text ≡ Some front) ↔ IsBeforeLastSlash text front }
-{}
-
 /// Messages that change nothing: on documents that are not open, changes of which one is backward, and
 /// the text of a document that is no member of the root that is there.
 pub fn nothing_happens()
@@ -106,14 +92,9 @@ pub fn same_excess()
         → first_too_long (texts_after text changes) ≡ first_excess text changes }
 {}
 
-/// Small cases, by computation: texts of URLs, a range that is backward by its numbers, and notices in
-/// byte order of names, that of a closed document among them.
+/// Small cases, by computation: a range that is backward by its numbers, and notices in byte order of
+/// names, that of a closed document among them.
 pub fn small_cases()
-    ensures twice { without_slash (codes "file:///w//") ≡ codes "file:///w/" }
-    ensures query { without_slash (codes "file:///w/?q") ≡ codes "file:///w/?q" }
-    ensures alone { cut_path (codes "/") ≡ codes "/" }
-    ensures path { cut_path (codes "/w/") ≡ codes "/w" }
-    ensures first { before_last_slash (codes "file:///w/sub/A.tla") ≡ Some (codes "file:///w/sub") }
     ensures backward { is_backward (Some (record
         { start = record { line = 1; unit = 3 }; end = record { line = 1; unit = 2 } })) ≡ true }
     ensures between { map (λ due. due.uri) (all_notices (λ name. [])
@@ -121,19 +102,4 @@ pub fn small_cases()
         (record { name = codes "A"; uri = codes "a"; sent = None }
         ∷ record { name = codes "C"; uri = codes "c"; sent = None } ∷ []))
         ≡ codes "a" ∷ codes "b" ∷ codes "c" ∷ [] }
-{}
-
-/// Small cases of URIs, by computation: roots that a client names, with the folder that is read for
-/// each, and a root that the first document makes.
-pub fn small_roots()
-    ensures query { client_root_of (codes "file:///w/?q")
-        ≡ Some (record { text = codes "file:///w/?q"; path = Some (codes "/w") }) }
-    ensures twice { client_root_of (codes "file:///w//")
-        ≡ Some (record { text = codes "file:///w/"; path = Some (codes "/w/") }) }
-    ensures decoded { client_root_of (codes "FILE:///a%20b/")
-        ≡ Some (record { text = codes "file:///a%20b"; path = Some (codes "/a b") }) }
-    ensures web { client_root_of (codes "http://w/a")
-        ≡ Some (record { text = codes "http://w/a"; path = None }) }
-    ensures document { document_root (codes "file:///w/A.tla")
-        ≡ Some (record { text = codes "file:///w"; path = None }) }
 {}

@@ -1,6 +1,6 @@
 use Rattle.std.proofs.Common.{length, ap, arith, sym, subst, ◌∙◌}
-use Rattle.sany_files.specs.Files.{modules_of_listing}
 use Rattle.name_graph.specs.Family.{AreOnce}
+use Rattle.file_names.specs.Files.{modules_of_listing}
 use Rattle.sany_files.proofs.CallLemmas.{on-err-map, part-few}
 use Rattle.sany_files.proofs.NamedLemmas.{modules-distinct}
 use Rattle.sany_files.proofs.folder.files_of_folder.Goals as goal

@@ -7,8 +7,8 @@ use Rattle.url.specs.Parser.{Parsed, parse_url}
 use Rattle.url.specs.Parts.{Parts, kind_of, serialize}
 use Rattle.url.specs.Scheme.{is_file}
 use Rattle.tla_lexeme.specs.LexemeSets.{is_identifier}
-use Rattle.sany_files.specs.Files.{file_of, module_of_file}
 use Rattle.lsp_answers.specs.States.{Root}
+use Rattle.file_names.specs.Files.{file_of, module_of_file}
 
 -- ---- URLs
 
@@ -69,6 +69,10 @@ document_root uri =
     option_map (λ text. record { text = text; path = None }) (option_and_then (λ url. before_last_slash (serialize url)) (url_in uri))
 
 -- ---- members
+
+-- what stands behind a front, if a text begins with it
+abbrev pub behind_front : List ℕ → List ℕ → Option (List ℕ)
+behind_front front text = if starts_with nat_eq text front then Some (drop (length front) text) else None
 
 -- what stands behind a root's text and a `/`, if a text begins so
 abbrev pub behind_root : List ℕ → List ℕ → Option (List ℕ)

@@ -1,6 +1,6 @@
 use Rattle.std.proofs.Common.{◌∙◌}
-use Rattle.sany_files.proofs.ReadingLemmas.{modules-more}
-use Rattle.sany_files.proofs.files.modules_of.Goals as goal
+use Rattle.file_names.proofs.Listing.{modules-more}
+use Rattle.file_names.proofs.names.modules_of.Goals as goal
 
 pub loop-name-preserved : goal.loop-name-preserved
 loop-name-preserved c =

@@ -1,7 +1,7 @@
 use Rattle.std.proofs.Common.{◌≡◌, false, codes, nat_eq, refl}
 use Rattle.std.specs.List.{ends_with}
 use Rattle.std.proofs.lemmas.Str.Pattern.{ends_text}
-use Rattle.sany_files.proofs.files.module_of_file.Goals as goal
+use Rattle.file_names.proofs.names.module_of_file.Goals as goal
 
 pub returns-in_err-stem : goal.returns-in_err-stem
 returns-in_err-stem c =

@@ -2,7 +2,7 @@ use Rattle.std.proofs.Common.{refl}
 use Rattle.std.specs.Str.{chars, is_utf8}
 use Rattle.percent_encoding.specs.Percent.{percent_decode}
 use Rattle.url.proofs.OnLiterals.{url_on_literals}
-use Rattle.server_texts.proofs.laws.small_roots.Goals as goal
+use Rattle.server_uris.proofs.laws.small_roots.Goals as goal
 
 pub returns-clause-query : goal.returns-clause-query
 unfolding url_on_literals percent_decode is_utf8 chars

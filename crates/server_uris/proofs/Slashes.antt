@@ -2,7 +2,7 @@
 use Rattle.std.proofs.Common.{◌≡◌, ◌↔◌, ◌≢◌, ℕ, Bool, true, false, eqb, if◌then◌else◌, List, [], ◌∷◌, ◌++◌, Option, Some, None, codes, refl, ap, ◌∙◌, subst}
 use Rattle.std.specs.List.{AllByRecursion}
 use Rattle.std.proofs.lemmas.Bool.{eqb-true, eq-eqb, ne_eqb}
-use Rattle.server_texts.specs.Uris.{before_last_slash, before_part, IsBeforeLastSlash}
+use Rattle.server_uris.specs.Uris.{before_last_slash, before_part, IsBeforeLastSlash}
 
 abbrev Plain : List ℕ → Type 0
 Plain bs = AllByRecursion (λ b. b ≢ 47) bs
@@ -22,7 +22,7 @@ plain : (bs : List ℕ) → before_last_slash bs ≡ None → Plain bs
 plain [] e = tt
 plain (b ∷ bs) e = plain_if b bs (before_last_slash bs) refl (plain bs) e
 
-none_in : (bs : List ℕ) → Plain bs → before_last_slash bs ≡ None
+pub none_in : (bs : List ℕ) → Plain bs → before_last_slash bs ≡ None
 none_in [] p = refl
 none_in (b ∷ bs) p = ap (before_part b) (none_in bs p.1) ∙ ap front_if (ne_eqb b 47 p.0)
 

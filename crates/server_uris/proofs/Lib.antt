@@ -1,0 +1,4 @@
+mod Cutting
+mod Folders
+pub mod ModuleTexts
+pub mod Slashes
