@@ -139,7 +139,7 @@ module _ (P : Span → Type 0) where
     unit-stands (Assumption word name x) spans held = one-tree x spans held
     unit-stands (Theorem word name x) spans held = one-tree x spans held
     unit-stands (Line dashes) spans held = tt
-    unit-stands (ModuleBegin name extends) spans held = tt
+    unit-stands (ModuleBegin dashes name extends) spans held = tt
     unit-stands (ModuleEnd closing) spans held = tt
 
     units-stand : (units : List UnitTree) → AllByRecursion (UnitSpans P) units → AllByRecursion At (units_lexemes units) → Stand (all_unit_faults means units)

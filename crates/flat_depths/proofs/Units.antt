@@ -62,7 +62,7 @@ module _ (text : Text) (files : List ℕ → Outside) (words : List ℕ) where
   meaning-left state (FunctionDefinition local x) meaning path leaves = depths-left state.depths (map (meant text) (definition x)) _ meaning path leaves
   meaning-left state (ModuleDefinition local x) meaning path leaves = depths-left state.depths (map (meant text) (definition x)) _ meaning path leaves
   meaning-left state (Instance local x) meaning path leaves = brought-left state (Instance local x) x meaning path leaves
-  meaning-left state (ModuleBegin name extends) meaning path leaves = extended-left (begun state.modules (spelled text.source name)) state.depths extends meaning path leaves
+  meaning-left state (ModuleBegin dashes name extends) meaning path leaves = extended-left (begun state.modules (spelled text.source name)) state.depths extends meaning path leaves
   meaning-left state (Variables names) meaning path leaves = refl
   meaning-left state (Constants declarations) meaning path leaves = refl
   meaning-left state (Assumption word name x) meaning path leaves = refl
@@ -103,7 +103,7 @@ module _ (text : Text) (files : List ℕ → Outside) (words : List ℕ) where
     unit-deep state layout (FunctionDefinition local x) next have read = definition-deep state layout (FunctionDefinition local x) x next have read
     unit-deep state layout (ModuleDefinition local x) next have read = definition-deep state layout (ModuleDefinition local x) x next have read
     unit-deep state layout (Instance local x) next have read = read
-    unit-deep state layout (ModuleBegin name extends) next have read = absurd read
+    unit-deep state layout (ModuleBegin dashes name extends) next have read = absurd read
     unit-deep state layout (ModuleEnd closing) next have read = absurd read
     unit-deep state layout (Variables names) next have read = subst (λ n. HaveDepths flat n state.depths) (sym read) have
     unit-deep state layout (Constants declarations) next have read = subst (λ n. HaveDepths flat n state.depths) (sym read) have
@@ -122,9 +122,9 @@ module _ (text : Text) (files : List ℕ → Outside) (words : List ℕ) where
     own-or (Brought j inner) there depths outer own = own
 
     begun-deep : (state : KindState) (here : Current) (round : List Current) (unit : UnitTree) (own : Meaning → Stand) (count : ℕ) (extensions : List Extension) → KeepDepths flat state (here ∷ round) → IsBegunDeep text files words flat state here round unit own extensions → KeepDepths flat (after text files words state unit) (here_behind text files words state here round unit (Begins own count extensions) ∷ here ∷ round)
-    begun-deep state here round (ModuleBegin name extends) own count extensions keep (plain, all, stay) = (
+    begun-deep state here round (ModuleBegin dashes name extends) own count extensions keep (plain, all, stay) = (
       extensions-deep (begun state.modules (spelled text.source name)) extends extensions (with_own here.layout.stands own) state.depths all (λ meaning. own-or (own meaning) (here.layout.stands meaning) (state.depths meaning) (keep.0 meaning) (plain meaning)),
-      rounds-deep state (ModuleBegin name extends) (here ∷ round) keep stay,
+      rounds-deep state (ModuleBegin dashes name extends) (here ∷ round) keep stay,
     )
     begun-deep state here round unit own count extensions keep read = absurd read
 

@@ -51,7 +51,7 @@ module _ (text : Text) (files : List ℕ → Outside) (words : List ℕ) (flat :
   IsUnitDeep state layout (FunctionDefinition local x) next = IsDefinitionDeep state layout (FunctionDefinition local x) x next
   IsUnitDeep state layout (ModuleDefinition local x) next = IsDefinitionDeep state layout (ModuleDefinition local x) x next
   IsUnitDeep state layout (Instance local x) next = HaveDepths flat next (depths_behind text files words state (Instance local x))
-  IsUnitDeep state layout (ModuleBegin name extends) next = ⊥
+  IsUnitDeep state layout (ModuleBegin dashes name extends) next = ⊥
   IsUnitDeep state layout (ModuleEnd closing) next = ⊥
   IsUnitDeep state layout unit next = next ≡ layout.stands
 
@@ -64,9 +64,9 @@ module _ (text : Text) (files : List ℕ → Outside) (words : List ℕ) (flat :
 
   -- a nested module begins: its own symbols have no depths, and what it extends adds none
   abbrev pub IsBegunDeep : KindState → Current → List Current → UnitTree → (Meaning → Stand) → List Extension → Type 0
-  IsBegunDeep state here round (ModuleBegin name extends) own extensions =
+  IsBegunDeep state here round (ModuleBegin dashes name extends) own extensions =
       HaveDepths flat own state.depths × AreDeepExtensions (begun state.modules (spelled text.source name)) extends extensions
-      × AllStayDeep state (ModuleBegin name extends) (here ∷ round)
+      × AllStayDeep state (ModuleBegin dashes name extends) (here ∷ round)
   IsBegunDeep state here round unit own extensions = ⊥
 
   -- what comes of a unit is as deep as what is written

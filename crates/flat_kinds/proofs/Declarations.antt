@@ -262,7 +262,7 @@ module _ (declares : Declarations) where
       unit-leaves state (FunctionDefinition local x) meaning all names none = definition-apart meaning x none names
       unit-leaves state (ModuleDefinition local x) meaning all names none = definition-apart meaning x none names
       unit-leaves state (Instance local x) meaning all names none = definitions-none (instance_brings text (views text files words) words state.read x) meaning none (brings-definitions state x all)
-      unit-leaves state (ModuleBegin name extends) meaning all names none = none-extended (begun state.modules (spelled text.source name)) extends meaning (begun-declared state.modules.here (spelled text.source name) all.modules) none
+      unit-leaves state (ModuleBegin dashes name extends) meaning all names none = none-extended (begun state.modules (spelled text.source name)) extends meaning (begun-declared state.modules.here (spelled text.source name) all.modules) none
       unit-leaves state (Variables names) meaning all declared none = tt
       unit-leaves state (Constants declarations) meaning all declared none = tt
       unit-leaves state (Assumption word name x) meaning all declared none = tt
@@ -315,7 +315,7 @@ module _ (declares : Declarations) where
       state-declared state (Assumption word name x) declared all = with-reading state (Assumption word name x) _ all all.here refl refl
       state-declared state (Theorem word name x) declared all = with-reading state (Theorem word name x) _ all all.here refl refl
       state-declared state (Line dashes) declared all = with-reading state (Line dashes) _ all all.here refl refl
-      state-declared state (ModuleBegin name extends) declared all =
+      state-declared state (ModuleBegin dashes name extends) declared all =
           let title : List ℕ = spelled text.source name in
           let begins : IsReadingDeclared declares (begun_in state.read.place.here title) = record { once = (tt, tt); exports = tt; modules = added-known (IsViewDeclared declares) state.read.place.here.modules title None all.here.modules tt } in
           record {

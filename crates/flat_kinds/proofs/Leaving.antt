@@ -47,7 +47,7 @@ module _ (text : Text) (files : List ℕ → Outside) (words : List ℕ) where
   meaning-left state (Instance local x) meaning leaves parameters =
       entries-left (state.standing parameters) (instance_brings text (views text files words) words state.read x)
       (unguarded text (known_at text files words state (Instance local x)) (named text files words state) (around text files words state parameters) x) meaning leaves
-  meaning-left state (ModuleBegin name extends) meaning leaves parameters = extended-left (begun state.modules (spelled text.source name)) parameters (state.standing parameters) extends meaning leaves
+  meaning-left state (ModuleBegin dashes name extends) meaning leaves parameters = extended-left (begun state.modules (spelled text.source name)) parameters (state.standing parameters) extends meaning leaves
   meaning-left state (Variables names) meaning leaves parameters = refl
   meaning-left state (Constants declarations) meaning leaves parameters = refl
   meaning-left state (Assumption word name x) meaning leaves parameters = refl

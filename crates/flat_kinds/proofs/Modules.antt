@@ -39,7 +39,7 @@ module _ (flat : FlatModule) (text : Text) (files : List ℕ → Outside) (words
   round-same state layout (FunctionDefinition local x) next read = refl
   round-same state layout (ModuleDefinition local x) next read = refl
   round-same state layout (Instance local x) next read = refl
-  round-same state layout (ModuleBegin name extends) next read = absurd read
+  round-same state layout (ModuleBegin dashes name extends) next read = absurd read
   round-same state layout (ModuleEnd closing) next read = absurd read
   round-same state layout (Variables names) next read = refl
   round-same state layout (Constants declarations) next read = refl
@@ -58,10 +58,10 @@ module _ (flat : FlatModule) (text : Text) (files : List ℕ → Outside) (words
   ended state unit outer round read readings is keeps = absurd read
 
   begun : (state : KindState) (here : Current) (round : List Current) (unit : UnitTree) (own : Meaning → Stand) (count : ℕ) (extensions : List Extension) → KeepsAll flat state here round → IsRead text files words flat state here round unit (Begins own count extensions) → KeepsAll flat (after text files words state unit) (here_behind text files words state here round unit (Begins own count extensions)) (here ∷ round)
-  begun state here round (ModuleBegin name extends) own count extensions keeps read =
+  begun state here round (ModuleBegin dashes name extends) own count extensions keeps read =
       record {
-        here = nested-begins flat here.symbols here.layout state own keeps.here read.0 text files words count name extends extensions read.1;
-        round = rounds-stand state (ModuleBegin name extends) (state.read.place.here ∷ state.read.place.round) (here ∷ round) ((keeps.here.context, keeps.here.olds, keeps.here.standing), keeps.round) read.2;
+        here = nested-begins flat here.symbols here.layout state own keeps.here read.0 text files words count dashes name extends extensions read.1;
+        round = rounds-stand state (ModuleBegin dashes name extends) (state.read.place.here ∷ state.read.place.round) (here ∷ round) ((keeps.here.context, keeps.here.olds, keeps.here.standing), keeps.round) read.2;
       }
   begun state here round unit own count extensions keeps read = absurd read
 

@@ -54,8 +54,8 @@ module _ (flat : FlatModule) (symbols : Meaning → Stand) (layout : Layout) (st
 
   module _ (text : Text) (files : List ℕ → Outside) (words : List ℕ) where
     -- inside a nested module, behind what it extends
-    pub nested-begins : (count : ℕ) (name : Lexeme) (extends : List Lexeme) (extensions : List Extension) → AreExtensions text files words flat (nested_layout text files words state layout own count name extends extensions) (with_own symbols own) (begun state.modules (spelled text.source name)) extends extensions → KeepsState flat (with_own symbols own) (nested_layout text files words state layout own count name extends extensions) (after text files words state (ModuleBegin name extends))
-    nested-begins count name extends extensions all =
+    pub nested-begins : (count : ℕ) (dashes name : Lexeme) (extends : List Lexeme) (extensions : List Extension) → AreExtensions text files words flat (nested_layout text files words state layout own count dashes name extends extensions) (with_own symbols own) (begun state.modules (spelled text.source name)) extends extensions → KeepsState flat (with_own symbols own) (nested_layout text files words state layout own count dashes name extends extensions) (after text files words state (ModuleBegin dashes name extends))
+    nested-begins count dashes name extends extensions all =
         record {
           context = refl;
           olds = refl;
@@ -67,5 +67,5 @@ module _ (flat : FlatModule) (symbols : Meaning → Stand) (layout : Layout) (st
               let many : length front ≡ layout.places = front-length layout.places count frame room in
               let inside = subst (λ t. AreStanding flat t (with_own layout.stands own) (state.standing parameters)) whole
               (inside-stands front back parameters many (subst (λ t. AreStanding flat t (with_own symbols own) parameters) (sym whole) stands)) in
-              extensions-stand flat text files words (nested_layout text files words state layout own count name extends extensions) (with_own symbols own) (begun state.modules (spelled text.source name)) extends extensions (with_own layout.stands own) frame (state.standing parameters) parameters all room stands inside;
+              extensions-stand flat text files words (nested_layout text files words state layout own count dashes name extends extensions) (with_own symbols own) (begun state.modules (spelled text.source name)) extends extensions (with_own layout.stands own) frame (state.standing parameters) parameters all room stands inside;
         }

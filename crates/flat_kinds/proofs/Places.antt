@@ -79,7 +79,7 @@ module _ (P : Binder → Type 0) where
   unit-names (Assumption word name x) all = tt
   unit-names (Theorem word name x) all = tt
   unit-names (Line dashes) all = tt
-  unit-names (ModuleBegin name extends) all = tt
+  unit-names (ModuleBegin dashes name extends) all = tt
   unit-names (ModuleEnd closing) all = tt
 
   units-names : (units : List UnitTree) → AllByRecursion P (declaring units) → AllByRecursion (λ (unit : UnitTree). AllByRecursion P (declared_names unit)) units

@@ -68,7 +68,7 @@ module _ (flat : FlatModule) where
       unit-read (FunctionDefinition local x) next read = definition-read (FunctionDefinition local x) x next read
       unit-read (ModuleDefinition local x) next read = definition-read (ModuleDefinition local x) x next read
       unit-read (Instance local x) next read = λ frame parameters room stands. read frame (around text files words state parameters) (state-agrees frame parameters room stands)
-      unit-read (ModuleBegin name extends) next read = absurd read
+      unit-read (ModuleBegin dashes name extends) next read = absurd read
       unit-read (ModuleEnd closing) next read = absurd read
       unit-read (Variables names) next read = λ frame parameters room stands. subst (λ n. AreStanding flat frame n (state.standing parameters)) (sym read) (keeps.standing frame parameters room stands)
       unit-read (Constants declarations) next read = λ frame parameters room stands. subst (λ n. AreStanding flat frame n (state.standing parameters)) (sym read) (keeps.standing frame parameters room stands)

@@ -120,8 +120,8 @@ module _ (yields : Yields) where
             extended-kept modules parameters (with_entries standing (instantiable (exported other.view)) (other.standing parameters)) rest meaning all (one-brought other standing parameters meaning name yielding is))
 
     -- a nested module keeps what a name yields, whatever it extends
-    pub begins-yielded : (state : KindState) (name : Lexeme) (extends : List Lexeme) (meaning : Meaning) → OfAllKnown (IsYielding yields) state.modules.here → HasYielded yields state meaning → HasYielded yields (after text files words state (ModuleBegin name extends)) meaning
-    begins-yielded state name extends meaning all has parameters =
+    pub begins-yielded : (state : KindState) (dashes name : Lexeme) (extends : List Lexeme) (meaning : Meaning) → OfAllKnown (IsYielding yields) state.modules.here → HasYielded yields state meaning → HasYielded yields (after text files words state (ModuleBegin dashes name extends)) meaning
+    begins-yielded state dashes name extends meaning all has parameters =
         extended-kept (begun state.modules (spelled text.source name)) parameters (state.standing parameters) extends meaning
         (added-known (IsYielding yields) state.modules.here (spelled text.source name) None all tt) (has parameters)
 
@@ -174,7 +174,7 @@ module _ (yields : Yields) where
 
   -- modules that can be named behind a unit
   pub modules-yield : (text : Text) (files : List ℕ → Outside) (words : List ℕ) (state : KindState) (unit : UnitTree) → AreYielding yields state.modules → EndsYielding yields state unit → AreYielding yields (after text files words state unit).modules
-  modules-yield text files words state (ModuleBegin name extends) all ends = record { here = added-known (IsYielding yields) state.modules.here (spelled text.source name) None all.here tt; round = (all.here, all.round) }
+  modules-yield text files words state (ModuleBegin dashes name extends) all ends = record { here = added-known (IsYielding yields) state.modules.here (spelled text.source name) None all.here tt; round = (all.here, all.round) }
   modules-yield text files words state (ModuleEnd closing) all ends =
       ended-modules (nested_outside state state.read.place.round) state.modules.here state.modules.round (ended-yields state state.read.place.round ends.0 ends.1) (record { here = all.here; round = all.round })
   modules-yield text files words state (Variables names) all ends = all
@@ -209,12 +209,12 @@ module _ (yields : Yields) where
         by_case (inr (inr has)) =
             inr (subst (λ value. IsStanding flat frame [] (layout.stands meaning) value) (has.0 parameters ∙ sym (has.1 parameters)) (keeps frame parameters room stands meaning))
 
-  pub begun-stays : (text : Text) (files : List ℕ → Outside) (words : List ℕ) (flat : FlatModule) (symbols : Meaning → Stand) (layout : Layout) (state : KindState) (name : Lexeme) (extends : List Lexeme) → ((title : List ℕ) → IsYielding yields (files title)) → OfAllKnown (IsYielding yields) state.modules.here → KeepsStanding flat symbols layout state.standing
-      → ((meaning : Meaning) → Leaves text files words state (ModuleBegin name extends) meaning ⊎ ((layout.stands meaning ≡ Unsaid) ⊎ HasYielded yields state meaning)) → StaysBehind text files words flat state (ModuleBegin name extends) symbols layout
-  begun-stays text files words flat symbols layout state name extends files_yield all keeps each =
-      again-stays text files words flat symbols layout state (ModuleBegin name extends) keeps (λ meaning. by_case meaning (each meaning))
+  pub begun-stays : (text : Text) (files : List ℕ → Outside) (words : List ℕ) (flat : FlatModule) (symbols : Meaning → Stand) (layout : Layout) (state : KindState) (dashes name : Lexeme) (extends : List Lexeme) → ((title : List ℕ) → IsYielding yields (files title)) → OfAllKnown (IsYielding yields) state.modules.here → KeepsStanding flat symbols layout state.standing
+      → ((meaning : Meaning) → Leaves text files words state (ModuleBegin dashes name extends) meaning ⊎ ((layout.stands meaning ≡ Unsaid) ⊎ HasYielded yields state meaning)) → StaysBehind text files words flat state (ModuleBegin dashes name extends) symbols layout
+  begun-stays text files words flat symbols layout state dashes name extends files_yield all keeps each =
+      again-stays text files words flat symbols layout state (ModuleBegin dashes name extends) keeps (λ meaning. by_case meaning (each meaning))
     where
-      by_case : (meaning : Meaning) → Leaves text files words state (ModuleBegin name extends) meaning ⊎ ((layout.stands meaning ≡ Unsaid) ⊎ HasYielded yields state meaning) → ComesAgain yields text files words state (ModuleBegin name extends) layout meaning
+      by_case : (meaning : Meaning) → Leaves text files words state (ModuleBegin dashes name extends) meaning ⊎ ((layout.stands meaning ≡ Unsaid) ⊎ HasYielded yields state meaning) → ComesAgain yields text files words state (ModuleBegin dashes name extends) layout meaning
       by_case meaning (inl leaves) = inl leaves
       by_case meaning (inr (inl unsaid)) = inr (inl unsaid)
-      by_case meaning (inr (inr has)) = inr (inr (has, begins-yielded text files words files_yield state name extends meaning all has))
+      by_case meaning (inr (inr has)) = inr (inr (has, begins-yielded text files words files_yield state dashes name extends meaning all has))

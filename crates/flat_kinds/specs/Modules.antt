@@ -53,10 +53,10 @@ module _ (flat : FlatModule) where
 module _ (text : Text) (files : List ℕ → Outside) (words : List ℕ) where
   -- inside a nested module that begins
   abbrev pub inside : KindState → Current → UnitTree → (Meaning → Stand) → ℕ → List Extension → Current
-  inside state here (ModuleBegin name extends) own count extensions =
+  inside state here (ModuleBegin dashes name extends) own count extensions =
       record {
         symbols = with_own here.symbols own;
-        layout = nested_layout text files words state here.layout own count name extends extensions;
+        layout = nested_layout text files words state here.layout own count dashes name extends extensions;
       }
   inside state here unit own count extensions = here
 
@@ -90,11 +90,11 @@ module _ (text : Text) (files : List ℕ → Outside) (words : List ℕ) where
 
     -- a nested module begins
     abbrev pub IsBegun : KindState → Current → List Current → UnitTree → (Meaning → Stand) → ℕ → List Extension → Type 0
-    IsBegun state here round (ModuleBegin name extends) own count extensions =
+    IsBegun state here round (ModuleBegin dashes name extends) own count extensions =
         AreNew here.symbols here.layout state own
-        × AreExtensions text files words flat (nested_layout text files words state here.layout own count name extends extensions) (with_own here.symbols own)
+        × AreExtensions text files words flat (nested_layout text files words state here.layout own count dashes name extends extensions) (with_own here.symbols own)
         (begun state.modules (spelled text.source name)) extends extensions
-        × AllStayBehind state (ModuleBegin name extends) (here ∷ round)
+        × AllStayBehind state (ModuleBegin dashes name extends) (here ∷ round)
     IsBegun state here round unit own count extensions = ⊥
 
     -- a nested module ends

@@ -125,7 +125,7 @@ module _ (text : Text) (files : List ℕ → Outside) (words : List ℕ) where
   Leaves state (FunctionDefinition local x) meaning = is_among (map (meant text) (definition x)) meaning ≡ false
   Leaves state (ModuleDefinition local x) meaning = is_among (map (meant text) (definition x)) meaning ≡ false
   Leaves state (Instance local x) meaning = name_among (instance_brings text (views text files words) words state.read x) meaning ≡ None
-  Leaves state (ModuleBegin name extends) meaning = BringNone (begun state.modules (spelled text.source name)) extends meaning
+  Leaves state (ModuleBegin dashes name extends) meaning = BringNone (begun state.modules (spelled text.source name)) extends meaning
   Leaves state unit meaning = Unit {0}
 
   -- the layout behind a unit, by the stands there
@@ -133,10 +133,10 @@ module _ (text : Text) (files : List ℕ → Outside) (words : List ℕ) where
   layout_after state layout unit next = layout_as layout (after text files words state unit).read.place.here.context next
 
   -- the layout inside a nested module, behind what it extends: so many symbols of its own stand at the next places
-  abbrev pub nested_layout : KindState → Layout → (Meaning → Stand) → ℕ → Lexeme → List Lexeme → List Extension → Layout
-  nested_layout state layout own count name extends extensions =
+  abbrev pub nested_layout : KindState → Layout → (Meaning → Stand) → ℕ → Lexeme → Lexeme → List Lexeme → List Extension → Layout
+  nested_layout state layout own count dashes name extends extensions =
       record {
-        context = (after text files words state (ModuleBegin name extends)).read.place.here.context;
+        context = (after text files words state (ModuleBegin dashes name extends)).read.place.here.context;
         stands = extended_stands (begun state.modules (spelled text.source name)) (with_own layout.stands own) extends extensions;
         places = layout.places + count;
         olds = [];
@@ -172,7 +172,7 @@ module _ (text : Text) (files : List ℕ → Outside) (words : List ℕ) where
     IsUnitRead state layout (FunctionDefinition local x) next = IsDefinitionRead state layout (FunctionDefinition local x) x next
     IsUnitRead state layout (ModuleDefinition local x) next = IsDefinitionRead state layout (ModuleDefinition local x) x next
     IsUnitRead state layout (Instance local x) next = IsInstanceRead state layout (Instance local x) x next
-    IsUnitRead state layout (ModuleBegin name extends) next = ⊥
+    IsUnitRead state layout (ModuleBegin dashes name extends) next = ⊥
     IsUnitRead state layout (ModuleEnd closing) next = ⊥
     IsUnitRead state layout unit next = next ≡ layout.stands
 

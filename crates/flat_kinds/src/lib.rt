@@ -191,10 +191,11 @@ pub fn names_come_again()
         → Leaves text files words state unit meaning → HasYielded yields state meaning
         → HasYielded yields (after text files words state unit) meaning }
     ensures nested { (yields : Yields) (text : Text) (files : List ℕ → Outside) (words : List ℕ)
-        (state : KindState) (name : Lexeme) (extends : List Lexeme) (meaning : Meaning)
+        (state : KindState) (dashes name : Lexeme) (extends : List Lexeme) (meaning : Meaning)
         → ((title : List ℕ) → IsYielding yields (files title))
         → OfAllKnown (IsYielding yields) state.modules.here → HasYielded yields state meaning
-        → HasYielded yields (after text files words state (ModuleBegin name extends)) meaning }
+        → HasYielded yields (after text files words state (ModuleBegin dashes name extends))
+        meaning }
     ensures ended { (yields : Yields) (state : KindState) (outer : Reading) (round : List Reading)
         → IsOnce state.read.place.here.exports → HasExported yields state
         → IsYielding yields (nested_outside state (outer ∷ round)) }
@@ -213,14 +214,15 @@ pub fn names_come_again()
         → StaysBehind text files words flat state unit symbols layout }
     ensures begins { (yields : Yields) (text : Text) (files : List ℕ → Outside) (words : List ℕ)
         (flat : FlatModule) (symbols : Meaning → Stand) (layout : Layout) (state : KindState)
-        (name : Lexeme) (extends : List Lexeme)
+        (dashes name : Lexeme) (extends : List Lexeme)
         → ((title : List ℕ) → IsYielding yields (files title))
         → OfAllKnown (IsYielding yields) state.modules.here
         → KeepsStanding flat symbols layout state.standing
         → ((meaning : Meaning)
-        → Leaves text files words state (ModuleBegin name extends) meaning
+        → Leaves text files words state (ModuleBegin dashes name extends) meaning
         ⊎ ((layout.stands meaning ≡ Unsaid) ⊎ HasYielded yields state meaning))
-        → StaysBehind text files words flat state (ModuleBegin name extends) symbols layout }
+        → StaysBehind text files words flat state (ModuleBegin dashes name extends) symbols
+        layout }
 {}
 
 /// A flat module that is built along a module, with the modules that are nested in it, means the

@@ -92,7 +92,7 @@ unit-few (Instance local x) = in-few (as_binding.Bound false) x
 unit-few (Assumption word name x) = in-few (as_binding.Bound false) x
 unit-few (Theorem word name x) = in-few (as_binding.Bound false) x
 unit-few (Line dashes) = omega arith
-unit-few (ModuleBegin name extends) = omega arith
+unit-few (ModuleBegin dashes name extends) = omega arith
 unit-few (ModuleEnd closing) = omega arith
 
 units-few : (units : List UnitTree) → length (declaring units) ≤ length (units_lexemes units)

@@ -30,7 +30,7 @@ module _ {P : Lexeme → Type 0} where
   names-spelled (d.more_names {n = n} {t = t} k l ns) = next n (other t (names-spelled ns))
 
   -- the name of a module and the names that it extends
-  head-in : {n : Lexeme} {names a : List Lexeme} → d.BeginsModule n names a → IsHeld P (n ∷ names) a
+  head-in : {dashes n : Lexeme} {names a : List Lexeme} → d.BeginsModule dashes n names a → IsHeld P (n ∷ names) a
   head-in (d.alone {n = n} t w k e) = other _ (other _ (next n none))
   head-in (d.extending {n = n} t w k e x ns) = other _ (other _ (next n (other _ (other _ (names-spelled ns)))))
 

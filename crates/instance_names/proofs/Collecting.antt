@@ -133,7 +133,7 @@ unit-names (Instance local x) = append-nil (instances x)
 unit-names (Assumption word name x) = append-nil (instances x)
 unit-names (Theorem word name x) = append-nil (instances x)
 unit-names (Line dashes) = refl
-unit-names (ModuleBegin name extends) = refl
+unit-names (ModuleBegin dashes name extends) = refl
 unit-names (ModuleEnd closing) = refl
 
 -- where the module names of units begin

@@ -43,7 +43,7 @@ unit-due nodes (unit.Instance local node) = refl
 unit-due nodes (unit.Assumption word name node) = refl
 unit-due nodes (unit.Theorem word name node) = refl
 unit-due nodes (unit.Line dashes) = refl
-unit-due nodes (unit.ModuleBegin name extends) = refl
+unit-due nodes (unit.ModuleBegin dashes name extends) = refl
 unit-due nodes (unit.ModuleEnd closing) = refl
 
 pub unit-there : (nodes : List ArenaNode) (u : unit.the_data) → AreThere nodes (nodes_in u) → AreDue nodes (root_in u)

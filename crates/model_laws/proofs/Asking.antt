@@ -171,7 +171,7 @@ module _ (text : Text) (files others : List ℕ → ModuleView) where
     names-mean state (Variables names) all = tt
     names-mean state (Constants declarations) all = tt
     names-mean state (Line dashes) all = tt
-    names-mean state (ModuleBegin name extends) all = tt
+    names-mean state (ModuleBegin dashes name extends) all = tt
     names-mean state (ModuleEnd closing) all = tt
 
     known-in : (state : ReadState) (unit : UnitTree) → Holds state unit → r.known_in text files words state unit ≡ r.known_in text others words state unit
@@ -193,9 +193,9 @@ module _ (text : Text) (files others : List ℕ → ModuleView) where
         means-all (r.inside_nested text files words state name extends) extends
         (subst (λ modules. AllByRecursion (Asks modules) extends) (sym (extends-keep text files words (m.nested text state.place.here name) extends).modules) asks)
 
-    begins-same : (state : ReadState) (name : Lexeme) (extends : List Lexeme) → AllByRecursion (Asks (inside state.place.here.modules (spelled text.source name))) extends
-        → r.after text files words state (ModuleBegin name extends) ≡ r.after text others words state (ModuleBegin name extends)
-    begins-same state name extends asks =
+    begins-same : (state : ReadState) (dashes name : Lexeme) (extends : List Lexeme) → AllByRecursion (Asks (inside state.place.here.modules (spelled text.source name))) extends
+        → r.after text files words state (ModuleBegin dashes name extends) ≡ r.after text others words state (ModuleBegin dashes name extends)
+    begins-same state dashes name extends asks =
         ap (r.with_known text files words (r.inside_nested text files words state name extends)) (known-from-all (r.inside_nested text files words state name extends) extends (inside-means state name extends asks))
         ∙ ap (λ within. r.with_known text others words within (n.known_from_all text (r.module_named text others words within) extends)) (inside-same state name extends asks)
 
@@ -211,7 +211,7 @@ module _ (text : Text) (files others : List ℕ → ModuleView) where
     after-same state (Assumption word name x) all = read-on state (Assumption word name x) _ _ refl all
     after-same state (Theorem word name x) all = read-on state (Theorem word name x) _ _ refl all
     after-same state (Line dashes) all = read-on state (Line dashes) _ _ refl all
-    after-same state (ModuleBegin name extends) all = begins-same state name extends (begun-asks state name extends all)
+    after-same state (ModuleBegin dashes name extends) all = begins-same state dashes name extends (begun-asks state name extends all)
     after-same state (ModuleEnd closing) all = refl
 
     -- ---- units in a row, by the needs of all of them
@@ -253,7 +253,7 @@ module _ (text : Text) (files others : List ℕ → ModuleView) where
       found-same state (Assumption word name x) all = trees-same state (Assumption word name x) x (asked state (instances x) all) all
       found-same state (Theorem word name x) all = trees-same state (Theorem word name x) x (asked state (instances x) all) all
       found-same state (Line dashes) all = refl
-      found-same state (ModuleBegin name extends) all =
+      found-same state (ModuleBegin dashes name extends) all =
           ap (λ z. (if m.is_named text state.place.here name then Taken name ∷ [] else []) ++ z) (clashing-same (m.nested text state.place.here name) extends (begun-asks state name extends all))
       found-same state (ModuleEnd closing) all = refl
 

@@ -284,7 +284,7 @@ module _ (P : Lexeme → Type 0) where
           all-both Stands (t.walk text (round state (Instance local x)) state.place.here.context x) (r.clash_by text files words state x) (walk-at text (round state (Instance local x)) state.place.here.context x all) (clash-at state x all)
       unit-at state (Assumption word name x) all = walk-at text (round state (Assumption word name x)) state.place.here.context x all
       unit-at state (Theorem word name x) all = walk-at text (round state (Theorem word name x)) state.place.here.context x all
-      unit-at state (ModuleBegin name extends) all =
+      unit-at state (ModuleBegin dashes name extends) all =
           let taken : Bool = m.is_named text state.place.here name in
           all-both Stands (if taken then Taken name ∷ [] else []) (m.all_clashing text (exports_by files) (m.nested text state.place.here name) extends) (all-either Stands taken (Taken name ∷ []) [] (all.0, tt) tt)
           (clashing-at (m.nested text state.place.here name) extends all.1)

@@ -103,7 +103,7 @@ module _ (text : Text) (files : List ℕ → ModuleView) (words : List ℕ) wher
   scope-after state (Assumption word name x) = refl
   scope-after state (Theorem word name x) = refl
   scope-after state (Line dashes) = refl
-  scope-after state (ModuleBegin name extends) =
+  scope-after state (ModuleBegin dashes name extends) =
       let here : Reading = state.place.here in
       let kept : Keeps (m.nested text here name) (m.extends_all text (exports_by files) (m.nested text here name) extends) = extends-keep (m.nested text here name) extends in
       λ i. record { here = (ap forget kept.modules ∙ forget-added here.modules (spelled text.source name) None) i; round = (kept.name i, forget here.modules) ∷ round_of here.name state.place.round }

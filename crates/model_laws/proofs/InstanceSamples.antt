@@ -245,7 +245,7 @@ nested_module : found (codes "MNdFdINdUIF") (begin 1 ∷ constant 2 ∷ define 3
 nested_module = refl
 
 -- EXTENDS P | MODULE N EXTENDS P | G == 1 | end | INSTANCE N | U == G | MODULE O | INSTANCE N WITH c <- 1 | end
-parameters_round_it_are_none : found_with (at 1 ∷ []) (codes "MPNPGNUGONc") (ModuleBegin (at 2) (at 3 ∷ []) ∷ defined 4 ∷ end ∷ unit (instance 5 Nil) ∷ define 6 (bare 7) ∷ begin 8 ∷ unit (instance 9 (one (with 10 number))) ∷ end ∷ []) ≡ means 7 value 1 ∷ NotReplaceable (at 10) ∷ []
+parameters_round_it_are_none : found_with (at 1 ∷ []) (codes "MPNPGNUGONc") (ModuleBegin (at 0) (at 2) (at 3 ∷ []) ∷ defined 4 ∷ end ∷ unit (instance 5 Nil) ∷ define 6 (bare 7) ∷ begin 8 ∷ unit (instance 9 (one (with 10 number))) ∷ end ∷ []) ≡ means 7 value 1 ∷ NotReplaceable (at 10) ∷ []
 parameters_round_it_are_none = refl
 
 -- MODULE N | MODULE O | CONSTANT d | end | end | MODULE O | CONSTANT e | end | I == INSTANCE O
@@ -308,7 +308,7 @@ abbrev with_nested : List ℕ → ModuleView
 with_nested =
     read (codes "MNIQ") (at 1 ∷ []) (named_unit 2 (instance 3 Nil) ∷ []) (
     read (codes "NP") (at 1 ∷ []) [] (
-    read (codes "PLQG") [] (ModuleBegin (at 1) (at 2 ∷ []) ∷ end ∷ defined 3 ∷ []) (
+    read (codes "PLQG") [] (ModuleBegin (at 0) (at 1) (at 2 ∷ []) ∷ end ∷ defined 3 ∷ []) (
     read (codes "QFH") [] (defined 1 ∷ defined 2 ∷ []) none)))
 
 -- O: EXTENDS M | U == I!H
@@ -320,7 +320,7 @@ abbrev with_constant : List ℕ → ModuleView
 with_constant = read (codes "BcFc") [] (constant 1 ∷ define 2 (bare 3) ∷ []) none
 
 -- A: EXTENDS B | MODULE N EXTENDS B | G == F | end | I == INSTANCE N WITH c <- 1
-constant_of_both_is_not_replaced : faults (findings with_constant (codes "ABNBGFINc") (module_with (at 1 ∷ []) (ModuleBegin (at 2) (at 3 ∷ []) ∷ define 4 (bare 5) ∷ end ∷ named_unit 6 (instance 7 (one (with 8 number))) ∷ []))) ≡ record { code = 405; span = record { start = 8; end = 9 } } ∷ []
+constant_of_both_is_not_replaced : faults (findings with_constant (codes "ABNBGFINc") (module_with (at 1 ∷ []) (ModuleBegin (at 0) (at 2) (at 3 ∷ []) ∷ define 4 (bare 5) ∷ end ∷ named_unit 6 (instance 7 (one (with 8 number))) ∷ []))) ≡ record { code = 405; span = record { start = 8; end = 9 } } ∷ []
 constant_of_both_is_not_replaced = refl
 
 -- Q: G == 1. S: J == INSTANCE Q. R: EXTENDS S

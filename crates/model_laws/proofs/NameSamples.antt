@@ -101,7 +101,7 @@ abbrev pub constant : ℕ → UnitTree
 constant from = Constants (one (name from))
 
 abbrev pub begin : ℕ → UnitTree
-begin from = ModuleBegin (at from) []
+begin from = ModuleBegin (at 0) (at from) []
 
 abbrev pub end : UnitTree
 end = ModuleEnd (at 0)
@@ -316,15 +316,15 @@ nested_sees_earlier_names : found (codes "MxNFxGyxyHF") (constant 1 ∷ begin 2 
 nested_sees_earlier_names = refl
 
 -- MODULE A | F == 1 | end | MODULE P EXTENDS A | G == F | H == x | end
-nested_before_file : found (codes "MAFPAGFHx") (begin 1 ∷ defined 2 ∷ end ∷ ModuleBegin (at 3) (at 4 ∷ []) ∷ define 5 (bare 6) ∷ define 7 (bare 8) ∷ end ∷ []) ≡ means 6 value 1 ∷ unknown 8 ∷ []
+nested_before_file : found (codes "MAFPAGFHx") (begin 1 ∷ defined 2 ∷ end ∷ ModuleBegin (at 0) (at 3) (at 4 ∷ []) ∷ define 5 (bare 6) ∷ define 7 (bare 8) ∷ end ∷ []) ≡ means 6 value 1 ∷ unknown 8 ∷ []
 nested_before_file = refl
 
 -- MODULE P EXTENDS A | F == x | end | MODULE A | end
-file_before_nested : found (codes "MPAFxA") (ModuleBegin (at 1) (at 2 ∷ []) ∷ define 3 (bare 4) ∷ end ∷ begin 5 ∷ end ∷ []) ≡ Means (at 4) (brought (codes "A")) ∷ []
+file_before_nested : found (codes "MPAFxA") (ModuleBegin (at 0) (at 1) (at 2 ∷ []) ∷ define 3 (bare 4) ∷ end ∷ begin 5 ∷ end ∷ []) ≡ Means (at 4) (brought (codes "A")) ∷ []
 file_before_nested = refl
 
 -- MODULE N | F == 1 | end | MODULE N | G == 1 | end | MODULE P EXTENDS N | H == F | I == G | end
-first_nested_stays : found (codes "MNFNGPNHFIG") (begin 1 ∷ defined 2 ∷ end ∷ begin 3 ∷ defined 4 ∷ end ∷ ModuleBegin (at 5) (at 6 ∷ []) ∷ define 7 (bare 8) ∷ define 9 (bare 10) ∷ end ∷ []) ≡ taken 3 ∷ means 8 value 1 ∷ unknown 10 ∷ []
+first_nested_stays : found (codes "MNFNGPNHFIG") (begin 1 ∷ defined 2 ∷ end ∷ begin 3 ∷ defined 4 ∷ end ∷ ModuleBegin (at 0) (at 5) (at 6 ∷ []) ∷ define 7 (bare 8) ∷ define 9 (bare 10) ∷ end ∷ []) ≡ taken 3 ∷ means 8 value 1 ∷ unknown 10 ∷ []
 first_nested_stays = refl
 
 -- MODULE N | MODULE M | end | MODULE N | end | MODULE P | end | end | MODULE P | end
@@ -336,7 +336,7 @@ modules_are_named_apart : found (codes "MFFGFNGF") (defined 1 ∷ begin 2 ∷ de
 modules_are_named_apart = refl
 
 -- EXTENDS A | MODULE N EXTENDS B | F == x | end
-clash_with_a_name_round_it : found_with (at 1 ∷ []) (codes "MANBFx") (ModuleBegin (at 2) (at 3 ∷ []) ∷ define 4 (bare 5) ∷ end ∷ []) ≡ Clashes (at 3) ∷ Means (at 5) (brought (codes "A")) ∷ []
+clash_with_a_name_round_it : found_with (at 1 ∷ []) (codes "MANBFx") (ModuleBegin (at 0) (at 2) (at 3 ∷ []) ∷ define 4 (bare 5) ∷ end ∷ []) ≡ Clashes (at 3) ∷ Means (at 5) (brought (codes "A")) ∷ []
 clash_with_a_name_round_it = refl
 
 -- what a module exports, if it is there and can be named
@@ -350,7 +350,7 @@ abbrev nested_exports : List Lexeme → List ℕ → List UnitTree → List ℕ 
 nested_exports extends text units file = exports_there (lookup bytes_eq (read_all (text_of text (module_with extends units)) files [] (first files text (module_with extends units)) units).place.here.modules file)
 
 -- EXTENDS A | MODULE N EXTENDS C | F == 1 | end
-nested_exports_what_it_brings : nested_exports (at 1 ∷ []) (codes "MANCF") (ModuleBegin (at 2) (at 3 ∷ []) ∷ defined 4 ∷ end ∷ []) (codes "N") ≡ Some (Some ((Word (codes "x"), brought (codes "A")) ∷ (Word (codes "F"), own value 1) ∷ []))
+nested_exports_what_it_brings : nested_exports (at 1 ∷ []) (codes "MANCF") (ModuleBegin (at 0) (at 2) (at 3 ∷ []) ∷ defined 4 ∷ end ∷ []) (codes "N") ≡ Some (Some ((Word (codes "x"), brought (codes "A")) ∷ (Word (codes "F"), own value 1) ∷ []))
 nested_exports_what_it_brings = refl
 
 -- ---- faults

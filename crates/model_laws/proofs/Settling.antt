@@ -324,7 +324,7 @@ module _ (text : Text) (files : List ℕ → ModuleView) (words : List ℕ) wher
   settled-after state (Assumption word name x) settled = settled-still state (Assumption word name x) settled
   settled-after state (Theorem word name x) settled = settled-still state (Theorem word name x) settled
   settled-after state (Line dashes) settled = settled-still state (Line dashes) settled
-  settled-after state (ModuleBegin name extends) settled = settled-inside state name extends settled
+  settled-after state (ModuleBegin dashes name extends) settled = settled-inside state name extends settled
   settled-after state (ModuleEnd closing) settled = settled-left state.known state.place.here state.place.round settled
 
   -- behind these units

@@ -29,7 +29,7 @@ abbrev instance : ℕ → UnitTree
 instance from = Instance None (built (Form.Instance (at from)) Nil [])
 
 abbrev begin : ℕ → UnitTree
-begin from = ModuleBegin (at from) []
+begin from = ModuleBegin (at 0) (at from) []
 
 abbrev end : UnitTree
 end = ModuleEnd (at 0)
@@ -39,7 +39,7 @@ all_in_order : needs (1 ∷ 2 ∷ []) (instance 3 ∷ []) ≡ at 1 ∷ at 2 ∷ 
 all_in_order = refl
 
 -- MODULE B EXTENDS N | INSTANCE C | end | INSTANCE B | INSTANCE C
-nested_answers : needs [] (ModuleBegin (at 1) (at 3 ∷ []) ∷ instance 2 ∷ end ∷ instance 5 ∷ instance 6 ∷ []) ≡ at 3 ∷ at 2 ∷ at 6 ∷ []
+nested_answers : needs [] (ModuleBegin (at 0) (at 1) (at 3 ∷ []) ∷ instance 2 ∷ end ∷ instance 5 ∷ instance 6 ∷ []) ≡ at 3 ∷ at 2 ∷ at 6 ∷ []
 nested_answers = refl
 
 -- INSTANCE B | MODULE B | end
@@ -47,7 +47,7 @@ too_early : needs [] (instance 1 ∷ begin 5 ∷ end ∷ []) ≡ at 1 ∷ []
 too_early = refl
 
 -- MODULE B EXTENDS B | INSTANCE B | end
-not_itself : needs [] (ModuleBegin (at 1) (at 5 ∷ []) ∷ instance 5 ∷ end ∷ []) ≡ []
+not_itself : needs [] (ModuleBegin (at 0) (at 1) (at 5 ∷ []) ∷ instance 5 ∷ end ∷ []) ≡ []
 not_itself = refl
 
 -- MODULE B | MODULE C | end | INSTANCE C | end | INSTANCE C

@@ -31,7 +31,7 @@ module _ (P : Lexeme → Type 0) where
         all-both P (instances x) (instances_in rest) (tree-instances x (all-left P (lexemes x) (all_lexemes rest) all)) (trees-instances rest (all-right P (lexemes x) (all_lexemes rest) all))
 
   unit-compared : (unit : UnitTree) → AllByRecursion P (unit_lexemes unit) → AllByRecursion P (compared unit)
-  unit-compared (ModuleBegin name extends) all = all
+  unit-compared (ModuleBegin dashes name extends) all = all
   unit-compared (Variables names) all = tt
   unit-compared (Constants declarations) all = tt
   unit-compared (OperatorDefinition local x) all = tree-instances x all

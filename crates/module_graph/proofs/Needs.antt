@@ -26,7 +26,7 @@ mapped-at P f xs i x all there is = all-at (λ x. P (f x)) xs i x (all-map P f x
 
 -- the module names of a unit are among the names that are compared
 pub names-compared : (P : Lexeme → Type 0) (unit : UnitTree) → AllByRecursion P (compared unit) → AllByRecursion P (module_names unit)
-names-compared P (ModuleBegin name extends) all = all.1
+names-compared P (ModuleBegin dashes name extends) all = all.1
 names-compared P (Variables names) all = all
 names-compared P (Constants declarations) all = all
 names-compared P (OperatorDefinition local x) all = all
@@ -39,7 +39,7 @@ names-compared P (Line dashes) all = all
 names-compared P (ModuleEnd closing) all = all
 
 begun-compared : (P : Lexeme → Type 0) (nodes : List Node) (u : unit.the_data) → AllByRecursion P (compared (unit_at nodes u)) → AllByRecursion P (begun_name u)
-begun-compared P nodes (unit.ModuleBegin name extends) all = (all.0, tt)
+begun-compared P nodes (unit.ModuleBegin dashes name extends) all = (all.0, tt)
 begun-compared P nodes (unit.Variables names) all = tt
 begun-compared P nodes (unit.Constants declarations) all = tt
 begun-compared P nodes (unit.OperatorDefinition local node) all = tt

@@ -57,11 +57,11 @@ module _ (text outermost : List ℕ) where
     units-leave (more_units {unit} {units} first rest) scope =
         ap (λ (s : Scope ⊤). s.round) (after-append scope unit units) ∙ units-leave rest (scope_after scope unit) ∙ unit-leaves first scope
 
-  pub passed : (scope : Scope ⊤) (name closing : Lexeme) (extends : List Lexeme) (units rest : List UnitTree) (a : List Lexeme) (next : Lexeme) → DerivesUnits units a next
-      → imports_from text outermost scope (ModuleBegin name extends ∷ (units ++ ModuleEnd closing ∷ rest))
+  pub passed : (scope : Scope ⊤) (dashes name closing : Lexeme) (extends : List Lexeme) (units rest : List UnitTree) (a : List Lexeme) (next : Lexeme) → DerivesUnits units a next
+      → imports_from text outermost scope (ModuleBegin dashes name extends ∷ (units ++ ModuleEnd closing ∷ rest))
       ≡ filter (is_needed text outermost (begun scope (spelled text name))) extends
       ++ (imports_from text outermost (begun scope (spelled text name)) units ++ imports_from text outermost (record { here = behind scope.here (spelled text name) tt; round = scope.round }) rest)
-  passed scope name closing extends units rest a next derives =
+  passed scope dashes name closing extends units rest a next derives =
       let within : Scope ⊤ = begun scope (spelled text name) in
       ap (λ z. filter (is_needed text outermost within) extends ++ z) (imports-append within units (ModuleEnd closing ∷ rest)
       ∙ ap (λ s. imports_from text outermost within units ++ imports_from text outermost s rest) (ended-at (scope_after within units).here scope.here (spelled text name) _ scope.round (units-leave derives within)))

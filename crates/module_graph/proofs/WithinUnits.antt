@@ -23,11 +23,11 @@ names-spelled (d.last_name n) = next _ none
 names-spelled (d.more_names n t ns) = next _ (other _ (names-spelled ns))
 
 -- the name of a module and the names that it extends
-head-in : {n : Lexeme} {names a : List Lexeme} → d.BeginsModule n names a → IsWithin (n ∷ names) a
+head-in : {dashes n : Lexeme} {names a : List Lexeme} → d.BeginsModule dashes n names a → IsWithin (n ∷ names) a
 head-in (d.alone t w n e) = other _ (other _ (next _ none))
 head-in (d.extending t w n e x ns) = other _ (other _ (next _ (other _ (other _ (names-spelled ns)))))
 
-extends-in : {n : Lexeme} {names a : List Lexeme} → d.BeginsModule n names a → IsWithin names a
+extends-in : {dashes n : Lexeme} {names a : List Lexeme} → d.BeginsModule dashes n names a → IsWithin names a
 extends-in (d.alone t w n e) = none
 extends-in (d.extending t w n e x ns) = other _ (other _ (other _ (other _ (other _ (names-spelled ns)))))
 

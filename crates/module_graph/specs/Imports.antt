@@ -9,7 +9,7 @@ use Rattle.unit_grammar.specs.Units.{UnitTree, ModuleBegin, ModuleUnits}
 
 -- the names that are compared: those of nested modules, and the module names
 abbrev pub compared : UnitTree → List Lexeme
-compared (ModuleBegin name extends) = name ∷ extends
+compared (ModuleBegin dashes name extends) = name ∷ extends
 compared unit = module_names unit
 
 -- the names that are compared lie in the text

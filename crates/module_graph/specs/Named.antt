@@ -33,7 +33,7 @@ pub record AreNamed (text : List ℕ) (units : ModuleUnits) (named : NamedModule
 -- a nested module needs what is needed inside it, and behind it all is as before it, with its own name
 abbrev pub PassesNested : List ℕ → List ℕ → Scope ⊤ → Type 0
 PassesNested text outermost scope =
-    (name closing : Lexeme) (extends : List Lexeme) (units rest : List UnitTree) (lexemes : List Lexeme) (next : Lexeme) → DerivesUnits units lexemes next
-    → let inside = begun scope (spelled text name) in imports_from text outermost scope (ModuleBegin name extends ∷ (units ++ ModuleEnd closing ∷ rest))
+    (dashes name closing : Lexeme) (extends : List Lexeme) (units rest : List UnitTree) (lexemes : List Lexeme) (next : Lexeme) → DerivesUnits units lexemes next
+    → let inside = begun scope (spelled text name) in imports_from text outermost scope (ModuleBegin dashes name extends ∷ (units ++ ModuleEnd closing ∷ rest))
     ≡ filter (is_needed text outermost inside) extends
     ++ (imports_from text outermost inside units ++ imports_from text outermost (record { here = behind scope.here (spelled text name) tt; round = scope.round }) rest)

@@ -5,7 +5,7 @@ use Rattle.tla_tree.specs.declared.unit.Unit.TheVariants as unit
 
 -- the name of the nested module that a unit begins
 abbrev pub begun_name : unit.the_data → List Lexeme
-begun_name (unit.ModuleBegin name extends) = name ∷ []
+begun_name (unit.ModuleBegin dashes name extends) = name ∷ []
 begun_name _ = []
 
 -- all instances of a unit stand below this node, or it has none

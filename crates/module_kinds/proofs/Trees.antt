@@ -105,7 +105,7 @@ abbrev pub named_unit : ℕ → Trees → UnitTree
 named_unit from parts = ModuleDefinition None (instance_of from parts)
 
 abbrev pub begin : ℕ → UnitTree
-begin from = ModuleBegin (at from) []
+begin from = ModuleBegin (at 0) (at from) []
 
 abbrev pub end : UnitTree
 end = ModuleEnd (at 0)

@@ -121,7 +121,7 @@ module _ (text : Text) (files : List ℕ → Outside) (words : List ℕ) where
   standing_behind state (FunctionDefinition local x) parameters = with_definition state (FunctionDefinition local x) x parameters
   standing_behind state (ModuleDefinition local x) parameters = with_definition state (ModuleDefinition local x) x parameters
   standing_behind state (Instance local x) parameters = with_instance state (Instance local x) x parameters
-  standing_behind state (ModuleBegin name extends) parameters = extended (begun state.modules (spelled text.source name)) parameters (state.standing parameters) extends
+  standing_behind state (ModuleBegin dashes name extends) parameters = extended (begun state.modules (spelled text.source name)) parameters (state.standing parameters) extends
   standing_behind state unit parameters = state.standing parameters
 
   -- with the depth of a definition
@@ -142,12 +142,12 @@ module _ (text : Text) (files : List ℕ → Outside) (words : List ℕ) where
   depths_behind state (FunctionDefinition local x) = with_defined state (FunctionDefinition local x) x
   depths_behind state (ModuleDefinition local x) = with_defined state (ModuleDefinition local x) x
   depths_behind state (Instance local x) = with_brought state (Instance local x) x
-  depths_behind state (ModuleBegin name extends) = extended_depths (begun state.modules (spelled text.source name)) state.depths extends
+  depths_behind state (ModuleBegin dashes name extends) = extended_depths (begun state.modules (spelled text.source name)) state.depths extends
   depths_behind state unit = state.depths
 
   -- the modules that can be named behind a unit
   abbrev pub modules_behind : KindState → UnitTree → Scope Outside
-  modules_behind state (ModuleBegin name extends) = begun state.modules (spelled text.source name)
+  modules_behind state (ModuleBegin dashes name extends) = begun state.modules (spelled text.source name)
   modules_behind state (ModuleEnd closing) = ended (nested_outside state state.read.place.round) state.modules.here state.modules.round
   modules_behind state unit = state.modules
 

@@ -73,7 +73,7 @@ module _ (text : Text) (files : List ℕ → ModuleView) (words : List ℕ) wher
   after state (FunctionDefinition local x) = read_on state (FunctionDefinition local x) (declare_all text (is_some local) state.place.here (definition x))
   after state (ModuleDefinition local x) = read_on state (ModuleDefinition local x) (declare_all text (is_some local) state.place.here (definition x))
   after state (Instance local x) = with_known (read_on state (Instance local x) (joined (is_some local) state.place.here (instance_brings state x))) (known_brought state x)
-  after state (ModuleBegin name extends) = with_known (inside_nested state name extends) (known_from_all text (module_named (inside_nested state name extends)) extends)
+  after state (ModuleBegin dashes name extends) = with_known (inside_nested state name extends) (known_from_all text (module_named (inside_nested state name extends)) extends)
   after state (ModuleEnd closing) =
       record state { place = left state.known state.place.here state.place.round }
   after state unit = read_on state unit state.place.here
@@ -103,7 +103,7 @@ module _ (text : Text) (files : List ℕ → ModuleView) (words : List ℕ) wher
     found_in state (Instance local x) = found_of state (Instance local x) x ++ clash_by state x
     found_in state (Assumption word name x) = found_of state (Assumption word name x) x
     found_in state (Theorem word name x) = found_of state (Theorem word name x) x
-    found_in state (ModuleBegin name extends) =
+    found_in state (ModuleBegin dashes name extends) =
         (if is_named text state.place.here name then Taken name ∷ [] else []) ++ all_clashing text (exports_by files) (nested text state.place.here name) extends
     found_in state _ = []
 

@@ -12,7 +12,7 @@ use Rattle.module_scope.specs.Environments.{Scope, begun, ended, first, is_round
 
 -- the scope of the module names of a unit, and of the units behind it
 abbrev pub scope_at : List ℕ → Scope ⊤ → UnitTree → Scope ⊤
-scope_at text scope (ModuleBegin name extends) = begun scope (spelled text name)
+scope_at text scope (ModuleBegin dashes name extends) = begun scope (spelled text name)
 scope_at text scope (ModuleEnd closing) = ended tt scope.here scope.round
 scope_at text scope _ = scope
 

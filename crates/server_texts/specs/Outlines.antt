@@ -134,7 +134,7 @@ begun text name (level ∷ round) = with_symbols (nested_symbol text (module_spa
 -- one unit before those that are read
 abbrev pub before_unit : List ℕ → UnitTree → List Level → List Level
 before_unit text (ModuleEnd closing) levels = closed_by (Some closing) ∷ levels
-before_unit text (ModuleBegin name extends) levels = begun text name levels
+before_unit text (ModuleBegin dashes name extends) levels = begun text name levels
 before_unit text unit levels = with_symbols (unit_symbols text unit) levels
 
 -- the names of these units, and of the modules round the first of them: the innermost first

@@ -122,7 +122,7 @@ high-there P found lexemes t h all =
 named-there : (P : Lexeme → Type 0) (found : ModuleUnits) (lexemes : List Lexeme) → DerivesModule found lexemes → All P lexemes → P found.name
 named-there P found lexemes (outermost {b = b} c begins ds k) all = by begins (b ++ c ∷ []) all
   where
-    by : {n : Lexeme} {names a : List Lexeme} → BeginsModule n names a → (rest : List Lexeme) → All P (a ++ rest) → P n
+    by : {dashes n : Lexeme} {names a : List Lexeme} → BeginsModule dashes n names a → (rest : List Lexeme) → All P (a ++ rest) → P n
     by (alone {n = n} d w is e) rest h = h 2 n (omega arith)
     by (extending {n = n} d w is e x s) rest h = h 2 n (omega arith)
 

@@ -180,7 +180,7 @@ declared_by (ModuleDefinition local x) = within x
 declared_by (Instance local x) = within x
 declared_by (Assumption word name x) = within x
 declared_by (Theorem word name x) = within x
-declared_by (ModuleBegin name extends) = record { name = name; entity = entity.Module } ∷ []
+declared_by (ModuleBegin dashes name extends) = record { name = name; entity = entity.Module } ∷ []
 declared_by _ = []
 
 -- the declaring names of these units, in the order of the text

@@ -62,7 +62,7 @@ abbrev mutual
   all_lexemes Nil = []
   all_lexemes (Cons x rest) = lexemes x ++ all_lexemes rest
 
--- the lexemes that a unit holds, but for the words of units and their ends
+-- the lexemes that a unit holds, but for the words and dashes of units and the ends of modules
 abbrev pub unit_lexemes : UnitTree → List Lexeme
 unit_lexemes (Variables names) = names
 unit_lexemes (Constants declarations) = all_lexemes declarations
@@ -73,7 +73,7 @@ unit_lexemes (Instance local x) = lexemes x
 unit_lexemes (Assumption word name x) = lexemes x
 unit_lexemes (Theorem word name x) = lexemes x
 unit_lexemes (Line dashes) = []
-unit_lexemes (ModuleBegin name extends) = name ∷ extends
+unit_lexemes (ModuleBegin dashes name extends) = name ∷ extends
 unit_lexemes (ModuleEnd closing) = []
 
 -- the same of several units, in their order

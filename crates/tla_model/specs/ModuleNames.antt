@@ -21,7 +21,7 @@ abbrev mutual
 
 -- the module names of a unit: those that a nested module extends, or those of instances
 abbrev pub module_names : UnitTree → List Lexeme
-module_names (ModuleBegin name extends) = extends
+module_names (ModuleBegin dashes name extends) = extends
 module_names (OperatorDefinition local x) = instances x
 module_names (FunctionDefinition local x) = instances x
 module_names (ModuleDefinition local x) = instances x
@@ -32,7 +32,7 @@ module_names _ = []
 
 -- the names after INSTANCE of a unit
 abbrev pub instance_names : UnitTree → List Lexeme
-instance_names (ModuleBegin name extends) = []
+instance_names (ModuleBegin dashes name extends) = []
 instance_names unit = module_names unit
 
 -- the names behind INSTANCE in a text, in its order

@@ -49,8 +49,10 @@ pub enum Unit {
     },
     /// A line of dashes.
     Line(Lexeme),
-    /// The begin of a nested module: its units follow, to the end that belongs to it.
+    /// The begin of a nested module, with its first dashes: its units follow, to the end that
+    /// belongs to it.
     ModuleBegin {
+        dashes: Lexeme,
         name: Lexeme,
         extends: List<Lexeme>,
     },

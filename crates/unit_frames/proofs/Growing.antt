@@ -76,7 +76,7 @@ unit-grows nodes more (unit.Instance l n) g t = ap (Instance l) (tree_at-grows n
 unit-grows nodes more (unit.Assumption w k n) g t = ap (Assumption w k) (tree_at-grows nodes more n g t.0)
 unit-grows nodes more (unit.Theorem w k n) g t = ap (Theorem w k) (tree_at-grows nodes more n g t.0)
 unit-grows nodes more (unit.Line d) g t = refl
-unit-grows nodes more (unit.ModuleBegin n e) g t = refl
+unit-grows nodes more (unit.ModuleBegin d n e) g t = refl
 unit-grows nodes more (unit.ModuleEnd c) g t = refl
 
 all-grow : (nodes more : List Arena.Node) (us : List unit.the_data) → Grows nodes more → AllByRecursion (λ u. AreThere nodes (nodes_in u)) us → AllByRecursion (λ u. AreThere more (nodes_in u)) us

@@ -7,12 +7,12 @@ use Rattle.unit_grammar.specs.Units.{UnitTree, ModuleBegin, ModuleEnd, defined}
 use Rattle.unit_grammar.specs.Heights.{unit_height, highest_unit}
 
 abbrev pub is_single : UnitTree → Bool
-is_single (ModuleBegin name extends) = false
+is_single (ModuleBegin dashes name extends) = false
 is_single (ModuleEnd closing) = false
 is_single _ = true
 
 pub single-height : (u : UnitTree) → is_single u ≡ true → (inside : ℕ) (vs : List UnitTree) → highest_unit inside (u ∷ vs) ≡ max (inside + unit_height u) (highest_unit inside vs)
-single-height (ModuleBegin name extends) e inside vs = cc
+single-height (ModuleBegin dashes name extends) e inside vs = cc
 single-height (ModuleEnd closing) e inside vs = cc
 single-height _ e inside vs = refl
 

@@ -48,15 +48,15 @@ pub data SpellsNames : List Lexeme → List Lexeme → Type 0 where
       → SpellsNames names a
       → SpellsNames (n ∷ names) (n ∷ t ∷ a)
 
--- how a module of this name begins that extends these
-pub data BeginsModule : Lexeme → List Lexeme → List Lexeme → Type 0 where
+-- how a module begins with these dashes, of this name, that extends these
+pub data BeginsModule : Lexeme → Lexeme → List Lexeme → List Lexeme → Type 0 where
   alone : {d w n e : Lexeme}
       → IsDashes d → IsWord w Word.Module → IsName n → IsDashes e
-      → BeginsModule n [] (d ∷ w ∷ n ∷ e ∷ [])
+      → BeginsModule d n [] (d ∷ w ∷ n ∷ e ∷ [])
   extending : {d w n e x : Lexeme} {names a : List Lexeme}
       → IsDashes d → IsWord w Word.Module → IsName n → IsDashes e → IsWord x Word.Extends
       → SpellsNames names a
-      → BeginsModule n names (d ∷ w ∷ n ∷ e ∷ x ∷ a)
+      → BeginsModule d n names (d ∷ w ∷ n ∷ e ∷ x ∷ a)
 
 -- what may stand before a definition or an instance
 pub data SpellsLocal : Option Lexeme → List Lexeme → Type 0 where
@@ -99,9 +99,9 @@ mutual
         → IsDashes d → (IsWord next Word.Module → ⊥)
         → DerivesUnit (Line d ∷ []) (d ∷ []) next
     -- a module in the module
-    nested : {n next : Lexeme} {names a b : List Lexeme} {units : List UnitTree} (e : Lexeme)
-        → BeginsModule n names a → DerivesUnits units b e → IsEquals e
-        → DerivesUnit (ModuleBegin n names ∷ (units ++ ModuleEnd e ∷ [])) (a ++ (b ++ e ∷ [])) next
+    nested : {d n next : Lexeme} {names a b : List Lexeme} {units : List UnitTree} (e : Lexeme)
+        → BeginsModule d n names a → DerivesUnits units b e → IsEquals e
+        → DerivesUnit (ModuleBegin d n names ∷ (units ++ ModuleEnd e ∷ [])) (a ++ (b ++ e ∷ [])) next
 
   -- any number of units
   pub data DerivesUnits : List UnitTree → List Lexeme → Lexeme → Type 0 where
@@ -112,6 +112,6 @@ mutual
 
 -- the outermost module, with its closing run
 pub data DerivesModule : ModuleUnits → List Lexeme → Type 0 where
-  outermost : {n : Lexeme} {names a b : List Lexeme} {units : List UnitTree} (c : Lexeme)
-      → BeginsModule n names a → DerivesUnits units b c → IsClose c
+  outermost : {d n : Lexeme} {names a b : List Lexeme} {units : List UnitTree} (c : Lexeme)
+      → BeginsModule d n names a → DerivesUnits units b c → IsClose c
       → DerivesModule (record { name = n; extends = names; units = units }) (a ++ (b ++ c ∷ []))

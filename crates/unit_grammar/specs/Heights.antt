@@ -16,7 +16,7 @@ unit_height _ = 1
 -- the highest of units inside so many nested modules, each of which adds 1
 abbrev pub highest_unit : ℕ → List UnitTree → ℕ
 highest_unit inside [] = 0
-highest_unit inside (ModuleBegin name extends ∷ units) = max (inside + 1) (highest_unit (suc inside) units)
+highest_unit inside (ModuleBegin dashes name extends ∷ units) = max (inside + 1) (highest_unit (suc inside) units)
 highest_unit inside (ModuleEnd closing ∷ units) = highest_unit (inside - 1) units
 highest_unit inside (unit ∷ units) = max (inside + unit_height unit) (highest_unit inside units)
 

@@ -19,7 +19,7 @@ unit_at nodes (unit.Instance local node) = Instance local (tree_at nodes node)
 unit_at nodes (unit.Assumption word name node) = Assumption word name (tree_at nodes node)
 unit_at nodes (unit.Theorem word name node) = Theorem word name (tree_at nodes node)
 unit_at nodes (unit.Line dashes) = Line dashes
-unit_at nodes (unit.ModuleBegin name extends) = ModuleBegin name extends
+unit_at nodes (unit.ModuleBegin dashes name extends) = ModuleBegin dashes name extends
 unit_at nodes (unit.ModuleEnd closing) = ModuleEnd closing
 
 -- the numbers that it holds

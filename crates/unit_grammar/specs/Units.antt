@@ -4,7 +4,8 @@ use Rattle.tla_symbols.specs.declared.lexeme.Lexeme.{Lexeme}
 use Rattle.tla_tree.specs.declared.form.Form.TheVariants as Form
 use Rattle.tla_tree.specs.Syntax.{Tree, Trees, Node}
 
--- a unit, with the LOCAL before it where one may stand there; a nested module is a begin, units and an end
+-- a unit, with the LOCAL before it where one may stand there; a nested module is a begin, units and an end,
+-- and its begin keeps the dashes that stand before the word MODULE
 pub data UnitTree : Type 0 where
   Variables : (names : List Lexeme) → UnitTree
   Constants : (declarations : Trees) → UnitTree
@@ -15,7 +16,7 @@ pub data UnitTree : Type 0 where
   Assumption : (word : Lexeme) (name : Option Lexeme) (claim : Tree) → UnitTree
   Theorem : (word : Lexeme) (name : Option Lexeme) (claim : Tree) → UnitTree
   Line : (dashes : Lexeme) → UnitTree
-  ModuleBegin : (name : Lexeme) (extends : List Lexeme) → UnitTree
+  ModuleBegin : (dashes name : Lexeme) (extends : List Lexeme) → UnitTree
   ModuleEnd : (closing : Lexeme) → UnitTree
 
 -- a module: its name, the names that it extends, and its units with those of nested modules among them

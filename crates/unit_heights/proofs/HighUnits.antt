@@ -25,7 +25,7 @@ step-high : (depth : ℕ) (begun u : UnitTree) (us : List UnitTree) → MOST_HEI
 step-high depth begun u us high = rw (lt-ltb MOST_HEIGHT (highest_unit depth (u ∷ [])) high) refl
 
 single-depth : (u : UnitTree) → is_single u ≡ true → (depth : ℕ) → depth_after depth u ≡ depth
-single-depth (ModuleBegin name extends) e depth = absurd (cc)
+single-depth (ModuleBegin dashes name extends) e depth = absurd (cc)
 single-depth (ModuleEnd closing) e depth = absurd (cc)
 single-depth _ e depth = refl
 
@@ -53,11 +53,11 @@ walks-single u e = record {
   high = λ depth begun more high. step-high depth begun u more high;
 }
 
-walks-nested : (n : Lexeme) (names : List Lexeme) (us : List UnitTree) (e : Lexeme) → WalksUnits us → WalksUnit (ModuleBegin n names) (ModuleBegin n names ∷ (us ++ ModuleEnd e ∷ []))
-walks-nested n names us e h = record { beside = beside; low = low; high = high }
+walks-nested : (dashes n : Lexeme) (names : List Lexeme) (us : List UnitTree) (e : Lexeme) → WalksUnits us → WalksUnit (ModuleBegin dashes n names) (ModuleBegin dashes n names ∷ (us ++ ModuleEnd e ∷ []))
+walks-nested dashes n names us e h = record { beside = beside; low = low; high = high }
   where
     begin : UnitTree
-    begin = ModuleBegin n names
+    begin = ModuleBegin dashes n names
 
     inner : (depth : ℕ) (more : List UnitTree) → highest_unit (suc depth) ((us ++ ModuleEnd e ∷ []) ++ more) ≡ max (highest_unit (suc depth) us) (highest_unit depth more)
     inner depth more =
@@ -67,28 +67,28 @@ walks-nested n names us e h = record { beside = beside; low = low; high = high }
     alone-height : (depth : ℕ) → highest_unit (suc depth) (us ++ ModuleEnd e ∷ []) ≡ max (highest_unit (suc depth) us) 0
     alone-height depth = h.beside (suc depth) (ModuleEnd e ∷ [])
 
-    beside : (depth : ℕ) (more : List UnitTree) → highest_unit depth ((ModuleBegin n names ∷ (us ++ ModuleEnd e ∷ [])) ++ more) ≡ max (highest_unit depth (ModuleBegin n names ∷ (us ++ ModuleEnd e ∷ []))) (highest_unit depth more)
+    beside : (depth : ℕ) (more : List UnitTree) → highest_unit depth ((ModuleBegin dashes n names ∷ (us ++ ModuleEnd e ∷ [])) ++ more) ≡ max (highest_unit depth (ModuleBegin dashes n names ∷ (us ++ ModuleEnd e ∷ []))) (highest_unit depth more)
     beside depth more = omega (arith, inner depth more, alone-height depth)
 
-    entered : (depth : ℕ) (begun : UnitTree) (more : List UnitTree) → depth + 1 ≤ MOST_HEIGHT → high_unit depth begun ((ModuleBegin n names ∷ (us ++ ModuleEnd e ∷ [])) ++ more) ≡ high_unit (suc depth) (outer depth begun (ModuleBegin n names)) (us ++ ModuleEnd e ∷ more)
+    entered : (depth : ℕ) (begun : UnitTree) (more : List UnitTree) → depth + 1 ≤ MOST_HEIGHT → high_unit depth begun ((ModuleBegin dashes n names ∷ (us ++ ModuleEnd e ∷ [])) ++ more) ≡ high_unit (suc depth) (outer depth begun (ModuleBegin dashes n names)) (us ++ ModuleEnd e ∷ more)
     entered depth begun more le =
-        step-low depth begun (ModuleBegin n names) ((us ++ ModuleEnd e ∷ []) ++ more) (omega (arith, le))
-        ∙ ap (high_unit (suc depth) (outer depth begun (ModuleBegin n names))) (append_assoc us (ModuleEnd e ∷ []) more)
+        step-low depth begun (ModuleBegin dashes n names) ((us ++ ModuleEnd e ∷ []) ++ more) (omega (arith, le))
+        ∙ ap (high_unit (suc depth) (outer depth begun (ModuleBegin dashes n names))) (append_assoc us (ModuleEnd e ∷ []) more)
 
     left : (depth : ℕ) (begun : UnitTree) (more : List UnitTree) → high_unit (suc depth) begun (ModuleEnd e ∷ more) ≡ high_unit depth begun more
     left depth begun more = step-low (suc depth) begun (ModuleEnd e) more (omega arith) ∙ ap (λ d. high_unit d begun more) (one-less depth)
 
-    low : (depth : ℕ) (begun : UnitTree) (more : List UnitTree) → highest_unit depth (ModuleBegin n names ∷ (us ++ ModuleEnd e ∷ [])) ≤ MOST_HEIGHT → high_unit depth begun ((ModuleBegin n names ∷ (us ++ ModuleEnd e ∷ [])) ++ more) ≡ high_unit depth (outer depth begun (ModuleBegin n names)) more
+    low : (depth : ℕ) (begun : UnitTree) (more : List UnitTree) → highest_unit depth (ModuleBegin dashes n names ∷ (us ++ ModuleEnd e ∷ [])) ≤ MOST_HEIGHT → high_unit depth begun ((ModuleBegin dashes n names ∷ (us ++ ModuleEnd e ∷ [])) ++ more) ≡ high_unit depth (outer depth begun (ModuleBegin dashes n names)) more
     low depth begun more le =
-        let here : UnitTree = outer depth begun (ModuleBegin n names) in
+        let here : UnitTree = outer depth begun (ModuleBegin dashes n names) in
         entered depth begun more (omega (arith, le))
         ∙ (h.low depth here (ModuleEnd e ∷ more) (omega (arith, le, alone-height depth)) ∙ left depth here more)
 
-    high : (depth : ℕ) (begun : UnitTree) (more : List UnitTree) → MOST_HEIGHT < highest_unit depth (ModuleBegin n names ∷ (us ++ ModuleEnd e ∷ [])) → high_unit depth begun ((ModuleBegin n names ∷ (us ++ ModuleEnd e ∷ [])) ++ more) ≡ outer depth begun (ModuleBegin n names)
+    high : (depth : ℕ) (begun : UnitTree) (more : List UnitTree) → MOST_HEIGHT < highest_unit depth (ModuleBegin dashes n names ∷ (us ++ ModuleEnd e ∷ [])) → high_unit depth begun ((ModuleBegin dashes n names ∷ (us ++ ModuleEnd e ∷ [])) ++ more) ≡ outer depth begun (ModuleBegin dashes n names)
     high depth begun more lt =
         ⊎_elim
-        (λ (deep : MOST_HEIGHT < depth + 1). step-high depth begun (ModuleBegin n names) ((us ++ ModuleEnd e ∷ []) ++ more) (omega (arith, deep)))
-        (λ (le : depth + 1 ≤ MOST_HEIGHT). entered depth begun more le ∙ h.high depth (outer depth begun (ModuleBegin n names)) (ModuleEnd e ∷ more) (omega (arith, le, lt, alone-height depth)))
+        (λ (deep : MOST_HEIGHT < depth + 1). step-high depth begun (ModuleBegin dashes n names) ((us ++ ModuleEnd e ∷ []) ++ more) (omega (arith, deep)))
+        (λ (le : depth + 1 ≤ MOST_HEIGHT). entered depth begun more le ∙ h.high depth (outer depth begun (ModuleBegin dashes n names)) (ModuleEnd e ∷ more) (omega (arith, le, lt, alone-height depth)))
         (cases_lt MOST_HEIGHT (depth + 1))
 
 walks-both : (head : UnitTree) (us vs : List UnitTree) → WalksUnit head us → WalksUnits vs → WalksUnits (us ++ vs)
@@ -172,7 +172,7 @@ local-begins (kept {w = w} k) x b head s at none = record { skipped = []; found 
 word-begins : (w : Lexeme) (a : List Lexeme) (head : UnitTree) → begins_at head ≡ w.span.start → begun_before head ≡ 0 → Begins head (w ∷ a)
 word-begins w a head at none = record { skipped = []; found = w; more = a; spells = refl; at = sym at; count = sym none }
 
-module-begins : {n : Lexeme} {names a : List Lexeme} → BeginsModule n names a → (b : List Lexeme) → Begins (ModuleBegin n names) (a ++ b)
+module-begins : {dashes n : Lexeme} {names a : List Lexeme} → BeginsModule dashes n names a → (b : List Lexeme) → Begins (ModuleBegin dashes n names) (a ++ b)
 module-begins (alone {d = d} {w = w} {n = n} {e = e} i j k l) b = record { skipped = d ∷ w ∷ []; found = n; more = e ∷ b; spells = refl; at = refl; count = refl }
 module-begins (extending {d = d} {w = w} {n = n} {e = e} {x = x} {a = a} i j k l m s) b = record { skipped = d ∷ w ∷ []; found = n; more = e ∷ x ∷ (a ++ b); spells = refl; at = refl; count = refl }
 
@@ -218,8 +218,8 @@ mutual
   unit-stands (assumption {w = w} {x = x} {a = a} k d) = stands-by (Assumption w None x) [] (w ∷ a) (walks-single (Assumption w None x) refl) (word-begins w a (Assumption w None x) refl refl)
   unit-stands (theorem {w = w} {x = x} {a = a} k d) = stands-by (Theorem w None x) [] (w ∷ a) (walks-single (Theorem w None x) refl) (word-begins w a (Theorem w None x) refl refl)
   unit-stands (line {d = d} k h) = stands-low (Line d) d [] refl refl
-  unit-stands (nested {n = n} {names = names} {a = a} {b = b} {units = units} e k ds h) =
-      stands-by (ModuleBegin n names) (units ++ ModuleEnd e ∷ []) (a ++ (b ++ e ∷ [])) (walks-nested n names units e (units-walk ds)) (module-begins k (b ++ e ∷ []))
+  unit-stands (nested {d = dashes} {n = n} {names = names} {a = a} {b = b} {units = units} e k ds h) =
+      stands-by (ModuleBegin dashes n names) (units ++ ModuleEnd e ∷ []) (a ++ (b ++ e ∷ [])) (walks-nested dashes n names units e (units-walk ds)) (module-begins k (b ++ e ∷ []))
 
   units-walk : {us : List UnitTree} {a : List Lexeme} {next : Lexeme} → DerivesUnits us a next → WalksUnits us
   units-walk no_units = record { beside = λ depth more. omega arith; low = λ depth begun more le. refl; high = λ depth begun more lt. absurd (omega (arith, lt)) }
@@ -313,11 +313,12 @@ split (more_units {unit = unit} {units = units} {a = a} {b = b} {next = next} d 
 
 -- a module that is too high has a first unit that is
 pub some-high : {found : ModuleUnits} {lexemes : List Lexeme} → DerivesModule found lexemes → MOST_HEIGHT < module_height found → (t : Lexeme) × IsFirstHigh found lexemes t
-some-high (outermost {n = n} {names = names} {a = a} {b = b} {units = units} c begins ds k) lt =
+some-high (outermost {d = dashes} {n = n} {names = names} {a = a} {b = b} {units = units} c begins ds k) lt =
     let s = split ds lt in
     let spelled : a ++ (b ++ c ∷ []) ≡ a ++ (s.before ++ ((s.t ∷ s.more) ++ (s.after ++ c ∷ []))) = ap (λ l. a ++ l) (ap (λ l. l ++ c ∷ []) s.spells ∙ (append_assoc s.before ((s.t ∷ s.more) ++ s.after) (c ∷ []) ∙ ap (λ l. s.before ++ l) (append_assoc (s.t ∷ s.more) s.after (c ∷ [])))) in (
       s.t,
       record {
+        dashes = dashes;
         header = a;
         before = s.before;
         more = s.more;

@@ -13,7 +13,7 @@ BeginsFurther at (l ∷ ls) = (at ≤ l.span.start) × BeginsFurther (suc l.span
 
 -- how many modules are open behind a unit
 abbrev pub depth_after : ℕ → UnitTree → ℕ
-depth_after depth (ModuleBegin name extends) = suc depth
+depth_after depth (ModuleBegin dashes name extends) = suc depth
 depth_after depth (ModuleEnd closing) = depth - 1
 depth_after depth _ = depth
 
@@ -41,12 +41,12 @@ begins_at (ModuleDefinition local x) = begins_with local x
 begins_at (Instance local x) = begins_with local x
 begins_at (Assumption word name x) = word.span.start
 begins_at (Theorem word name x) = word.span.start
-begins_at (ModuleBegin name extends) = name.span.start
+begins_at (ModuleBegin dashes name extends) = name.span.start
 begins_at _ = 0
 
 -- how many lexemes of a unit stand before that place
 abbrev pub begun_before : UnitTree → ℕ
-begun_before (ModuleBegin name extends) = 2
+begun_before (ModuleBegin dashes name extends) = 2
 begun_before _ = 0
 
 -- how many lexemes stand before the one that begins at a place

@@ -13,6 +13,7 @@ MOST_HEIGHT = 1000
 
 -- the first lexeme of the first unit of the outermost module that is too high
 pub record IsFirstHigh (found : ModuleUnits) (lexemes : List Lexeme) (t : Lexeme) : Type 0 where
+  pub dashes : Lexeme
   pub header : List Lexeme
   pub before : List Lexeme
   pub more : List Lexeme
@@ -23,7 +24,7 @@ pub record IsFirstHigh (found : ModuleUnits) (lexemes : List Lexeme) (t : Lexeme
   pub rest : List UnitTree
   pub spells : lexemes ≡ header ++ (before ++ ((t ∷ more) ++ (after ++ closing ∷ [])))
   pub are : found.units ≡ lower ++ (unit ++ rest)
-  pub begins : BeginsModule found.name found.extends header
+  pub begins : BeginsModule dashes found.name found.extends header
   pub derives_lower : DerivesUnits lower before t
   pub derives_unit : DerivesUnit unit (t ∷ more) (first after closing)
   pub derives_rest : DerivesUnits rest after closing

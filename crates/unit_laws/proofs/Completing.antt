@@ -173,8 +173,8 @@ unit-begins {q = q} {l = l} begun a g o f =
     let b : Begins (q ++ (l ++ (a ++ f.rest))) = goes-begins (finish-goes begun f.tree (a ++ f.rest) close o f.whole g) in
     begins-sooner (q ++ (l ++ a)) f.rest (begins-as _ _ (simp append_assoc) b)
 
-opens-begins : {depth : ℕ} {us : List UnitTree} {q : List Lexeme} → Opens depth us q → (n : Lexeme) (names a : List Lexeme) → BeginsModule n names a → Begins (q ++ a)
-opens-begins o n names a k = goes-begins (o.begin n names a k)
+opens-begins : {depth : ℕ} {us : List UnitTree} {q : List Lexeme} → Opens depth us q → (dashes n : Lexeme) (names a : List Lexeme) → BeginsModule dashes n names a → Begins (q ++ a)
+opens-begins o dashes n names a k = goes-begins (o.begin dashes n names a k)
 
 expression-finishes : {begun : Begun} {fs : List Frame} {c : List Lexeme} → Under begun fs c → (x : Tree) (b : List Lexeme) → Derives x b 0 (Some close) → UnitFinishing begun (c ++ b)
 expression-finishes (claims e) x b h = record { rest = []; tree = x; whole = by_claim e (subst (λ z. Derives x z 0 (Some close)) (sym (append-nil b)) h) }
@@ -190,16 +190,16 @@ header = some (LexKind.Word Word.Module) ∷ some_name ∷ some LexKind.Dashes �
 
 -- each state is completed
 focus-begins : {depth : ℕ} {us : List UnitTree} {focus : Focus} {p : List Lexeme} → FocusOk depth us focus p → Begins p
-focus-begins at_opening = begins-sooner [] (some LexKind.Dashes ∷ header) (opens-begins outermost-opens some_name [] (some LexKind.Dashes ∷ header) (alone refl refl refl refl))
-focus-begins (at_word {d = d} k) = begins-sooner (d ∷ []) header (opens-begins outermost-opens some_name [] (d ∷ header) (alone k refl refl refl))
-focus-begins (at_name q d w o k l) = begins-sooner (q ++ d ∷ w ∷ []) (some_name ∷ some LexKind.Dashes ∷ []) (begins-as _ _ (sym (append_assoc q (d ∷ w ∷ []) (some_name ∷ some LexKind.Dashes ∷ []))) (opens-begins o some_name [] (d ∷ w ∷ some_name ∷ some LexKind.Dashes ∷ []) (alone k l refl refl)))
-focus-begins (at_dashes {n = n} q d w o k l m) = begins-sooner (q ++ d ∷ w ∷ n ∷ []) (some LexKind.Dashes ∷ []) (begins-as _ _ (sym (append_assoc q (d ∷ w ∷ n ∷ []) (some LexKind.Dashes ∷ []))) (opens-begins o n [] (d ∷ w ∷ n ∷ some LexKind.Dashes ∷ []) (alone k l m refl)))
-focus-begins (at_read {n = n} q d w e o k l m i) = opens-begins o n [] (d ∷ w ∷ n ∷ e ∷ []) (alone k l m i)
+focus-begins at_opening = begins-sooner [] (some LexKind.Dashes ∷ header) (opens-begins outermost-opens (some LexKind.Dashes) some_name [] (some LexKind.Dashes ∷ header) (alone refl refl refl refl))
+focus-begins (at_word {d = d} k) = begins-sooner (d ∷ []) header (opens-begins outermost-opens d some_name [] (d ∷ header) (alone k refl refl refl))
+focus-begins (at_name q d w o k l) = begins-sooner (q ++ d ∷ w ∷ []) (some_name ∷ some LexKind.Dashes ∷ []) (begins-as _ _ (sym (append_assoc q (d ∷ w ∷ []) (some_name ∷ some LexKind.Dashes ∷ []))) (opens-begins o d some_name [] (d ∷ w ∷ some_name ∷ some LexKind.Dashes ∷ []) (alone k l refl refl)))
+focus-begins (at_dashes {n = n} q d w o k l m) = begins-sooner (q ++ d ∷ w ∷ n ∷ []) (some LexKind.Dashes ∷ []) (begins-as _ _ (sym (append_assoc q (d ∷ w ∷ n ∷ []) (some LexKind.Dashes ∷ []))) (opens-begins o d n [] (d ∷ w ∷ n ∷ some LexKind.Dashes ∷ []) (alone k l m refl)))
+focus-begins (at_read {n = n} q d w e o k l m i) = opens-begins o d n [] (d ∷ w ∷ n ∷ e ∷ []) (alone k l m i)
 focus-begins (at_extends {n = n} {ns = ns} q d w e x c o k l m i j h) =
-    begins-sooner (q ++ d ∷ w ∷ n ∷ e ∷ x ∷ c) (some_name ∷ []) (begins-as _ _ (sym (append_assoc q (d ∷ w ∷ n ∷ e ∷ x ∷ c) (some_name ∷ []))) (opens-begins o n (ns ++ some_name ∷ []) (d ∷ w ∷ n ∷ e ∷ x ∷ (c ++ some_name ∷ [])) (extending k l m i j (names-close ns c some_name h refl))))
-focus-begins (at_extended {n = n} q d w e x ns c v o k l m i j h f) = opens-begins o n (ns ++ v ∷ []) (d ∷ w ∷ n ∷ e ∷ x ∷ (c ++ v ∷ [])) (extending k l m i j (names-close ns c v h f))
+    begins-sooner (q ++ d ∷ w ∷ n ∷ e ∷ x ∷ c) (some_name ∷ []) (begins-as _ _ (sym (append_assoc q (d ∷ w ∷ n ∷ e ∷ x ∷ c) (some_name ∷ []))) (opens-begins o d n (ns ++ some_name ∷ []) (d ∷ w ∷ n ∷ e ∷ x ∷ (c ++ some_name ∷ [])) (extending k l m i j (names-close ns c some_name h refl))))
+focus-begins (at_extended {n = n} q d w e x ns c v o k l m i j h f) = opens-begins o d n (ns ++ v ∷ []) (d ∷ w ∷ n ∷ e ∷ x ∷ (c ++ v ∷ [])) (extending k l m i j (names-close ns c v h f))
 focus-begins (at_unit g) = goes-begins g
-focus-begins (at_line {d = d} q g k) = begins-sooner (q ++ d ∷ []) header (begins-as _ _ (sym (append_assoc q (d ∷ []) header)) (opens-begins (nested-opens g) some_name [] (d ∷ header) (alone k refl refl refl)))
+focus-begins (at_line {d = d} q g k) = begins-sooner (q ++ d ∷ []) header (begins-as _ _ (sym (append_assoc q (d ∷ []) header)) (opens-begins (nested-opens g) d some_name [] (d ∷ header) (alone k refl refl refl)))
 focus-begins (at_local {w = w} q g k) =
     begins-sooner (q ++ w ∷ []) (some_name ∷ []) (begins-as _ _ (sym (append_assoc q (w ∷ []) (some_name ∷ []))) (unit-begins (OfDefinition (Some w)) (some_name ∷ []) g (opened_definition (kept k)) (completes-stack (base refl) (some_name ∷ []) (completes-part {t = close} (definition_name refl)))))
 focus-begins (at_variable {ns = ns} q w c g k h) =

@@ -43,7 +43,7 @@ due-closes d us t l = by t.kind l d
 -- what such a lexeme does where something is due
 data DueStays : DueMove → Type 0 where
   due_refuses : DueStays DueMove.Refused
-  has_begun : {n : Lexeme} → DueStays (DueMove.Begun n)
+  has_begun : {d n : Lexeme} → DueStays (DueMove.Begun d n)
   is_list : DueStays DueMove.Listed
   is_line : {d : Lexeme} → DueStays (DueMove.Lined d)
   begins_unit : DueStays (DueMove.Begins None)
@@ -52,24 +52,24 @@ due-stays : (due : Due) (k : LexKind) → Last k → (s : Span) (line col : ℕ)
 due-stays Due.Opening k closing s line col = due_refuses
 due-stays Due.Opening k ending s line col = due_refuses
 due-stays Due.Opening k wrong s line col = due_refuses
-due-stays Due.OpeningWord k closing s line col = due_refuses
-due-stays Due.OpeningWord k ending s line col = due_refuses
-due-stays Due.OpeningWord k wrong s line col = due_refuses
-due-stays Due.ModuleName k closing s line col = due_refuses
-due-stays Due.ModuleName k ending s line col = due_refuses
-due-stays Due.ModuleName k wrong s line col = due_refuses
-due-stays (Due.ModuleDashes n) k closing s line col = due_refuses
-due-stays (Due.ModuleDashes n) k ending s line col = due_refuses
-due-stays (Due.ModuleDashes n) k wrong s line col = due_refuses
-due-stays (Due.ModuleRead n) k closing s line col = has_begun
-due-stays (Due.ModuleRead n) k ending s line col = has_begun
-due-stays (Due.ModuleRead n) k wrong s line col = has_begun
-due-stays (Due.ExtendsName n) k closing s line col = due_refuses
-due-stays (Due.ExtendsName n) k ending s line col = due_refuses
-due-stays (Due.ExtendsName n) k wrong s line col = due_refuses
-due-stays (Due.ExtendsRead n) k closing s line col = has_begun
-due-stays (Due.ExtendsRead n) k ending s line col = has_begun
-due-stays (Due.ExtendsRead n) k wrong s line col = has_begun
+due-stays (Due.OpeningWord d) k closing s line col = due_refuses
+due-stays (Due.OpeningWord d) k ending s line col = due_refuses
+due-stays (Due.OpeningWord d) k wrong s line col = due_refuses
+due-stays (Due.ModuleName d) k closing s line col = due_refuses
+due-stays (Due.ModuleName d) k ending s line col = due_refuses
+due-stays (Due.ModuleName d) k wrong s line col = due_refuses
+due-stays (Due.ModuleDashes d n) k closing s line col = due_refuses
+due-stays (Due.ModuleDashes d n) k ending s line col = due_refuses
+due-stays (Due.ModuleDashes d n) k wrong s line col = due_refuses
+due-stays (Due.ModuleRead d n) k closing s line col = has_begun
+due-stays (Due.ModuleRead d n) k ending s line col = has_begun
+due-stays (Due.ModuleRead d n) k wrong s line col = has_begun
+due-stays (Due.ExtendsName d n) k closing s line col = due_refuses
+due-stays (Due.ExtendsName d n) k ending s line col = due_refuses
+due-stays (Due.ExtendsName d n) k wrong s line col = due_refuses
+due-stays (Due.ExtendsRead d n) k closing s line col = has_begun
+due-stays (Due.ExtendsRead d n) k ending s line col = has_begun
+due-stays (Due.ExtendsRead d n) k wrong s line col = has_begun
 due-stays Due.Unit k closing s line col = begins_unit
 due-stays Due.Unit k ending s line col = begins_unit
 due-stays Due.Unit k wrong s line col = begins_unit

@@ -24,10 +24,10 @@ pub data Rest : ℕ → List UnitTree → List Lexeme → Type 0 where
   closes : {c : Lexeme} → IsClose c → Rest (suc ℕ.zero) [] (c ∷ [])
   ends : {depth : ℕ} {e : Lexeme} {units : List UnitTree} {b : List Lexeme} → IsEquals e → Rest (suc depth) units b → Rest (suc (suc depth)) (ModuleEnd e ∷ units) (e ∷ b)
   goes : {depth : ℕ} {unit : UnitTree} {units : List UnitTree} {a b : List Lexeme} (t : Lexeme) → Plain unit a t → Rest depth units (t ∷ b) → Rest depth (unit ∷ units) (a ++ t ∷ b)
-  opens : {depth : ℕ} {n : Lexeme} {names : List Lexeme} {units : List UnitTree} {a b : List Lexeme} (t : Lexeme) → BeginsModule n names a → Rest (suc depth) units (t ∷ b) → Rest depth (ModuleBegin n names ∷ units) (a ++ t ∷ b)
+  opens : {depth : ℕ} {dashes n : Lexeme} {names : List Lexeme} {units : List UnitTree} {a b : List Lexeme} (t : Lexeme) → BeginsModule dashes n names a → Rest (suc depth) units (t ∷ b) → Rest depth (ModuleBegin dashes n names ∷ units) (a ++ t ∷ b)
 
 pub data Whole : ModuleUnits → List Lexeme → Type 0 where
-  whole : {n : Lexeme} {names : List Lexeme} {units : List UnitTree} {a b : List Lexeme} (t : Lexeme) → BeginsModule n names a → Rest (suc ℕ.zero) units (t ∷ b) → Whole (record { name = n; extends = names; units = units }) (a ++ t ∷ b)
+  whole : {dashes n : Lexeme} {names : List Lexeme} {units : List UnitTree} {a b : List Lexeme} (t : Lexeme) → BeginsModule dashes n names a → Rest (suc ℕ.zero) units (t ∷ b) → Whole (record { name = n; extends = names; units = units }) (a ++ t ∷ b)
 
 -- ---- from the grammar
 
@@ -48,12 +48,12 @@ mutual
   unit-rest (assumption {next = t} k d) depth vs c r = goes t (plain_assumption k d) r
   unit-rest (theorem {next = t} k d) depth vs c r = goes t (plain_theorem k d) r
   unit-rest (line {next = t} k d) depth vs c r = goes t (plain_line k d) r
-  unit-rest (nested {n = n} {next = t} {names = names} {a = a} {b = b} {units = units} e k ds h) depth vs c r =
+  unit-rest (nested {d = dashes} {n = n} {next = t} {names = names} {a = a} {b = b} {units = units} e k ds h) depth vs c r =
       let inner : Rest (suc (suc depth)) (units ++ ModuleEnd e ∷ vs) (b ++ e ∷ t ∷ c) = units-rest ds (suc depth) (ModuleEnd e ∷ vs) (t ∷ c) (ends h r) in
-      let whole : Rest (suc depth) (ModuleBegin n names ∷ (units ++ ModuleEnd e ∷ vs)) (a ++ first b e ∷ after_first b e (t ∷ c)) = opens (first b e) k (subst (λ z. Rest (suc (suc depth)) (units ++ ModuleEnd e ∷ vs) z) (front b e (t ∷ c)) inner) in
+      let whole : Rest (suc depth) (ModuleBegin dashes n names ∷ (units ++ ModuleEnd e ∷ vs)) (a ++ first b e ∷ after_first b e (t ∷ c)) = opens (first b e) k (subst (λ z. Rest (suc (suc depth)) (units ++ ModuleEnd e ∷ vs) z) (front b e (t ∷ c)) inner) in
       let spelled : a ++ first b e ∷ after_first b e (t ∷ c) ≡ (a ++ (b ++ e ∷ [])) ++ t ∷ c = ap (λ z. a ++ z) (sym (front b e (t ∷ c)) ∙ sym (append_assoc b (e ∷ []) (t ∷ c))) ∙ sym (append_assoc a (b ++ e ∷ []) (t ∷ c)) in
       let held : units ++ ModuleEnd e ∷ vs ≡ (units ++ ModuleEnd e ∷ []) ++ vs = sym (append_assoc units (ModuleEnd e ∷ []) vs) in
-      subst (λ z. Rest (suc depth) (ModuleBegin n names ∷ z) ((a ++ (b ++ e ∷ [])) ++ t ∷ c)) held (subst (λ z. Rest (suc depth) (ModuleBegin n names ∷ (units ++ ModuleEnd e ∷ vs)) z) spelled whole)
+      subst (λ z. Rest (suc depth) (ModuleBegin dashes n names ∷ z) ((a ++ (b ++ e ∷ [])) ++ t ∷ c)) held (subst (λ z. Rest (suc depth) (ModuleBegin dashes n names ∷ (units ++ ModuleEnd e ∷ vs)) z) spelled whole)
 
   units-rest : {us : List UnitTree} {a : List Lexeme} {t : Lexeme} → DerivesUnits us a t → (depth : ℕ) (vs : List UnitTree) (c : List Lexeme) → Rest (suc depth) vs (t ∷ c) → Rest (suc depth) (us ++ vs) (a ++ t ∷ c)
   units-rest no_units depth vs c r = r
@@ -88,15 +88,15 @@ add-unit (more {depth = depth} {units = units} {more = vs} {b = b} {c = c} e ds 
     let q : Upto (suc (suc depth)) ((unit ++ units) ++ ModuleEnd e ∷ vs) ((a ++ b) ++ e ∷ c) = more e (more_units (d (first b e) (after_first b e c) (front b e c)) ds) k up in
     subst (λ z. Upto (suc (suc depth)) z (a ++ (b ++ e ∷ c))) (append_assoc unit units (ModuleEnd e ∷ vs)) (subst (λ z. Upto (suc (suc depth)) ((unit ++ units) ++ ModuleEnd e ∷ vs) z) (append_assoc a b (e ∷ c)) q)
 
-open-unit : {depth : ℕ} {n : Lexeme} {names a : List Lexeme} → BeginsModule n names a → (inner : ℕ) (us : List UnitTree) (l : List Lexeme) → Upto inner us l → inner ≡ suc (suc depth) → Upto (suc depth) (ModuleBegin n names ∷ us) (a ++ l)
+open-unit : {depth : ℕ} {dashes n : Lexeme} {names a : List Lexeme} → BeginsModule dashes n names a → (inner : ℕ) (us : List UnitTree) (l : List Lexeme) → Upto inner us l → inner ≡ suc (suc depth) → Upto (suc depth) (ModuleBegin dashes n names ∷ us) (a ++ l)
 open-unit k inner us l (last c ds h) q = cc
-open-unit {depth = depth} {n = n} {names = names} {a = a} k inner us l (more {depth = deep} {units = units} {more = vs} {b = b} {c = c} e ds h up) q =
+open-unit {depth = depth} {dashes = dashes} {n = n} {names = names} {a = a} k inner us l (more {depth = deep} {units = units} {more = vs} {b = b} {c = c} e ds h up) q =
     let spelled : (a ++ (b ++ e ∷ [])) ++ c ≡ a ++ (b ++ e ∷ c) = append_assoc a (b ++ e ∷ []) c ∙ ap (λ z. a ++ z) (append_assoc b (e ∷ []) c) in
     let held : (units ++ ModuleEnd e ∷ []) ++ vs ≡ units ++ ModuleEnd e ∷ vs = append_assoc units (ModuleEnd e ∷ []) vs in
-    let r : Upto (suc deep) (ModuleBegin n names ∷ ((units ++ ModuleEnd e ∷ []) ++ vs)) ((a ++ (b ++ e ∷ [])) ++ c) = add-unit up (ModuleBegin n names ∷ (units ++ ModuleEnd e ∷ [])) (a ++ (b ++ e ∷ [])) (λ t y z. nested e k ds h) in
-    let s : Upto (suc deep) (ModuleBegin n names ∷ (units ++ ModuleEnd e ∷ vs)) (a ++ (b ++ e ∷ c)) = subst (λ z. Upto (suc deep) (ModuleBegin n names ∷ (units ++ ModuleEnd e ∷ vs)) z) spelled (subst (λ z. Upto (suc deep) (ModuleBegin n names ∷ z) ((a ++ (b ++ e ∷ [])) ++ c)) held r) in
+    let r : Upto (suc deep) (ModuleBegin dashes n names ∷ ((units ++ ModuleEnd e ∷ []) ++ vs)) ((a ++ (b ++ e ∷ [])) ++ c) = add-unit up (ModuleBegin dashes n names ∷ (units ++ ModuleEnd e ∷ [])) (a ++ (b ++ e ∷ [])) (λ t y z. nested e k ds h) in
+    let s : Upto (suc deep) (ModuleBegin dashes n names ∷ (units ++ ModuleEnd e ∷ vs)) (a ++ (b ++ e ∷ c)) = subst (λ z. Upto (suc deep) (ModuleBegin dashes n names ∷ (units ++ ModuleEnd e ∷ vs)) z) spelled (subst (λ z. Upto (suc deep) (ModuleBegin dashes n names ∷ z) ((a ++ (b ++ e ∷ [])) ++ c)) held r) in
     let z : suc deep ≡ suc depth = omega arith in
-    subst (λ y. Upto y (ModuleBegin n names ∷ (units ++ ModuleEnd e ∷ vs)) (a ++ (b ++ e ∷ c))) z s
+    subst (λ y. Upto y (ModuleBegin dashes n names ∷ (units ++ ModuleEnd e ∷ vs)) (a ++ (b ++ e ∷ c))) z s
 
 pub plain-derives : {unit : UnitTree} {a : List Lexeme} {t : Lexeme} → Plain unit a t → DerivesUnit (unit ∷ []) a t
 plain-derives (plain_variables k d) = variables k d
@@ -115,10 +115,10 @@ rest-upto (closes {c = c} k) outer q = last c no_units k
 rest-upto (ends {depth = depth} {e = e} k r) outer q = more e no_units k (rest-upto r depth refl)
 rest-upto (goes {unit = unit} {a = a} {b = b} t p r) outer q =
     add-unit (rest-upto r outer q) (unit ∷ []) a (λ u c e. subst (λ z. DerivesUnit (unit ∷ []) a z) (head-is t u b c e) (plain-derives p))
-rest-upto (opens {depth = depth} {n = n} {names = names} {units = units} {a = a} {b = b} t k r) outer q =
-    subst (λ z. Upto z (ModuleBegin n names ∷ units) (a ++ t ∷ b)) (sym q) (open-unit {depth = outer} k (suc depth) units (t ∷ b) (rest-upto r depth refl) (ap (λ z. suc z) q))
+rest-upto (opens {depth = depth} {dashes = dashes} {n = n} {names = names} {units = units} {a = a} {b = b} t k r) outer q =
+    subst (λ z. Upto z (ModuleBegin dashes n names ∷ units) (a ++ t ∷ b)) (sym q) (open-unit {depth = outer} k (suc depth) units (t ∷ b) (rest-upto r depth refl) (ap (λ z. suc z) q))
 
-outer-module : {n : Lexeme} {names a : List Lexeme} → BeginsModule n names a → (depth : ℕ) (us : List UnitTree) (l : List Lexeme) → Upto depth us l → depth ≡ suc ℕ.zero → DerivesModule (record { name = n; extends = names; units = us }) (a ++ l)
+outer-module : {dashes n : Lexeme} {names a : List Lexeme} → BeginsModule dashes n names a → (depth : ℕ) (us : List UnitTree) (l : List Lexeme) → Upto depth us l → depth ≡ suc ℕ.zero → DerivesModule (record { name = n; extends = names; units = us }) (a ++ l)
 outer-module k depth us l (last c ds h) q = outermost c k ds h
 outer-module k depth us l (more e ds h up) q = cc
 

@@ -25,8 +25,8 @@ single-stands u e = record {
       omega arith;
 }
 
-nested-stands : (n : Lexeme) (names : List Lexeme) (us : List UnitTree) (e : Lexeme) → Stands us → Stands (ModuleBegin n names ∷ (us ++ ModuleEnd e ∷ []))
-nested-stands n names us e h = record {
+nested-stands : (dashes n : Lexeme) (names : List Lexeme) (us : List UnitTree) (e : Lexeme) → Stands us → Stands (ModuleBegin dashes n names ∷ (us ++ ModuleEnd e ∷ []))
+nested-stands dashes n names us e h = record {
   beside = λ inside vs.
       let a : highest_unit (suc inside) (us ++ ModuleEnd e ∷ vs) ≡ max (highest_unit (suc inside) us) (highest_unit inside vs) = h.beside (suc inside) (ModuleEnd e ∷ vs) ∙ ap (λ z. max (highest_unit (suc inside) us) (highest_unit z vs)) (one-less inside) in
       let b : highest_unit (suc inside) (us ++ ModuleEnd e ∷ []) ≡ max (highest_unit (suc inside) us) 0 = h.beside (suc inside) (ModuleEnd e ∷ []) in
@@ -64,14 +64,14 @@ mutual
   unit-stands (assumption k d) = single-stands _ refl
   unit-stands (theorem k d) = single-stands _ refl
   unit-stands (line k d) = single-stands _ refl
-  unit-stands (nested {n = n} {names = names} {units = units} e k ds h) = nested-stands n names units e (units-stand ds)
+  unit-stands (nested {d = dashes} {n = n} {names = names} {units = units} e k ds h) = nested-stands dashes n names units e (units-stand ds)
 
   units-stand : {us : List UnitTree} {a : List Lexeme} {t : Lexeme} → DerivesUnits us a t → Stands us
   units-stand no_units = record { beside = λ inside vs. omega arith; within = λ inside. omega arith }
   units-stand (more_units {unit = unit} {units = units} d ds) = both-stand unit units (unit-stands d) (units-stand ds)
 
-pub nested-height : (units : List UnitTree) (a : List Lexeme) (next : Lexeme) → DerivesUnits units a next → (n : Lexeme) (names : List Lexeme) (e : Lexeme) → highest_unit 0 (ModuleBegin n names ∷ (units ++ ModuleEnd e ∷ [])) ≡ suc (highest_unit 0 units)
-nested-height units a next d n names e =
+pub nested-height : (units : List UnitTree) (a : List Lexeme) (next : Lexeme) → DerivesUnits units a next → (dashes n : Lexeme) (names : List Lexeme) (e : Lexeme) → highest_unit 0 (ModuleBegin dashes n names ∷ (units ++ ModuleEnd e ∷ [])) ≡ suc (highest_unit 0 units)
+nested-height units a next d dashes n names e =
     let h : Stands units = units-stand d in
     let b : highest_unit 1 (units ++ ModuleEnd e ∷ []) ≡ max (highest_unit 1 units) 0 = h.beside 1 (ModuleEnd e ∷ []) in
     let c : max 1 (highest_unit 1 units) ≡ suc (max 0 (highest_unit 0 units)) = h.within 0 in

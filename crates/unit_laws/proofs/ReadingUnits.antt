@@ -116,7 +116,7 @@ plain-first (plain_assumption {w = w} {a = a} (inr (inr e)) n) = record { s = w;
 plain-first (plain_theorem {w = w} {a = a} e n) = record { s = w; rest = a; is = refl; begins = ap begins_unit e }
 plain-first (plain_line {d = d} e n) = record { s = d; rest = []; is = refl; begins = ap begins_unit e }
 
-module-first : {n : Lexeme} {names a : List Lexeme} → BeginsModule n names a → FirstOf a
+module-first : {dashes n : Lexeme} {names a : List Lexeme} → BeginsModule dashes n names a → FirstOf a
 module-first (alone {d = d} {w = w} {n = n} {e = e} h i j k) = record { s = d; rest = w ∷ n ∷ e ∷ []; is = refl; begins = ap begins_unit h }
 module-first (extending {d = d} {w = w} {n = n} {e = e} {x = x} {a = a} h i j k l m) = record { s = d; rest = w ∷ n ∷ e ∷ x ∷ a; is = refl; begins = ap begins_unit h }
 
@@ -146,34 +146,32 @@ reads-variables (more_names {n = n} {t = s} {names = names} {a = a} e g h) d us 
     ∙ (ap (λ z. run (due_moved z (ns ++ n ∷ []) d us s) (a ++ t ∷ ts)) q
     ∙ (reads-variables h d us (ns ++ n ∷ []) t ts c ∙ ap (λ z. run (unit_due None d (us ++ Variables z ∷ []) t) ts) (append_assoc ns (n ∷ []) names)))
 
-reads-extended : {names a : List Lexeme} → SpellsNames names a → (m : Lexeme) (d : ℕ) (us : List UnitTree) (ns : List Lexeme) (t : Lexeme) (ts : List Lexeme) → is_comma t.kind ≡ false → run (standing d us (Due.ExtendsName m) ns) (a ++ t ∷ ts) ≡ run (unit_due None (suc d) (us ++ ModuleBegin m (ns ++ names) ∷ []) t) ts
-reads-extended (last_name {n = n} e) m d us ns t ts c =
-    let p : due_move (Due.ExtendsName m) n ≡ DueMove.Named (Due.ExtendsRead m) = rw e in
-    let q : due_move (Due.ExtendsRead m) t ≡ DueMove.Begun m = rw c in
+reads-extended : {names a : List Lexeme} → SpellsNames names a → (dashes m : Lexeme) (d : ℕ) (us : List UnitTree) (ns : List Lexeme) (t : Lexeme) (ts : List Lexeme) → is_comma t.kind ≡ false → run (standing d us (Due.ExtendsName dashes m) ns) (a ++ t ∷ ts) ≡ run (unit_due None (suc d) (us ++ ModuleBegin dashes m (ns ++ names) ∷ []) t) ts
+reads-extended (last_name {n = n} e) dashes m d us ns t ts c =
+    let p : due_move (Due.ExtendsName dashes m) n ≡ DueMove.Named (Due.ExtendsRead dashes m) = rw e in
+    let q : due_move (Due.ExtendsRead dashes m) t ≡ DueMove.Begun dashes m = rw c in
     ap (λ z. run (due_moved z ns d us n) (t ∷ ts)) p ∙ ap (λ z. run (due_moved z (ns ++ n ∷ []) d us t) ts) q
-reads-extended (more_names {n = n} {t = s} {names = names} {a = a} e g h) m d us ns t ts c =
-    let p : due_move (Due.ExtendsName m) n ≡ DueMove.Named (Due.ExtendsRead m) = rw e in
-    let q : due_move (Due.ExtendsRead m) s ≡ DueMove.Goes (Due.ExtendsName m) = rw g in
+reads-extended (more_names {n = n} {t = s} {names = names} {a = a} e g h) dashes m d us ns t ts c =
+    let p : due_move (Due.ExtendsName dashes m) n ≡ DueMove.Named (Due.ExtendsRead dashes m) = rw e in
+    let q : due_move (Due.ExtendsRead dashes m) s ≡ DueMove.Goes (Due.ExtendsName dashes m) = rw g in
     ap (λ z. run (due_moved z ns d us n) (s ∷ (a ++ t ∷ ts))) p
     ∙ (ap (λ z. run (due_moved z (ns ++ n ∷ []) d us s) (a ++ t ∷ ts)) q
-    ∙ (reads-extended h m d us (ns ++ n ∷ []) t ts c ∙ ap (λ z. run (unit_due None (suc d) (us ++ ModuleBegin m z ∷ []) t) ts) (append_assoc ns (n ∷ []) names)))
+    ∙ (reads-extended h dashes m d us (ns ++ n ∷ []) t ts c ∙ ap (λ z. run (unit_due None (suc d) (us ++ ModuleBegin dashes m z ∷ []) t) ts) (append_assoc ns (n ∷ []) names)))
 
 -- ---- how modules begin
 
 -- from the name on
-record HeaderRead (n : Lexeme) (names a : List Lexeme) : Type 0 where
-  pub d : Lexeme
+record HeaderRead (d n : Lexeme) (names a : List Lexeme) : Type 0 where
   pub w : Lexeme
   pub rest : List Lexeme
   pub is : a ≡ d ∷ w ∷ rest
   pub dashes : is_dashes d.kind ≡ true
   pub starts : unit_start d.kind d ≡ UnitStart.Goes (Due.Dashes d)
   pub word : is_module w.kind ≡ true
-  pub reads : (depth : ℕ) (us : List UnitTree) (t : Lexeme) (ts : List Lexeme) → begins_unit t.kind ≡ true → run (standing depth us Due.ModuleName []) (rest ++ t ∷ ts) ≡ run (unit_due None (suc depth) (us ++ ModuleBegin n names ∷ []) t) ts
+  pub reads : (depth : ℕ) (us : List UnitTree) (t : Lexeme) (ts : List Lexeme) → begins_unit t.kind ≡ true → run (standing depth us (Due.ModuleName d) []) (rest ++ t ∷ ts) ≡ run (unit_due None (suc depth) (us ++ ModuleBegin d n names ∷ []) t) ts
 
-read-header : {n : Lexeme} {names a : List Lexeme} → BeginsModule n names a → HeaderRead n names a
+read-header : {d n : Lexeme} {names a : List Lexeme} → BeginsModule d n names a → HeaderRead d n names a
 read-header (alone {d = d} {w = w} {n = n} {e = e} h i j k) = record {
-  d = d;
   w = w;
   rest = n ∷ e ∷ [];
   is = refl;
@@ -181,14 +179,13 @@ read-header (alone {d = d} {w = w} {n = n} {e = e} h i j k) = record {
   starts = ap (λ z. unit_start z d) h;
   word = ap is_module i;
   reads = λ depth us t ts b.
-      let p : due_move Due.ModuleName n ≡ DueMove.Goes (Due.ModuleDashes n) = rw j in
-      let q : due_move (Due.ModuleDashes n) e ≡ DueMove.Goes (Due.ModuleRead n) = rw k in
+      let p : due_move (Due.ModuleName d) n ≡ DueMove.Goes (Due.ModuleDashes d n) = rw j in
+      let q : due_move (Due.ModuleDashes d n) e ≡ DueMove.Goes (Due.ModuleRead d n) = rw k in
       let c : is_extends t.kind ≡ false = (facts t.kind b).extends in
-      let r : due_move (Due.ModuleRead n) t ≡ DueMove.Begun n = rw c in
+      let r : due_move (Due.ModuleRead d n) t ≡ DueMove.Begun d n = rw c in
       ap (λ z. run (due_moved z [] depth us n) (e ∷ t ∷ ts)) p ∙ (ap (λ z. run (due_moved z [] depth us e) (t ∷ ts)) q ∙ ap (λ z. run (due_moved z [] depth us t) ts) r);
 }
 read-header (extending {d = d} {w = w} {n = n} {e = e} {x = x} {names = names} {a = a} h i j k l m) = record {
-  d = d;
   w = w;
   rest = n ∷ e ∷ x ∷ a;
   is = refl;
@@ -196,30 +193,30 @@ read-header (extending {d = d} {w = w} {n = n} {e = e} {x = x} {names = names} {
   starts = ap (λ z. unit_start z d) h;
   word = ap is_module i;
   reads = λ depth us t ts b.
-      let p : due_move Due.ModuleName n ≡ DueMove.Goes (Due.ModuleDashes n) = rw j in
-      let q : due_move (Due.ModuleDashes n) e ≡ DueMove.Goes (Due.ModuleRead n) = rw k in
-      let r : due_move (Due.ModuleRead n) x ≡ DueMove.Goes (Due.ExtendsName n) = rw l in
+      let p : due_move (Due.ModuleName d) n ≡ DueMove.Goes (Due.ModuleDashes d n) = rw j in
+      let q : due_move (Due.ModuleDashes d n) e ≡ DueMove.Goes (Due.ModuleRead d n) = rw k in
+      let r : due_move (Due.ModuleRead d n) x ≡ DueMove.Goes (Due.ExtendsName d n) = rw l in
       ap (λ z. run (due_moved z [] depth us n) (e ∷ x ∷ (a ++ t ∷ ts))) p
       ∙ (ap (λ z. run (due_moved z [] depth us e) (x ∷ (a ++ t ∷ ts))) q
       ∙ (ap (λ z. run (due_moved z [] depth us x) (a ++ t ∷ ts)) r
-      ∙ reads-extended m n depth us [] t ts (facts t.kind b).comma));
+      ∙ reads-extended m d n depth us [] t ts (facts t.kind b).comma));
 }
 
-reads-nested : {n : Lexeme} {names a : List Lexeme} → BeginsModule n names a → (depth : ℕ) (us : List UnitTree) (t : Lexeme) (ts : List Lexeme) → begins_unit t.kind ≡ true → run (standing depth us Due.Unit []) (a ++ t ∷ ts) ≡ run (unit_due None (suc depth) (us ++ ModuleBegin n names ∷ []) t) ts
-reads-nested {n = n} {names = names} k depth us t ts b =
-    let r : HeaderRead n names _ = read-header k in
-    let m : due_move (Due.Dashes r.d) r.w ≡ DueMove.Goes Due.ModuleName = (let z : is_module r.w.kind ≡ true = r.word in rw z) in
+reads-nested : {d n : Lexeme} {names a : List Lexeme} → BeginsModule d n names a → (depth : ℕ) (us : List UnitTree) (t : Lexeme) (ts : List Lexeme) → begins_unit t.kind ≡ true → run (standing depth us Due.Unit []) (a ++ t ∷ ts) ≡ run (unit_due None (suc depth) (us ++ ModuleBegin d n names ∷ []) t) ts
+reads-nested {d = d} {n = n} {names = names} k depth us t ts b =
+    let r : HeaderRead d n names _ = read-header k in
+    let m : due_move (Due.Dashes d) r.w ≡ DueMove.Goes (Due.ModuleName d) = (let z : is_module r.w.kind ≡ true = r.word in rw z) in
     ap (λ z. run (standing depth us Due.Unit []) (z ++ t ∷ ts)) r.is
-    ∙ (ap (λ z. run (started z None depth us r.d) (r.w ∷ (r.rest ++ t ∷ ts))) r.starts
+    ∙ (ap (λ z. run (started z None depth us d) (r.w ∷ (r.rest ++ t ∷ ts))) r.starts
     ∙ (ap (λ z. run (due_moved z [] depth us r.w) (r.rest ++ t ∷ ts)) m ∙ r.reads depth us t ts b))
 
-reads-outermost : {n : Lexeme} {names a : List Lexeme} → BeginsModule n names a → (t : Lexeme) (ts : List Lexeme) → begins_unit t.kind ≡ true → run (Some opening) (a ++ t ∷ ts) ≡ run (unit_due None (suc ℕ.zero) (ModuleBegin n names ∷ []) t) ts
-reads-outermost {n = n} {names = names} k t ts b =
-    let r : HeaderRead n names _ = read-header k in
-    let l : due_move Due.Opening r.d ≡ DueMove.Goes Due.OpeningWord = (let z : is_dashes r.d.kind ≡ true = r.dashes in rw z) in
-    let m : due_move Due.OpeningWord r.w ≡ DueMove.Goes Due.ModuleName = (let z : is_module r.w.kind ≡ true = r.word in rw z) in
+reads-outermost : {d n : Lexeme} {names a : List Lexeme} → BeginsModule d n names a → (t : Lexeme) (ts : List Lexeme) → begins_unit t.kind ≡ true → run (Some opening) (a ++ t ∷ ts) ≡ run (unit_due None (suc ℕ.zero) (ModuleBegin d n names ∷ []) t) ts
+reads-outermost {d = d} {n = n} {names = names} k t ts b =
+    let r : HeaderRead d n names _ = read-header k in
+    let l : due_move Due.Opening d ≡ DueMove.Goes (Due.OpeningWord d) = (let z : is_dashes d.kind ≡ true = r.dashes in rw z) in
+    let m : due_move (Due.OpeningWord d) r.w ≡ DueMove.Goes (Due.ModuleName d) = (let z : is_module r.w.kind ≡ true = r.word in rw z) in
     ap (λ z. run (Some opening) (z ++ t ∷ ts)) r.is
-    ∙ (ap (λ z. run (due_moved z [] ℕ.zero [] r.d) (r.w ∷ (r.rest ++ t ∷ ts))) l
+    ∙ (ap (λ z. run (due_moved z [] ℕ.zero [] d) (r.w ∷ (r.rest ++ t ∷ ts))) l
     ∙ (ap (λ z. run (due_moved z [] ℕ.zero [] r.w) (r.rest ++ t ∷ ts)) m ∙ r.reads ℕ.zero [] t ts b))
 
 -- ---- units
@@ -280,11 +277,11 @@ reads-rest (ends {depth = depth} {e = e} {units = units} {b = b} h r) us =
     ∙ (reads-rest r (us ++ ModuleEnd e ∷ []) ∙ ap (λ z. standing ℕ.zero z Due.Closed []) (append_assoc us (ModuleEnd e ∷ []) units))
 reads-rest (goes {depth = depth} {unit = unit} {units = units} {b = b} t p r) us =
     reads-plain p (rest-begins r) depth us b ∙ (reads-rest r (us ++ unit ∷ []) ∙ ap (λ z. standing ℕ.zero z Due.Closed []) (append_assoc us (unit ∷ []) units))
-reads-rest (opens {depth = depth} {n = n} {names = names} {units = units} {b = b} t k r) us =
-    reads-nested k depth us t b (rest-begins r) ∙ (reads-rest r (us ++ ModuleBegin n names ∷ []) ∙ ap (λ z. standing ℕ.zero z Due.Closed []) (append_assoc us (ModuleBegin n names ∷ []) units))
+reads-rest (opens {depth = depth} {dashes = dashes} {n = n} {names = names} {units = units} {b = b} t k r) us =
+    reads-nested k depth us t b (rest-begins r) ∙ (reads-rest r (us ++ ModuleBegin dashes n names ∷ []) ∙ ap (λ z. standing ℕ.zero z Due.Closed []) (append_assoc us (ModuleBegin dashes n names ∷ []) units))
 
 whole-parses : {found : ModuleUnits} {ts : List Lexeme} → Whole found ts → parse ts ≡ Some found
-whole-parses (whole {n = n} {names = names} {b = b} t k r) = ap answer (reads-outermost k t b (rest-begins r) ∙ reads-rest r (ModuleBegin n names ∷ []))
+whole-parses (whole {dashes = dashes} {n = n} {names = names} {b = b} t k r) = ap answer (reads-outermost k t b (rest-begins r) ∙ reads-rest r (ModuleBegin dashes n names ∷ []))
 
 pub derives-parses : (found : ModuleUnits) (lexemes : List Lexeme) → DerivesModule found lexemes → parse lexemes ≡ Some found
 derives-parses found lexemes d = whole-parses (derives-whole d)

@@ -36,7 +36,7 @@ uses from o = node (identifier (last_segment (bare refl)))
 abbrev header : ℕ → List Lexeme
 header from = at LexKind.Dashes from ∷ at (LexKind.Word Word.Module) (from + 1) ∷ name (from + 2) ∷ at LexKind.Dashes (from + 3) ∷ []
 
-header-begins : (from : ℕ) → BeginsModule (name (from + 2)) [] (header from)
+header-begins : (from : ℕ) → BeginsModule (at LexKind.Dashes from) (name (from + 2)) [] (header from)
 header-begins from = alone refl refl refl refl
 
 -- ---- MODULE A ---- | VARIABLE x, y | ---- | F == x | ====
@@ -73,7 +73,7 @@ inner-units = more_units (constants (inl refl) (more_parameters (at (LexKind.Mar
 
 abbrev outer_units : List UnitTree
 outer_units =
-    ModuleBegin (name 6) [] ∷ (inner_units ++ (ModuleEnd (at LexKind.Equals 22)
+    ModuleBegin (at LexKind.Dashes 4) (name 6) [] ∷ (inner_units ++ (ModuleEnd (at LexKind.Equals 22)
     ∷ ModuleDefinition None (built (Form.ModuleDefinition (name 23)) (one (built (Form.Instance (name 26)) Nil (at (LexKind.Word Word.Instance) 25 ∷ name 26 ∷ []))) (name 23 ∷ at (LexKind.Mark Mark.Define) 24 ∷ at (LexKind.Word Word.Instance) 25 ∷ name 26 ∷ []))
     ∷ Theorem (at (LexKind.Word Word.Theorem) 27) None (used (name 28))
     ∷ []))
@@ -124,5 +124,5 @@ let-refused = record { reached = _; reads = refl; refuses = refl }
 outer-height : module_height (record { name = name 2; extends = []; units = outer_units }) ≡ 2
 outer-height = refl
 
-empty-height : module_height (record { name = name 2; extends = []; units = ModuleBegin (name 6) [] ∷ ModuleEnd (at LexKind.Equals 8) ∷ [] }) ≡ 1
+empty-height : module_height (record { name = name 2; extends = []; units = ModuleBegin (at LexKind.Dashes 4) (name 6) [] ∷ ModuleEnd (at LexKind.Equals 8) ∷ [] }) ≡ 1
 empty-height = refl

@@ -340,47 +340,47 @@ names-close ns c m h k = h (m ∷ []) (m ∷ []) (last_name k)
 
 -- the begin of a nested module
 pub nested-opens : {depth : ℕ} {us : List UnitTree} {q : List Lexeme} → Goes (suc depth) us q → Opens (suc depth) us q
-nested-opens {depth = depth} {us = us} {q = q} g = record { begin = λ n names a k. record { on = λ vs b r. by n names a k vs b r (rest-begins r) } }
+nested-opens {depth = depth} {us = us} {q = q} g = record { begin = λ dashes n names a k. record { on = λ vs b r. by dashes n names a k vs b r (rest-begins r) } }
   where
-    by : (n : Lexeme) (names a : List Lexeme) → BeginsModule n names a → (vs : List UnitTree) (b : List Lexeme) → Rest (suc (suc depth)) vs b → FirstBegins b → Wholes ((us ++ ModuleBegin n names ∷ []) ++ vs) ((q ++ a) ++ b)
-    by n names a k vs [] r f = absurd f
-    by n names a k vs (t ∷ b) r f = wholes-as _ _ _ _ (sym (append_assoc us (ModuleBegin n names ∷ []) vs)) (sym (append_assoc q a (t ∷ b))) (g.on (ModuleBegin n names ∷ vs) (a ++ t ∷ b) (opens t k r))
+    by : (dashes n : Lexeme) (names a : List Lexeme) → BeginsModule dashes n names a → (vs : List UnitTree) (b : List Lexeme) → Rest (suc (suc depth)) vs b → FirstBegins b → Wholes ((us ++ ModuleBegin dashes n names ∷ []) ++ vs) ((q ++ a) ++ b)
+    by dashes n names a k vs [] r f = absurd f
+    by dashes n names a k vs (t ∷ b) r f = wholes-as _ _ _ _ (sym (append_assoc us (ModuleBegin dashes n names ∷ []) vs)) (sym (append_assoc q a (t ∷ b))) (g.on (ModuleBegin dashes n names ∷ vs) (a ++ t ∷ b) (opens t k r))
 
 -- and that of the outermost
 pub outermost-opens : Opens ℕ.zero [] []
-outermost-opens = record { begin = λ n names a k. record { on = λ vs b r. by n names a k vs b r (rest-begins r) } }
+outermost-opens = record { begin = λ dashes n names a k. record { on = λ vs b r. by dashes n names a k vs b r (rest-begins r) } }
   where
-    by : (n : Lexeme) (names a : List Lexeme) → BeginsModule n names a → (vs : List UnitTree) (b : List Lexeme) → Rest (suc ℕ.zero) vs b → FirstBegins b → Wholes (ModuleBegin n names ∷ vs) (a ++ b)
-    by n names a k vs [] r f = absurd f
-    by n names a k vs (t ∷ b) r f = (record { name = n; extends = names; units = vs }, refl, as_whole t k r)
+    by : (dashes n : Lexeme) (names a : List Lexeme) → BeginsModule dashes n names a → (vs : List UnitTree) (b : List Lexeme) → Rest (suc ℕ.zero) vs b → FirstBegins b → Wholes (ModuleBegin dashes n names ∷ vs) (a ++ b)
+    by dashes n names a k vs [] r f = absurd f
+    by dashes n names a k vs (t ∷ b) r f = (record { name = n; extends = names; units = vs }, refl, as_whole t k r)
 
 focus-sound : {depth : ℕ} {us : List UnitTree} {focus : Focus} {p : List Lexeme} → FocusOk depth us focus p → (t : Lexeme) → GoingOk (p ++ t ∷ []) (focus_step focus depth us t)
 focus-sound at_opening t = only-due (λ m. GoingOk (t ∷ []) (due_moved m [] ℕ.zero [] t)) (is_dashes t.kind) _ tt (λ e. at_word (dashes-is t.kind e))
 focus-sound (at_word {d = d} k) t = only-due (λ m. GoingOk (d ∷ t ∷ []) (due_moved m [] ℕ.zero [] t)) (is_module t.kind) _ tt (λ e. at_name [] d t outermost-opens k (module-is t.kind e))
 focus-sound {depth = depth} {us = us} {p = p} (at_name q d w o k l) t =
     only-due (λ m. GoingOk (p ++ t ∷ []) (due_moved m [] depth us t)) (is_name t.kind) _ tt
-    (λ e. renamed (Some (state depth us (Stands (Due.ModuleDashes t) []))) _ _ (sym (append_assoc q (d ∷ w ∷ []) (t ∷ []))) (at_dashes q d w o k l (name-is t.kind e)))
+    (λ e. renamed (Some (state depth us (Stands (Due.ModuleDashes d t) []))) _ _ (sym (append_assoc q (d ∷ w ∷ []) (t ∷ []))) (at_dashes q d w o k l (name-is t.kind e)))
 focus-sound {depth = depth} {us = us} {p = p} (at_dashes {n = n} q d w o k l m) t =
     only-due (λ z. GoingOk (p ++ t ∷ []) (due_moved z [] depth us t)) (is_dashes t.kind) _ tt
-    (λ e. renamed (Some (state depth us (Stands (Due.ModuleRead n) []))) _ _ (sym (append_assoc q (d ∷ w ∷ n ∷ []) (t ∷ []))) (at_read q d w t o k l m (dashes-is t.kind e)))
+    (λ e. renamed (Some (state depth us (Stands (Due.ModuleRead d n) []))) _ _ (sym (append_assoc q (d ∷ w ∷ n ∷ []) (t ∷ []))) (at_read q d w t o k l m (dashes-is t.kind e)))
 focus-sound {depth = depth} {us = us} {p = p} (at_read {n = n} q d w e o k l m i) t =
     by-due (λ z. GoingOk (p ++ t ∷ []) (due_moved z [] depth us t)) (is_extends t.kind) _ _
-    (λ h. renamed (Some (state depth us (Stands (Due.ExtendsName n) []))) _ _ (sym (append_assoc q (d ∷ w ∷ n ∷ e ∷ []) (t ∷ []))) (at_extends q d w e t [] o k l m i (extends-is t.kind h) (λ names b r. r)))
-    (λ h. due-sound (o.begin n [] (d ∷ w ∷ n ∷ e ∷ []) (alone k l m i)) t)
+    (λ h. renamed (Some (state depth us (Stands (Due.ExtendsName d n) []))) _ _ (sym (append_assoc q (d ∷ w ∷ n ∷ e ∷ []) (t ∷ []))) (at_extends q d w e t [] o k l m i (extends-is t.kind h) (λ names b r. r)))
+    (λ h. due-sound (o.begin d n [] (d ∷ w ∷ n ∷ e ∷ []) (alone k l m i)) t)
 focus-sound {depth = depth} {us = us} {p = p} (at_extends {n = n} {ns = ns} q d w e x c o k l m i j h) t =
     only-due (λ z. GoingOk (p ++ t ∷ []) (due_moved z ns depth us t)) (is_name t.kind) _ tt
-    (λ f. renamed (Some (state depth us (Stands (Due.ExtendsRead n) (ns ++ t ∷ [])))) _ _ (sym (append_assoc q (d ∷ w ∷ n ∷ e ∷ x ∷ c) (t ∷ []))) (at_extended q d w e x ns c t o k l m i j h (name-is t.kind f)))
+    (λ f. renamed (Some (state depth us (Stands (Due.ExtendsRead d n) (ns ++ t ∷ [])))) _ _ (sym (append_assoc q (d ∷ w ∷ n ∷ e ∷ x ∷ c) (t ∷ []))) (at_extended q d w e x ns c t o k l m i j h (name-is t.kind f)))
 focus-sound {depth = depth} {us = us} {p = p} (at_extended {n = n} q d w e x ns c v o k l m i j h f) t =
     by-due (λ z. GoingOk (p ++ t ∷ []) (due_moved z (ns ++ v ∷ []) depth us t)) (is_comma t.kind) _ _
-    (λ y. renamed (Some (state depth us (Stands (Due.ExtendsName n) (ns ++ v ∷ [])))) _ _ (spelled q (d ∷ w ∷ n ∷ e ∷ x ∷ []) c v t) (at_extends q d w e x (c ++ v ∷ t ∷ []) o k l m i j (names-more ns c v t h f (comma-is t.kind y))))
-    (λ y. due-sound (o.begin n (ns ++ v ∷ []) (d ∷ w ∷ n ∷ e ∷ x ∷ (c ++ v ∷ [])) (extending k l m i j (names-close ns c v h f))) t)
+    (λ y. renamed (Some (state depth us (Stands (Due.ExtendsName d n) (ns ++ v ∷ [])))) _ _ (spelled q (d ∷ w ∷ n ∷ e ∷ x ∷ []) c v t) (at_extends q d w e x (c ++ v ∷ t ∷ []) o k l m i j (names-more ns c v t h f (comma-is t.kind y))))
+    (λ y. due-sound (o.begin d n (ns ++ v ∷ []) (d ∷ w ∷ n ∷ e ∷ x ∷ (c ++ v ∷ [])) (extending k l m i j (names-close ns c v h f))) t)
   where
     spelled : (q a c : List Lexeme) (v t : Lexeme) → q ++ (a ++ (c ++ v ∷ t ∷ [])) ≡ (q ++ (a ++ (c ++ v ∷ []))) ++ t ∷ []
     spelled q a c v t = simp append_assoc
 focus-sound (at_unit g) t = due-sound g t
 focus-sound {depth = depth} {us = us} {p = p} (at_line {d = d} q g k) t =
     by-due (λ z. GoingOk (p ++ t ∷ []) (due_moved z [] depth us t)) (is_module t.kind) _ _
-    (λ e. renamed (Some (state depth us (Stands Due.ModuleName []))) _ _ (sym (append_assoc q (d ∷ []) (t ∷ []))) (at_name q d t (nested-opens g) k (module-is t.kind e)))
+    (λ e. renamed (Some (state depth us (Stands (Due.ModuleName d) []))) _ _ (sym (append_assoc q (d ∷ []) (t ∷ []))) (at_name q d t (nested-opens g) k (module-is t.kind e)))
     (λ e. due-sound (plain-goes {a = d ∷ []} (λ u f. plain_line k (λ h. (let z : is_module u.kind ≡ false = (facts u.kind f).module_word in let y : is_module u.kind ≡ true = ap is_module h in cc))) g) t)
 focus-sound {depth = depth} {us = us} {p = p} (at_local {w = w} q g k) t =
     only-due (λ z. GoingOk (p ++ t ∷ []) (due_moved z [] depth us t)) (may_be_local t.kind) _ tt (λ e. local-sound w g k t e)

@@ -128,7 +128,7 @@ pub record Goes (depth : ℕ) (us : List UnitTree) (q : List Lexeme) : Type 0 wh
 
 -- and with which each begin of a module does
 pub record Opens (depth : ℕ) (us : List UnitTree) (q : List Lexeme) : Type 0 where
-  pub begin : (n : Lexeme) (names a : List Lexeme) → BeginsModule n names a → Goes (suc depth) (us ++ ModuleBegin n names ∷ []) (q ++ a)
+  pub begin : (dashes n : Lexeme) (names a : List Lexeme) → BeginsModule dashes n names a → Goes (suc depth) (us ++ ModuleBegin dashes n names ∷ []) (q ++ a)
 
 abbrev pub NamesSeen : List Lexeme → List Lexeme → Type 0
 NamesSeen ns c = (names b : List Lexeme) → SpellsNames names b → SpellsNames (ns ++ names) (c ++ b)
@@ -136,12 +136,12 @@ NamesSeen ns c = (names b : List Lexeme) → SpellsNames names b → SpellsNames
 -- where in the modules the machine stands, after these lexemes
 pub data FocusOk : ℕ → List UnitTree → Focus → List Lexeme → Type 0 where
   at_opening : FocusOk ℕ.zero [] (Stands Due.Opening []) []
-  at_word : {d : Lexeme} → IsDashes d → FocusOk ℕ.zero [] (Stands Due.OpeningWord []) (d ∷ [])
-  at_name : {depth : ℕ} {us : List UnitTree} (q : List Lexeme) (d w : Lexeme) → Opens depth us q → IsDashes d → IsWord w Word.Module → FocusOk depth us (Stands Due.ModuleName []) (q ++ d ∷ w ∷ [])
-  at_dashes : {depth : ℕ} {us : List UnitTree} {n : Lexeme} (q : List Lexeme) (d w : Lexeme) → Opens depth us q → IsDashes d → IsWord w Word.Module → IsName n → FocusOk depth us (Stands (Due.ModuleDashes n) []) (q ++ d ∷ w ∷ n ∷ [])
-  at_read : {depth : ℕ} {us : List UnitTree} {n : Lexeme} (q : List Lexeme) (d w e : Lexeme) → Opens depth us q → IsDashes d → IsWord w Word.Module → IsName n → IsDashes e → FocusOk depth us (Stands (Due.ModuleRead n) []) (q ++ d ∷ w ∷ n ∷ e ∷ [])
-  at_extends : {depth : ℕ} {us : List UnitTree} {n : Lexeme} {ns : List Lexeme} (q : List Lexeme) (d w e x : Lexeme) (c : List Lexeme) → Opens depth us q → IsDashes d → IsWord w Word.Module → IsName n → IsDashes e → IsWord x Word.Extends → NamesSeen ns c → FocusOk depth us (Stands (Due.ExtendsName n) ns) (q ++ d ∷ w ∷ n ∷ e ∷ x ∷ c)
-  at_extended : {depth : ℕ} {us : List UnitTree} {n : Lexeme} (q : List Lexeme) (d w e x : Lexeme) (ns c : List Lexeme) (m : Lexeme) → Opens depth us q → IsDashes d → IsWord w Word.Module → IsName n → IsDashes e → IsWord x Word.Extends → NamesSeen ns c → IsName m → FocusOk depth us (Stands (Due.ExtendsRead n) (ns ++ m ∷ [])) (q ++ d ∷ w ∷ n ∷ e ∷ x ∷ (c ++ m ∷ []))
+  at_word : {d : Lexeme} → IsDashes d → FocusOk ℕ.zero [] (Stands (Due.OpeningWord d) []) (d ∷ [])
+  at_name : {depth : ℕ} {us : List UnitTree} (q : List Lexeme) (d w : Lexeme) → Opens depth us q → IsDashes d → IsWord w Word.Module → FocusOk depth us (Stands (Due.ModuleName d) []) (q ++ d ∷ w ∷ [])
+  at_dashes : {depth : ℕ} {us : List UnitTree} {n : Lexeme} (q : List Lexeme) (d w : Lexeme) → Opens depth us q → IsDashes d → IsWord w Word.Module → IsName n → FocusOk depth us (Stands (Due.ModuleDashes d n) []) (q ++ d ∷ w ∷ n ∷ [])
+  at_read : {depth : ℕ} {us : List UnitTree} {n : Lexeme} (q : List Lexeme) (d w e : Lexeme) → Opens depth us q → IsDashes d → IsWord w Word.Module → IsName n → IsDashes e → FocusOk depth us (Stands (Due.ModuleRead d n) []) (q ++ d ∷ w ∷ n ∷ e ∷ [])
+  at_extends : {depth : ℕ} {us : List UnitTree} {n : Lexeme} {ns : List Lexeme} (q : List Lexeme) (d w e x : Lexeme) (c : List Lexeme) → Opens depth us q → IsDashes d → IsWord w Word.Module → IsName n → IsDashes e → IsWord x Word.Extends → NamesSeen ns c → FocusOk depth us (Stands (Due.ExtendsName d n) ns) (q ++ d ∷ w ∷ n ∷ e ∷ x ∷ c)
+  at_extended : {depth : ℕ} {us : List UnitTree} {n : Lexeme} (q : List Lexeme) (d w e x : Lexeme) (ns c : List Lexeme) (m : Lexeme) → Opens depth us q → IsDashes d → IsWord w Word.Module → IsName n → IsDashes e → IsWord x Word.Extends → NamesSeen ns c → IsName m → FocusOk depth us (Stands (Due.ExtendsRead d n) (ns ++ m ∷ [])) (q ++ d ∷ w ∷ n ∷ e ∷ x ∷ (c ++ m ∷ []))
   at_unit : {depth : ℕ} {us : List UnitTree} {q : List Lexeme} → Goes (suc depth) us q → FocusOk (suc depth) us (Stands Due.Unit []) q
   at_line : {depth : ℕ} {us : List UnitTree} {d : Lexeme} (q : List Lexeme) → Goes (suc depth) us q → IsDashes d → FocusOk (suc depth) us (Stands (Due.Dashes d) []) (q ++ d ∷ [])
   at_local : {depth : ℕ} {us : List UnitTree} {w : Lexeme} (q : List Lexeme) → Goes (suc depth) us q → IsWord w Word.Local → FocusOk (suc depth) us (Stands (Due.Local w) []) (q ++ w ∷ [])

@@ -77,9 +77,9 @@ pub fn few_held()
 /// higher counts.
 pub fn heights_nest()
     ensures nested { (units : List UnitTree) → (lexemes : List Lexeme) → (next : Lexeme)
-        → DerivesUnits units lexemes next → (name : Lexeme) → (extends : List Lexeme)
+        → DerivesUnits units lexemes next → (dashes name : Lexeme) → (extends : List Lexeme)
         → (closing : Lexeme)
-        → highest_unit 0 (ModuleBegin name extends ∷ (units ++ ModuleEnd closing ∷ []))
+        → highest_unit 0 (ModuleBegin dashes name extends ∷ (units ++ ModuleEnd closing ∷ []))
         ≡ suc (highest_unit 0 units) }
     ensures beside { (units : List UnitTree) → (lexemes : List Lexeme) → (next : Lexeme)
         → DerivesUnits units lexemes next → (more : List UnitTree)

@@ -98,7 +98,7 @@ unit_due l d us t = started (unit_start t.kind t) l d us t
 abbrev pub due_moved : DueMove → List Lexeme → ℕ → List UnitTree → Lexeme → Option State
 due_moved (DueMove.Goes due) names d us t = Some (state d us (Stands due names))
 due_moved (DueMove.Named due) names d us t = Some (state d us (Stands due (names ++ t ∷ [])))
-due_moved (DueMove.Begun n) names d us t = unit_due None (suc d) (us ++ ModuleBegin n names ∷ []) t
+due_moved (DueMove.Begun dashes n) names d us t = unit_due None (suc d) (us ++ ModuleBegin dashes n names ∷ []) t
 due_moved DueMove.Listed names d us t = unit_due None d (us ++ Variables names ∷ []) t
 due_moved (DueMove.Lined dashes) names d us t = unit_due None d (us ++ Line dashes ∷ []) t
 due_moved (DueMove.Begins l) names d us t = unit_due l d us t
@@ -209,7 +209,7 @@ opening = state ℕ.zero [] (Stands Due.Opening [])
 
 -- the units of the outermost module stand behind its begin
 abbrev pub whole : List UnitTree → Option ModuleUnits
-whole (ModuleBegin n names ∷ us) = Some (record { name = n; extends = names; units = us })
+whole (ModuleBegin dashes n names ∷ us) = Some (record { name = n; extends = names; units = us })
 whole _ = None
 
 -- the module, where the outermost one is closed

@@ -61,15 +61,15 @@ if_due test move = cond test move DueMove.Refused
 
 -- what a lexeme does where something is due
 abbrev pub due_move : Due → Lexeme → DueMove
-due_move Due.Opening t = if_due (is_dashes t.kind) (DueMove.Goes Due.OpeningWord)
-due_move Due.OpeningWord t = if_due (is_module t.kind) (DueMove.Goes Due.ModuleName)
-due_move Due.ModuleName t = if_due (is_name t.kind) (DueMove.Goes (Due.ModuleDashes t))
-due_move (Due.ModuleDashes n) t = if_due (is_dashes t.kind) (DueMove.Goes (Due.ModuleRead n))
-due_move (Due.ModuleRead n) t = cond (is_extends t.kind) (DueMove.Goes (Due.ExtendsName n)) (DueMove.Begun n)
-due_move (Due.ExtendsName n) t = if_due (is_name t.kind) (DueMove.Named (Due.ExtendsRead n))
-due_move (Due.ExtendsRead n) t = cond (is_comma t.kind) (DueMove.Goes (Due.ExtendsName n)) (DueMove.Begun n)
+due_move Due.Opening t = if_due (is_dashes t.kind) (DueMove.Goes (Due.OpeningWord t))
+due_move (Due.OpeningWord d) t = if_due (is_module t.kind) (DueMove.Goes (Due.ModuleName d))
+due_move (Due.ModuleName d) t = if_due (is_name t.kind) (DueMove.Goes (Due.ModuleDashes d t))
+due_move (Due.ModuleDashes d n) t = if_due (is_dashes t.kind) (DueMove.Goes (Due.ModuleRead d n))
+due_move (Due.ModuleRead d n) t = cond (is_extends t.kind) (DueMove.Goes (Due.ExtendsName d n)) (DueMove.Begun d n)
+due_move (Due.ExtendsName d n) t = if_due (is_name t.kind) (DueMove.Named (Due.ExtendsRead d n))
+due_move (Due.ExtendsRead d n) t = cond (is_comma t.kind) (DueMove.Goes (Due.ExtendsName d n)) (DueMove.Begun d n)
 due_move Due.Unit t = DueMove.Begins None
-due_move (Due.Dashes d) t = cond (is_module t.kind) (DueMove.Goes Due.ModuleName) (DueMove.Lined d)
+due_move (Due.Dashes d) t = cond (is_module t.kind) (DueMove.Goes (Due.ModuleName d)) (DueMove.Lined d)
 due_move (Due.Local w) t = if_due (may_be_local t.kind) (DueMove.Begins (Some w))
 due_move Due.VariableName t = if_due (is_name t.kind) (DueMove.Named Due.VariableRead)
 due_move Due.VariableRead t = cond (is_comma t.kind) (DueMove.Goes Due.VariableName) DueMove.Listed

@@ -8,17 +8,17 @@ pub enum Due {
     /// The dashes that begin the outermost module are due.
     Opening,
     /// The word MODULE is due, after these dashes.
-    OpeningWord,
-    /// The name of a module is due.
-    ModuleName,
-    /// The dashes after the module's name are due.
-    ModuleDashes(Lexeme),
-    /// `EXTENDS`, or a unit of the module of this name.
-    ModuleRead(Lexeme),
-    /// A name that the module of this name extends is due.
-    ExtendsName(Lexeme),
-    /// A comma, or a unit of the module of this name.
-    ExtendsRead(Lexeme),
+    OpeningWord(Lexeme),
+    /// The name of a module is due, which begins with these dashes.
+    ModuleName(Lexeme),
+    /// The dashes after the module's name are due, by its first dashes and its name.
+    ModuleDashes(Lexeme, Lexeme),
+    /// `EXTENDS`, or a unit of the module of these dashes and this name.
+    ModuleRead(Lexeme, Lexeme),
+    /// A name that the module of these dashes and this name extends is due.
+    ExtendsName(Lexeme, Lexeme),
+    /// A comma, or a unit of the module of these dashes and this name.
+    ExtendsRead(Lexeme, Lexeme),
     /// A unit, or the module's end.
     Unit,
     /// After dashes: the begin of a nested module where MODULE follows, and else a line.
@@ -39,8 +39,8 @@ pub enum DueMove {
     Goes(Due),
     /// The lexeme is a name of the list that is read.
     Named(Due),
-    /// The module of this name has begun, and the lexeme is due in it.
-    Begun(Lexeme),
+    /// The module of these dashes and this name has begun, and the lexeme is due in it.
+    Begun(Lexeme, Lexeme),
     /// The variables are read, and the lexeme is due after them.
     Listed,
     /// The dashes are a line, and the lexeme is due after it.

@@ -47,7 +47,7 @@ fn module_of(alloc: Global, tree: Tree, units: List<Unit>) -> Result<ModuleTree,
     ensures tree { IfOk result (λ parsed. parsed.tree ≡ tree) }
 {
     let mut units = units.into_vec();
-    let Unit::ModuleBegin { name, extends } = units.remove(0) else {
+    let Unit::ModuleBegin { name, extends, .. } = units.remove(0) else {
         unreachable!();
     };
     let height = highest(&tree, units.as_slice())?;

@@ -90,7 +90,7 @@ module _ (P : Lexeme → Type 0) where
   in-unit (Assumption word name x) all = one-tree x all
   in-unit (Theorem word name x) all = one-tree x all
   in-unit (Line dashes) all = tt
-  in-unit (ModuleBegin name extends) all = tt
+  in-unit (ModuleBegin dashes name extends) all = tt
   in-unit (ModuleEnd closing) all = tt
 
   names-of : (found : List NamedInstance) → AllByRecursion Both (map named_as found) → AllByRecursion (λ (i : NamedInstance). P i.name) found

@@ -219,12 +219,12 @@ impl<'a> Nesting<'a> {
         requires name { LiesIn text.now.source name }
         requires extends { AllByRecursion (LiesIn text.now.source) extends.now }
         requires placed { IsPlaced text.now self.old }
-        ensures state { OnOk result
-            (Leads text.now (steps.behind_unit text.now (ModuleBegin name extends.now)) self.old
-            self.new) }
-        ensures findings { OnOk result
-            (Tells text.now (steps.found_at text.now (ModuleBegin name extends.now)) self.old
-            findings.old findings.new) }
+        ensures state { OnOk result ((dashes : Lexeme)
+            → Leads text.now (steps.behind_unit text.now (ModuleBegin dashes name extends.now))
+            self.old self.new) }
+        ensures findings { OnOk result ((dashes : Lexeme)
+            → Tells text.now (steps.found_at text.now (ModuleBegin dashes name extends.now))
+            self.old findings.old findings.new) }
     {
         self.here.refuse_module(text, name, findings)?;
         self.begin(alloc, text.spelled(name))?;
@@ -311,7 +311,7 @@ impl<'a> Nesting<'a> {
                 self.read_tree(alloc, text, tree, unit, *node, findings)
             }
             Unit::Theorem { node, .. } => self.read_tree(alloc, text, tree, unit, *node, findings),
-            Unit::ModuleBegin { name, extends } => {
+            Unit::ModuleBegin { name, extends, .. } => {
                 self.read_begin(alloc, text, *name, extends.as_slice(), findings)
             }
             Unit::ModuleEnd(_) => self.end(alloc, text),

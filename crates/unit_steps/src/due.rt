@@ -152,20 +152,26 @@ pub(crate) fn after_unit(
 // A module begins inside those that are open, and the lexeme is due in it.
 fn begin_module(
     reached: Reached,
+    dashes: Lexeme,
     name: Lexeme,
     extends: List<Lexeme>,
     lexeme: Lexeme,
 ) -> Result<Option<Next>, Memory>
     ensures moves { IfOk result (λ moved. (nodes : List arena.Node) → (depth : ℕ)
         → (us : List units.UnitTree) → IsReached nodes reached depth us
-        → IsMoved nodes moved
-        (machine.unit_due None (suc depth) (us ++ units.ModuleBegin name extends ∷ []) lexeme)) }
+        → IsMoved nodes moved (machine.unit_due None (suc depth)
+        (us ++ units.ModuleBegin dashes name extends ∷ []) lexeme)) }
     ensures few { IfOk result (λ moved. waiting moved ≤ 1) }
 {
     let Ok(reached) = reached.opens() else {
         return Err(Memory);
     };
-    after_unit(reached, Unit::ModuleBegin { name, extends }, lexeme)
+    let begin = Unit::ModuleBegin {
+        dashes,
+        name,
+        extends,
+    };
+    after_unit(reached, begin, lexeme)
 }
 
 // The names of a list, and one more.
@@ -197,7 +203,7 @@ pub(crate) fn move_due(
             };
             Ok(Some(Next::At(Point::Stands(reached, due, names))))
         }
-        DueMove::Begun(name) => begin_module(reached, name, names, lexeme),
+        DueMove::Begun(dashes, name) => begin_module(reached, dashes, name, names, lexeme),
         DueMove::Listed => after_unit(reached, Unit::Variables { names }, lexeme),
         DueMove::Lined(dashes) => after_unit(reached, Unit::Line(dashes), lexeme),
         DueMove::Begins(local) => unit_due(reached, local, lexeme),

@@ -41,29 +41,29 @@ fn if_due(test: bool, due_move: DueMove) -> DueMove
 }
 
 // `EXTENDS` after the line that begins a module, or what is due in it.
-fn after_header(name: Lexeme, lexeme: Lexeme) -> DueMove
-    ensures { result ≡ tables.due_move (Due.ModuleRead name) lexeme }
+fn after_header(dashes: Lexeme, name: Lexeme, lexeme: Lexeme) -> DueMove
+    ensures { result ≡ tables.due_move (Due.ModuleRead dashes name) lexeme }
 {
     if is_extends(lexeme.kind) {
-        return DueMove::Goes(Due::ExtendsName(name));
+        return DueMove::Goes(Due::ExtendsName(dashes, name));
     }
-    DueMove::Begun(name)
+    DueMove::Begun(dashes, name)
 }
 
-fn after_extended(name: Lexeme, lexeme: Lexeme) -> DueMove
-    ensures { result ≡ tables.due_move (Due.ExtendsRead name) lexeme }
+fn after_extended(dashes: Lexeme, name: Lexeme, lexeme: Lexeme) -> DueMove
+    ensures { result ≡ tables.due_move (Due.ExtendsRead dashes name) lexeme }
 {
     if is_comma(lexeme.kind) {
-        return DueMove::Goes(Due::ExtendsName(name));
+        return DueMove::Goes(Due::ExtendsName(dashes, name));
     }
-    DueMove::Begun(name)
+    DueMove::Begun(dashes, name)
 }
 
 fn after_dashes(dashes: Lexeme, lexeme: Lexeme) -> DueMove
     ensures { result ≡ tables.due_move (Due.Dashes dashes) lexeme }
 {
     if is_module(lexeme.kind) {
-        return DueMove::Goes(Due::ModuleName);
+        return DueMove::Goes(Due::ModuleName(dashes));
     }
     DueMove::Lined(dashes)
 }
@@ -83,13 +83,28 @@ pub fn due_move(due: Due, lexeme: Lexeme) -> DueMove
 {
     let kind = lexeme.kind;
     match due {
-        Due::Opening => if_due(is_dashes(kind), DueMove::Goes(Due::OpeningWord)),
-        Due::OpeningWord => if_due(is_module(kind), DueMove::Goes(Due::ModuleName)),
-        Due::ModuleName => if_due(is_name(kind), DueMove::Goes(Due::ModuleDashes(lexeme))),
-        Due::ModuleDashes(name) => if_due(is_dashes(kind), DueMove::Goes(Due::ModuleRead(name))),
-        Due::ModuleRead(name) => after_header(name, lexeme),
-        Due::ExtendsName(name) => if_due(is_name(kind), DueMove::Named(Due::ExtendsRead(name))),
-        Due::ExtendsRead(name) => after_extended(name, lexeme),
+        Due::Opening => if_due(is_dashes(kind), DueMove::Goes(Due::OpeningWord(lexeme))),
+        Due::OpeningWord(dashes) => if_due(is_module(kind), DueMove::Goes(Due::ModuleName(dashes))),
+        Due::ModuleName(dashes) => {
+            if_due(
+                is_name(kind),
+                DueMove::Goes(Due::ModuleDashes(dashes, lexeme)),
+            )
+        }
+        Due::ModuleDashes(dashes, name) => {
+            if_due(
+                is_dashes(kind),
+                DueMove::Goes(Due::ModuleRead(dashes, name)),
+            )
+        }
+        Due::ModuleRead(dashes, name) => after_header(dashes, name, lexeme),
+        Due::ExtendsName(dashes, name) => {
+            if_due(
+                is_name(kind),
+                DueMove::Named(Due::ExtendsRead(dashes, name)),
+            )
+        }
+        Due::ExtendsRead(dashes, name) => after_extended(dashes, name, lexeme),
         Due::Unit => DueMove::Begins(None),
         Due::Dashes(dashes) => after_dashes(dashes, lexeme),
         Due::Local(word) => if_due(may_be_local(kind), DueMove::Begins(Some(word))),

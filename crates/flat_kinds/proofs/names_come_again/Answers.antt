@@ -8,7 +8,7 @@ pub returns-clause-left : goal.returns-clause-left
 returns-clause-left c yields text files words state unit meaning leaves has = left-yielded yields text files words state unit meaning leaves has
 
 pub returns-clause-nested : goal.returns-clause-nested
-returns-clause-nested c yields text files words state name extends meaning each all has = begins-yielded yields text files words each state name extends meaning all has
+returns-clause-nested c yields text files words state dashes name extends meaning each all has = begins-yielded yields text files words each state dashes name extends meaning all has
 
 pub returns-clause-ended : goal.returns-clause-ended
 returns-clause-ended c yields state outer round once has = nested-yields yields state outer round once has
@@ -23,5 +23,5 @@ pub returns-clause-stays : goal.returns-clause-stays
 returns-clause-stays c yields text files words flat symbols layout state unit keeps each = again-stays yields text files words flat symbols layout state unit keeps each
 
 pub returns-clause-begins : goal.returns-clause-begins
-returns-clause-begins c yields text files words flat symbols layout state name extends files_yield all keeps each =
-    begun-stays yields text files words flat symbols layout state name extends files_yield all keeps each
+returns-clause-begins c yields text files words flat symbols layout state dashes name extends files_yield all keeps each =
+    begun-stays yields text files words flat symbols layout state dashes name extends files_yield all keeps each

@@ -1,3 +1,4 @@
+use Rattle.std.proofs.Common.{sym}
 use Rattle.unit_scope.proofs.UnitParts.{assumption-read, function-read, instance-read, module-read, on-both, operator-read, theorem-read}
 use Rattle.unit_scope.proofs.nesting.Nesting.read.Goals as goal
 
@@ -36,3 +37,10 @@ returns-in-Theorem c =
     let own = c.in-Theorem in
     let read = c.read_tree-in-Theorem in
     on-both read.result _ _ _ (theorem-read c.args.text.now c.args.tree.now c.args.self.now read.new.self c.args.findings.now read.new.findings c.args.unit.now own.word own.name own.node own.is) read.ensures.state read.ensures.findings
+
+pub returns-in-ModuleBegin : goal.returns-in-ModuleBegin
+returns-in-ModuleBegin c =
+    let own = c.in-ModuleBegin in
+    let read = c.read_begin in
+    rw (own.is, sym c.as_slice-in-ModuleBegin.ensures)
+    (on-both read.result _ _ _ (λ leads tells. record { state = leads own.dashes; findings = tells own.dashes }) read.ensures.state read.ensures.findings)

@@ -13,7 +13,7 @@ pub extend-requires-clause-placed : goal.extend-requires-clause-placed
 extend-requires-clause-placed c = placed-on c.args.text.now c.args.self.now c.begin.new.self (entered c.spelled.result.now) c.requires.placed (c.in_ok-begin.ensures c.args.text.now)
 
 pub returns-clause-state : goal.returns-clause-state
-returns-clause-state c = λ over state at.
+returns-clause-state c = λ dashes over state at.
     let text = c.args.text.now in
     let extends = c.args.extends.now in
     let begun = entered (spelled text.source c.args.name) over state in
@@ -21,7 +21,7 @@ returns-clause-state c = λ over state at.
     subst (IsAt text over c.extend.new.self) (extended-known text extends over begun) (c.in_ok-extend.ensures.state over begun began)
 
 pub returns-clause-findings : goal.returns-clause-findings
-returns-clause-findings c = λ over state at.
+returns-clause-findings c = λ dashes over state at.
     let text = c.args.text.now in
     let name = c.args.name in
     let old = c.args.findings.now in
