@@ -1,10 +1,9 @@
 -- What is answered to `documentSymbol`: the names that a module's text declares, by the text alone.
-use Rattle.std.specs.Prelude.{ℕ, ◌==◌, if◌then◌else◌, List, [], ◌∷◌, ◌++◌, map, Option, Some, None}
+use Rattle.std.specs.Prelude.{ℕ, List, [], ◌∷◌, ◌++◌, map, Option, Some, None}
 use Rattle.tla_symbols.specs.declared.lexeme.Lexeme.{Lexeme}
 use Rattle.tla_symbols.specs.declared.lexeme.Span.{Span}
 use Rattle.tla_tree.specs.declared.form.Form.TheVariants as Form
 use Rattle.tla_tree.specs.Syntax.{Tree as Parsed, Trees, Node, Nil, Cons}
-use Rattle.tla_lexeme.specs.ModulePart.{module_part}
 use Rattle.tla_model.specs.Entities.{placed}
 use Rattle.tla_model.specs.Lexemes.{spelled}
 use Rattle.unit_grammar.specs.Units.{UnitTree, Variables, Constants, OperatorDefinition, FunctionDefinition, ModuleDefinition, Assumption, Theorem, ModuleBegin, ModuleEnd}
@@ -97,16 +96,6 @@ unit_symbols text _ = []
 
 -- ---- nested modules
 
--- the dashes before the word MODULE that stands before a module's name, among the lexemes of a text
-abbrev pub dashes_before : Lexeme → List Lexeme → Span
-dashes_before name (dashes ∷ word ∷ l ∷ rest) = if l.span.start == name.span.start then dashes.span else dashes_before name (word ∷ l ∷ rest)
-dashes_before name _ = name.span
-
--- where the lexemes of a module part stand, if there is one
-abbrev pub opening : Lexeme → Option (List Lexeme) → Span
-opening name None = name.span
-opening name (Some lexemes) = dashes_before name lexemes
-
 -- the names of a module as far as its units are read from the end, and the run of `=` that closes it
 pub record Level : Type 0 where
   pub closing : Option Lexeme
@@ -116,10 +105,10 @@ pub record Level : Type 0 where
 abbrev pub closed_by : Option Lexeme → Level
 closed_by closing = record { closing = closing; symbols = [] }
 
--- from a module's dashes to the run that closes it
-abbrev pub module_span : List ℕ → Lexeme → Option Lexeme → Span
-module_span text name None = opening name (module_part text)
-module_span text name (Some closing) = joined (opening name (module_part text)) closing.span
+-- from the module's dashes to the run that closes it
+abbrev pub module_span : Lexeme → Option Lexeme → Span
+module_span dashes None = dashes.span
+module_span dashes (Some closing) = joined dashes.span closing.span
 
 -- more names before those of the innermost module
 abbrev pub with_symbols : List Symbol → List Level → List Level
@@ -127,14 +116,14 @@ with_symbols more [] = []
 with_symbols more (level ∷ round) = record { closing = level.closing; symbols = more ++ level.symbols } ∷ round
 
 -- the innermost module begins here: it is one name of the module round it
-abbrev pub begun : List ℕ → Lexeme → List Level → List Level
-begun text name [] = []
-begun text name (level ∷ round) = with_symbols (nested_symbol text (module_span text name level.closing) name level.symbols ∷ []) round
+abbrev pub begun : List ℕ → Lexeme → Lexeme → List Level → List Level
+begun text dashes name [] = []
+begun text dashes name (level ∷ round) = with_symbols (nested_symbol text (module_span dashes level.closing) name level.symbols ∷ []) round
 
 -- one unit before those that are read
 abbrev pub before_unit : List ℕ → UnitTree → List Level → List Level
 before_unit text (ModuleEnd closing) levels = closed_by (Some closing) ∷ levels
-before_unit text (ModuleBegin dashes name extends) levels = begun text name levels
+before_unit text (ModuleBegin dashes name extends) levels = begun text dashes name levels
 before_unit text unit levels = with_symbols (unit_symbols text unit) levels
 
 -- the names of these units, and of the modules round the first of them: the innermost first
