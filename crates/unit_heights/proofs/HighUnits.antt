@@ -13,7 +13,7 @@ use Rattle.unit_grammar.specs.Derivation.{BeginsModule, alone, extending, Spells
 use Rattle.unit_grammar.specs.Heights.{unit_height, highest_unit, module_height}
 use Rattle.unit_grammar.proofs.Singles.{defined-single, is_single, one-less, single-height}
 use Rattle.unit_heights.specs.TooHigh.{MOST_HEIGHT, IsFirstHigh}
-use Rattle.unit_heights.specs.FirstHigh.{BeginsFurther, depth_after, outer, high_unit, begins_with, begins_at, begun_before, place_of, lexemes_before, before_high}
+use Rattle.unit_heights.specs.FirstHigh.{BeginsFurther, depth_after, outer, high_unit, begins_with, begins_at, place_of, lexemes_before, before_high}
 use Rattle.unit_heights.proofs.Places.{place_of-there}
 
 -- ---- one step
@@ -114,14 +114,12 @@ walks-both head us vs h k = record {
 
 -- ---- where a unit begins
 
--- its first lexemes: those before the one that it is found by, and that one
+-- its first lexeme, by which it is found
 record Begins (head : UnitTree) (a : List Lexeme) : Type 0 where
-  pub skipped : List Lexeme
   pub found : Lexeme
   pub more : List Lexeme
-  pub spells : a ≡ skipped ++ found ∷ more
+  pub spells : a ≡ found ∷ more
   pub at : found.span.start ≡ begins_at head
-  pub count : length skipped ≡ begun_before head
 
 starts : (form : Form) (parts : Trees) (a : List Lexeme) (t : Lexeme) (rest : List Lexeme) → a ≡ t ∷ rest → (span (built form parts a)).start ≡ t.span.start
 starts form parts a t rest e = ap (λ (l : List Lexeme). (place l).start) e
@@ -160,21 +158,16 @@ defined-at local (Node (Form.FunctionDefinition n) s parts) = refl
 defined-at local (Node (Form.ModuleDefinition n) s parts) = refl
 defined-at local (Node _ s parts) = refl
 
-defined-before : (local : Option Lexeme) (x : Tree) → begun_before (defined local x) ≡ 0
-defined-before local (Node (Form.FunctionDefinition n) s parts) = refl
-defined-before local (Node (Form.ModuleDefinition n) s parts) = refl
-defined-before local (Node _ s parts) = refl
+local-begins : {local : Option Lexeme} {a : List Lexeme} → SpellsLocal local a → (x : Tree) (b : List Lexeme) (head : UnitTree) → Starts x b → begins_at head ≡ begins_with local x → Begins head (a ++ b)
+local-begins exported x b head s at = record { found = s.t; more = s.rest; spells = s.spells; at = sym s.at ∙ sym at }
+local-begins (kept {w = w} k) x b head s at = record { found = w; more = b; spells = refl; at = sym at }
 
-local-begins : {local : Option Lexeme} {a : List Lexeme} → SpellsLocal local a → (x : Tree) (b : List Lexeme) (head : UnitTree) → Starts x b → begins_at head ≡ begins_with local x → begun_before head ≡ 0 → Begins head (a ++ b)
-local-begins exported x b head s at none = record { skipped = []; found = s.t; more = s.rest; spells = s.spells; at = sym s.at ∙ sym at; count = sym none }
-local-begins (kept {w = w} k) x b head s at none = record { skipped = []; found = w; more = b; spells = refl; at = sym at; count = sym none }
-
-word-begins : (w : Lexeme) (a : List Lexeme) (head : UnitTree) → begins_at head ≡ w.span.start → begun_before head ≡ 0 → Begins head (w ∷ a)
-word-begins w a head at none = record { skipped = []; found = w; more = a; spells = refl; at = sym at; count = sym none }
+word-begins : (w : Lexeme) (a : List Lexeme) (head : UnitTree) → begins_at head ≡ w.span.start → Begins head (w ∷ a)
+word-begins w a head at = record { found = w; more = a; spells = refl; at = sym at }
 
 module-begins : {dashes n : Lexeme} {names a : List Lexeme} → BeginsModule dashes n names a → (b : List Lexeme) → Begins (ModuleBegin dashes n names) (a ++ b)
-module-begins (alone {d = d} {w = w} {n = n} {e = e} i j k l) b = record { skipped = d ∷ w ∷ []; found = n; more = e ∷ b; spells = refl; at = refl; count = refl }
-module-begins (extending {d = d} {w = w} {n = n} {e = e} {x = x} {a = a} i j k l m s) b = record { skipped = d ∷ w ∷ []; found = n; more = e ∷ x ∷ (a ++ b); spells = refl; at = refl; count = refl }
+module-begins (alone {d = d} {w = w} {n = n} {e = e} i j k l) b = record { found = d; more = w ∷ n ∷ e ∷ b; spells = refl; at = refl }
+module-begins (extending {d = d} {w = w} {n = n} {e = e} {x = x} {a = a} i j k l m s) b = record { found = d; more = w ∷ n ∷ e ∷ x ∷ (a ++ b); spells = refl; at = refl }
 
 -- ---- what derived units are
 
@@ -189,17 +182,9 @@ record Stands (us : List UnitTree) (a : List Lexeme) : Type 0 where
   pub spells : a ≡ first ∷ more
   pub begins : MOST_HEIGHT < highest_unit 0 us → Begins head a
 
-begun-first : (head : UnitTree) (a : List Lexeme) → Begins head a → (t : Lexeme) × (more : List Lexeme) × (a ≡ t ∷ more)
-begun-first head a h = by h.skipped h.spells
-  where
-    by : (skipped : List Lexeme) → a ≡ skipped ++ h.found ∷ h.more → (t : Lexeme) × (more : List Lexeme) × (a ≡ t ∷ more)
-    by [] e = (h.found, h.more, e)
-    by (s ∷ skipped) e = (s, skipped ++ h.found ∷ h.more, e)
-
 stands-by : (head : UnitTree) (tail : List UnitTree) (a : List Lexeme) → WalksUnit head (head ∷ tail) → Begins head a → Stands (head ∷ tail) a
 stands-by head tail a walks begins =
-    let f : (t : Lexeme) × (more : List Lexeme) × (a ≡ t ∷ more) = begun-first head a begins in
-    record { head = head; tail = tail; is = refl; walks = walks; first = f.0; more = f.1; spells = f.2; begins = λ high. begins }
+    record { head = head; tail = tail; is = refl; walks = walks; first = begins.found; more = begins.more; spells = begins.spells; begins = λ high. begins }
 
 -- a unit without expressions is never too high
 stands-low : (u : UnitTree) (t : Lexeme) (a : List Lexeme) → is_single u ≡ true → unit_height u ≡ 1 → Stands (u ∷ []) (t ∷ a)
@@ -212,11 +197,11 @@ mutual
   unit-stands (constants {w = w} {xs = xs} {a = a} k d) = stands-low (Constants xs) w a refl refl
   unit-stands (definition {before = local} {x = x} {a = a} {b = b} k d) =
       let head : UnitTree = defined local x in
-      stands-by head [] (a ++ b) (walks-single head (defined-single local x)) (local-begins k x b head (definition-starts d) (defined-at local x) (defined-before local x))
+      stands-by head [] (a ++ b) (walks-single head (defined-single local x)) (local-begins k x b head (definition-starts d) (defined-at local x))
   unit-stands (instance {before = local} {x = x} {a = a} {b = b} k d) =
-      stands-by (Instance local x) [] (a ++ b) (walks-single (Instance local x) refl) (local-begins k x b (Instance local x) (instance-starts d) refl refl)
-  unit-stands (assumption {w = w} {x = x} {a = a} k d) = stands-by (Assumption w None x) [] (w ∷ a) (walks-single (Assumption w None x) refl) (word-begins w a (Assumption w None x) refl refl)
-  unit-stands (theorem {w = w} {x = x} {a = a} k d) = stands-by (Theorem w None x) [] (w ∷ a) (walks-single (Theorem w None x) refl) (word-begins w a (Theorem w None x) refl refl)
+      stands-by (Instance local x) [] (a ++ b) (walks-single (Instance local x) refl) (local-begins k x b (Instance local x) (instance-starts d) refl)
+  unit-stands (assumption {w = w} {x = x} {a = a} k d) = stands-by (Assumption w None x) [] (w ∷ a) (walks-single (Assumption w None x) refl) (word-begins w a (Assumption w None x) refl)
+  unit-stands (theorem {w = w} {x = x} {a = a} k d) = stands-by (Theorem w None x) [] (w ∷ a) (walks-single (Theorem w None x) refl) (word-begins w a (Theorem w None x) refl)
   unit-stands (line {d = d} k h) = stands-low (Line d) d [] refl refl
   unit-stands (nested {d = dashes} {n = n} {names = names} {a = a} {b = b} {units = units} e k ds h) =
       stands-by (ModuleBegin dashes n names) (units ++ ModuleEnd e ∷ []) (a ++ (b ++ e ∷ [])) (walks-nested dashes n names units e (units-walk ds)) (module-begins k (b ++ e ∷ []))
@@ -364,11 +349,9 @@ before-walk lexemes (u ∷ us) head walk lt = ap (lexemes_before lexemes) (walk 
 
 found-before : (pre : List Lexeme) (head : UnitTree) (a post : List Lexeme) (h : Begins head a) → BeginsFurther 0 (pre ++ (a ++ post)) → lexemes_before (pre ++ (a ++ post)) head ≡ length pre
 found-before pre head a post h further =
-    let whole : pre ++ (a ++ post) ≡ (pre ++ h.skipped) ++ h.found ∷ (h.more ++ post) =
-    ap (λ l. pre ++ (l ++ post)) h.spells ∙ (ap (λ l. pre ++ l) (append_assoc h.skipped (h.found ∷ h.more) post) ∙ sym (append_assoc pre h.skipped (h.found ∷ (h.more ++ post)))) in
-    let there : place_of ((pre ++ h.skipped) ++ h.found ∷ (h.more ++ post)) h.found.span.start ≡ length (pre ++ h.skipped) = place_of-there 0 (pre ++ h.skipped) h.found (h.more ++ post) (subst (BeginsFurther 0) whole further) in
-    let place : place_of (pre ++ (a ++ post)) (begins_at head) ≡ length (pre ++ h.skipped) = ap (λ l. place_of l (begins_at head)) whole ∙ (ap (place_of ((pre ++ h.skipped) ++ h.found ∷ (h.more ++ post))) (sym h.at) ∙ there) in
-    omega (arith, place, length-append pre h.skipped, h.count)
+    let whole : pre ++ (a ++ post) ≡ pre ++ h.found ∷ (h.more ++ post) = ap (λ l. pre ++ (l ++ post)) h.spells in
+    let there : place_of (pre ++ h.found ∷ (h.more ++ post)) h.found.span.start ≡ length pre = place_of-there 0 pre h.found (h.more ++ post) (subst (BeginsFurther 0) whole further) in
+    ap (λ l. place_of l (begins_at head)) whole ∙ (ap (place_of (pre ++ h.found ∷ (h.more ++ post))) (sym h.at) ∙ there)
 
 -- the first lexeme of the first unit that is too high is the one that is found
 record IsFound (lexemes : List Lexeme) (units : List UnitTree) (t : Lexeme) : Type 0 where

@@ -33,7 +33,7 @@ abbrev pub begins_with : Option Lexeme → Tree → ℕ
 begins_with (Some local) x = local.span.start
 begins_with None x = (span x).start
 
--- where a unit's first lexeme begins; of a nested module, where its name does
+-- where a unit's first lexeme begins
 abbrev pub begins_at : UnitTree → ℕ
 begins_at (OperatorDefinition local x) = begins_with local x
 begins_at (FunctionDefinition local x) = begins_with local x
@@ -41,13 +41,8 @@ begins_at (ModuleDefinition local x) = begins_with local x
 begins_at (Instance local x) = begins_with local x
 begins_at (Assumption word name x) = word.span.start
 begins_at (Theorem word name x) = word.span.start
-begins_at (ModuleBegin dashes name extends) = name.span.start
+begins_at (ModuleBegin dashes name extends) = dashes.span.start
 begins_at _ = 0
-
--- how many lexemes of a unit stand before that place
-abbrev pub begun_before : UnitTree → ℕ
-begun_before (ModuleBegin dashes name extends) = 2
-begun_before _ = 0
 
 -- how many lexemes stand before the one that begins at a place
 abbrev pub place_of : List Lexeme → ℕ → ℕ
@@ -56,7 +51,7 @@ place_of (l ∷ ls) at = if l.span.start == at then 0 else place_of ls at + 1
 
 -- how many lexemes stand before a unit
 abbrev pub lexemes_before : List Lexeme → UnitTree → ℕ
-lexemes_before lexemes unit = place_of lexemes (begins_at unit) - begun_before unit
+lexemes_before lexemes unit = place_of lexemes (begins_at unit)
 
 -- how many lexemes stand before the first unit that is too high
 abbrev pub before_high : List Lexeme → List UnitTree → ℕ

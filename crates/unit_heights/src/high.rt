@@ -96,7 +96,7 @@ fn begins_with(local: Option<Lexeme>, node: u32, tree: &Tree) -> u32
     }
 }
 
-// Where a unit's first lexeme begins; of a nested module, where its name does.
+// Where a unit's first lexeme begins.
 fn begins_at(unit: &Unit, tree: &Tree) -> u32
     requires { AreThere tree.now (nodes_in unit.now) }
     ensures { result ≡ high.begins_at (unit_at tree.now unit.now) }
@@ -107,18 +107,8 @@ fn begins_at(unit: &Unit, tree: &Tree) -> u32
         | Unit::ModuleDefinition { local, node }
         | Unit::Instance { local, node } => begins_with(*local, *node, tree),
         Unit::Assumption { word, .. } | Unit::Theorem { word, .. } => word.span.start,
-        Unit::ModuleBegin { name, .. } => name.span.start,
+        Unit::ModuleBegin { dashes, .. } => dashes.span.start,
         Unit::Variables { .. } | Unit::Constants { .. } | Unit::Line(_) | Unit::ModuleEnd(_) => 0,
-    }
-}
-
-// How many lexemes of a unit stand before that place: the dashes and MODULE before a name.
-fn begun_before(unit: &Unit) -> usize
-    ensures { (nodes : List Node) → result ≡ high.begun_before (unit_at nodes unit.now) }
-{
-    match unit {
-        Unit::ModuleBegin { .. } => 2,
-        _ => 0,
     }
 }
 
@@ -143,8 +133,7 @@ fn before_high(lexemes: &[Lexeme], units: &[Unit], tree: &Tree) -> usize
         return 0;
     };
     let unit = high_unit(first, units, tree);
-    let place = place_of(lexemes, begins_at(unit, tree));
-    place.saturating_sub(begun_before(unit))
+    place_of(lexemes, begins_at(unit, tree))
 }
 
 /// The first lexeme of the first unit of the outermost module that is too high.
