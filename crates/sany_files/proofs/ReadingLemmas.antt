@@ -12,7 +12,6 @@ use Rattle.sany_files.specs.Calls.{after_calls, read_len}
 use Rattle.sany_files.specs.Files.{byte_count, reads, with_read, MOST, MOST_BYTES}
 use Rattle.sany_files.specs.Reading.{within}
 
-
 after_calls-suc : (i : ℕ) (t : Told) → after_calls (suc i) t ≡ after_call (after_calls i t)
 after_calls-suc zero t = refl
 after_calls-suc (suc i) t = after_calls-suc i (after_call t)
