@@ -1,5 +1,5 @@
 -- The files of modules by their names.
-use Rattle.std.specs.Prelude.{ℕ, ◌-◌, List, [], ◌∷◌, ◌++◌, length, ◌&&◌, nat_eq, Option, Some, None, if◌then◌else◌, codes, take}
+use Rattle.std.specs.Prelude.{ℕ, ◌+◌, ◌-◌, ◌^◌, List, [], ◌∷◌, ◌++◌, length, ◌&&◌, nat_eq, Option, Some, None, if◌then◌else◌, codes, take}
 use Rattle.std.specs.List.{filter_map, ends_with}
 use Rattle.tla_lexeme.specs.LexemeSets.{is_identifier}
 
@@ -19,3 +19,7 @@ modules_of_file file = modules_of_listing (file ∷ [])
 -- the file of a module
 abbrev pub file_of : List ℕ → List ℕ
 file_of name = name ++ codes ".tla"
+
+-- the most bytes that are read of a file: one more than a text may have that is read whole
+abbrev pub MOST : ℕ
+MOST = 2 ^ 25 + 1

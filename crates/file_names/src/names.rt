@@ -7,6 +7,9 @@ use std::alloc::Global;
 use tla_lexeme::is_identifier;
 use tool_list::{Chars, List, Memory};
 
+/// The most bytes that are read of a file.
+pub const MOST: u64 = (1 << 25) + 1;
+
 /// The module that a file stands for, by its name: an identifier before `.tla`.
 pub fn module_of_file(file: &str) -> Option<&str>
     ensures { option_copied result ≡ files.module_of_file file.now }

@@ -6,10 +6,10 @@ use Rattle.std.proofs.lemmas.List.Sums.{sum_by-append}
 use Rattle.std.proofs.lemmas.Bool.{le-ltb, lt-ltb}
 use Rattle.tool_io.specs.Folder.{Told, after_call, names_at, read_at}
 use Rattle.family_facts.specs.declared.verdict.File.{File}
-use Rattle.file_names.specs.Files.{file_of, modules_of_listing}
+use Rattle.file_names.specs.Files.{MOST, file_of, modules_of_listing}
 use Rattle.sany_files.specs.Calls.{IsLeftAfter}
 use Rattle.sany_files.specs.Calls.{after_calls, calls_made, calls_of_folder, calls_of_request, next_len, read_len, reads_made, reads_of_listing}
-use Rattle.sany_files.specs.Files.{byte_count, module_names, reads, with_read, MOST, MOST_BYTES, MOST_MODULES}
+use Rattle.sany_files.specs.Files.{byte_count, module_names, reads, with_read, MOST_BYTES, MOST_MODULES}
 use Rattle.sany_files.specs.Reading.{after_folder, after_reads}
 use Rattle.sany_files.proofs.ReadingLemmas.{count-read, reads-more, told-more, with_read-append}
 

@@ -78,20 +78,3 @@ module _ {X Y : Type 0} (h : X → Option Y) where
     pub filter_map-apart : (xs : List X) → AreApart xs → AreApart (filter_map h xs)
     filter_map-apart [] apart = λ i j a e f. absurd (cc)
     filter_map-apart (x ∷ xs) apart = apart-cons x xs (filter_map h xs) (h x) refl apart (filter_map-of xs) (filter_map-apart xs (apart-tail x xs apart))
-
--- ---- files of modules
-
-stem-if : (file stem name : List ℕ) (ends passes : Bool) → (ends ≡ true → file ≡ stem ++ codes ".tla") → (if ends && passes then Some stem else None) ≡ Some name → file ≡ name ++ codes ".tla"
-stem-if file stem name true true h e = let same : stem ≡ name = cc in h refl ∙ ap (λ s. s ++ codes ".tla") same
-stem-if file stem name true false h e = absurd (cc)
-stem-if file stem name false passes h e = absurd (cc)
-
-module _ (is_name : List ℕ → Bool) where
-  abbrev module_in : List ℕ → Option (List ℕ)
-  module_in file = if ends_with nat_eq file (codes ".tla") && is_name (take (length file - 4) file) then Some (take (length file - 4) file) else None
-
-  -- the file of a module has its name
-  pub file-name : (file name : List ℕ) → module_in file ≡ Some name → file ≡ name ++ codes ".tla"
-  file-name file name e =
-      stem-if file (take (length file - 4) file) name (ends_with nat_eq file (codes ".tla")) (is_name (take (length file - 4) file))
-      ((ends_is Decides-eqb file (codes ".tla") (ends_with nat_eq file (codes ".tla")) refl).0) e

@@ -8,16 +8,16 @@ use Rattle.std.proofs.lemmas.Option.{slice_get-get_or}
 use Rattle.family_facts.specs.Verdicts.{AreDistinct}
 use Rattle.family_facts.specs.declared.verdict.File.{File}
 use Rattle.list_laws.proofs.Lists.{pushed-cases}
-use Rattle.tla_lexeme.specs.LexemeSets.{is_identifier}
 use Rattle.file_names.specs.Files.{module_of_file, modules_of_listing}
+use Rattle.file_names.proofs.Named.{file_named}
 use Rattle.sany_files.specs.Files.{with_read}
 use Rattle.name_graph.specs.Family.{AreOnce}
 use Rattle.sany_files.specs.Reading.{AreNamed}
-use Rattle.sany_files.proofs.DistinctLemmas.{file-name, filter_map-apart, sorted-apart}
+use Rattle.sany_files.proofs.DistinctLemmas.{filter_map-apart, sorted-apart}
 
 -- two files of one module are one
 one-file : (a b name : List ℕ) → module_of_file a ≡ Some name → module_of_file b ≡ Some name → a ≡ b
-one-file a b name is_a is_b = file-name is_identifier a name is_a ∙ sym (file-name is_identifier b name is_b)
+one-file a b name is_a is_b = (file_named a name is_a).1 ∙ sym (file_named b name is_b).1
 
 -- no module of a listing stands twice
 pub modules-distinct : (names : List (List ℕ)) → IsStrictlySortedBy (slice_cmp nat_cmp) names → AreOnce (modules_of_listing names)

@@ -7,9 +7,9 @@ use Rattle.std.proofs.lemmas.List.Sums.{sum_by-append}
 use Rattle.std.proofs.lemmas.Bool.{lt-ltb}
 use Rattle.tool_io.specs.Folder.{Told, after_call, read_at}
 use Rattle.family_facts.specs.declared.verdict.File.{File}
-use Rattle.file_names.specs.Files.{file_of, module_of_file, modules_of_file, modules_of_listing}
+use Rattle.file_names.specs.Files.{MOST, file_of, module_of_file, modules_of_file, modules_of_listing}
 use Rattle.sany_files.specs.Calls.{after_calls, read_len}
-use Rattle.sany_files.specs.Files.{byte_count, reads, with_read, MOST, MOST_BYTES}
+use Rattle.sany_files.specs.Files.{byte_count, reads, with_read, MOST_BYTES}
 use Rattle.sany_files.specs.Reading.{within}
 
 after_calls-suc : (i : ℕ) (t : Told) → after_calls (suc i) t ≡ after_call (after_calls i t)

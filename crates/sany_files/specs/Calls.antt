@@ -3,8 +3,8 @@ use Rattle.std.specs.Prelude.{◌≡◌, ◌≤◌, ℕ, zero, suc, ◌+◌, Lis
 use Rattle.tool_io.specs.Folder.{Told, after_call, read_at}
 use Rattle.sany_words.specs.Words.{request_of}
 use Rattle.sany_words.specs.declared.request.Request.{Request}
-use Rattle.file_names.specs.Files.{file_of}
-use Rattle.sany_files.specs.Files.{module_names, MOST, MOST_BYTES, MOST_MODULES}
+use Rattle.file_names.specs.Files.{MOST, file_of}
+use Rattle.sany_files.specs.Files.{module_names, MOST_BYTES, MOST_MODULES}
 
 -- what a folder holds after so many calls
 abbrev pub after_calls : ℕ → Told → Told

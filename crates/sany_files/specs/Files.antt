@@ -2,20 +2,15 @@
 use Rattle.std.specs.Prelude.{ℕ, ◌+◌, ◌-◌, ◌^◌, List, [], ◌∷◌, ◌++◌, length, Bool, false, ◌||◌, ◌&&◌, nat_lt, nat_eq, Option, Some, None, if◌then◌else◌, codes, take, sum_by}
 use Rattle.std.specs.List.{filter_map, ends_with}
 use Rattle.tool_io.specs.Folder.{Told, after_call, names_at, read_at}
-use Rattle.tla_lexeme.specs.LexemeSets.{is_identifier}
 use Rattle.family_facts.specs.declared.verdict.File.{File}
 use Rattle.gen_texts.specs.Generated.{generated}
 use Rattle.sany_words.specs.Words.{request_of}
 use Rattle.sany_words.specs.declared.request.Request.{Request}
-use Rattle.file_names.specs.Files.{file_of, modules_of_listing}
+use Rattle.file_names.specs.Files.{MOST, file_of, modules_of_listing}
 
 -- the modules of a folder, by one listing of it
 abbrev pub module_names : Told → List ℕ → List (List ℕ)
 module_names t folder = modules_of_listing (names_at t folder)
-
--- the most bytes that are read of a file
-abbrev pub MOST : ℕ
-MOST = 2 ^ 25 + 1
 
 -- a file that is gone is no module
 abbrev pub with_read : List ℕ → Option (List ℕ) → List File → List File

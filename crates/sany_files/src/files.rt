@@ -12,13 +12,10 @@ ghost use Rattle.name_graph.specs.Family.{AreOnce};
 ghost use Rattle.sany_files.specs.Reading as reading;
 
 use family_facts::File;
-use file_names::file_of;
+use file_names::{MOST, file_of};
 use std::alloc::Global;
 use tool_io::{Folder, IoFault};
 use tool_list::{Chars, List, Memory};
-
-// The most bytes that are read of a file.
-const MOST: u64 = (1 << 25) + 1;
 
 // The most bytes of all files of a folder.
 const MOST_BYTES: u64 = 1 << 25;
@@ -34,7 +31,7 @@ fn read_module<F: Folder>(
     ensures part { OnErr result
         (IfSome (F.told folder.old) (λ t. IsLeftAfter 0 1 t (F.told folder.new))) }
     ensures bytes { IfOk result (λ bytes. IfSome (F.told folder.new) (λ t. bytes
-        ≡ read_at t path.now (file_names_in.file_of name.now) files_in.MOST)) }
+        ≡ read_at t path.now (file_names_in.file_of name.now) file_names_in.MOST)) }
     ensures cause { HasCause (F.fault_count folder.old) (F.fault_count folder.new) result }
 {
     let Ok(file) = file_of(alloc, name) else {
