@@ -11,7 +11,7 @@ use Rattle.std.specs.Str.{bytes_eq}
 use Rattle.std.proofs.lemmas.Map.Text.{is_eq-slice_cmp}
 use Rattle.std.proofs.lemmas.Slice.Eq.{bytes_eq-Decides}
 use Rattle.list_laws.proofs.Texts.{text-itself, texts-apart}
-use Rattle.server_texts.specs.Documents.{named, put, without}
+use Rattle.server_documents.specs.Documents.{named, put, without}
 use Rattle.server_texts.specs.Kept.{AreInByteOrder}
 use Rattle.server_texts.proofs.ByteOrder.{ordered-first, ordered-rest}
 

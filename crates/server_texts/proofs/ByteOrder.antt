@@ -9,7 +9,7 @@ use Rattle.std.specs.declared.cmp.Ordering.TheVariants.{Less, Equal, Greater}
 use Rattle.std.specs.Cmp.Lexicographic.{slice_cmp, nat_list_cmp_total}
 use Rattle.std.specs.Str.{bytes_eq}
 use Rattle.std.proofs.lemmas.List.Kept.{IsStrictlySortedBy-filter}
-use Rattle.server_texts.specs.Documents.{put, without}
+use Rattle.server_documents.specs.Documents.{put, without}
 use Rattle.server_texts.specs.Kept.{AreInByteOrder}
 
 -- a name stands before each of these

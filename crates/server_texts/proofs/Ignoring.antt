@@ -4,7 +4,7 @@ use Rattle.std.specs.Option.{option_or}
 use Rattle.lsp_wire.specs.declared.types.Change.{Change}
 use Rattle.lsp_answers.specs.States.{State, Root, Opened, first_too_long, judged, judged_change, unless_limit}
 use Rattle.doc_edit.specs.Edits.{after_change, first_backward, first_excess, most_bytes}
-use Rattle.server_texts.specs.Documents.{after_close, after_open, closed_as, edited_at, edited_if, edited_texts, opened_at, rooted, texts_after, with_changes, with_its_text, with_opened, Edited, IsRooted}
+use Rattle.server_documents.specs.Documents.{after_close, after_open, closed_as, edited_at, edited_if, edited_texts, opened_at, rooted, texts_after, with_changes, with_its_text, with_opened, Edited, IsRooted}
 use Rattle.server_texts.specs.Server.{server_meaning}
 use Rattle.server_uris.specs.Uris.{document_root, module_of}
 
@@ -24,12 +24,6 @@ close_ignored s uri e = ap (closed_as s) e
 
 pub backward_ignored : (s : State) (uri : List ℕ) (changes : List Change) (index : ℕ) → first_backward changes ≡ Some index → judged_change server_meaning s uri changes ≡ judged s
 backward_ignored s uri changes index e = as_is s changes (edited_at s uri changes) (ap (λ f. edited_if f s (opened_at s uri)) e)
-
--- the first text that is too long is the same, however it is found
-pub excess_same : (text : List ℕ) (changes : List Change) → first_too_long (texts_after text changes) ≡ first_excess text changes
-excess_same text [] = refl
-excess_same text (c ∷ cs) =
-    ap (λ more. cond (ltb most_bytes (length (after_change text c))) (Some (length (after_change text c))) more) (excess_same (after_change text c) cs)
 
 -- a root that is there stays
 kept : (root other : Option Root) → IsSome root → option_or root other ≡ root

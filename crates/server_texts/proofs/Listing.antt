@@ -17,7 +17,7 @@ use Rattle.tla_lexeme.specs.LexemeSets.{is_fair, is_identifier, is_in, is_name, 
 use Rattle.tla_lexeme.specs.declared.class.Class.TheVariants.{Letter, WordChar}
 use Rattle.lsp_answers.specs.States.{State}
 use Rattle.file_names.specs.Files.{file_of, module_of_file, modules_of_listing}
-use Rattle.server_texts.specs.Documents.{called, modules_in, names_in, root_modules}
+use Rattle.server_documents.specs.Documents.{called, modules_in, names_in, root_modules}
 use Rattle.server_texts.specs.Kept.{AreInByteOrder}
 use Rattle.server_uris.specs.Uris.{client_root_of}
 use Rattle.server_texts.proofs.ByteOrder.{before-trans, ordered-first, ordered-more, ordered-none, ordered-rest, turned, IsBeforeAll}

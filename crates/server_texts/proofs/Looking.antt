@@ -2,7 +2,7 @@
 use Rattle.std.proofs.Common.{◌≡◌, ℕ, List, Option, Some, None, refl, ap}
 use Rattle.std.specs.Prelude.{option_map, option_and_then}
 use Rattle.lsp_answers.specs.States.{State, Root, LooksAtTexts}
-use Rattle.server_texts.specs.Documents.{after_root, called, file_in, from_folder, listed, named, path_of, with_client_root, with_text}
+use Rattle.server_documents.specs.Documents.{after_root, called, file_in, from_folder, listed, named, path_of, with_client_root, with_text}
 use Rattle.server_texts.specs.Notes.{notes_in}
 use Rattle.server_texts.specs.Server.{server_meaning}
 use Rattle.server_uris.specs.Uris.{client_root_of}

@@ -5,7 +5,7 @@ use Rattle.lsp_wire.specs.declared.types.Change.{Change}
 use Rattle.lsp_wire.specs.declared.types.Note.{Note}
 use Rattle.lsp_answers.specs.States.{State, Root, Opened, after_dues, judged_root}
 use Rattle.doc_edit.specs.Edits.{after_changes}
-use Rattle.server_texts.specs.Documents.{after_change, after_close, after_open, after_root, called, closed_as, edited_at, file_changed, file_in, file_told, from_folder, listed, opened_as, opened_at, path_of, rooted, with_changes, with_client_root, with_file, with_opened, with_text, without, Edited}
+use Rattle.server_documents.specs.Documents.{after_change, after_close, after_open, after_root, called, closed_as, edited_at, file_changed, file_in, file_told, from_folder, listed, opened_as, opened_at, path_of, rooted, with_changes, with_client_root, with_file, with_opened, with_text, without, Edited}
 use Rattle.server_texts.specs.Kept.{AreInByteOrder, HasNamesInOrder, IsKept}
 use Rattle.server_texts.specs.Notes.{notes_of}
 use Rattle.server_texts.specs.Server.{server_meaning}

@@ -3,7 +3,7 @@ use Rattle.std.proofs.Common.{◌≡◌, ℕ, Bool, List, [], ◌∷◌, Option,
 use Rattle.lsp_wire.specs.declared.types.Change.{Change}
 use Rattle.lsp_wire.specs.declared.types.FileEvent.{FileEvent}
 use Rattle.lsp_answers.specs.States.{State, After, ModuleText, Opened, after_dues, first_too_long, judged, judged_reads, judged_root, limit_of, unless_limit}
-use Rattle.server_texts.specs.Documents.{after_change, after_close, after_files, after_open, after_root, changed_texts, file_told, root_modules, with_file}
+use Rattle.server_documents.specs.Documents.{after_change, after_close, after_files, after_open, after_root, changed_texts, file_told, root_modules, with_file}
 use Rattle.server_texts.specs.Kept.{IsKept}
 use Rattle.server_texts.specs.Notes.{notes_of}
 use Rattle.server_texts.specs.Server.{server_meaning}

@@ -8,7 +8,7 @@ use Rattle.std.specs.Cmp.Lexicographic.{slice_cmp}
 use Rattle.lsp_wire.specs.declared.types.Change.{Change}
 use Rattle.lsp_wire.specs.declared.types.FileEvent.{FileEvent}
 use Rattle.lsp_answers.specs.States.{State, Meaning, after_dues, judged_change}
-use Rattle.server_texts.specs.Documents.{text_of}
+use Rattle.server_documents.specs.Documents.{text_of}
 use Rattle.server_uris.specs.Uris.{module_of}
 
 -- names stand in byte order, none of them twice

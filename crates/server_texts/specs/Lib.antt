@@ -1,5 +1,4 @@
 pub mod Answers
-pub mod Documents
 pub mod Kept
 pub mod Notes
 pub mod Outlines

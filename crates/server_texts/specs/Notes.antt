@@ -14,7 +14,7 @@ use Rattle.lsp_wire.specs.declared.types.Position.{Position}
 use Rattle.lsp_wire.specs.declared.types.Area.{Area}
 use Rattle.lsp_wire.specs.declared.types.Note.{Note}
 use Rattle.lsp_answers.specs.States.{State, ModuleText}
-use Rattle.server_texts.specs.Documents.{text_of}
+use Rattle.server_documents.specs.Documents.{text_of}
 
 -- ---- places
 

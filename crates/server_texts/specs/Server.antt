@@ -5,7 +5,7 @@ use Rattle.lsp_wire.specs.declared.types.Reply.{Reply}
 use Rattle.lsp_wire.specs.declared.types.Reply.TheVariants.{Null}
 use Rattle.lsp_answers.specs.States.{State, Meaning}
 use Rattle.server_texts.specs.Answers.{definition_reply, references_reply}
-use Rattle.server_texts.specs.Documents.{after_root, root_modules, with_file, after_open, after_change, changed_texts, after_close, after_files}
+use Rattle.server_documents.specs.Documents.{after_root, root_modules, with_file, after_open, after_change, changed_texts, after_close, after_files}
 use Rattle.server_texts.specs.Notes.{notes_of}
 use Rattle.server_texts.specs.Outlines.{symbols_reply}
 

@@ -5,10 +5,10 @@ ghost use Rattle.std.specs.Prelude.{slice_get, true};
 ghost use Rattle.lsp_wire.specs.declared.types.Change.{Change};
 ghost use Rattle.lsp_answers.specs.States.{State, LooksAtTexts, ModuleText, all_notices, dues_of};
 ghost use Rattle.lsp_answers.specs.States.{first_too_long, judged, judged_change, judged_root};
-ghost use Rattle.doc_edit.specs.Edits.{first_backward, first_excess, is_backward};
-ghost use Rattle.server_texts.specs.Documents.{after_close, after_open, after_root, opened_at};
-ghost use Rattle.server_texts.specs.Documents.{root_modules, text_of, texts_after, with_file};
-ghost use Rattle.server_texts.specs.Documents.{with_text, IsRooted};
+ghost use Rattle.doc_edit.specs.Edits.{first_backward, is_backward};
+ghost use Rattle.server_documents.specs.Documents.{after_close, after_open, after_root, opened_at};
+ghost use Rattle.server_documents.specs.Documents.{root_modules, text_of, with_file};
+ghost use Rattle.server_documents.specs.Documents.{with_text, IsRooted};
 ghost use Rattle.server_texts.specs.Kept.{AreInByteOrder, HasMembers, HasNamesInOrder, HasTexts};
 ghost use Rattle.server_texts.specs.Kept.{IsKept};
 ghost use Rattle.server_texts.specs.Notes.{notes_of};
@@ -84,12 +84,6 @@ pub fn nothing_happens()
         → opened_at s uri ≡ None → after_close s uri ≡ s }
     ensures opened { (s : State) (uri text : List ℕ)
         → IsRooted s → module_of s.root uri ≡ None → after_open s uri text ≡ s }
-{}
-
-/// The first text that is too long after a change is the one of which `doc_edit` tells the length.
-pub fn same_excess()
-    ensures { (text : List ℕ) (changes : List Change)
-        → first_too_long (texts_after text changes) ≡ first_excess text changes }
 {}
 
 /// Small cases, by computation: a range that is backward by its numbers, and notices in byte order of

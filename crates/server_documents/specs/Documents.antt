@@ -6,13 +6,12 @@ use Rattle.std.specs.Str.{bytes_eq}
 use Rattle.std.specs.Ordering.{nat_cmp, match_ordering}
 use Rattle.std.specs.Cmp.Lexicographic.{slice_cmp}
 use Rattle.tool_io.specs.Folder.{Told, after_call, names_at, read_at}
-use Rattle.sany_files.specs.Files.{MOST}
 use Rattle.lsp_wire.specs.declared.types.Change.{Change}
 use Rattle.lsp_wire.specs.declared.types.FileEvent.{FileEvent}
 use Rattle.doc_edit.specs.Edits.{after_changes, first_backward}
 use Rattle.doc_edit.specs.Edits as edits
 use Rattle.lsp_answers.specs.States.{State, Root, Opened}
-use Rattle.file_names.specs.Files.{file_of, modules_of_listing}
+use Rattle.file_names.specs.Files.{MOST, file_of, modules_of_listing}
 use Rattle.server_uris.specs.Uris.{client_root_of, document_root, module_of}
 
 -- ---- by name

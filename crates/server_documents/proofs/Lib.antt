@@ -1,0 +1,3 @@
+mod Changing
+mod Closing
+mod Entries

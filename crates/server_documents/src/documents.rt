@@ -1,0 +1,376 @@
+// The texts of a root's modules and the open documents.
+ghost use Rattle.std.specs.Prelude.{◌≡◌, ℕ, IfErr, IfNone, IfOk, List as ListOf, None, OnErr, OnOk, Some, ◌<◌, ◌^◌, cond, false, is_some, length, map, option_map};
+ghost use Rattle.std.specs.Map.{lookup};
+ghost use Rattle.std.specs.Str.{bytes_eq};
+ghost use Rattle.doc_edit.specs.Edits.{first_backward, first_excess};
+ghost use Rattle.std.specs.Option.{option_copied};
+ghost use Rattle.lsp_answers.specs.States.{first_too_long};
+ghost use Rattle.server_documents.specs.Documents as in_documents;
+ghost use Rattle.server_documents.specs.Documents.{put, without};
+ghost use Rattle.server_documents.specs.Held as in_held;
+ghost use Rattle.server_documents.specs.Held.{HasDocument, HaveDocuments, held_as, opened_entry, text_as};
+ghost use Rattle.server_documents.specs.declared.held.Held.{Held as HeldValue};
+
+use crate::held::Held;
+use doc_edit::{EditError, apply};
+use lsp_wire::{Change, Note};
+use server_uris::{Root, document_root, module_of};
+use std::alloc::Global;
+use std::collections::BTreeMap;
+use std::marker::Model;
+use tla_text::{Text, TextError};
+use tool_list::{Chars, List, Memory};
+
+/// Why a document was not changed.
+#[derive(Clone, Copy, Debug, PartialEq, Eq)]
+pub enum ChangeFault {
+    /// The text would have more than 2^25 bytes after a change: so many after the first such.
+    TooLarge { bytes: u64 },
+    /// There was no room.
+    Memory,
+}
+
+impl From<Memory> for ChangeFault {
+    ghost use Rattle.server_documents.specs.declared.documents.ChangeFault.{ChangeFault};
+    ghost use Rattle.std.specs.Prelude.{◌≡◌};
+
+    ghost from_gives = { λ _ e. e ≡ ChangeFault.Memory };
+
+    fn from(_: Memory) -> Self {
+        ChangeFault::Memory
+    }
+}
+
+// An open document: its URI as it was spelled, and the notes last sent for it.
+struct Open {
+    uri: Chars,
+    sent: Option<List<Note>>,
+}
+
+// By hand, so that a proof meets one call wherever a value ends.
+impl Drop for Open {
+    fn drop(self) {
+        let Open { uri: _, sent: _ } = self;
+    }
+}
+
+// A document whose notice is due.
+struct Named {
+    name: Chars,
+    uri: Chars,
+}
+
+// By hand, so that a proof meets one call wherever a value ends.
+impl Drop for Named {
+    fn drop(self) {
+        let Named { name: _, uri: _ } = self;
+    }
+}
+
+impl Model for Named {
+    ghost use Rattle.lsp_answers.specs.States as states;
+
+    ghost Value = { states.Named };
+
+    ghost view = { λ named. record { name = named.name; uri = named.uri } };
+}
+
+/// The texts of a root's modules and the open documents. Contracts see them as a state that holds no
+/// folder.
+pub struct Documents {
+    root: Option<Root>,
+    texts: BTreeMap<Chars, Held>,
+    opened: BTreeMap<Chars, Open>,
+    due: Option<Named>,
+}
+
+// By hand, so that a proof meets one call wherever a value ends.
+impl Drop for Documents {
+    fn drop(self) {
+        let Documents {
+            root: _,
+            texts: _,
+            opened: _,
+            due: _,
+        } = self;
+    }
+}
+
+impl Model for Documents {
+    ghost use Rattle.std.specs.Prelude.{None, map};
+    ghost use Rattle.lsp_answers.specs.States as states;
+    ghost use Rattle.server_documents.specs.Held.{HaveDocuments, opened_entry, text_as};
+
+    ghost Value = { states.State };
+
+    ghost view = { λ d. record {
+      root = d.root;
+      texts = map text_as d.texts.entries;
+      opened = map opened_entry d.opened.entries;
+      due = d.due;
+      folder = None;
+    } };
+
+    ghost invariant = { λ d. HaveDocuments d.texts.entries d.opened.entries };
+}
+
+// Puts a document's text under a module's name, in the place of what is there.
+fn put_text(texts: &mut BTreeMap<Chars, Held>, name: &Chars, held: Held) -> Result<(), Memory>
+    ensures texts { OnOk result (map text_as texts.new.entries
+        ≡ put (λ t. t.name) (text_as (name.now, held)) (map text_as texts.old.entries)) }
+    ensures held { OnOk result ((other : ListOf ℕ) → held_as texts.new.entries other
+        ≡ cond (bytes_eq other name.now) (Some held) (held_as texts.old.entries other)) }
+    ensures others { (other : ListOf ℕ) → bytes_eq other name.now ≡ false
+        → held_as texts.new.entries other ≡ held_as texts.old.entries other }
+    ensures err { OnErr result (texts.new.entries ≡ texts.old.entries) }
+{
+    let Ok(name) = name.copied() else {
+        return Err(Memory);
+    };
+    match texts.insert(name, held) {
+        Ok(_) => Ok(()),
+        Err(_) => Err(Memory),
+    }
+}
+
+// Puts an open document under its module's name, in the place of what is there.
+fn put_open(opened: &mut BTreeMap<Chars, Open>, name: &Chars, document: Open) -> Result<(), Memory>
+    ensures opened { OnOk result (map opened_entry opened.new.entries
+        ≡ put (λ o. o.name) (opened_entry (name.now, document)) (map opened_entry opened.old.entries)) }
+    ensures documents { OnOk result ((texts : ListOf (ListOf ℕ × HeldValue)) → HasDocument texts name.now
+        → HaveDocuments texts opened.old.entries → HaveDocuments texts opened.new.entries) }
+    ensures err { OnErr result (opened.new.entries ≡ opened.old.entries) }
+{
+    let Ok(name) = name.copied() else {
+        return Err(Memory);
+    };
+    match opened.insert(name, document) {
+        Ok(_) => Ok(()),
+        Err(_) => Err(Memory),
+    }
+}
+
+// Takes the text of a module away, if it has one.
+fn take_text(texts: &mut BTreeMap<Chars, Held>, name: &Chars)
+    ensures texts { map text_as texts.new.entries
+        ≡ without (λ t. t.name) name.now (map text_as texts.old.entries) }
+    ensures others { (other : ListOf ℕ) → bytes_eq other name.now ≡ false
+        → held_as texts.new.entries other ≡ held_as texts.old.entries other }
+{
+    // The proof needs that the names are in order.
+    let _len = texts.len();
+    let _text = texts.remove(name);
+}
+
+// Takes the document of a module away, if it is open.
+fn take_open(opened: &mut BTreeMap<Chars, Open>, name: &Chars) -> Option<Open>
+    ensures value { result ≡ lookup (λ key. bytes_eq name.now key) opened.old.entries }
+    ensures opened { map opened_entry opened.new.entries
+        ≡ without (λ o. o.name) name.now (map opened_entry opened.old.entries) }
+    ensures none { IfNone result (opened.new.entries ≡ opened.old.entries) }
+    ensures documents { (texts : ListOf (ListOf ℕ × HeldValue))
+        → HaveDocuments texts opened.old.entries → HaveDocuments texts opened.new.entries }
+{
+    // The proof needs that the names are in order.
+    let _len = opened.len();
+    opened.remove(name)
+}
+
+// The text of a document.
+fn document(alloc: Global, text: &[u8]) -> Result<Text, Memory>
+    requires { length text.now < 2 ^ 31 }
+    ensures { IfOk result (λ document. document ≡ text.now) }
+{
+    match Text::read(alloc, text) {
+        Ok(text) => Ok(text),
+        Err(_) => Err(Memory),
+    }
+}
+
+// The text of the open document of a module.
+fn document_text<'a>(texts: &'a BTreeMap<Chars, Held>, name: &Chars) -> Option<&'a Text>
+    ensures { option_copied result
+        ≡ in_held.document_in (held_as texts.now.entries name.now) }
+{
+    match texts.get(name) {
+        Some(Held::Document(text)) => Some(text),
+        Some(Held::File(_)) => None,
+        None => None,
+    }
+}
+
+// A text after changes, unless one of these is backward.
+fn changed(alloc: Global, text: &Text, changes: &List<Change>) -> Result<Option<Text>, ChangeFault>
+    requires { length text.now < 2 ^ 31 }
+    ensures text { IfOk result (λ changed. changed
+        ≡ in_held.text_after (first_backward changes.now) text.now changes.now) }
+    ensures short { OnOk result (first_backward changes.now ≡ None
+        → first_excess text.now changes.now ≡ None) }
+    ensures long { IfErr result (in_held.IsEditFault (first_backward changes.now)
+        (first_excess text.now changes.now)) }
+{
+    let mut changed = document(alloc, text.bytes())?;
+    match apply(alloc, &mut changed, changes) {
+        Ok(()) => Ok(Some(changed)),
+        Err(EditError::BackwardRange { .. }) => Ok(None),
+        Err(EditError::TooLarge { bytes }) => Err(ChangeFault::TooLarge { bytes }),
+        Err(EditError::Memory) => Err(ChangeFault::Memory),
+    }
+}
+
+impl Documents {
+    /// Nothing is held.
+    pub fn new(alloc: Global) -> Documents
+        ensures { result ≡ in_held.nothing }
+    {
+        Documents {
+            root: None,
+            texts: BTreeMap::new(alloc),
+            opened: BTreeMap::new(alloc),
+            due: None,
+        }
+    }
+
+    /// The root.
+    pub fn root(&self) -> Option<&Root>
+        ensures { option_copied result ≡ self.now.root }
+    {
+        self.root.as_ref()
+    }
+
+    /// The text of a module, if it has one.
+    pub fn text(&self, name: &Chars) -> Option<&[u8]>
+        ensures { option_copied result ≡ in_documents.text_of self.now name.now }
+    {
+        match self.texts.get(name) {
+            Some(held) => Some(held.bytes()),
+            None => None,
+        }
+    }
+
+    /// Whether the document of a module is open.
+    pub fn is_open(&self, name: &Chars) -> bool
+        ensures { result ≡ is_some (in_documents.opened_as self.now name.now) }
+    {
+        self.opened.contains_key(name)
+    }
+
+    /// The module of an open document, under whatever spelling of its URI.
+    pub fn opened_at(&self, alloc: Global, uri: &str) -> Result<Option<Chars>, Memory>
+        ensures { IfOk result (λ name. name
+            ≡ option_map (λ o. o.name) (in_documents.opened_at self.now uri.now)) }
+    {
+        let Some(name) = module_of(alloc, self.root(), uri)? else {
+            return Ok(None);
+        };
+        if self.is_open(&name) {
+            Ok(Some(name))
+        } else {
+            Ok(None)
+        }
+    }
+
+    /// A module whose document is not open gets the bytes of its file, or loses what it has.
+    pub fn set_file(&mut self, name: &Chars, bytes: Option<List<u8>>) -> Result<(), Memory>
+        requires { is_some (in_documents.opened_as self.old name.now) ≡ false }
+        ensures { OnOk result (self.new ≡ in_documents.with_text self.old name.now bytes) }
+    {
+        match bytes {
+            Some(bytes) => put_text(&mut self.texts, name, Held::File(bytes)),
+            None => {
+                take_text(&mut self.texts, name);
+                Ok(())
+            }
+        }
+    }
+
+    // The document of a module is open with this text, and its notice is due.
+    fn hold(&mut self, name: Chars, uri: Chars, text: Text) -> Result<(), Memory>
+        requires { length text < 2 ^ 31 }
+        ensures { OnOk result (self.new
+            ≡ in_documents.with_opened self.old uri text (Some name)) }
+    {
+        put_text(&mut self.texts, &name, Held::Document(text))?;
+        let document = Open {
+            uri: uri.copied()?,
+            sent: None,
+        };
+        put_open(&mut self.opened, &name, document)?;
+        self.due = Some(Named { name, uri });
+        Ok(())
+    }
+
+    /// Opens a document, or replaces its text. Where there is no root, it makes one; a document that is
+    /// no member of the root is ignored.
+    pub fn open(&mut self, alloc: Global, uri: &str, text: &Chars) -> Result<(), Memory>
+        requires { length text.now < 2 ^ 31 }
+        ensures { OnOk result (self.new
+            ≡ in_documents.after_open self.old uri.now text.now) }
+    {
+        if self.root.is_none() {
+            self.root = document_root(alloc, uri)?;
+        }
+        let Some(name) = module_of(alloc, self.root.as_ref(), uri)? else {
+            return Ok(());
+        };
+        let text = document(alloc, text.as_str().as_bytes())?;
+        self.hold(name, Chars::from_str(alloc, uri)?, text)
+    }
+
+    /// Closes a document, and answers its module, whose file counts again: whoever reads it hands it to
+    /// `set_file`. One that is not open is ignored.
+    pub fn close(&mut self, alloc: Global, uri: &str) -> Result<Option<Chars>, Memory>
+        ensures closed { OnOk result (self.new
+            ≡ in_held.unopened_as self.old (in_documents.opened_at self.old uri.now)) }
+        ensures name { IfOk result (λ name. name
+            ≡ option_map (λ o. o.name) (in_documents.opened_at self.old uri.now)) }
+    {
+        let Some(name) = module_of(alloc, self.root.as_ref(), uri)? else {
+            return Ok(None);
+        };
+        let Some(document) = take_open(&mut self.opened, &name) else {
+            return Ok(None);
+        };
+        let uri = document.uri.copied()?;
+        self.due = Some(Named {
+            name: name.copied()?,
+            uri,
+        });
+        Ok(Some(name))
+    }
+
+    /// Makes all changes of an open document, or none where one of these is backward, and its notice is
+    /// due. A document that is not open is ignored. `TooLarge` comes exactly where none is backward and
+    /// the text would have more than 2^25 bytes after some change. After a fault all is as before.
+    pub fn change(
+        &mut self,
+        alloc: Global,
+        uri: &str,
+        changes: &List<Change>,
+    ) -> Result<(), ChangeFault>
+        ensures changed { OnOk result (self.new
+            ≡ in_documents.after_change self.old uri.now changes.now) }
+        ensures short { OnOk result (first_too_long
+            (in_documents.changed_texts self.old uri.now changes.now) ≡ None) }
+        ensures long { IfErr result (in_held.IsChangeFault (first_too_long
+            (in_documents.changed_texts self.old uri.now changes.now))) }
+        ensures kept { OnErr result (self.new ≡ self.old) }
+    {
+        let Some(name) = module_of(alloc, self.root.as_ref(), uri)? else {
+            return Ok(());
+        };
+        let Some(document) = self.opened.get(&name) else {
+            return Ok(());
+        };
+        let uri = document.uri.copied()?;
+        let Some(text) = document_text(&self.texts, &name) else {
+            return Ok(());
+        };
+        let Some(changed) = changed(alloc, text, changes)? else {
+            return Ok(());
+        };
+        put_text(&mut self.texts, &name, Held::Document(changed))?;
+        self.due = Some(Named { name, uri });
+        Ok(())
+    }
+}
