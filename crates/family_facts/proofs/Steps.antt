@@ -1,7 +1,7 @@
 -- Whether steps lead from one place to another.
 use Rattle.std.proofs.Common.{◌≡◌, zero, suc, List, [], ◌∷◌, refl, sym, ap, ◌∙◌, subst, inl, inr, length, arith}
 use Rattle.std.specs.Prelude.{◌⊎◌, Contains}
-use Rattle.name_graph.specs.Family.{Leads, last, more}
+use Rattle.index_graph.specs.Leading.{Leads, last, more}
 use Rattle.family_facts.proofs.Lists.{behind, first-or-rest, here, none-there}
 
 -- steps by way of places of a list

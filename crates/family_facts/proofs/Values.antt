@@ -13,7 +13,7 @@ use Rattle.module_model.specs.Exports.{ModuleView, nothing}
 use Rattle.tla_model.specs.Lexemes.{spelled}
 use Rattle.module_model.specs.Resolution.{outside_in}
 use Rattle.unit_grammar.specs.Units.{ModuleUnits}
-use Rattle.name_graph.specs.Family.{Leads, last, more}
+use Rattle.index_graph.specs.Leading.{Leads, last, more}
 use Rattle.module_graph.specs.Imports.{imports_of}
 use Rattle.front_laws.specs.Fronts.{Front, IsFront, Tree, Fault}
 use Rattle.module_facts.specs.Checks.{ImportStatus, Unknown, Refused, Accepted, all_faults, all_uses, files_given}

@@ -8,7 +8,7 @@ use Rattle.module_model.specs.Bindings.{AreInOrder}
 use Rattle.module_model.specs.Exports.{ModuleView, nothing}
 use Rattle.tla_model.specs.Lexemes.{spelled}
 use Rattle.module_model.specs.Resolution.{outside_in}
-use Rattle.name_graph.specs.Family.{LeadsBack}
+use Rattle.index_graph.specs.Leading.{LeadsBack}
 use Rattle.module_graph.specs.Imports.{imports_of}
 use Rattle.front_laws.specs.Fronts.{IsFront, Tree, Fault}
 use Rattle.unit_grammar.specs.Units.{ModuleUnits}

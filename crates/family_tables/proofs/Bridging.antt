@@ -6,7 +6,7 @@ use Rattle.front_laws.specs.Fronts.{Tree, Fault, IsFront}
 use Rattle.module_graph.specs.Imports.{imports_of}
 use Rattle.unit_grammar.specs.Units.{ModuleUnits}
 use Rattle.unit_grammar.specs.UnitNodes.{module_of}
-use Rattle.name_graph.specs.Family.{Leads}
+use Rattle.index_graph.specs.Leading.{Leads}
 use Rattle.family_facts.specs.Family as families
 use Rattle.family_facts.specs.Family.{Member, Diagnosed, IsDiagnosed, is_there}
 use Rattle.family_tables.specs.Modules.{Entry, IsEntry, IsReading, AreModules, needs_in}

@@ -11,7 +11,8 @@ use Rattle.std.proofs.lemmas.Map.Text.{is_eq-slice_cmp}
 use Rattle.std.proofs.lemmas.Option.{slice_get-map}
 use Rattle.tool_list.specs.declared.Memory.{Memory}
 use Rattle.name_graph.specs.Family as graphs
-use Rattle.name_graph.specs.Family.{Leads, LeadsBack, last, more, name_cmp}
+use Rattle.index_graph.specs.Leading.{Leads, LeadsBack, last, more}
+use Rattle.name_graph.specs.Family.{name_cmp}
 use Rattle.list_laws.proofs.Lists.{contains-map}
 use Rattle.list_laws.proofs.Texts.{same-text, text-itself}
 use Rattle.family_tables.specs.Modules.{Entry}

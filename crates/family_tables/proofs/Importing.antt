@@ -16,7 +16,7 @@ use Rattle.list_laws.proofs.Texts.{same-text, text-itself}
 use Rattle.family_facts.specs.Family as families
 use Rattle.family_facts.specs.Family.{Member, IsGiven, unknown, cyclic, refused, accepted, is_there}
 use Rattle.family_tables.specs.Modules.{Entry}
-use Rattle.name_graph.specs.Family.{LeadsBack}
+use Rattle.index_graph.specs.Leading.{LeadsBack}
 use Rattle.family_tables.specs.Plans as plans
 use Rattle.family_tables.specs.Plans.{IsPlan}
 use Rattle.family_tables.specs.Tables.{entry_of}

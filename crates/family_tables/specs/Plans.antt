@@ -1,7 +1,7 @@
 -- In which order modules are checked, and which of their needs are cyclic.
 use Rattle.std.specs.Prelude.{◌≡◌, ◌<◌, ◌↔◌, ◌⊎◌, ℕ, List, Option, Some, None, Contains, IsSome, slice_get}
 use Rattle.std.specs.FinMap.{get}
-use Rattle.name_graph.specs.Family.{Leads, LeadsBack}
+use Rattle.index_graph.specs.Leading.{Leads, LeadsBack}
 pub use Rattle.name_graph.specs.Family.{AreOnce}
 use Rattle.name_graph.specs.Family as graphs
 use Rattle.family_tables.specs.Modules.{Entry}

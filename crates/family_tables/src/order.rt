@@ -1,7 +1,7 @@
 // The order in which modules are checked.
 ghost use Rattle.std.specs.Prelude.{◌≡◌, ◌↔◌, ℕ, List as ListOf, IsTrue, IfOk, Contains};
 ghost use Rattle.name_graph.specs.Family as graphs;
-ghost use Rattle.name_graph.specs.Family.{LeadsBack};
+ghost use Rattle.index_graph.specs.Leading.{LeadsBack};
 ghost use Rattle.family_tables.specs.Modules.{Entry};
 ghost use Rattle.family_tables.specs.Tables.{names_in};
 ghost use Rattle.family_tables.specs.Plans as plans;

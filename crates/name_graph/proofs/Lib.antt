@@ -1,9 +1,2 @@
-mod Lists
-mod Ways
-mod Reaching
 mod Naming
-mod Walking
-mod Joining
-mod Closing
-mod Moves
 mod Ordering

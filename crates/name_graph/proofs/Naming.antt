@@ -3,7 +3,7 @@ use Rattle.std.proofs.Common.{◌≡◌, ℕ, zero, suc, ◌+◌, ◌<◌, Bool,
 use Rattle.std.specs.Prelude.{◌⊎◌, Contains, slice_get, filter_map, nat_lt, string_bytes, String, All, unwrap_or}
 use Rattle.std.specs.List.{cons_option, position_or_len, list_any, IsDistinct}
 use Rattle.std.specs.Map.{keys_of}
-use Rattle.std.specs.Ordering.{is_eq, eq_by_cmp}
+use Rattle.std.specs.Ordering.{eq_by_cmp}
 use Rattle.std.specs.Str.{bytes_eq}
 use Rattle.std.specs.String.{string_eq}
 use Rattle.std.specs.declared.alloc.Global.{Global}
@@ -19,11 +19,12 @@ use Rattle.std.proofs.lemmas.Option.{slice_get-get_or, get_or_from_slice_get}
 use Rattle.indexmap.specs.IndexMap.{insert_entry}
 use Rattle.list_laws.proofs.Lists.{at-map, at-mapped}
 use Rattle.list_laws.proofs.Texts.{any-contains, contains-any, same-text, text-itself}
-use Rattle.name_graph.specs.Family.{name_cmp, Needs, Leads, last, more, Reaches}
-use Rattle.name_graph.specs.Indices.{Has, Edge, Way, HasIndices, AreReached}
+use Rattle.index_graph.specs.Leading.{Leads, last, more}
+use Rattle.name_graph.specs.Family.{name_cmp, Needs, Reaches}
+use Rattle.index_graph.specs.Indices.{Has, Edge, Way, HasIndices, AreReached}
 use Rattle.name_graph.specs.Rows.{Rows, AreDistinct, named, family_of, index_of, indices_of, edges_of, SomeNeeds}
-use Rattle.name_graph.proofs.Lists.{at-within, at-there, at-same}
-use Rattle.name_graph.proofs.Ways.{edge-way}
+use Rattle.index_graph.proofs.Lists.{at-within, at-there, at-same}
+use Rattle.index_graph.proofs.Ways.{edge-way}
 
 abbrev pub Row : Type 0
 Row = String Global × List (List ℕ)

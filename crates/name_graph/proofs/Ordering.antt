@@ -10,13 +10,14 @@ use Rattle.std.proofs.lemmas.List.{length-map}
 use Rattle.std.proofs.lemmas.Option.{slice_get-get_or}
 use Rattle.list_laws.proofs.Lists.{at-map, at-mapped}
 use Rattle.list_laws.proofs.Tests.{less-is, same-or-other}
-use Rattle.name_graph.specs.Family.{name_cmp, Leads, last, more, Reaches, IsOrder, IsFirstCyclic}
-use Rattle.name_graph.specs.Indices.{Has, Edge, IsOrdered}
+use Rattle.index_graph.specs.Leading.{Leads, last, more}
+use Rattle.name_graph.specs.Family.{name_cmp, Reaches, IsOrder, IsFirstCyclic}
+use Rattle.index_graph.specs.Indices.{Has, Edge, IsOrdered}
 use Rattle.name_graph.specs.Rows.{Rows, AreDistinct, name_of, name_at, family_of, indices_of, edges_of, IsFirst}
-use Rattle.name_graph.proofs.Lists.{at-within, at-there, at-same}
+use Rattle.index_graph.proofs.Lists.{at-within, at-there, at-same}
 use Rattle.name_graph.proofs.Naming.{Row, name, has-contains, contains-has, family-there, family-some, needs-row, row-needs, edge-needs, needs-edge, row-at, first-row, reach-way}
-use Rattle.name_graph.proofs.Walking.{cases}
-use Rattle.name_graph.proofs.Ways.{way-leads}
+use Rattle.index_graph.proofs.Walking.{cases}
+use Rattle.index_graph.proofs.Ways.{way-leads}
 
 name-there : (rows : Rows) (i : ℕ) (row : Row) → slice_get rows i ≡ Some row → name_at rows i ≡ name row
 name-there rows i row e = ap name_of e

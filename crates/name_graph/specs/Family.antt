@@ -1,5 +1,5 @@
 -- Which names need which, and what follows of it.
-use Rattle.std.specs.Prelude.{◌≡◌, ◌<◌, ◌↔◌, ◌⊎◌, ℕ, List, [], Option, Some, None, Contains, IsSome, slice_get, unwrap_or}
+use Rattle.std.specs.Prelude.{◌≡◌, ◌<◌, ◌↔◌, ℕ, List, [], Some, Contains, IsSome, slice_get, unwrap_or}
 use Rattle.std.specs.Ordering.{nat_cmp}
 use Rattle.std.specs.Cmp.Lexicographic.{slice_cmp}
 use Rattle.std.specs.Coded.{Coded, coded_list, coded_ℕ}
@@ -7,6 +7,7 @@ use Rattle.std.specs.FinMap.{FinMap, get}
 use Rattle.std.specs.FinMap as map
 use Rattle.std.specs.declared.cmp.Ordering.{Ordering}
 use Rattle.std.specs.declared.cmp.Ordering.TheVariants.{Less}
+use Rattle.index_graph.specs.Leading.{Leads}
 use Rattle.name_graph.specs.declared.GraphError.{GraphError}
 use Rattle.name_graph.specs.declared.GraphError.TheVariants.{Memory, Cyclic}
 
@@ -25,15 +26,6 @@ family_code = map.code (coded_list coded_ℕ) (coded_list (coded_list coded_ℕ)
 -- one name needs another; a name that was not put needs none
 abbrev pub Needs : Family → List ℕ → List ℕ → Type 0
 Needs family name need = Contains (unwrap_or (get family name) []) need
-
--- one step or more lead from one to another
-pub data Leads {A : Type 0} (Step : A → A → Type 0) : A → A → Type 0 where
-  last : {a b : A} → Step a b → Leads Step a b
-  more : {a b c : A} → Step a b → Leads Step b c → Leads Step a c
-
--- a step from one to another leads back: they are one, or steps lead from the other to the one
-abbrev pub LeadsBack : {A : Type 0} → (A → A → Type 0) → A → A → Type 0
-LeadsBack Step a b = (b ≡ a) ⊎ Leads Step b a
 
 -- one or more needs lead from one name to another
 abbrev pub Reaches : Family → List ℕ → List ℕ → Type 0

@@ -1,4 +1,2 @@
 pub mod Family
-pub mod Indices
 pub mod Rows
-pub mod SearchState

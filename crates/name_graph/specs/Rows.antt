@@ -7,7 +7,7 @@ use Rattle.std.specs.Str.{bytes_eq}
 use Rattle.std.specs.declared.cmp.Ordering.TheVariants.{Less}
 use Rattle.list_laws.specs.Distinct.{AreNamedApart}
 use Rattle.name_graph.specs.Family.{Family, name_cmp}
-use Rattle.name_graph.specs.Indices.{Has, Edges}
+use Rattle.index_graph.specs.Indices.{Has, Edges}
 
 -- each name with the names that it needs, in the order in which the names were put
 abbrev pub Rows : Type 0

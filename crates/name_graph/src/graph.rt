@@ -4,9 +4,8 @@ ghost use Rattle.std.specs.FinMap as map;
 ghost use Rattle.name_graph.specs.Family.{Reaches, IsOrder, HasFault};
 
 use crate::GraphError;
-use crate::components::arrange;
 use crate::rows::{Rows, edges_of, first_of, name_at, names_of, some_needs};
-use crate::search::reached;
+use index_graph::{arrange, reached};
 use indexmap::IndexMap;
 use std::alloc::Global;
 use std::marker::Model;

@@ -7,10 +7,8 @@
 
 use tool_list::{Chars, Memory};
 
-mod components;
 mod graph;
 mod rows;
-mod search;
 
 pub use graph::Graph;
 

@@ -4,7 +4,7 @@ use Rattle.std.specs.List.{list_any}
 use Rattle.std.specs.Prelude.{slice_get}
 use Rattle.std.specs.Str.{bytes_eq}
 use Rattle.list_laws.proofs.Tests.{same-or-other}
-use Rattle.name_graph.proofs.Lists.{at-within}
+use Rattle.index_graph.proofs.Lists.{at-within}
 use Rattle.name_graph.proofs.Naming.{needs-here, needs-not}
 use Rattle.name_graph.proofs.rows.some_needs.Goals.{else-seen-index-via-then-seen-index+else-is_among, else-seen-index-via-else-seen-index}
 use Rattle.name_graph.proofs.rows.some_needs.Goals as goal

@@ -1,6 +1,6 @@
 use Rattle.std.proofs.Common.{◌≡◌, ◌<◌, ap, ◌∙◌, sym, subst, ℕ, map, length, get_or}
 use Rattle.name_graph.specs.Family.{Reaches, IsOrder, IsFirstCyclic}
-use Rattle.name_graph.specs.Indices.{HasIndices, IsOrdered}
+use Rattle.index_graph.specs.Indices.{HasIndices, IsOrdered}
 use Rattle.name_graph.specs.Rows.{edges_of, name_at, family_of, IsFirst}
 use Rattle.name_graph.proofs.Naming.{edges-indices}
 use Rattle.name_graph.proofs.Ordering.{no-cycle, names-ordered, first-cyclic, within-rows, cyclic-row}

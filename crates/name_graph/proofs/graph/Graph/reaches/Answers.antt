@@ -1,7 +1,7 @@
 use Rattle.std.proofs.Common.{◌≡◌, ◌∙◌, sym, subst, Bool, List, ◌↔◌, IsTrue}
 use Rattle.name_graph.specs.Family.{Reaches}
 use Rattle.name_graph.specs.Rows.{family_of, edges_of, SomeNeeds}
-use Rattle.name_graph.specs.Indices.{HasIndices, AreReached}
+use Rattle.index_graph.specs.Indices.{HasIndices, AreReached}
 use Rattle.name_graph.proofs.Naming.{absent-reaches, edges-indices, index-some, found-reaches, reaches-found}
 use Rattle.name_graph.proofs.graph.Graph.reaches.Goals as goal
 
