@@ -1,34 +1,49 @@
 -- The last group is closed, once all its needs were followed.
 use Rattle.std.proofs.Common.{◌≡◌, ◌≢◌, ℕ, zero, suc, ◌+◌, ◌<◌, ◌≤◌, Bool, true, false, List, [], ◌∷◌, ◌++◌, Some, refl, sym, ap, ◌∙◌, subst, inl, inr, take, drop, length, arith}
-use Rattle.std.specs.Prelude.{◌⊎◌, slice_get, slice_set, if◌then◌else◌}
+use Rattle.std.specs.Prelude.{◌⊎◌, slice_get, slice_index, slice_set, unwrap_or, if◌then◌else◌}
 use Rattle.std.proofs.lemmas.List.{length-set, length-append, length-take}
 use Rattle.list_laws.proofs.Tests.{same-or-other}
 use Rattle.index_graph.specs.declared.components.Mark.{Mark}
 use Rattle.index_graph.specs.declared.components.Group.{Group}
 use Rattle.index_graph.specs.Leading.{Leads, last, more}
-use Rattle.index_graph.specs.Indices.{Has, Edges, Edge, IsBehind}
-use Rattle.index_graph.specs.SearchState.{InGroup, Followed, left, closed, pending, ahead, AreMarked, AreParted, AreOpen, AreClosed, IsWalk, closed_marks}
-use Rattle.index_graph.proofs.Lists.{at-within, at-same, at-left, at-either, at-last, at-pushed, at-taken, at-take, at-dropped, at-drop, at-set-same, at-set-other, has-left, has-right, has-either}
+use Rattle.index_graph.specs.Indices.{Has, Edges, Edge, Way, IsBehind}
+use Rattle.index_graph.specs.SearchState.{InGroup, Followed, left, closed, pending, ahead, AreMarked, AreParted, AreOpen, AreClosed, AreNumbered, IsWalk, set_all}
+use Rattle.index_graph.proofs.Lists.{at-within, at-there, at-same, at-left, at-either, at-last, at-pushed, at-taken, at-take, at-dropped, at-drop, at-set-same, at-set-other, has-left, has-right, has-either}
+use Rattle.index_graph.proofs.Ways.{way-way}
 use Rattle.index_graph.proofs.Walking.{cases, less-or, open-closed, open-open, new-closed}
 
--- the marks after indices were closed
-pub marks-long : (marks : List Mark) (indices : List ℕ) → length (closed_marks marks indices) ≡ length marks
-marks-long marks [] = refl
-marks-long marks (x ∷ indices) = marks-long (slice_set marks x Mark.Closed) indices ∙ length-set marks x Mark.Closed
+-- what stands after one item was put at many places
+module _ {A : Type 0} where
+  pub set-all-long : (xs : List A) (indices : List ℕ) (y : A) → length (set_all xs indices y) ≡ length xs
+  set-all-long xs [] y = refl
+  set-all-long xs (x ∷ indices) y = set-all-long (slice_set xs x y) indices y ∙ length-set xs x y
 
-pub marks-snoc : (marks : List Mark) (indices : List ℕ) (x : ℕ) → closed_marks marks (indices ++ x ∷ []) ≡ slice_set (closed_marks marks indices) x Mark.Closed
-marks-snoc marks [] x = refl
-marks-snoc marks (y ∷ indices) x = marks-snoc (slice_set marks y Mark.Closed) indices x
+  pub set-all-snoc : (xs : List A) (indices : List ℕ) (x : ℕ) (y : A) → set_all xs (indices ++ x ∷ []) y ≡ slice_set (set_all xs indices y) x y
+  set-all-snoc xs [] x y = refl
+  set-all-snoc xs (z ∷ indices) x y = set-all-snoc (slice_set xs z y) indices x y
 
--- a closed mark stays
-pub marks-stay : (marks : List Mark) (indices : List ℕ) (x : ℕ) → slice_get marks x ≡ Some Mark.Closed → slice_get (closed_marks marks indices) x ≡ Some Mark.Closed
-marks-stay marks [] x e = e
-marks-stay marks (y ∷ indices) x e = marks-stay (slice_set marks y Mark.Closed) indices x (cases (same-or-other x y)
-    (λ same. ap (slice_get (slice_set marks y Mark.Closed)) same ∙ at-set-same marks y Mark.Closed (let l : x < length marks = at-within marks x Mark.Closed e in omega arith))
-    (λ other. at-set-other marks y x Mark.Closed other ∙ e))
+  -- where it stood already it stays
+  pub set-all-stay : (xs : List A) (indices : List ℕ) (x : ℕ) (y : A) → slice_get xs x ≡ Some y → slice_get (set_all xs indices y) x ≡ Some y
+  set-all-stay xs [] x y e = e
+  set-all-stay xs (z ∷ indices) x y e = set-all-stay (slice_set xs z y) indices x y (cases (same-or-other x z)
+      (λ same. ap (slice_get (slice_set xs z y)) same ∙ at-set-same xs z y (let l : x < length xs = at-within xs x y e in omega arith))
+      (λ other. at-set-other xs z x y other ∙ e))
+
+  -- the places where it was put
+  pub set-all-there : (xs : List A) (indices : List ℕ) (k x : ℕ) (y : A) → slice_get indices k ≡ Some x → x < length xs → slice_get (set_all xs indices y) x ≡ Some y
+  set-all-there xs [] zero x y e l = cc
+  set-all-there xs [] (suc k) x y e l = cc
+  set-all-there xs (z ∷ indices) zero x y e l = let s : z ≡ x = cc in set-all-stay (slice_set xs z y) indices x y (ap (λ q. slice_get (slice_set xs q y) x) s ∙ at-set-same xs x y l)
+  set-all-there xs (z ∷ indices) (suc k) x y e l = set-all-there (slice_set xs z y) indices k x y e (omega (arith, l, length-set xs z y))
+
+  -- and the others
+  pub set-all-other : (xs : List A) (indices : List ℕ) (x : ℕ) (y : A) → (Has indices x → ⊥) → slice_get (set_all xs indices y) x ≡ slice_get xs x
+  set-all-other xs [] x y n = refl
+  set-all-other xs (z ∷ indices) x y n =
+      set-all-other (slice_set xs z y) indices x y (λ h. n (suc h.0, h.1)) ∙ at-set-other xs z x y (λ same. n (0, ap Some (sym same)))
 
 -- what is new was new
-pub marks-new : (marks : List Mark) (indices : List ℕ) (x : ℕ) → slice_get (closed_marks marks indices) x ≡ Some Mark.New → slice_get marks x ≡ Some Mark.New
+pub marks-new : (marks : List Mark) (indices : List ℕ) (x : ℕ) → slice_get (set_all marks indices Mark.Closed) x ≡ Some Mark.New → slice_get marks x ≡ Some Mark.New
 marks-new marks [] x e = e
 marks-new marks (y ∷ indices) x e =
     let f = marks-new (slice_set marks y Mark.Closed) indices x e in
@@ -38,18 +53,11 @@ marks-new marks (y ∷ indices) x e =
     absurd (new-closed (at-same (slice_set marks y Mark.Closed) y Mark.New Mark.Closed (ap (slice_get (slice_set marks y Mark.Closed)) (sym same) ∙ f) (at-set-same marks y Mark.Closed (omega (arith, l, same, length-set marks y Mark.Closed))))))
     (λ other. sym (at-set-other marks y x Mark.Closed other) ∙ f)
 
--- the indices that were closed
-pub marks-closed : (marks : List Mark) (indices : List ℕ) (k x : ℕ) → slice_get indices k ≡ Some x → x < length marks → slice_get (closed_marks marks indices) x ≡ Some Mark.Closed
-marks-closed marks [] zero x e l = cc
-marks-closed marks [] (suc k) x e l = cc
-marks-closed marks (y ∷ indices) zero x e l = let s : y ≡ x = cc in marks-stay (slice_set marks y Mark.Closed) indices x (ap (λ z. slice_get (slice_set marks z Mark.Closed) x) s ∙ at-set-same marks x Mark.Closed l)
-marks-closed marks (y ∷ indices) (suc k) x e l = marks-closed (slice_set marks y Mark.Closed) indices k x e (omega (arith, l, length-set marks y Mark.Closed))
-
--- and the others
-pub marks-other : (marks : List Mark) (indices : List ℕ) (x : ℕ) → (Has indices x → ⊥) → slice_get (closed_marks marks indices) x ≡ slice_get marks x
-marks-other marks [] x n = refl
-marks-other marks (y ∷ indices) x n =
-    marks-other (slice_set marks y Mark.Closed) indices x (λ h. n (suc h.0, h.1)) ∙ at-set-other marks y x Mark.Closed (λ same. n (0, ap Some (sym same)))
+-- a number, by what stands at its place
+number-read : (numbers : List ℕ) (x : ℕ) → slice_index numbers x ≡ unwrap_or (slice_get numbers x) 0
+number-read [] x = refl
+number-read (n ∷ numbers) zero = refl
+number-read (n ∷ numbers) (suc x) = number-read numbers x
 
 has-or-not : (xs : List ℕ) (x : ℕ) → Has xs x ⊎ (Has xs x → ⊥)
 has-or-not [] x = inr none
@@ -65,7 +73,7 @@ has-or-not (y ∷ xs) x = cases (same-or-other y x)
     not-in other n (zero, e) = other cc
     not-in other n (suc k, e) = n (k, e)
 
-module _ (edges : Edges) (marks : List Mark) (path todo : List ℕ) (before : List Group) (top : Group) (order cyclic : List ℕ) (w : IsWalk edges [] marks path todo (before ++ top ∷ []) order cyclic) (done : length todo ≤ top.pending) where
+module _ (edges : Edges) (marks : List Mark) (path todo : List ℕ) (before : List Group) (top : Group) (order cyclic numbers : List ℕ) (w : IsWalk edges [] marks path todo (before ++ top ∷ []) order cyclic numbers) (done : length todo ≤ top.pending) where
   group : List ℕ
   group = drop top.first path
 
@@ -115,16 +123,16 @@ module _ (edges : Edges) (marks : List Mark) (path todo : List ℕ) (before : Li
   apart : (x : ℕ) → Has group x → Has order x → ⊥
   apart x h k = let m = w.marked in let g = grouped x h in open-closed g.0 (at-same marks x (Mark.Open g.0) Mark.Closed (m.open_mark g.0 x g.2) (m.closed_mark x k))
 
-  marked-shut : AreMarked (closed_marks marks group) (take top.first path) (order ++ group)
+  marked-shut : AreMarked (set_all marks group Mark.Closed) (take top.first path) (order ++ group)
   marked-shut = let m = w.marked in record {
     open_there = λ x i f. cases (has-or-not group x)
-        (λ h. absurd (open-closed i (at-same (closed_marks marks group) x (Mark.Open i) Mark.Closed f (marks-closed marks group h.0 x h.1 (placed x h)))))
+        (λ h. absurd (open-closed i (at-same (set_all marks group Mark.Closed) x (Mark.Open i) Mark.Closed f (set-all-there marks group h.0 x Mark.Closed h.1 (placed x h)))))
         (λ n.
-        let e = m.open_there x i (sym (marks-other marks group x n) ∙ f) in
+        let e = m.open_there x i (sym (set-all-other marks group x Mark.Closed n) ∙ f) in
         at-take top.first path i x (cases (less-or i top.first) (λ l. l) (λ l. absurd (n (group-has i x l e)))) e);
-    open_mark = λ i x f. let e = at-taken top.first path i x f in marks-other marks group x (not-grouped i x e.0 e.1) ∙ m.open_mark i x e.0;
-    closed_there = λ x f. cases (has-or-not group x) (λ h. has-right order group x h) (λ n. has-left order group x (m.closed_there x (sym (marks-other marks group x n) ∙ f)));
-    closed_mark = λ x h. cases (has-either order group x h) (λ k. marks-stay marks group x (m.closed_mark x k)) (λ k. marks-closed marks group k.0 x k.1 (placed x k));
+    open_mark = λ i x f. let e = at-taken top.first path i x f in set-all-other marks group x Mark.Closed (not-grouped i x e.0 e.1) ∙ m.open_mark i x e.0;
+    closed_there = λ x f. cases (has-or-not group x) (λ h. has-right order group x h) (λ n. has-left order group x (m.closed_there x (sym (set-all-other marks group x Mark.Closed n) ∙ f)));
+    closed_mark = λ x h. cases (has-either order group x h) (λ k. set-all-stay marks group x Mark.Closed (m.closed_mark x k)) (λ k. set-all-there marks group k.0 x Mark.Closed k.1 (placed x k));
   }
 
   parted-shut : AreParted (take top.first path) todo before
@@ -250,9 +258,66 @@ module _ (edges : Edges) (marks : List Mark) (path todo : List ℕ) (before : Li
         needs = λ j d. (let h = plain-needs g.0 x j t g.1 g.2 d in (h.0, at-left order group h.0 j h.1, let q : h.0 < length order = at-within order h.0 j h.1 in omega arith));
       })
 
-  walk-shut-here : IsWalk edges [] (closed_marks marks group) (take top.first path) todo before (order ++ group) cyclic-now
-  walk-shut-here = record { long = marks-long marks group ∙ w.long; marked = marked-shut; parted = parted-shut; opened = opened-shut; shut = shut-shut }
+  -- the numbers of closed indices, and of those that are closed now
+  numbers-now : List ℕ
+  numbers-now = set_all numbers group (length order)
 
-  pub walk-shut : IsWalk edges [] (closed_marks marks (drop top.first path)) (take top.first path) todo before (order ++ drop top.first path) (if top.cyclic then cyclic ++ drop top.first path else cyclic)
-  unfolding group cyclic-now
+  numbers-long : length numbers-now ≡ length numbers
+  unfolding numbers-now
+  numbers-long = set-all-long numbers group (length order)
+
+  number-before : (x : ℕ) → Has order x → slice_index numbers-now x ≡ slice_index numbers x
+  unfolding numbers-now
+  number-before x h =
+      number-read (set_all numbers group (length order)) x ∙ ap (λ z. unwrap_or z 0) (set-all-other numbers group x (length order) (λ k. apart x k h)) ∙ sym (number-read numbers x)
+
+  number-grouped : (x : ℕ) → Has group x → slice_index numbers-now x ≡ length order
+  unfolding numbers-now
+  number-grouped x h =
+      let n = w.numbered in
+      number-read (set_all numbers group (length order)) x ∙ ap (λ z. unwrap_or z 0) (set-all-there numbers group h.0 x (length order) h.1 (let l : x < length marks = placed x h in omega (arith, l, w.long, n.long)))
+
+  -- the indices of the group lead to each other
+  group-way : (x y : ℕ) → Has group x → Has group y → Way edges x y
+  group-way x y h k =
+      let o = w.opened in
+      let g = grouped x h in
+      let q = grouped y k in
+      let f : (z : ℕ) × (slice_get path top.first ≡ Some z) = at-there path top.first inside in
+      way-way edges x f.0 y (o.back (length before) top g.0 x f.0 (in-top g.0 g.1) g.2 f.1) (o.onward top.first q.0 f.0 y f.1 q.2 q.1)
+
+  numbered-shut : AreNumbered edges (order ++ group) numbers-now
+  numbered-shut = let n = w.numbered in let s = w.shut in record {
+    long = numbers-long ∙ n.long;
+    below = λ x h. cases (has-either order group x h)
+        (λ k. let l : slice_index numbers x < length order = n.below x k in omega (arith, l, number-before x k, length-append order group))
+        (λ k. let l : k.0 < length group = at-within group k.0 x k.1 in omega (arith, l, number-grouped x k, length-append order group));
+    same = λ x y h k e. cases (has-either order group x h)
+        (λ a. cases (has-either order group y k)
+        (λ b. n.same x y a b (sym (number-before x a) ∙ e ∙ number-before y b))
+        (λ b. let l : slice_index numbers x < length order = n.below x a in absurd (omega (arith, l, e, number-before x a, number-grouped y b))))
+        (λ a. cases (has-either order group y k)
+        (λ b. let l : slice_index numbers y < length order = n.below y b in absurd (omega (arith, l, e, number-before y b, number-grouped x a)))
+        (λ b. group-way x y a b));
+    needs = λ x j h d. cases (has-either order group x h)
+        (λ k. let l : slice_index numbers j ≤ slice_index numbers x = n.needs x j k d in omega (arith, l, number-before x k, number-before j (s.shut x j k d)))
+        (λ k.
+        let g = grouped x k in
+        cases (needs-of g.0 x j g.1 g.2 d)
+        (λ z. let l : slice_index numbers j < length order = n.below j z in omega (arith, l, number-before j z, number-grouped x k))
+        (λ z. omega (arith, number-grouped x k, number-grouped j (group-has z.0 j z.2 z.1))));
+    rising = λ a b x y m e f. cases (at-either order group a x e)
+        (λ p. cases (at-either order group b y f)
+        (λ q. let l : slice_index numbers x ≤ slice_index numbers y = n.rising a b x y m p q in omega (arith, l, number-before x (a, p), number-before y (b, q)))
+        (λ q. let l : slice_index numbers x < length order = n.below x (a, p) in omega (arith, l, number-before x (a, p), number-grouped y (q.0, q.2))))
+        (λ p. cases (at-either order group b y f)
+        (λ q. let l : b < length order = at-within order b y q in let k : a ≡ length order + p.0 = p.1 in absurd (omega (arith, l, k, m)))
+        (λ q. omega (arith, number-grouped x (p.0, p.2), number-grouped y (q.0, q.2))));
+  }
+
+  walk-shut-here : IsWalk edges [] (set_all marks group Mark.Closed) (take top.first path) todo before (order ++ group) cyclic-now numbers-now
+  walk-shut-here = record { long = set-all-long marks group Mark.Closed ∙ w.long; marked = marked-shut; parted = parted-shut; opened = opened-shut; shut = shut-shut; numbered = numbered-shut }
+
+  pub walk-shut : IsWalk edges [] (set_all marks (drop top.first path) Mark.Closed) (take top.first path) todo before (order ++ drop top.first path) (if top.cyclic then cyclic ++ drop top.first path else cyclic) (set_all numbers (drop top.first path) (length order))
+  unfolding group cyclic-now numbers-now
   walk-shut = walk-shut-here

@@ -11,7 +11,7 @@ use Rattle.index_graph.proofs.Lists.{at-within, at-there, at-same, at-left, at-o
 use Rattle.index_graph.proofs.Walking.{cases, less-or, GroupOf, group-of, to-last}
 use Rattle.index_graph.proofs.Ways.{edge-way, way-leads, way-way, way-edge}
 
-module _ (edges : Edges) (marks : List Mark) (path todo : List ℕ) (groups : List Group) (order cyclic : List ℕ) (need : ℕ) (w : IsWalk edges (need ∷ []) marks path todo groups order cyclic)
+module _ (edges : Edges) (marks : List Mark) (path todo : List ℕ) (groups : List Group) (order cyclic numbers : List ℕ) (need : ℕ) (w : IsWalk edges (need ∷ []) marks path todo groups order cyclic numbers)
     (b : ℕ) (m : slice_get marks need ≡ Some (Mark.Open b)) (i0 index : ℕ) (at0 : slice_get path i0 ≡ Some index) (d0 : Edge edges index need) (last0 : (r : ℕ) (group : Group) → slice_get groups r ≡ Some group → group.first ≤ i0)
     (q : ℕ) (held : Group) (h0 : InGroup groups q held b) where
   one : Group
@@ -134,9 +134,9 @@ module _ (edges : Edges) (marks : List Mark) (path todo : List ℕ) (groups : Li
     owned = λ u j f. own-joined u j (o.owned u j f);
   }
 
-  walk-one : IsWalk edges [] marks path todo (take q groups ++ one ∷ []) order cyclic
-  walk-one = record { long = w.long; marked = w.marked; parted = parted-joined; opened = opened-joined; shut = w.shut }
+  walk-one : IsWalk edges [] marks path todo (take q groups ++ one ∷ []) order cyclic numbers
+  walk-one = record { long = w.long; marked = w.marked; parted = parted-joined; opened = opened-joined; shut = w.shut; numbered = w.numbered }
 
-  pub walk-joined-at : IsWalk edges [] marks path todo (take q groups ++ record held { cyclic = true } ∷ []) order cyclic
+  pub walk-joined-at : IsWalk edges [] marks path todo (take q groups ++ record held { cyclic = true } ∷ []) order cyclic numbers
   unfolding one
   walk-joined-at = walk-one

@@ -59,14 +59,15 @@ to-last edges loose path todo groups order p o a i x y e f top some = cases (les
     way-way edges x g.0 y (o.back q.r q.group a x g.0 h e g.1) (o.onward (q.group).first i g.0 y g.1 f (top q.r q.group h.stands)))
     (λ l. o.onward a i x y e f l)
 
-module _ (edges : Edges) (marks : List Mark) (path todo : List ℕ) (groups : List Group) (order cyclic : List ℕ) where
+module _ (edges : Edges) (marks : List Mark) (path todo : List ℕ) (groups : List Group) (order cyclic numbers : List ℕ) where
   -- nothing is loose
-  pub walk-loose : (need : ℕ) → IsWalk edges [] marks path todo groups order cyclic → IsWalk edges (need ∷ []) marks path todo groups order cyclic
+  pub walk-loose : (need : ℕ) → IsWalk edges [] marks path todo groups order cyclic numbers → IsWalk edges (need ∷ []) marks path todo groups order cyclic numbers
   walk-loose need w = record {
     long = w.long;
     marked = w.marked;
     parted = w.parted;
     shut = w.shut;
+    numbered = w.numbered;
     opened = let o = w.opened in record {
       onward = o.onward;
       back = o.back;
@@ -85,12 +86,13 @@ module _ (edges : Edges) (marks : List Mark) (path todo : List ℕ) (groups : Li
       again group i j (ahead b e l n) = ahead b e l n
 
   -- what was loose is closed
-  pub walk-closed : (need : ℕ) → IsWalk edges (need ∷ []) marks path todo groups order cyclic → slice_get marks need ≡ Some Mark.Closed → IsWalk edges [] marks path todo groups order cyclic
+  pub walk-closed : (need : ℕ) → IsWalk edges (need ∷ []) marks path todo groups order cyclic numbers → slice_get marks need ≡ Some Mark.Closed → IsWalk edges [] marks path todo groups order cyclic numbers
   walk-closed need w m = record {
     long = w.long;
     marked = w.marked;
     parted = w.parted;
     shut = w.shut;
+    numbered = w.numbered;
     opened = let o = w.opened in record {
       onward = o.onward;
       back = o.back;
@@ -108,8 +110,8 @@ module _ (edges : Edges) (marks : List Mark) (path todo : List ℕ) (groups : Li
       again group i j (ahead b e l n) = ahead b e l n
 
 -- a need of the last group is taken out
-pub walk-popped : (edges : Edges) (marks : List Mark) (path rest : List ℕ) (groups : List Group) (order cyclic : List ℕ) (need : ℕ) → IsWalk edges [] marks path (rest ++ need ∷ []) groups order cyclic → ((r : ℕ) (group : Group) → slice_get groups r ≡ Some group → group.pending ≤ length rest) → IsWalk edges (need ∷ []) marks path rest groups order cyclic
-walk-popped edges marks path rest groups order cyclic need w top = record {
+pub walk-popped : (edges : Edges) (marks : List Mark) (path rest : List ℕ) (groups : List Group) (order cyclic numbers : List ℕ) (need : ℕ) → IsWalk edges [] marks path (rest ++ need ∷ []) groups order cyclic numbers → ((r : ℕ) (group : Group) → slice_get groups r ≡ Some group → group.pending ≤ length rest) → IsWalk edges (need ∷ []) marks path rest groups order cyclic numbers
+walk-popped edges marks path rest groups order cyclic numbers need w top = record {
   long = w.long;
   marked = w.marked;
   parted = let p = w.parted in record {
@@ -119,6 +121,7 @@ walk-popped edges marks path rest groups order cyclic need w top = record {
     rising = p.rising;
   };
   shut = w.shut;
+  numbered = w.numbered;
   opened = let o = w.opened in record {
     onward = o.onward;
     back = o.back;
@@ -137,7 +140,7 @@ walk-popped edges marks path rest groups order cyclic need w top = record {
     again group i j (ahead b e l n) = ahead b e l n
 
 -- an index is opened in a group of its own
-module _ (edges : Edges) (marks : List Mark) (path todo : List ℕ) (groups : List Group) (order cyclic : List ℕ) (index : ℕ) (row : List ℕ) (w : IsWalk edges (index ∷ []) marks path todo groups order cyclic)
+module _ (edges : Edges) (marks : List Mark) (path todo : List ℕ) (groups : List Group) (order cyclic numbers : List ℕ) (index : ℕ) (row : List ℕ) (w : IsWalk edges (index ∷ []) marks path todo groups order cyclic numbers)
     (new : slice_get marks index ≡ Some Mark.New) (ways : (a y : ℕ) → slice_get path a ≡ Some y → Way edges y index) (e : slice_get edges index ≡ Some row) where
   grown : Group
   grown = record { first = length path; pending = length todo; cyclic = false }
@@ -250,7 +253,7 @@ module _ (edges : Edges) (marks : List Mark) (path todo : List ℕ) (groups : Li
         (λ q. subst (λ z. IsOwned edges (path ++ index ∷ []) (groups ++ grown ∷ []) z j) (sym q.1) (own-new q.0 j q.2));
   }
 
-  pub walk-opened : IsWalk edges [] (slice_set marks index (Mark.Open (length path))) (path ++ index ∷ []) (todo ++ row) (groups ++ record { first = length path; pending = length todo; cyclic = false } ∷ []) order cyclic
+  pub walk-opened : IsWalk edges [] (slice_set marks index (Mark.Open (length path))) (path ++ index ∷ []) (todo ++ row) (groups ++ record { first = length path; pending = length todo; cyclic = false } ∷ []) order cyclic numbers
   unfolding grown
   walk-opened = record {
     long = length-set marks index (Mark.Open (length path)) ∙ w.long;
@@ -258,4 +261,5 @@ module _ (edges : Edges) (marks : List Mark) (path todo : List ℕ) (groups : Li
     parted = parted-open;
     opened = opened-open;
     shut = w.shut;
+    numbered = w.numbered;
   }

@@ -1,5 +1,5 @@
 -- Indices that need indices, by a row for each.
-use Rattle.std.specs.Prelude.{◌≡◌, ◌<◌, ◌⊎◌, ℕ, Bool, true, List, Some, length, slice_get}
+use Rattle.std.specs.Prelude.{◌≡◌, ◌<◌, ◌≤◌, ◌⊎◌, ◌↔◌, ℕ, Bool, true, List, Some, length, slice_get, slice_index}
 use Rattle.index_graph.specs.Leading.{Leads}
 
 -- it stands somewhere in the list
@@ -40,3 +40,10 @@ pub record IsOrdered (edges : Edges) (order cyclic : List ℕ) : Type 0 where
   pub once : (i j index : ℕ) → slice_get order i ≡ Some index → slice_get order j ≡ Some index → i ≡ j
   pub loops : (index : ℕ) → Has cyclic index → Has order index × Leads (Edge edges) index index
   pub others : (i index : ℕ) → slice_get order i ≡ Some index → Has cyclic index ⊎ IsBehind edges order i index
+
+-- a number for each index: two have one exactly where each leads to the other, or they are one; a need has no greater number, so one that does not lead back has a smaller one; along the order numbers fall nowhere
+pub record AreGrouped (edges : Edges) (order groups : List ℕ) : Type 0 where
+  pub long : length groups ≡ length edges
+  pub same : (i j : ℕ) → i < length edges → j < length edges → (slice_index groups i ≡ slice_index groups j) ↔ (Way edges i j × Way edges j i)
+  pub needs : (i need : ℕ) → Edge edges i need → slice_index groups need ≤ slice_index groups i
+  pub rising : (i j a b : ℕ) → i ≤ j → slice_get order i ≡ Some a → slice_get order j ≡ Some b → slice_index groups a ≤ slice_index groups b

@@ -1,5 +1,5 @@
 -- A walk along needs: which indices are open, which are closed, and what is known of them.
-use Rattle.std.specs.Prelude.{◌≡◌, ◌<◌, ◌≤◌, ◌+◌, ◌⊎◌, ℕ, suc, true, false, Some, List, [], ◌∷◌, ◌++◌, take, length, slice_get, slice_set}
+use Rattle.std.specs.Prelude.{◌≡◌, ◌<◌, ◌≤◌, ◌+◌, ◌⊎◌, ℕ, suc, true, false, Some, List, [], ◌∷◌, ◌++◌, take, length, slice_get, slice_index, slice_set}
 use Rattle.index_graph.specs.declared.components.Mark.{Mark}
 use Rattle.index_graph.specs.declared.components.Group.{Group}
 use Rattle.index_graph.specs.declared.components.Walk.{Walk}
@@ -58,13 +58,22 @@ pub record AreClosed (edges : Edges) (order cyclic : List ℕ) : Type 0 where
   pub cycles : (index : ℕ) → Has cyclic index → Has order index × Leads (Edge edges) index index
   pub behind : (i index : ℕ) → slice_get order i ≡ Some index → Has cyclic index ⊎ IsBehind edges order i index
 
+-- the number of a closed index is the place in the order where its group begins
+pub record AreNumbered (edges : Edges) (order numbers : List ℕ) : Type 0 where
+  pub long : length numbers ≡ length edges
+  pub below : (index : ℕ) → Has order index → slice_index numbers index < length order
+  pub same : (x y : ℕ) → Has order x → Has order y → slice_index numbers x ≡ slice_index numbers y → Way edges x y
+  pub needs : (index need : ℕ) → Has order index → Edge edges index need → slice_index numbers need ≤ slice_index numbers index
+  pub rising : (i j x y : ℕ) → i ≤ j → slice_get order i ≡ Some x → slice_get order j ≡ Some y → slice_index numbers x ≤ slice_index numbers y
+
 -- what is known of a walk, where these needs are not yet among what is to be followed
-pub record IsWalk (edges : Edges) (loose : List ℕ) (marks : List Mark) (path todo : List ℕ) (groups : List Group) (order cyclic : List ℕ) : Type 0 where
+pub record IsWalk (edges : Edges) (loose : List ℕ) (marks : List Mark) (path todo : List ℕ) (groups : List Group) (order cyclic numbers : List ℕ) : Type 0 where
   pub long : length marks ≡ length edges
   pub marked : AreMarked marks path order
   pub parted : AreParted path todo groups
   pub opened : AreOpen edges loose path todo groups order
   pub shut : AreClosed edges order cyclic
+  pub numbered : AreNumbered edges order numbers
 
 -- the work that is left: indices that are new with their rows, groups, and what is to be followed
 abbrev pub unvisited : List Mark → Edges → ℕ
@@ -84,7 +93,7 @@ KeepsFound old new = (index : ℕ) → slice_get new index ≡ Some Mark.New →
 
 -- the same of a walk in code
 abbrev pub AreWalk : Edges → List ℕ → Walk → Type 0
-AreWalk edges loose walk = IsWalk edges loose walk.marks.items walk.path.items walk.todo.items walk.groups.items walk.order.items walk.cyclic.items
+AreWalk edges loose walk = IsWalk edges loose walk.marks.items walk.path.items walk.todo.items walk.groups.items walk.order.items walk.cyclic.items walk.numbers.items
 
 -- a walk went on, from this much work
 pub record WentOn (edges : Edges) (before : ℕ) (old new : Walk) : Type 0 where
@@ -112,7 +121,7 @@ pub record IsPopped (edges : Edges) (need : ℕ) (walk : Walk) : Type 0 where
   pub needs : Edge edges index need
   pub last : (r : ℕ) (group : Group) → slice_get walk.groups.items r ≡ Some group → group.first ≤ i
 
--- the marks once these indices are closed
-abbrev pub closed_marks : List Mark → List ℕ → List Mark
-closed_marks marks [] = marks
-closed_marks marks (index ∷ indices) = closed_marks (slice_set marks index Mark.Closed) indices
+-- the items once those at these indices are this one
+abbrev pub set_all : {A : Type 0} → List A → List ℕ → A → List A
+set_all items [] item = items
+set_all items (index ∷ indices) item = set_all (slice_set items index item) indices item

@@ -1,10 +1,12 @@
-// Indices in an order in which each stands behind those that it needs, and those that reach themselves.
+// Indices in an order in which each stands behind those that it needs, those that reach themselves,
+// and the groups of those that reach each other.
 //
-// The open indices are in groups that reach one another. A need that leads back to an open index joins
-// the groups from there on. A group is closed once all its needs were followed: they are closed then.
+// The open indices are in groups that reach one another. A need that leads back to an open index
+// joins the groups from there on. A group is closed once all its needs were followed: they are closed
+// then. So groups are closed one behind the other, each numbered by where it begins in the order.
 ghost use Rattle.std.specs.Prelude.{◌≡◌, ◌<◌, ◌≤◌, ◌+◌, ℕ, false, Some, List, [], ◌∷◌, ◌++◌, All, IfOk, OnOk, drop, take, if◌then◌else◌, length, slice_get, slice_set, vec_len};
-ghost use Rattle.index_graph.specs.Indices.{HasIndices, IsOrdered};
-ghost use Rattle.index_graph.specs.SearchState.{AreWalk, AreJoined, IsPopped, IsTop, WentOn, KeepsFound, work, closed_marks};
+ghost use Rattle.index_graph.specs.Indices.{HasIndices, IsOrdered, AreGrouped};
+ghost use Rattle.index_graph.specs.SearchState.{AreWalk, AreJoined, IsPopped, IsTop, WentOn, KeepsFound, work, set_all};
 ghost use Rattle.index_graph.specs.declared.components.Mark.{Mark as MarkOf};
 ghost use Rattle.index_graph.specs.declared.components.Group.{Group as GroupOf};
 
@@ -44,6 +46,8 @@ pub struct Walk {
     pub order: Vec<usize>,
     /// The closed indices that reach themselves.
     pub cyclic: Vec<usize>,
+    /// For each closed index where its group begins in the order.
+    pub numbers: Vec<usize>,
 }
 
 /// Joins the groups from that of the index that is open here in the path on.
@@ -61,13 +65,13 @@ fn join(groups: &mut Vec<Group>, index: usize)
     groups[top].cyclic = true;
 }
 
-/// Marks these indices as closed.
-fn close_marks(marks: &mut Vec<Mark>, indices: &[usize])
-    requires { All (λ index. index < vec_len marks.old) indices.now }
-    ensures { marks.new.items ≡ closed_marks marks.old.items indices.now }
+// Puts one item at all of these indices.
+fn put_all<T: Copy>(items: &mut Vec<T>, indices: &[usize], item: T)
+    requires { All (λ index. index < vec_len items.old) indices.now }
+    ensures { items.new.items ≡ set_all items.old.items indices.now item }
 {
     for &index in indices {
-        marks[index] = Mark::Closed;
+        items[index] = item;
     }
 }
 
@@ -76,12 +80,15 @@ impl Walk {
         ensures marks { IfOk result (λ walk. (index : ℕ) (mark : MarkOf)
             → slice_get walk.marks.items index ≡ Some mark → mark ≡ Mark.New) }
         ensures long { IfOk result (λ walk. vec_len walk.marks ≡ len) }
+        ensures numbers { IfOk result (λ walk. vec_len walk.numbers ≡ len) }
         ensures rest { IfOk result (λ walk. (walk.path.items ≡ []) × (walk.todo.items ≡ [])
             × (walk.groups.items ≡ []) × (walk.order.items ≡ []) × (walk.cyclic.items ≡ [])) }
     {
         let mut marks = Vec::with_capacity(alloc, len)?;
+        let mut numbers = Vec::with_capacity(alloc, len)?;
         for _ in 0..len {
             marks.push(Mark::New)?;
+            numbers.push(0)?;
         }
         Ok(Walk {
             marks,
@@ -90,6 +97,7 @@ impl Walk {
             groups: Vec::new(alloc),
             order: Vec::new(alloc),
             cyclic: Vec::new(alloc),
+            numbers,
         })
     }
 
@@ -111,6 +119,7 @@ impl Walk {
             } ∷ []) }
         ensures order { self.new.order.items ≡ self.old.order.items }
         ensures cyclic { self.new.cyclic.items ≡ self.old.cyclic.items }
+        ensures numbers { self.new.numbers.items ≡ self.old.numbers.items }
     {
         let first = self.path.len();
         let pending = self.todo.len();
@@ -129,8 +138,10 @@ impl Walk {
     fn close(&mut self, group: Group) -> Result<(), Memory>
         requires first { group.first ≤ length self.old.path.items }
         requires marks { All (λ index. index < length self.old.marks.items) self.old.path.items }
+        requires numbers { All (λ index. index < length self.old.numbers.items)
+            self.old.path.items }
         ensures marks { OnOk result (self.new.marks.items
-            ≡ closed_marks self.old.marks.items (drop group.first self.old.path.items)) }
+            ≡ set_all self.old.marks.items (drop group.first self.old.path.items) Mark.Closed) }
         ensures path { OnOk result (self.new.path.items ≡ take group.first self.old.path.items) }
         ensures todo { self.new.todo.items ≡ self.old.todo.items }
         ensures groups { self.new.groups.items ≡ self.old.groups.items }
@@ -139,8 +150,13 @@ impl Walk {
         ensures cyclic { OnOk result (self.new.cyclic.items
             ≡ (if group.cyclic then self.old.cyclic.items ++ drop group.first self.old.path.items
             else self.old.cyclic.items)) }
+        ensures numbers { OnOk result (self.new.numbers.items
+            ≡ set_all self.old.numbers.items (drop group.first self.old.path.items)
+            (length self.old.order.items)) }
     {
-        close_marks(&mut self.marks, &self.path[group.first..]);
+        let number = self.order.len();
+        put_all(&mut self.marks, &self.path[group.first..], Mark::Closed);
+        put_all(&mut self.numbers, &self.path[group.first..], number);
         self.order.extend_from_slice(&self.path[group.first..])?;
         if group.cyclic {
             self.cyclic.extend_from_slice(&self.path[group.first..])?;
@@ -199,11 +215,14 @@ impl Walk {
     }
 }
 
-/// The indices in an order in which each stands behind those that it needs, unless it reaches itself.
+/// The indices in an order in which each stands behind those that it needs, unless it reaches
+/// itself.
 pub struct Ordered {
     pub order: Vec<usize>,
     /// The indices that reach themselves.
     pub cyclic: Vec<usize>,
+    /// A number for each index, one for those that reach each other.
+    pub groups: Vec<usize>,
 }
 
 // By hand, so that a proof meets one call wherever a value ends.
@@ -212,7 +231,22 @@ impl Drop for Ordered {
         let Ordered {
             order: _,
             cyclic: _,
+            groups: _,
         } = self;
+    }
+}
+
+impl Ordered {
+    /// The order, and the numbers of the groups.
+    pub fn into_groups(self) -> (Vec<usize>, Vec<usize>)
+        ensures { result ≡ (self.order, self.groups) }
+    {
+        let Ordered {
+            order,
+            cyclic: _,
+            groups,
+        } = self;
+        (order, groups)
     }
 }
 
@@ -236,10 +270,14 @@ fn visit(walk: &mut Walk, edges: &[List<usize>], index: usize) -> Result<(), Mem
     }
 }
 
-/// Arranges the indices, and tells which of them reach themselves.
+/// Arranges the indices, tells which of them reach themselves, and numbers the groups of those that
+/// reach each other.
 pub fn arrange(alloc: Global, edges: &[List<usize>]) -> Result<Ordered, Memory>
     requires { HasIndices edges.now }
-    ensures { IfOk result (λ found. IsOrdered edges.now found.order.items found.cyclic.items) }
+    ensures order { IfOk result
+        (λ found. IsOrdered edges.now found.order.items found.cyclic.items) }
+    ensures groups { IfOk result
+        (λ found. AreGrouped edges.now found.order.items found.groups.items) }
 {
     let mut walk = Walk::new(alloc, edges.len())?;
     for index in 0..edges.len() {
@@ -248,5 +286,6 @@ pub fn arrange(alloc: Global, edges: &[List<usize>]) -> Result<Ordered, Memory>
     Ok(Ordered {
         order: walk.order,
         cyclic: walk.cyclic,
+        groups: walk.numbers,
     })
 }

@@ -10,7 +10,7 @@ use Rattle.index_graph.proofs.components.visit.Goals as goal
 pub run-requires-clause-walk : goal.run-requires-clause-walk
 run-requires-clause-walk c =
     let old = c.args.walk.now in let e = c.in_ok-open-in-New.ensures in let w = c.requires.walk in
-    begun c.args.edges.now old c.open.new.self c.args.index c.requires.walk c.requires.none (slice_get-get_or old.marks.items c.args.index c.index.result.now (omega (arith, c.requires.index, w.long)) ∙ ap Some (sym c.index.ensures ∙ c.in-New.is)) c.requires.index e.marks e.path e.todo e.groups e.order e.cyclic
+    begun c.args.edges.now old c.open.new.self c.args.index c.requires.walk c.requires.none (slice_get-get_or old.marks.items c.args.index c.index.result.now (omega (arith, c.requires.index, w.long)) ∙ ap Some (sym c.index.ensures ∙ c.in-New.is)) c.requires.index e.marks e.path e.todo e.groups e.order e.cyclic e.numbers
 
 pub returns-in_ok-open-in-New-clause-keeps : goal.returns-in_ok-open-in-New-clause-keeps
 returns-in_ok-open-in-New-clause-keeps c =

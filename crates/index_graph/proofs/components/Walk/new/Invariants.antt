@@ -6,5 +6,6 @@ use Rattle.index_graph.proofs.components.Walk.new.Given as goal
 abbrev pub invariant-loop : goal.invariant-loop
 invariant-loop l = record {
   long : vec_len l.marks ≡ l.counter;
+  numbers : vec_len l.numbers ≡ l.counter;
   new : (index : ℕ) (mark : Mark) → slice_get l.marks.items index ≡ Some mark → mark ≡ Mark.New;
 }
