@@ -16,7 +16,7 @@ use Rattle.fact_values.proofs.NameLemmas.{true_or_false, same_name, name_eq-refl
 use Rattle.fact_values.proofs.ReachLemmas.{leads-stuck}
 use Rattle.fact_values.proofs.ValueLemmas.{value-step}
 use Rattle.fact_store.proofs.SlotLemmas.{text_of-slot, text_of-none}
-use Rattle.fact_store.proofs.Ranks.{needs_in-slot}
+use Rattle.fact_store.proofs.Groups.{needs_in-slot}
 
 module _ {Own F : Type 0} (own_of : List ℕ → List ℕ → Own) (needs_of : Own → Option (List (List ℕ))) (fact_of : List ℕ → Own → List (List ℕ × State F) → F) (slots : List (Slot Own F)) (sound : AreSound own_of needs_of fact_of slots) where
   -- the value of a slot's name, by its parts

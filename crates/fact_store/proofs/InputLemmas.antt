@@ -1,4 +1,4 @@
--- What a need gives, from ranks and slots that were read.
+-- What a need gives, from groups and slots that were read.
 use Rattle.std.proofs.Common.{◌≡◌, ◌≢◌, ℕ, zero, suc, ◌<◌, Bool, true, false, List, [], ◌∷◌, Option, Some, None, sym, ap, ◌∙◌, inl, inr, length, get_or, nat_eq, arith}
 use Rattle.std.specs.Prelude.{slice_get, slice_index, unwrap_or}
 use Rattle.std.specs.Arc.{arc_value}
@@ -14,31 +14,31 @@ use Rattle.fact_values.specs.Values.{reaches, gives, value}
 use Rattle.fact_store.specs.Slots.{texts_of, IsIndexOf, is_settled}
 use Rattle.fact_store.specs.Right.{IsPlan, IsDone, IsReady, IsRight}
 use Rattle.fact_values.proofs.NameLemmas.{true_or_false}
-use Rattle.fact_store.proofs.Ranks.{rank_tells}
+use Rattle.fact_store.proofs.Groups.{group_tells}
 use Rattle.fact_store.proofs.Gifts.{gives-cyclic, gives-value, value-broken, value-settled, settled-kept}
 
--- a rank that was read
-pub rank_read : (ranks : List ℕ) (k a : ℕ) → k < length ranks → a ≡ get_or ranks k a → a ≡ slice_index ranks k
-rank_read ranks k a l e = e ∙ get_or_default_zero ranks k a l
+-- a number that was read
+pub number_read : (numbers : List ℕ) (k a : ℕ) → k < length numbers → a ≡ get_or numbers k a → a ≡ slice_index numbers k
+number_read numbers k a l e = e ∙ get_or_default_zero numbers k a l
 
 module _ {Own F : Type 0} (own_of : List ℕ → List ℕ → Own) (needs_of : Own → Option (List (List ℕ))) (fact_of : List ℕ → Own → List (List ℕ × State F) → F) (same : F → F → Bool) (slots : List (Slot Own F)) (current : List Bool) (plan : Plan) (right : IsRight own_of needs_of fact_of same slots current) (planned : IsPlan slots plan) where
-  module _ (i j : ℕ) (x : Slot Own F) (n : List ℕ) (at : slice_get slots i ≡ Some x) (there : IsIndexOf slots n j) (need : has (unwrap_or x.needs []) n ≡ true) (a b : ℕ) (ra : a ≡ get_or plan.ranks.items j a) (rb : b ≡ get_or plan.ranks.items i b) where
-    within : (k : ℕ) (z : Slot Own F) → slice_get slots k ≡ Some z → k < length plan.ranks.items
-    within k z e = omega (arith, slice_get_within slots k z e, planned.edges.long, planned.ranks.long)
+  module _ (i j : ℕ) (x : Slot Own F) (n : List ℕ) (at : slice_get slots i ≡ Some x) (there : IsIndexOf slots n j) (need : has (unwrap_or x.needs []) n ≡ true) (a b : ℕ) (ra : a ≡ get_or plan.groups.items j a) (rb : b ≡ get_or plan.groups.items i b) where
+    within : (k : ℕ) (z : Slot Own F) → slice_get slots k ≡ Some z → k < length plan.groups.items
+    within k z e = omega (arith, slice_get_within slots k z e, planned.edges.long, planned.groups.long)
 
-    tells : nat_eq (slice_index plan.ranks.items j) (slice_index plan.ranks.items i) ≡ reaches own_of needs_of fact_of (texts_of slots) n x.name
+    tells : nat_eq (slice_index plan.groups.items j) (slice_index plan.groups.items i) ≡ reaches own_of needs_of fact_of (texts_of slots) n x.name
     tells =
-        rank_tells own_of needs_of fact_of slots right.sound plan.edges.items planned.edges plan.ranks.items planned.ranks i j x there.0 at there.1 (ap (has (unwrap_or x.needs [])) there.2 ∙ need)
+        group_tells own_of needs_of fact_of slots right.sound plan.edges.items planned.edges plan.order.items plan.groups.items planned.groups i j x there.0 at there.1 (ap (has (unwrap_or x.needs [])) there.2 ∙ need)
         ∙ ap (λ (m : List ℕ). reaches own_of needs_of fact_of (texts_of slots) m x.name) there.2
 
     pub input-cyclic : a ≡ b → cyclic ≡ gives own_of needs_of fact_of (texts_of slots) (value own_of needs_of fact_of (texts_of slots)) x.name n
     input-cyclic e =
         sym (gives-cyclic own_of needs_of fact_of slots right.sound x.name n
-        (sym tells ∙ eq-eqb _ _ (sym (rank_read plan.ranks.items j a (within j there.0 there.1) ra) ∙ e ∙ rank_read plan.ranks.items i b (within i x at) rb)))
+        (sym tells ∙ eq-eqb _ _ (sym (number_read plan.groups.items j a (within j there.0 there.1) ra) ∙ e ∙ number_read plan.groups.items i b (within i x at) rb)))
 
-    apart : a ≢ b → nat_eq (slice_index plan.ranks.items j) (slice_index plan.ranks.items i) ≡ false
-    apart ne = elim (true_or_false (nat_eq (slice_index plan.ranks.items j) (slice_index plan.ranks.items i))) as (λ _. nat_eq (slice_index plan.ranks.items j) (slice_index plan.ranks.items i) ≡ false) [
-      | inl same ↦ absurd (ne (rank_read plan.ranks.items j a (within j there.0 there.1) ra ∙ eqb-true _ _ same ∙ sym (rank_read plan.ranks.items i b (within i x at) rb)))
+    apart : a ≢ b → nat_eq (slice_index plan.groups.items j) (slice_index plan.groups.items i) ≡ false
+    apart ne = elim (true_or_false (nat_eq (slice_index plan.groups.items j) (slice_index plan.groups.items i))) as (λ _. nat_eq (slice_index plan.groups.items j) (slice_index plan.groups.items i) ≡ false) [
+      | inl same ↦ absurd (ne (number_read plan.groups.items j a (within j there.0 there.1) ra ∙ eqb-true _ _ same ∙ sym (number_read plan.groups.items i b (within i x at) rb)))
       | inr other ↦ other
     ]
 
@@ -49,7 +49,7 @@ module _ {Own F : Type 0} (own_of : List ℕ → List ℕ → Own) (needs_of : O
     pub input-broken : a ≢ b → (there.0).needs ≡ None → broken ≡ gives own_of needs_of fact_of (texts_of slots) (value own_of needs_of fact_of (texts_of slots)) x.name n
     input-broken ne none = input-value ne broken (value-broken own_of needs_of fact_of slots right.sound j there.0 there.1 none)
 
-    module _ (ready : IsReady slots plan.ranks.items current i) where
+    module _ (ready : IsReady slots plan.groups.items current i) where
       settled : a ≢ b → (ns : List (List ℕ)) → (there.0).needs ≡ Some ns → is_settled own_of needs_of fact_of same (texts_of slots) there.0 ≡ true
       settled ne ns some = elim (ready x at j there.0 there.1 (ap (has (unwrap_or x.needs [])) there.2 ∙ need) (apart ne)) as (λ _. is_settled own_of needs_of fact_of same (texts_of slots) there.0 ≡ true) [
         | inl none ↦ let k : ◌≡◌ {A = Option (List (List ℕ))} (Some ns) None = sym some ∙ none in cc k

@@ -1,8 +1,7 @@
 pub mod Marks
-pub mod Search
 pub mod SlotLemmas
 pub mod Rows
-pub mod Ranks
+pub mod Groups
 pub mod Gifts
 pub mod InputLemmas
 pub mod Pairs

@@ -1,44 +1,23 @@
 -- What stands on what is brought up first.
-use Rattle.std.proofs.Common.{◌≡◌, ℕ, suc, ◌+◌, ◌<◌, ◌≤◌, Bool, true, false, List, [], ◌∷◌, Option, Some, refl, sym, ap, ◌∙◌, subst, inl, inr, map, length, get_or, nat_eq, arith}
-use Rattle.std.specs.Prelude.{not, ◌⊎◌, slice_get, slice_index, All, Contains, unwrap_or}
-use Rattle.std.specs.List.Sorted.{IsPermutation, IsNonDecreasingBy}
-use Rattle.std.proofs.lemmas.Bool.{and_from, cases_lt, eq-eqb, eqb-true, or_left, or_right}
-use Rattle.std.proofs.lemmas.List.Elements.{All-nil, All-cons}
-use Rattle.std.proofs.lemmas.List.Sorted.{All-permutation, Contains-permutation}
-use Rattle.std.proofs.lemmas.Option.{slice_get_read, slice_get_within, get_or_from_slice_get}
+use Rattle.std.proofs.Common.{◌≡◌, ℕ, suc, ◌+◌, ◌<◌, ◌≤◌, Bool, true, false, List, [], ◌∷◌, Option, Some, refl, sym, ap, ◌∙◌, subst, inl, inr, length, nat_eq, arith}
+use Rattle.std.specs.Prelude.{not, ◌⊎◌, slice_get, slice_index, unwrap_or}
+use Rattle.std.proofs.lemmas.Bool.{and_from, cases_lt, eq-eqb}
+use Rattle.std.proofs.lemmas.Option.{slice_get_within}
 use Rattle.list_laws.proofs.Lists.{item-at}
+use Rattle.index_graph.specs.Indices.{Has, Edge, AreReached}
+use Rattle.index_graph.proofs.Lists.{at-same}
+use Rattle.index_graph.proofs.Ways.{way-edge}
 use Rattle.fact_store.specs.declared.slot.Slot.{Slot}
 use Rattle.fact_store.specs.declared.plan.Plan.{Plan}
 use Rattle.fact_values.specs.Names.{has}
 use Rattle.fact_values.specs.States.{State}
-use Rattle.fact_store.specs.Slots.{AreSound}
-use Rattle.fact_store.specs.Plans.{among, is_marked, AreReached, IsRow, IsOrder}
-use Rattle.fact_store.specs.Right.{outlines, IsPlan, IsDone, IsReady}
-use Rattle.fact_values.proofs.NameLemmas.{or_cases}
-use Rattle.fact_store.proofs.Search.{among-within}
-use Rattle.fact_store.proofs.Ranks.{rank_falls}
+use Rattle.fact_store.specs.Slots.{AreSound, owed}
+use Rattle.fact_store.specs.Plans.{is_marked, IsRow}
+use Rattle.fact_store.specs.Right.{outlines, IsPlan, IsDone, IsReady, Brings}
+use Rattle.fact_store.proofs.Rows.{among-has}
+use Rattle.fact_store.proofs.Groups.{group_falls}
 use Rattle.fact_store.proofs.KeepLemmas.{outline_at}
-
--- each of the indices is behind its rank
-pub each-ranked : (ranks indices : List ℕ) (all : List ℕ) → ((p : ℕ) → among indices p ≡ true → among all p ≡ true) → All (λ (entry : ℕ × ℕ). (entry.0 ≡ slice_index ranks entry.1) × (among all entry.1 ≡ true)) (map (λ index. (slice_index ranks index, index)) indices)
-each-ranked ranks [] all h = All-nil (λ (entry : ℕ × ℕ). (entry.0 ≡ slice_index ranks entry.1) × (among all entry.1 ≡ true))
-each-ranked ranks (p ∷ indices) all h =
-    All-cons (λ (entry : ℕ × ℕ). (entry.0 ≡ slice_index ranks entry.1) × (among all entry.1 ≡ true)) (slice_index ranks p, p) (map (λ index. (slice_index ranks index, index)) indices)
-    (refl, h p (or_left (nat_eq p p) (among indices p) (eq-eqb p p refl))) (each-ranked ranks indices all (λ q m. h q (or_right (nat_eq q p) (among indices q) m)))
-
-pub all-ranked : (ranks indices : List ℕ) (p : ℕ) → among indices p ≡ true → Contains {X = ℕ × ℕ} (map (λ index. (slice_index ranks index, index)) indices) (slice_index ranks p, p)
-all-ranked ranks [] p m = cc
-all-ranked ranks (q ∷ indices) p m = elim (or_cases (nat_eq p q) (among indices p) m) as (λ _. Contains {X = ℕ × ℕ} (map (λ index. (slice_index ranks index, index)) (q ∷ indices)) (slice_index ranks p, p)) [
-  | inl same ↦ (0, omega arith, ap (λ (x : ℕ). (slice_index ranks x, x)) (sym (eqb-true p q same)))
-  | inr later ↦ let r = all-ranked ranks indices p later in (suc r.0, omega (arith, r.1), r.2)
-]
-
-pub IsOrder-sorted : (ranks indices : List ℕ) (order : List (ℕ × ℕ)) → IsPermutation (map (λ index. (slice_index ranks index, index)) indices) order → IsNonDecreasingBy (λ entry. entry.0) order → IsOrder ranks indices order
-IsOrder-sorted ranks indices order p s = record {
-  each = All-permutation (λ (entry : ℕ × ℕ). (entry.0 ≡ slice_index ranks entry.1) × (among indices entry.1 ≡ true)) (map (λ index. (slice_index ranks index, index)) indices) order p (each-ranked ranks indices indices (λ q m. m));
-  all = λ index m. Contains-permutation (map (λ index. (slice_index ranks index, index)) indices) order (slice_index ranks index, index) p (all-ranked ranks indices index m);
-  sorted = s;
-}
+use Rattle.fact_store.proofs.Bringing.{brings_then}
 
 module _ {Own F : Type 0} where
   -- the plan of slots is that of slots with their outlines
@@ -62,9 +41,11 @@ module _ {Own F : Type 0} where
     edges = record {
       long = omega (arith, p.edges.long, length-outlines a, length-outlines b, ap length e);
       rows = λ i row slot er es. let w = outline_at a b i slot e es in
-          subst (λ (o : Option (List (List ℕ))). IsRow a (unwrap_or o []) row.items) (ap (λ (o : List ℕ × List ℕ × Own × Option (List (List ℕ))). o.3) w.2) (IsRow-same a b (unwrap_or (w.0).needs []) row.items e (p.edges.rows i row w.0 er w.1));
+          subst (λ (o : Option (List (List ℕ))). IsRow a (unwrap_or o []) row) (ap (λ (o : List ℕ × List ℕ × Own × Option (List (List ℕ))). o.3) w.2) (IsRow-same a b (unwrap_or (w.0).needs []) row e (p.edges.rows i row w.0 er w.1));
     };
-    ranks = p.ranks;
+    groups = p.groups;
+    all = p.all;
+    within = p.within;
     grounds = p.grounds;
   }
 
@@ -77,65 +58,80 @@ module _ {Own F : Type 0} where
         | inr mark ↦ inr (kept index mark)
       ]
 
-  -- each entry before n is done
-  abbrev pub DoneBefore : List (Slot Own F) → List Bool → List (ℕ × ℕ) → ℕ → Type 0
-  DoneBefore slots current order n = (k : ℕ) (e : ℕ × ℕ) → k < n → slice_get order k ≡ Some e → (slot : Slot Own F) → slice_get slots e.1 ≡ Some slot → IsDone current e.1 slot
+  -- each index before n in the order is done, if it is seen
+  abbrev pub DoneBefore : List (Slot Own F) → List Bool → List Bool → List ℕ → ℕ → Type 0
+  DoneBefore slots current seen order n = (k index : ℕ) → k < n → slice_get order k ≡ Some index → slice_get seen index ≡ Some true → (slot : Slot Own F) → slice_get slots index ≡ Some slot → IsDone current index slot
 
-  module _ (own_of : List ℕ → List ℕ → Own) (needs_of : Own → Option (List (List ℕ))) (fact_of : List ℕ → Own → List (List ℕ × State F) → F) (slots : List (Slot Own F)) (sound : AreSound own_of needs_of fact_of slots) (current : List Bool) (plan : Plan) (is : IsPlan slots plan) (start : ℕ) (indices : List ℕ) (reach : AreReached plan.grounds.items start indices) (order : List (ℕ × ℕ)) (sorted : IsOrder plan.ranks.items indices order) where
-    -- the next entry is ready
-    pub IsReady-next : (n : ℕ) (entry : ℕ × ℕ) → n < length order → entry ≡ get_or order n entry → DoneBefore slots current order n → IsReady slots plan.ranks.items current entry.1
-    IsReady-next n entry l read done slot at j other there need apart =
-        choice (cases_lt at_j.0 n)
+  module _ (own_of : List ℕ → List ℕ → Own) (needs_of : Own → Option (List (List ℕ))) (fact_of : List ℕ → Own → List (List ℕ × State F) → F) (slots : List (Slot Own F)) (sound : AreSound own_of needs_of fact_of slots) (current : List Bool) (plan : Plan) (is : IsPlan slots plan) (start : ℕ) (seen : List Bool) (reach : AreReached plan.grounds.items start seen) where
+    -- a need that does not lead back is seen
+    ground-seen : (i j : ℕ) (slot other : Slot Own F) → slice_get slots i ≡ Some slot → slice_get slots j ≡ Some other → has (unwrap_or slot.needs []) other.name ≡ true → nat_eq (slice_index plan.groups.items j) (slice_index plan.groups.items i) ≡ false → slice_get seen i ≡ Some true → slice_get seen j ≡ Some true
+    ground-seen i j slot other at there need apart here =
+        let l = slice_get_within slots i slot at in
+        let row = item-at plan.edges.items i (omega (arith, l, is.edges.long)) in
+        let ground = item-at plan.grounds.items i (omega (arith, l, is.edges.long, is.grounds.long)) in
+        let in_row = (is.edges.rows i row.0 slot row.1 at).each j other there ∙ need in
+        let step : Edge plan.grounds.items i j = (ground.0, ground.1, among-has ground.0 j ((is.grounds.rows i row.0 ground.0 row.1 ground.1).each j ∙ and_from _ _ in_row (ap not apart))) in
+        reach.all j (way-edge plan.grounds.items start i j (reach.sound i here) step)
+
+    -- the next index is ready
+    pub IsReady-next : (n index : ℕ) → slice_get plan.order.items n ≡ Some index → slice_get seen index ≡ Some true → DoneBefore slots current seen plan.order.items n → IsReady slots plan.groups.items current index
+    IsReady-next n index next here done slot at j other there need apart = choice (cases_lt at_j.0 n)
       where
-        here : (entry.0 ≡ slice_index plan.ranks.items entry.1) × (among indices entry.1 ≡ true)
-        here = subst (λ (x : ℕ × ℕ). (x.0 ≡ slice_index plan.ranks.items x.1) × (among indices x.1 ≡ true)) (sym read) (sorted.each n entry l)
-
-        marked : is_marked reach.marks j ≡ true
-        marked =
-            let l = slice_get_within slots entry.1 slot at in
-            let row = item-at plan.edges.items entry.1 (omega (arith, l, is.edges.long)) in
-            let ground = item-at plan.grounds.items entry.1 (omega (arith, l, is.edges.long, is.grounds.long)) in
-            let in_row = (is.edges.rows entry.1 row.0 slot row.1 at).each j other there ∙ need in
-            reach.reach.closed entry.1 j ground.0 (reach.only entry.1 here.1) ground.1
-            ((is.grounds.rows entry.1 row.0 ground.0 row.1 ground.1).each j ∙ and_from _ _ in_row (ap not apart))
-
-        at_j : Contains {X = ℕ × ℕ} order (slice_index plan.ranks.items j, j)
-        at_j = sorted.all j (reach.all j marked)
-
-        falls : slice_index plan.ranks.items j ≤ slice_index plan.ranks.items entry.1
-        falls = rank_falls own_of needs_of fact_of slots sound plan.edges.items is.edges plan.ranks.items is.ranks entry.1 j slot other at there need
+        at_j : Has plan.order.items j
+        at_j = is.all j (omega (arith, slice_get_within slots j other there, is.edges.long))
 
         choice : (at_j.0 < n) ⊎ (n ≤ at_j.0) → IsDone current j other
-        choice (inl before) = done at_j.0 (slice_index plan.ranks.items j, j) before (slice_get_read order (length order) at_j.0 (slice_index plan.ranks.items j, j) refl at_j.1 (sym at_j.2)) other there
+        choice (inl before) = done at_j.0 j before at_j.1 (ground-seen index j slot other at there need apart here) other there
         choice (inr after) =
-            let s = sorted.sorted n at_j.0 entry after at_j.1 in
-            let a : ◌≡◌ {A = ℕ} (get_or order n entry).0 entry.0 = ap (λ (x : ℕ × ℕ). x.0) (sym read) in
-            let b : ◌≡◌ {A = ℕ} (get_or order at_j.0 entry).0 (slice_index plan.ranks.items j) =
-            ap (λ (x : ℕ × ℕ). x.0) (get_or_from_slice_get order at_j.0 (slice_index plan.ranks.items j, j) entry (slice_get_read order (length order) at_j.0 (slice_index plan.ranks.items j, j) refl at_j.1 (sym at_j.2))) in
-            let same : slice_index plan.ranks.items j ≡ slice_index plan.ranks.items entry.1 = omega (arith, s, a, b, here.0, falls) in
+            let rises = is.groups.rising n at_j.0 index j after next at_j.1 in
+            let falls = group_falls own_of needs_of fact_of slots sound plan.edges.items is.edges plan.order.items plan.groups.items is.groups index j slot other at there need in
+            let same : slice_index plan.groups.items j ≡ slice_index plan.groups.items index = omega (arith, rises, falls) in
             let t : true ≡ false = sym (eq-eqb _ _ same) ∙ apart in cc t
 
     -- in the end the start is done
-    pub done-start : (n : ℕ) → length order ≤ n → DoneBefore slots current order n → (slot : Slot Own F) → slice_get slots start ≡ Some slot → IsDone current start slot
+    pub done-start : (n : ℕ) → length plan.order.items ≤ n → DoneBefore slots current seen plan.order.items n → (slot : Slot Own F) → slice_get slots start ≡ Some slot → IsDone current start slot
     done-start n over done slot at =
-        let c = sorted.all start (reach.all start reach.reach.first) in
-        done c.0 (slice_index plan.ranks.items start, start) (omega (arith, c.1)) (slice_get_read order (length order) c.0 (slice_index plan.ranks.items start, start) refl c.1 (sym c.2)) slot at
+        let c = is.all start (omega (arith, slice_get_within slots start slot at, is.edges.long)) in
+        done c.0 start (omega (arith, slice_get_within plan.order.items c.0 start c.1)) c.1 (reach.all start (inl refl)) slot at
 
-    -- indices that are reached have ranks, and slots
-    pub ranked-indices : All (λ index. index < length plan.ranks.items) indices
-    ranked-indices = λ k d l. omega (arith, reach.within k d l, is.ranks.long, is.grounds.long)
+    pub next-within : (n index : ℕ) → slice_get plan.order.items n ≡ Some index → index < length slots
+    next-within n index next = omega (arith, is.within index (n, next), is.edges.long)
 
-    pub entry-within : (n : ℕ) (entry : ℕ × ℕ) → n < length order → entry ≡ get_or order n entry → entry.1 < length slots
-    entry-within n entry l read =
-        let h : (entry.0 ≡ slice_index plan.ranks.items entry.1) × (among indices entry.1 ≡ true) = subst (λ (x : ℕ × ℕ). (x.0 ≡ slice_index plan.ranks.items x.1) × (among indices x.1 ≡ true)) (sym read) (sorted.each n entry l) in
-        omega (arith, among-within indices (length plan.grounds.items) entry.1 reach.within h.1, is.edges.long, is.grounds.long)
-
-  -- one entry more is done
-  pub DoneBefore-more : (a b : List (Slot Own F)) (old new : List Bool) (order : List (ℕ × ℕ)) (n : ℕ) (entry : ℕ × ℕ) → outlines a ≡ outlines b → ((i : ℕ) → is_marked old i ≡ true → is_marked new i ≡ true) → DoneBefore b old order n → n < length order → entry ≡ get_or order n entry → ((slot : Slot Own F) → slice_get a entry.1 ≡ Some slot → IsDone new entry.1 slot) → DoneBefore a new order (n + 1)
-  DoneBefore-more a b old new order n entry e kept done l read last k x lk g slot at = elim (cases_lt k n) as (λ _. IsDone new x.1 slot) [
-    | inl before ↦ IsDone-kept a b old new x.1 slot e kept (done k x before g) at
+  -- one index more is done, or is not seen
+  pub DoneBefore-more : (a b : List (Slot Own F)) (old new seen : List Bool) (order : List ℕ) (n index : ℕ) → outlines a ≡ outlines b → ((i : ℕ) → is_marked old i ≡ true → is_marked new i ≡ true) → DoneBefore b old seen order n → slice_get order n ≡ Some index → ((slot : Slot Own F) → slice_get seen index ≡ Some true → slice_get a index ≡ Some slot → IsDone new index slot) → DoneBefore a new seen order (n + 1)
+  DoneBefore-more a b old new seen order n index e kept done next last k x lk g here slot at = elim (cases_lt k n) as (λ _. IsDone new x slot) [
+    | inl before ↦ IsDone-kept a b old new x slot e kept (done k x before g here) at
     | inr after ↦
         let same : k ≡ n = omega arith in
-        let y : ◌≡◌ {A = Option (ℕ × ℕ)} (Some entry) (Some x) = sym (slice_get_read order (length order) n entry refl l read) ∙ ap (slice_get order) (sym same) ∙ g in
-        let z : entry ≡ x = cc in subst (λ (q : ℕ × ℕ). (s : Slot Own F) → slice_get a q.1 ≡ Some s → IsDone new q.1 s) z last slot at
+        let z : index ≡ x = at-same order n index x next (ap (slice_get order) (sym same) ∙ g) in
+        subst (λ q. (s : Slot Own F) → slice_get seen q ≡ Some true → slice_get a q ≡ Some s → IsDone new q s) z last slot here at
   ]
+
+  module _ (own_of : List ℕ → List ℕ → Own) (needs_of : Own → Option (List (List ℕ))) (fact_of : List ℕ → Own → List (List ℕ × State F) → F) (same : F → F → Bool) (old : List (Slot Own F)) (before : List Bool) (first : ℕ) (seen : List Bool) (order : List ℕ) where
+    -- what is known where the indices before n were brought up
+    pub record IsBringing (slots : List (Slot Own F)) (current : List Bool) (steps n : ℕ) : Type 0 where
+      pub brings : Brings own_of needs_of fact_of same old slots before current first steps
+      pub done : DoneBefore slots current seen order n
+      pub counted : steps + owed own_of needs_of fact_of same slots ≤ first + owed own_of needs_of fact_of same old
+
+    -- the same in other words
+    pub bringing-as : (slots slots' : List (Slot Own F)) (current current' : List Bool) (steps steps' n : ℕ) → slots' ≡ slots → current' ≡ current → steps' ≡ steps → IsBringing slots current steps n → IsBringing slots' current' steps' n
+    bringing-as slots slots' current current' steps steps' n es ec et b =
+        subst (λ (z : List (Slot Own F)). IsBringing z current' steps' n) (sym es) (subst (λ (z : List Bool). IsBringing slots z steps' n) (sym ec) (subst (λ (z : ℕ). IsBringing slots current z n) (sym et) b))
+
+    -- an index that is not seen
+    pub bringing-skip : (slots : List (Slot Own F)) (current : List Bool) (steps n index : ℕ) → IsBringing slots current steps n → slice_get order n ≡ Some index → slice_get seen index ≡ Some false → IsBringing slots current steps (n + 1)
+    bringing-skip slots current steps n index b next off = record {
+      brings = b.brings;
+      done = DoneBefore-more slots slots current current seen order n index refl (λ i m. m) b.done next (λ slot on at. let k : true ≡ false = at-same seen index true false on off in cc k);
+      counted = b.counted;
+    }
+
+    -- and one that was brought up
+    pub bringing-more : (slots new : List (Slot Own F)) (current after : List Bool) (steps later n index : ℕ) → IsBringing slots current steps n → slice_get order n ≡ Some index → Brings own_of needs_of fact_of same slots new current after steps later
+        → ((slot : Slot Own F) → slice_get new index ≡ Some slot → IsDone after index slot) → later + owed own_of needs_of fact_of same new ≤ steps + owed own_of needs_of fact_of same slots → IsBringing new after later (n + 1)
+    bringing-more slots new current after steps later n index b next more last less = record {
+      brings = brings_then own_of needs_of fact_of same old slots new before current after first steps later b.brings more;
+      done = DoneBefore-more new slots current after seen order n index more.outline_kept more.kept b.done next (λ slot on at. last slot at);
+      counted = omega (arith, less, b.counted);
+    }

@@ -3,7 +3,6 @@ use Rattle.std.proofs.Common.{◌≡◌, ℕ, Bool, true, false, List, [], ◌�
 use Rattle.std.specs.Prelude.{slice_get, slice_set, remove, unwrap_or}
 use Rattle.std.specs.Arc.{arc_value}
 use Rattle.std.specs.Cmp.Lexicographic.{pointwise}
-use Rattle.std.proofs.lemmas.Bool.{eqb-true}
 use Rattle.std.proofs.lemmas.List.{length-set}
 use Rattle.std.proofs.lemmas.Option.{slice_get_within}
 use Rattle.list_laws.proofs.Lists.{pushed-cases}
@@ -58,14 +57,16 @@ module _ {Own F : Type 0} where
   IsPlan-set slots i x y plan at n m p = record {
     edges = record {
       long = p.edges.long ∙ sym (length-set slots i y);
-      rows = λ j row slot er es. elim (set_cases slots i j y slot (slice_get_within slots i x at) es) as (λ _. IsRow (slice_set slots i y) (unwrap_or slot.needs []) row.items) [
+      rows = λ j row slot er es. elim (set_cases slots i j y slot (slice_get_within slots i x at) es) as (λ _. IsRow (slice_set slots i y) (unwrap_or slot.needs []) row) [
         | inl this ↦
-            subst (λ (s : Slot Own F). IsRow (slice_set slots i y) (unwrap_or s.needs []) row.items) this.1
-            (subst (λ (o : Option (List (List ℕ))). IsRow (slice_set slots i y) (unwrap_or o []) row.items) (sym m) (still (unwrap_or x.needs []) row.items (p.edges.rows i row x (ap (slice_get plan.edges.items) (sym this.0) ∙ er) at)))
-        | inr past ↦ still (unwrap_or slot.needs []) row.items (p.edges.rows j row slot er past.1)
+            subst (λ (s : Slot Own F). IsRow (slice_set slots i y) (unwrap_or s.needs []) row) this.1
+            (subst (λ (o : Option (List (List ℕ))). IsRow (slice_set slots i y) (unwrap_or o []) row) (sym m) (still (unwrap_or x.needs []) row (p.edges.rows i row x (ap (slice_get plan.edges.items) (sym this.0) ∙ er) at)))
+        | inr past ↦ still (unwrap_or slot.needs []) row (p.edges.rows j row slot er past.1)
       ];
     };
-    ranks = p.ranks;
+    groups = p.groups;
+    all = p.all;
+    within = p.within;
     grounds = p.grounds;
   }
     where

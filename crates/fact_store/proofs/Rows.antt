@@ -1,12 +1,12 @@
 -- Rows of indices, from names that are needed.
-use Rattle.std.proofs.Common.{◌≡◌, ◌≢◌, ℕ, zero, suc, ◌+◌, ◌<◌, Bool, true, false, List, [], ◌∷◌, ◌++◌, Option, Some, refl, sym, ap, ◌∙◌, subst, inl, inr, take, length, get_or, arith, nat_eq, cond, Vec, Global}
-use Rattle.std.specs.Prelude.{not, ◌⊎◌, ◌||◌, ◌&&◌, slice_get, slice_index, unwrap_or}
+use Rattle.std.proofs.Common.{◌≡◌, ◌≢◌, ℕ, zero, suc, ◌+◌, ◌<◌, Bool, true, false, List, [], ◌∷◌, ◌++◌, Option, Some, refl, sym, ap, ◌∙◌, subst, inl, inr, take, length, get_or, arith, nat_eq, cond}
+use Rattle.std.specs.Prelude.{not, ◌||◌, ◌&&◌, slice_get, slice_index, unwrap_or}
 use Rattle.std.specs.List.{list_any}
-use Rattle.std.proofs.lemmas.Bool.{and_from, cases_lt, eq-eqb, eqb-true, or_left, or_right}
+use Rattle.std.proofs.lemmas.Bool.{and_from, eq-eqb, eqb-true, or_left, or_right}
 use Rattle.std.proofs.lemmas.List.{take_more, length-append}
 use Rattle.std.proofs.lemmas.List.Folds.{list_any-append}
 use Rattle.std.proofs.lemmas.List.Elements.{All-push}
-use Rattle.std.proofs.lemmas.Option.{slice_get_within}
+use Rattle.std.proofs.lemmas.Option.{slice_get_within, get_or_from_slice_get}
 use Rattle.std.specs.Cmp.{both_ways}
 use Rattle.list_laws.proofs.Lists.{pushed-cases}
 use Rattle.list_laws.proofs.Tests.{and-left, and-right, or-false}
@@ -14,7 +14,8 @@ use Rattle.list_laws.proofs.Lists.{item-at}
 use Rattle.fact_store.specs.declared.slot.Slot.{Slot}
 use Rattle.fact_values.specs.Names.{name_eq, has}
 use Rattle.fact_store.specs.Slots.{AreDistinct, HasNoSlot, IsIndexOf}
-use Rattle.fact_store.specs.Plans.{among, row_with, Edges, HasIndices, IsRow, AreEdges, AreReached, IsRank, IsGround, AreGrounds}
+use Rattle.index_graph.specs.Indices.{Has, Edges, HasIndices}
+use Rattle.fact_store.specs.Plans.{among, row_with, IsRow, AreEdges, IsGround, AreGrounds}
 use Rattle.fact_values.proofs.NameLemmas.{true_or_false, same_name, name_eq-same, or_cases}
 use Rattle.fact_store.proofs.Marks.{among-push}
 
@@ -22,10 +23,14 @@ has-push : (names : List (List ℕ)) (n x : List ℕ) → has (names ++ n ∷ []
 has-push names n x = list_any-append (name_eq x) names (n ∷ []) ∙ ap (λ b. has names x || b) (or-false (name_eq x n))
 
 -- what stands in a row is among it
-among-at : (row : List ℕ) (i x : ℕ) → slice_get row i ≡ Some x → among row x ≡ true
+pub among-at : (row : List ℕ) (i x : ℕ) → slice_get row i ≡ Some x → among row x ≡ true
 among-at [] i x e = cc
 among-at (y ∷ row) zero x e = let s : y ≡ x = cc in or_left (nat_eq x y) (among row x) (eq-eqb x y (sym s))
 among-at (y ∷ row) (suc i) x e = or_right (nat_eq x y) (among row x) (among-at row i x e)
+
+pub among-has : (row : List ℕ) (x : ℕ) → among row x ≡ true → Has row x
+among-has [] x m = cc
+among-has (y ∷ row) x m = elim (or_cases (nat_eq x y) (among row x) m) as (λ _. Has (y ∷ row) x) [ inl same ↦ (0, ap Some (sym (eqb-true x y same))) | inr later ↦ let h = among-has row x later in (suc h.0, h.1) ]
 
 -- what stands in a row once still does behind one that is not there
 once-push : (row : List ℕ) (index : ℕ) → ((i j x : ℕ) → slice_get row i ≡ Some x → slice_get row j ≡ Some x → i ≡ j) → among row index ≡ false → (i j x : ℕ) → slice_get (row ++ index ∷ []) i ≡ Some x → slice_get (row ++ index ∷ []) j ≡ Some x → i ≡ j
@@ -115,16 +120,16 @@ module _ {Own F : Type 0} where
   -- the rows of the slots before n
   pub record AreEdgesUpto (slots : List (Slot Own F)) (edges : Edges) (n : ℕ) : Type 0 where
     pub long : length edges ≡ n
-    pub rows : (i : ℕ) (row : Vec ℕ Global) (slot : Slot Own F) → slice_get edges i ≡ Some row → slice_get slots i ≡ Some slot → IsRow slots (unwrap_or slot.needs []) row.items
+    pub rows : (i : ℕ) (row : List ℕ) (slot : Slot Own F) → slice_get edges i ≡ Some row → slice_get slots i ≡ Some slot → IsRow slots (unwrap_or slot.needs []) row
 
-  pub AreEdgesUpto-more : (slots : List (Slot Own F)) (edges new : Edges) (n : ℕ) (row : Vec ℕ Global) (slot : Slot Own F) → AreEdgesUpto slots edges n → slice_get slots n ≡ Some slot → IsRow slots (unwrap_or slot.needs []) row.items → new ≡ edges ++ row ∷ [] → AreEdgesUpto slots new (n + 1)
+  pub AreEdgesUpto-more : (slots : List (Slot Own F)) (edges new : Edges) (n : ℕ) (row : List ℕ) (slot : Slot Own F) → AreEdgesUpto slots edges n → slice_get slots n ≡ Some slot → IsRow slots (unwrap_or slot.needs []) row → new ≡ edges ++ row ∷ [] → AreEdgesUpto slots new (n + 1)
   AreEdgesUpto-more slots edges new n row slot u es r en = record {
     long = omega (arith, ap length en, length-append edges (row ∷ []), u.long);
-    rows = λ i row' slot' e f. elim (pushed-cases edges row row' i (ap (λ (xs : Edges). slice_get xs i) (sym en) ∙ e)) as (λ _. IsRow slots (unwrap_or slot'.needs []) row'.items) [
+    rows = λ i row' slot' e f. elim (pushed-cases edges row row' i (ap (λ (xs : Edges). slice_get xs i) (sym en) ∙ e)) as (λ _. IsRow slots (unwrap_or slot'.needs []) row') [
       | inl before ↦ u.rows i row' slot' before f
       | inr last ↦
           let k : ◌≡◌ {A = Option (Slot Own F)} (Some slot) (Some slot') = sym es ∙ ap (slice_get slots) (sym (last.0 ∙ u.long)) ∙ f in let s : slot ≡ slot' = cc in
-          subst (λ (x : Vec ℕ Global). IsRow slots (unwrap_or slot'.needs []) x.items) last.1 (subst (λ (x : Slot Own F). IsRow slots (unwrap_or x.needs []) row.items) s r)
+          subst (λ (x : List ℕ). IsRow slots (unwrap_or slot'.needs []) x) last.1 (subst (λ (x : Slot Own F). IsRow slots (unwrap_or x.needs []) row) s r)
     ];
   }
 
@@ -135,111 +140,82 @@ module _ {Own F : Type 0} where
 
   -- edges lead to indices
   pub HasIndices-edges : (slots : List (Slot Own F)) (edges : Edges) → AreEdges slots edges → HasIndices edges
-  HasIndices-edges slots edges a i row e =
-      let s = slot_at slots i (omega (arith, slice_get_within edges i row e, a.long)) in
-      λ k d l. omega (arith, (a.rows i row s.0 e s.1).within k d l, a.long)
+  HasIndices-edges slots edges a i j d =
+      let s = slot_at slots i (omega (arith, slice_get_within edges i d.0 d.1, a.long)) in
+      let k = d.2 in
+      omega (arith, (a.rows i d.0 s.0 d.1 s.1).within k.0 0 (slice_get_within d.0 k.0 j k.1), get_or_from_slice_get d.0 k.0 j 0 k.1, a.long)
 
-slice_index-push_before : (xs : List ℕ) (x i : ℕ) → i < length xs → slice_index (xs ++ x ∷ []) i ≡ slice_index xs i
-slice_index-push_before [] x i l = absurd (omega arith)
-slice_index-push_before (y ∷ xs) x zero l = refl
-slice_index-push_before (y ∷ xs) x (suc i) l = slice_index-push_before xs x i (omega arith)
-
-slice_index-push_last : (xs : List ℕ) (x : ℕ) → slice_index (xs ++ x ∷ []) (length xs) ≡ x
-slice_index-push_last [] x = refl
-slice_index-push_last (y ∷ xs) x = slice_index-push_last xs x
-
--- one rank more
-pub ranks-more : (edges : Edges) (ranks new : List ℕ) (index rank : ℕ) (indices : List ℕ) → length ranks ≡ index → ((i : ℕ) → i < length ranks → IsRank edges i (slice_index ranks i)) → AreReached edges index indices → rank ≡ length indices → new ≡ ranks ++ rank ∷ [] → (length new ≡ index + 1) × ((i : ℕ) → i < length new → IsRank edges i (slice_index new i))
-ranks-more edges ranks new index rank indices long each r e en = (
-  omega (arith, ap length en, length-append ranks (rank ∷ []), long),
-  λ i l. subst (λ (xs : List ℕ). IsRank edges i (slice_index xs i)) (sym en) (choice i (omega (arith, ap length en, length-append ranks (rank ∷ []))) (true_or_false (nat_eq i (length ranks)))),
-)
-  where
-    choice : (i : ℕ) → i < length ranks + 1 → (nat_eq i (length ranks) ≡ true) ⊎ (nat_eq i (length ranks) ≡ false) → IsRank edges i (slice_index (ranks ++ rank ∷ []) i)
-    choice i l (inl last) =
-        let k = eqb-true i (length ranks) last in
-        subst (λ (j : ℕ). IsRank edges j (slice_index (ranks ++ rank ∷ []) j)) (sym k)
-        (indices, subst (λ (j : ℕ). AreReached edges j indices) (sym long) r, slice_index-push_last ranks rank ∙ e)
-    choice i l (inr other) =
-        let k : i < length ranks = lt_of_ne i (length ranks) l other in
-        let h = each i k in (h.0, h.1, slice_index-push_before ranks rank i k ∙ h.2)
-      where
-        lt_of_ne : (a b : ℕ) → a < b + 1 → nat_eq a b ≡ false → a < b
-        lt_of_ne a b l n = elim (cases_lt a b) as (λ _. a < b) [
-          | inl less ↦ less
-          | inr more ↦ let e : a ≡ b = omega arith in let k : true ≡ false = sym (eq-eqb a b e) ∙ n in cc k
-        ]
-
--- the next index of a row is of the rank
-IsGround-skip : (ranks : List ℕ) (rank : ℕ) (row ground : List ℕ) (p : ℕ) → IsGround ranks rank row ground → slice_index ranks p ≡ rank → IsGround ranks rank (row ++ p ∷ []) ground
-IsGround-skip ranks rank row ground p g e = record {
+-- the next index of a row is of the group
+IsGround-skip : (groups : List ℕ) (group : ℕ) (row ground : List ℕ) (p : ℕ) → IsGround groups group row ground → slice_index groups p ≡ group → IsGround groups group (row ++ p ∷ []) ground
+IsGround-skip groups group row ground p g e = record {
   each = λ j. g.each j ∙ both_ways _ _
       (λ m. and_from _ _ (among-push row p j ∙ or_left (among row j) (nat_eq j p) (and-left (among row j) _ m)) (and-right (among row j) _ m))
       (λ m. let n = and-right (among (row ++ p ∷ []) j) _ m in
-      elim (or_cases (among row j) (nat_eq j p) (sym (among-push row p j) ∙ and-left (among (row ++ p ∷ []) j) _ m)) as (λ _. (among row j && not (nat_eq (slice_index ranks j) rank)) ≡ true) [
+      elim (or_cases (among row j) (nat_eq j p) (sym (among-push row p j) ∙ and-left (among (row ++ p ∷ []) j) _ m)) as (λ _. (among row j && not (nat_eq (slice_index groups j) group)) ≡ true) [
         | inl before ↦ and_from _ _ before n
-        | inr this ↦ let h : not true ≡ true = sym (ap not (eq-eqb (slice_index ranks j) rank (ap (slice_index ranks) (eqb-true j p this) ∙ e))) ∙ n in cc h
+        | inr this ↦ let h : not true ≡ true = sym (ap not (eq-eqb (slice_index groups j) group (ap (slice_index groups) (eqb-true j p this) ∙ e))) ∙ n in cc h
       ]);
   within = g.within;
 }
 
--- the next index of a row is of another rank
-IsGround-more : (ranks : List ℕ) (rank : ℕ) (row ground : List ℕ) (p : ℕ) → IsGround ranks rank row ground → nat_eq (slice_index ranks p) rank ≡ false → p < length ranks → IsGround ranks rank (row ++ p ∷ []) (ground ++ p ∷ [])
-IsGround-more ranks rank row ground p g ne l = record {
+-- the next index of a row is of another group
+IsGround-more : (groups : List ℕ) (group : ℕ) (row ground : List ℕ) (p : ℕ) → IsGround groups group row ground → nat_eq (slice_index groups p) group ≡ false → p < length groups → IsGround groups group (row ++ p ∷ []) (ground ++ p ∷ [])
+IsGround-more groups group row ground p g ne l = record {
   each = λ j. both_ways _ _
-      (λ m. elim (or_cases (among ground j) (nat_eq j p) (sym (among-push ground p j) ∙ m)) as (λ _. (among (row ++ p ∷ []) j && not (nat_eq (slice_index ranks j) rank)) ≡ true) [
+      (λ m. elim (or_cases (among ground j) (nat_eq j p) (sym (among-push ground p j) ∙ m)) as (λ _. (among (row ++ p ∷ []) j && not (nat_eq (slice_index groups j) group)) ≡ true) [
         | inl before ↦ let k = sym (g.each j) ∙ before in and_from _ _ (among-push row p j ∙ or_left (among row j) (nat_eq j p) (and-left (among row j) _ k)) (and-right (among row j) _ k)
-        | inr this ↦ and_from _ _ (among-push row p j ∙ or_right (among row j) (nat_eq j p) this) (ap (λ (q : ℕ). not (nat_eq (slice_index ranks q) rank)) (eqb-true j p this) ∙ ap not ne)
+        | inr this ↦ and_from _ _ (among-push row p j ∙ or_right (among row j) (nat_eq j p) this) (ap (λ (q : ℕ). not (nat_eq (slice_index groups q) group)) (eqb-true j p this) ∙ ap not ne)
       ])
       (λ m. let n = and-right (among (row ++ p ∷ []) j) _ m in
       elim (or_cases (among row j) (nat_eq j p) (sym (among-push row p j) ∙ and-left (among (row ++ p ∷ []) j) _ m)) as (λ _. among (ground ++ p ∷ []) j ≡ true) [
         | inl before ↦ among-push ground p j ∙ or_left (among ground j) (nat_eq j p) (g.each j ∙ and_from _ _ before n)
         | inr this ↦ among-push ground p j ∙ or_right (among ground j) (nat_eq j p) this
       ]);
-  within = All-push (λ x. x < length ranks) ground p g.within l;
+  within = All-push (λ x. x < length groups) ground p g.within l;
 }
 
-pub IsGround-start : (ranks : List ℕ) (rank : ℕ) → IsGround ranks rank [] []
-IsGround-start ranks rank = record { each = λ j. refl; within = λ k d l. absurd (omega arith) }
+pub IsGround-start : (groups : List ℕ) (group : ℕ) → IsGround groups group [] []
+IsGround-start groups group = record { each = λ j. refl; within = λ k d l. absurd (omega arith) }
 
--- the index at k of a row, with its rank that was read
-pub IsGround-skip_at : (ranks : List ℕ) (rank : ℕ) (row ground ground' : List ℕ) (k : ℕ) → k < length row → IsGround ranks rank (take k row) ground → slice_index ranks (get_or row k 0) ≡ rank → ground' ≡ ground → IsGround ranks rank (take (k + 1) row) ground'
-IsGround-skip_at ranks rank row ground ground' k l g e eg =
-    subst (λ (xs : List ℕ). IsGround ranks rank xs ground') (sym (take_more row k 0 l))
-    (subst (λ (xs : List ℕ). IsGround ranks rank (take k row ++ get_or row k 0 ∷ []) xs) (sym eg)
-    (IsGround-skip ranks rank (take k row) ground (get_or row k 0) g e))
+-- the index at k of a row, with its group that was read
+pub IsGround-skip_at : (groups : List ℕ) (group : ℕ) (row ground ground' : List ℕ) (k : ℕ) → k < length row → IsGround groups group (take k row) ground → slice_index groups (get_or row k 0) ≡ group → ground' ≡ ground → IsGround groups group (take (k + 1) row) ground'
+IsGround-skip_at groups group row ground ground' k l g e eg =
+    subst (λ (xs : List ℕ). IsGround groups group xs ground') (sym (take_more row k 0 l))
+    (subst (λ (xs : List ℕ). IsGround groups group (take k row ++ get_or row k 0 ∷ []) xs) (sym eg)
+    (IsGround-skip groups group (take k row) ground (get_or row k 0) g e))
 
-pub IsGround-more_at : (ranks : List ℕ) (rank : ℕ) (row ground ground' : List ℕ) (k : ℕ) → k < length row → IsGround ranks rank (take k row) ground → get_or row k 0 < length ranks → slice_index ranks (get_or row k 0) ≢ rank → ground' ≡ ground ++ get_or row k 0 ∷ [] → IsGround ranks rank (take (k + 1) row) ground'
-IsGround-more_at ranks rank row ground ground' k l g lp ne eg =
-    subst (λ (xs : List ℕ). IsGround ranks rank xs ground') (sym (take_more row k 0 l))
-    (subst (λ (xs : List ℕ). IsGround ranks rank (take k row ++ get_or row k 0 ∷ []) xs) (sym eg)
-    (IsGround-more ranks rank (take k row) ground (get_or row k 0) g apart lp))
+pub IsGround-more_at : (groups : List ℕ) (group : ℕ) (row ground ground' : List ℕ) (k : ℕ) → k < length row → IsGround groups group (take k row) ground → get_or row k 0 < length groups → slice_index groups (get_or row k 0) ≢ group → ground' ≡ ground ++ get_or row k 0 ∷ [] → IsGround groups group (take (k + 1) row) ground'
+IsGround-more_at groups group row ground ground' k l g lp ne eg =
+    subst (λ (xs : List ℕ). IsGround groups group xs ground') (sym (take_more row k 0 l))
+    (subst (λ (xs : List ℕ). IsGround groups group (take k row ++ get_or row k 0 ∷ []) xs) (sym eg)
+    (IsGround-more groups group (take k row) ground (get_or row k 0) g apart lp))
   where
-    apart : nat_eq (slice_index ranks (get_or row k 0)) rank ≡ false
-    apart = elim (true_or_false (nat_eq (slice_index ranks (get_or row k 0)) rank)) as (λ _. nat_eq (slice_index ranks (get_or row k 0)) rank ≡ false) [
+    apart : nat_eq (slice_index groups (get_or row k 0)) group ≡ false
+    apart = elim (true_or_false (nat_eq (slice_index groups (get_or row k 0)) group)) as (λ _. nat_eq (slice_index groups (get_or row k 0)) group ≡ false) [
       | inl same ↦ absurd (ne (eqb-true _ _ same))
       | inr other ↦ other
     ]
 
 -- the grounds of the indices before n
-pub record AreGroundsUpto (edges : Edges) (ranks : List ℕ) (grounds : Edges) (n : ℕ) : Type 0 where
+pub record AreGroundsUpto (edges : Edges) (groups : List ℕ) (grounds : Edges) (n : ℕ) : Type 0 where
   pub long : length grounds ≡ n
-  pub rows : (i : ℕ) (row ground : Vec ℕ Global) → slice_get edges i ≡ Some row → slice_get grounds i ≡ Some ground → IsGround ranks (slice_index ranks i) row.items ground.items
+  pub rows : (i : ℕ) (row ground : List ℕ) → slice_get edges i ≡ Some row → slice_get grounds i ≡ Some ground → IsGround groups (slice_index groups i) row ground
 
-pub AreGroundsUpto-more : (edges : Edges) (ranks : List ℕ) (grounds new : Edges) (n : ℕ) (row ground : Vec ℕ Global) → AreGroundsUpto edges ranks grounds n → slice_get edges n ≡ Some row → IsGround ranks (slice_index ranks n) row.items ground.items → new ≡ grounds ++ ground ∷ [] → AreGroundsUpto edges ranks new (n + 1)
-AreGroundsUpto-more edges ranks grounds new n row ground u er g en = record {
+pub AreGroundsUpto-more : (edges : Edges) (groups : List ℕ) (grounds new : Edges) (n : ℕ) (row ground : List ℕ) → AreGroundsUpto edges groups grounds n → slice_get edges n ≡ Some row → IsGround groups (slice_index groups n) row ground → new ≡ grounds ++ ground ∷ [] → AreGroundsUpto edges groups new (n + 1)
+AreGroundsUpto-more edges groups grounds new n row ground u er g en = record {
   long = omega (arith, ap length en, length-append grounds (ground ∷ []), u.long);
-  rows = λ i row' ground' e f. elim (pushed-cases grounds ground ground' i (ap (λ (xs : Edges). slice_get xs i) (sym en) ∙ f)) as (λ _. IsGround ranks (slice_index ranks i) row'.items ground'.items) [
+  rows = λ i row' ground' e f. elim (pushed-cases grounds ground ground' i (ap (λ (xs : Edges). slice_get xs i) (sym en) ∙ f)) as (λ _. IsGround groups (slice_index groups i) row' ground') [
     | inl before ↦ u.rows i row' ground' e before
     | inr last ↦
-        let k : ◌≡◌ {A = Option (Vec ℕ Global)} (Some row) (Some row') = sym er ∙ ap (slice_get edges) (sym (last.0 ∙ u.long)) ∙ e in let s : row ≡ row' = cc in
-        subst (λ (x : Vec ℕ Global). IsGround ranks (slice_index ranks i) row'.items x.items) last.1
-        (subst (λ (x : Vec ℕ Global). IsGround ranks (slice_index ranks i) x.items ground.items) s
-        (subst (λ (x : ℕ). IsGround ranks (slice_index ranks x) row.items ground.items) (sym (last.0 ∙ u.long)) g))
+        let k : ◌≡◌ {A = Option (List ℕ)} (Some row) (Some row') = sym er ∙ ap (slice_get edges) (sym (last.0 ∙ u.long)) ∙ e in let s : row ≡ row' = cc in
+        subst (λ (x : List ℕ). IsGround groups (slice_index groups i) row' x) last.1
+        (subst (λ (x : List ℕ). IsGround groups (slice_index groups i) x ground) s
+        (subst (λ (x : ℕ). IsGround groups (slice_index groups x) row ground) (sym (last.0 ∙ u.long)) g))
   ];
 }
 
-pub HasIndices-grounds : (edges : Edges) (ranks : List ℕ) (grounds : Edges) → length ranks ≡ length edges → AreGrounds edges ranks grounds → HasIndices grounds
-HasIndices-grounds edges ranks grounds long g i ground e =
-    let row = item-at edges i (omega (arith, slice_get_within grounds i ground e, g.long)) in
-    λ k d l. omega (arith, (g.rows i row.0 ground row.1 e).within k d l, long, g.long)
+pub HasIndices-grounds : (edges : Edges) (groups : List ℕ) (grounds : Edges) → length groups ≡ length edges → AreGrounds edges groups grounds → HasIndices grounds
+HasIndices-grounds edges groups grounds long g i j d =
+    let row = item-at edges i (omega (arith, slice_get_within grounds i d.0 d.1, g.long)) in
+    let k = d.2 in
+    omega (arith, (g.rows i row.0 d.0 row.1 d.1).within k.0 0 (slice_get_within d.0 k.0 j k.1), get_or_from_slice_get d.0 k.0 j 0 k.1, long, g.long)

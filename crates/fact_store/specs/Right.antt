@@ -1,5 +1,5 @@
 -- What a store keeps true.
-use Rattle.std.specs.Prelude.{◌≡◌, ℕ, ◌≤◌, ◌⊎◌, Bool, true, false, ◌&&◌, List, Option, Some, None, length, map, slice_get, slice_set, slice_index, nat_eq, is_none, unwrap_or, []}
+use Rattle.std.specs.Prelude.{◌≡◌, ℕ, ◌<◌, ◌≤◌, ◌⊎◌, Bool, true, false, ◌&&◌, List, Option, Some, None, length, map, slice_get, slice_set, slice_index, nat_eq, is_none, unwrap_or, []}
 use Rattle.fact_store.specs.declared.slot.Slot.{Slot}
 use Rattle.fact_store.specs.declared.slot.Kept.{Kept}
 use Rattle.fact_store.specs.declared.given.Input.{Input}
@@ -8,7 +8,8 @@ use Rattle.fact_values.specs.Names.{has}
 use Rattle.fact_values.specs.States.{State, same_given}
 use Rattle.fact_store.specs.Given.{states}
 use Rattle.fact_store.specs.Slots.{texts_of, IsSound, AreSound, is_settled}
-use Rattle.fact_store.specs.Plans.{is_marked, AreEdges, AreRanks, AreGrounds}
+use Rattle.index_graph.specs.Indices.{Has, AreGrouped}
+use Rattle.fact_store.specs.Plans.{is_marked, AreEdges, AreGrounds}
 
 -- whether a fact was made from the present text, and what was given then is like this
 abbrev pub is_fresh : {F : Type 0} → (F → F → Bool) → Option (Kept F) → List (List ℕ × State F) → Bool
@@ -32,8 +33,10 @@ module _ {Own F : Type 0} where
   -- the plan is that of these slots
   pub record IsPlan (slots : List (Slot Own F)) (plan : Plan) : Type 0 where
     pub edges : AreEdges slots plan.edges.items
-    pub ranks : AreRanks plan.edges.items plan.ranks.items
-    pub grounds : AreGrounds plan.edges.items plan.ranks.items plan.grounds.items
+    pub groups : AreGrouped plan.edges.items plan.order.items plan.groups.items
+    pub all : (index : ℕ) → index < length plan.edges.items → Has plan.order.items index
+    pub within : (index : ℕ) → Has plan.order.items index → index < length plan.edges.items
+    pub grounds : AreGrounds plan.edges.items plan.groups.items plan.grounds.items
 
   -- a plan is that of these slots, if there is one
   abbrev pub HoldsPlan : List (Slot Own F) → Option Plan → Type 0
@@ -46,10 +49,10 @@ module _ {Own F : Type 0} where
 
   -- each need of this index that does not lead back is done
   abbrev pub IsReady : List (Slot Own F) → List ℕ → List Bool → ℕ → Type 0
-  IsReady slots ranks current index =
+  IsReady slots groups current index =
       (slot : Slot Own F) → slice_get slots index ≡ Some slot →
       (j : ℕ) (other : Slot Own F) → slice_get slots j ≡ Some other → has (unwrap_or slot.needs []) other.name ≡ true →
-      nat_eq (slice_index ranks j) (slice_index ranks index) ≡ false → IsDone current j other
+      nat_eq (slice_index groups j) (slice_index groups index) ≡ false → IsDone current j other
 
   module _ (own_of : List ℕ → List ℕ → Own) (needs_of : Own → Option (List (List ℕ))) (fact_of : List ℕ → Own → List (List ℕ × State F) → F) (same : F → F → Bool) where
     -- the slots are sound, and the facts that stand are those of the present texts

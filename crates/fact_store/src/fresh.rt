@@ -31,7 +31,7 @@ fn input_of<D: Derive>(
 ) -> Result<Input<D::Fact>, Memory>
     requires right { IsRight D.own_of D.needs_of D.fact_of D.same slots.now current.now }
     requires plan { IsPlan slots.now plan.now }
-    requires ready { IsReady slots.now plan.now.ranks.items current.now index }
+    requires ready { IsReady slots.now plan.now.groups.items current.now index }
     requires index { index < length slots.now }
     requires need { (slot : SlotOf D.Own D.Fact) → slice_get slots.now index ≡ Some slot
         → has (unwrap_or slot.needs []) need.now ≡ true }
@@ -44,7 +44,7 @@ fn input_of<D: Derive>(
     let Some(other) = slots.index_of(need) else {
         return Ok(Input::NoText);
     };
-    if plan.ranks[other] == plan.ranks[index] {
+    if plan.groups[other] == plan.groups[index] {
         return Ok(Input::Cyclic);
     }
     let slot = slots.at(other);
@@ -116,7 +116,7 @@ fn given_of<D: Derive>(
 ) -> Result<Given<D::Fact>, Memory>
     requires right { IsRight D.own_of D.needs_of D.fact_of D.same slots.now current.now }
     requires plan { IsPlan slots.now plan.now }
-    requires ready { IsReady slots.now plan.now.ranks.items current.now index }
+    requires ready { IsReady slots.now plan.now.groups.items current.now index }
     requires index { index < length slots.now }
     ensures { IfOk result (λ given. (slot : SlotOf D.Own D.Fact)
         → slice_get slots.now index ≡ Some slot
@@ -201,7 +201,7 @@ pub fn bring<D: Derive, L>(
 ) -> Result<(), Memory>
     requires right { IsRight D.own_of D.needs_of D.fact_of D.same slots.old current.old.items }
     requires plan { IsPlan slots.old plan.now }
-    requires ready { IsReady slots.old plan.now.ranks.items current.old.items index }
+    requires ready { IsReady slots.old plan.now.groups.items current.old.items index }
     requires index { index < length slots.old }
     requires marks { vec_len current.old ≡ length slots.old }
     ensures brings { Brings D.own_of D.needs_of D.fact_of D.same slots.old slots.new

@@ -14,7 +14,6 @@ mod batch;
 mod derive;
 mod fresh;
 mod given;
-mod graph;
 mod order;
 mod plan;
 mod shelf;

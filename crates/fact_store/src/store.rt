@@ -3,6 +3,7 @@ ghost use Rattle.std.specs.FinMap as map;
 ghost use Rattle.fact_values.specs.Values.{value, dirty};
 ghost use Rattle.fact_store.specs.Given.{answer_state};
 ghost use Rattle.fact_store.specs.Slots.{texts_of, owed, AreDistinct};
+ghost use Rattle.fact_store.specs.Plans.{is_marked};
 ghost use Rattle.fact_store.specs.Right.{outlines, IsDone, HoldsPlan, IsRight, IsStore};
 ghost use Rattle.fact_store.specs.Holding.{with_text, with_texts, AreBetween};
 ghost use Rattle.fact_store.specs.declared.slot.Slot.{Slot as SlotOf};
@@ -10,7 +11,6 @@ ghost use Rattle.fact_store.specs.declared.slot.Slot.{Slot as SlotOf};
 use crate::batch::put_all;
 use crate::derive::Derive;
 use crate::given::{Answer, NewText};
-use crate::graph::cover;
 use crate::order::bring_all;
 use crate::plan::{Plan, plan_of};
 use crate::shelf::Shelf;
@@ -46,6 +46,19 @@ impl<D: Derive> Model for FactStore<D> {
 
     ghost invariant = { λ s. IsStore D.own_of D.needs_of D.fact_of D.same s.slots s.plan
         s.current.items };
+}
+
+// A mark for each slot, where what was marked stays so.
+fn cover(marks: &mut Vec<bool>, len: usize) -> Result<(), Memory>
+    requires { vec_len marks.old ≤ len }
+    ensures marks { (i : ℕ) → is_marked marks.new.items i ≡ is_marked marks.old.items i }
+    ensures most { vec_len marks.new ≤ len }
+    ensures ok { OnOk result (vec_len marks.new ≡ len) }
+{
+    for _ in marks.len()..len {
+        marks.push(false)?;
+    }
+    Ok(())
 }
 
 // A plan of these slots, where there is none yet.

@@ -1,4 +1,5 @@
 use Rattle.std.specs.Prelude.{unwrap_or, []}
+use Rattle.std.proofs.lemmas.List.{take_all}
 use Rattle.std.proofs.Common.{◌≡◌, ℕ, ◌≤◌, List, length, sym, ap, ◌∙◌, arith}
 use Rattle.fact_store.specs.declared.slot.Slot.{Slot}
 use Rattle.fact_values.specs.Names.{has}
@@ -6,8 +7,7 @@ use Rattle.fact_values.specs.Values.{gives, all_given, value}
 use Rattle.fact_store.specs.Slots.{texts_of}
 use Rattle.fact_store.proofs.InputLemmas.{one_at}
 use Rattle.fact_store.proofs.Pairs.{has-read, all_given-more}
-use Rattle.fact_store.proofs.Ranks.{needs_in-slot}
-use Rattle.fact_store.proofs.Search.{take-all}
+use Rattle.fact_store.proofs.Groups.{needs_in-slot}
 use Rattle.fact_store.proofs.fresh.given_of.Goals as goal
 
 pub input_of-requires-clause-need : goal.input_of-requires-clause-need
@@ -30,6 +30,6 @@ returns g c = λ slot at.
     let over : length c.needed-name-items.result.now ≤ c.loop-name.name-index = omega arith in
     c.loop-name.invariant slot at
     ∙ ap (all_given g.D.Derive.own_of g.D.Derive.needs_of g.D.Derive.fact_of (texts_of c.args.slots.now) (value g.D.Derive.own_of g.D.Derive.needs_of g.D.Derive.fact_of (texts_of c.args.slots.now)) slot.name)
-    (take-all c.loop-name.name-index c.needed-name-items.result.now over ∙ c.needed-name-items.ensures
+    (take_all c.loop-name.name-index c.needed-name-items.result.now over ∙ c.needed-name-items.ensures
     ∙ ap (λ (z : Slot g.row.D-Own.Denot g.row.D-Fact.Denot). unwrap_or z.needs []) s
     ∙ sym (needs_in-slot g.D.Derive.own_of g.D.Derive.needs_of g.D.Derive.fact_of c.args.slots.now c.requires.right.sound c.args.index slot at))

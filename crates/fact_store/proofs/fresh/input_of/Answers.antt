@@ -15,7 +15,7 @@ returns-in_default g c = λ slot at.
 pub index-requires : goal.index-requires
 index-requires g c =
     let p = c.in-Some.ensures in let w = slice_get_within c.args.slots.now c.in-Some.other p.0 p.1 in
-    omega (arith, w, c.requires.plan.edges.long, c.requires.plan.ranks.long, c.args.plan.now.ranks.ok.0)
+    omega (arith, w, c.requires.plan.edges.long, c.requires.plan.groups.long, c.args.plan.now.groups.ok.0)
 
 pub returns-then-index : goal.returns-then-index
 returns-then-index g c = λ slot at.

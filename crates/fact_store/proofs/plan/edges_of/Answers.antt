@@ -6,4 +6,4 @@ use Rattle.fact_store.proofs.plan.edges_of.Goals as goal
 pub loop-index-preserved : goal.loop-index-preserved
 loop-index-preserved g c =
     let slots = c.args.slots.now in let i = c.loop-index.index in let slot = c.at.result.now in let row = c.in_ok-row_of.field-0 in
-    AreEdgesUpto-more slots c.loop-index.edges.items c.push.new.self.items i row slot c.loop-index.invariant c.at.ensures (subst (λ (xs : List (List ℕ)). IsRow slots xs row.items) c.needed.ensures c.in_ok-row_of.ensures) c.in_ok-push.ensures.items
+    AreEdgesUpto-more slots c.loop-index.edges.items c.push.new.self.items i row slot c.loop-index.invariant c.at.ensures (subst (λ (xs : List (List ℕ)). IsRow slots xs row) c.needed.ensures c.in_ok-row_of.ensures) c.in_ok-push.ensures.items

@@ -3,4 +3,4 @@ use Rattle.fact_store.specs.Plans.{IsGround}
 use Rattle.fact_store.proofs.plan.ground_of.Given as goal
 
 abbrev pub invariant-loop-index : goal.invariant-loop-index
-invariant-loop-index l = IsGround l.ranks l.rank (take l.index-index l.row) l.ground.items
+invariant-loop-index l = IsGround l.groups l.group (take l.index-index l.row) l.ground

@@ -1,7 +1,7 @@
 use Rattle.std.proofs.Common.{ap, ◌∙◌, arith}
 use Rattle.fact_store.specs.Plans.{is_marked}
 use Rattle.fact_store.proofs.Marks.{is_marked-unset}
-use Rattle.fact_store.proofs.graph.cover.Goals as goal
+use Rattle.fact_store.proofs.store.cover.Goals as goal
 
 pub loop-preserved : goal.loop-preserved
 loop-preserved c =

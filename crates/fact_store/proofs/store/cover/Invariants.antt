@@ -1,6 +1,6 @@
 use Rattle.std.proofs.Common.{◌≡◌, ◌≤◌, ℕ, vec_len}
 use Rattle.fact_store.specs.Plans.{is_marked}
-use Rattle.fact_store.proofs.graph.cover.Given as goal
+use Rattle.fact_store.proofs.store.cover.Given as goal
 
 abbrev pub invariant-loop : goal.invariant-loop
 invariant-loop l = record {
