@@ -3,63 +3,16 @@ ghost use Rattle.std.specs.Prelude.{◌≡◌, ◌++◌, ◌∷◌, [], IfOk, st
 ghost use Rattle.std.specs.List.{All};
 ghost use Rattle.family_facts.specs.Verdicts.{IsVerdictPlaced};
 ghost use Rattle.sany_report.specs.Report as report;
-ghost use Rattle.sany_report.specs.Cursors.{IsCursor, cursor_at};
 ghost use Rattle.sany_report.specs.Spans.{FaultsPlaced};
-ghost use Rattle.std.specs.Str.{IsCharBoundary};
+ghost use Rattle.text_cursor.specs.Cursors.{IsCursor, cursor_at};
+ghost use Rattle.text_cursor.specs.declared.cursor.Columns.TheVariants.{Characters};
 ghost use Rattle.tla_lexeme.specs.Spans.{IsPlaced};
-ghost use Rattle.tla_text.specs.Places.{place_at};
-ghost use Rattle.tla_text.specs.declared.Measure.TheVariants.{Characters};
 
 use family_facts::Verdict;
 use std::alloc::{AllocError, Global};
+use text_cursor::{Columns, Cursor};
 use tla_model::Diagnostic;
-use tla_text::{Measure, Place, Text};
-
-// Where a report has come to in a text: an offset in bytes, with its place in characters.
-#[derive(Clone, Copy)]
-struct Cursor {
-    offset: u32,
-    place: Place,
-}
-
-// The last offset to which places go forward: no text of a module is longer.
-const FORWARD: u32 = 1 << 27;
-
-// The cursor at the start of a text.
-fn start_of(text: &Text) -> Cursor
-    ensures { IsCursor text.now result }
-{
-    // The proof needs that a text is UTF-8.
-    let _bytes = text.bytes();
-    Cursor {
-        offset: 0,
-        place: place_of(text, 0),
-    }
-}
-
-// The cursor at an offset, by one that is mostly before it.
-fn moved(text: &Text, from: Cursor, offset: u32) -> Cursor
-    requires from { IsCursor text.now from }
-    requires offset { IsCharBoundary text.now offset }
-    ensures at { result ≡ cursor_at text.now offset }
-    ensures cursor { IsCursor text.now result }
-{
-    let place = if from.offset <= offset && offset <= FORWARD {
-        text.place_near(Measure::Characters, from.offset, from.place, offset)
-    } else {
-        place_of(text, offset)
-    };
-    Cursor { offset, place }
-}
-
-// The place of an offset, from the start of its line.
-fn place_of(text: &Text, offset: u32) -> Place
-    requires { IsCharBoundary text.now offset }
-    ensures { result ≡ place_at Characters text.now offset }
-{
-    let (line, column) = text.line_col(offset);
-    Place { line, column }
-}
+use tla_text::{Place, Text};
 
 fn line_between(alloc: Global, start: Place, end: Place, code: u16) -> Result<String, AllocError>
     ensures { IfOk result (λ line. string_bytes line ≡ report.line_between start end code) }
@@ -79,11 +32,11 @@ fn fault_line(
     fault: &Diagnostic,
 ) -> Result<String, AllocError>
     requires placed { IsPlaced text.now fault.now.span }
-    requires cursor { IsCursor text.now start }
-    requires start { start ≡ cursor_at text.now fault.now.span.start }
+    requires cursor { IsCursor Characters text.now start }
+    requires start { start ≡ cursor_at Characters text.now fault.now.span.start }
     ensures { IfOk result (λ line. string_bytes line ≡ report.fault_line text.now fault.now) }
 {
-    let end = moved(text, start, fault.span.end);
+    let end = start.moved(text, Columns::Characters, fault.span.end);
     line_between(alloc, start.place, end.place, fault.code)
 }
 
@@ -92,9 +45,9 @@ fn fault_lines(alloc: Global, text: &Text, faults: &[Diagnostic]) -> Result<Stri
     ensures { IfOk result (λ lines. string_bytes lines ≡ report.fault_lines text.now faults.now) }
 {
     let mut lines = String::new(alloc);
-    let mut cursor = start_of(text);
+    let mut cursor = Cursor::start(text, Columns::Characters);
     for fault in faults {
-        cursor = moved(text, cursor, fault.span.start);
+        cursor = cursor.moved(text, Columns::Characters, fault.span.start);
         lines.push_str(fault_line(alloc, text, cursor, fault)?.as_str())?;
     }
     Ok(lines)

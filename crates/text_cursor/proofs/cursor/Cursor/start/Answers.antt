@@ -1,5 +1,5 @@
 use Rattle.std.proofs.lemmas.Str.{IsCharBoundary-start}
-use Rattle.sany_report.proofs.report.start_of.Goals as goal
+use Rattle.text_cursor.proofs.cursor.Cursor.start.Goals as goal
 
 pub place_of-requires : goal.place_of-requires
 place_of-requires c = IsCharBoundary-start c.args.text.now c.bytes-bytes.ensures.utf8
