@@ -20,7 +20,8 @@ use Rattle.lsp_wire.specs.declared.types.Reply.{Reply}
 use Rattle.lsp_wire.specs.declared.types.Reply.TheVariants.{Null, Place, Places}
 use Rattle.lsp_answers.specs.States.{State, Root, ModuleText, Opened}
 use Rattle.server_documents.specs.Documents.{opened_as, text_of}
-use Rattle.server_texts.specs.Notes.{all_texts, area_at}
+use Rattle.server_notes.specs.Areas.{area_at}
+use Rattle.server_texts.specs.Notes.{all_texts}
 use Rattle.server_uris.specs.Uris.{module_of, uri_of}
 
 -- ---- what is found of a module

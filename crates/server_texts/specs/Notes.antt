@@ -1,34 +1,14 @@
 -- The notes of a document: what is found of its module among the root's texts and the built-in modules.
 use Rattle.std.specs.Prelude.{ℕ, List, [], map, Option, Some, None}
-use Rattle.tla_symbols.specs.declared.lexeme.Span.{Span}
-use Rattle.tla_text.specs.declared.Place.{Place}
-use Rattle.tla_text.specs.declared.Measure.TheVariants.{Utf16}
-use Rattle.tla_text.specs.Places.{place_at}
-use Rattle.tla_model.specs.declared.Diagnostic.{Diagnostic}
 use Rattle.fact_values.specs.Names.{Texts}
 use Rattle.family_facts.specs.declared.verdict.File.{File}
 use Rattle.family_facts.specs.declared.verdict.Verdict.{Verdict}
 use Rattle.family_facts.specs.Facts.{texts_of}
 use Rattle.family_facts.specs.Verdicts.{family_of, verdict_on}
-use Rattle.lsp_wire.specs.declared.types.Position.{Position}
-use Rattle.lsp_wire.specs.declared.types.Area.{Area}
 use Rattle.lsp_wire.specs.declared.types.Note.{Note}
 use Rattle.lsp_answers.specs.States.{State, ModuleText}
+use Rattle.server_notes.specs.Areas.{notes_on}
 use Rattle.server_documents.specs.Documents.{text_of}
-
--- ---- places
-
--- a place as LSP counts: its line, and the units of UTF-16 before it there
-abbrev pub as_position : Place → Position
-as_position place = record { line = place.line; unit = place.column }
-
--- the position of an offset in a text
-abbrev pub position_at : List ℕ → ℕ → Position
-position_at text offset = as_position (place_at Utf16 text offset)
-
--- the area of a span of a text
-abbrev pub area_at : List ℕ → Span → Area
-area_at text span = record { start = position_at text span.start; end = position_at text span.end }
 
 -- ---- texts
 
@@ -46,13 +26,9 @@ all_texts texts = texts_of (family_of (files_of texts))
 
 -- ---- notes
 
--- a fault of a text, by its code and its area
-abbrev pub note_of : List ℕ → Diagnostic → Note
-note_of text fault = record { code = fault.code; area = area_at text fault.span }
-
 -- the notes of a verdict, in its order
 abbrev pub notes_of_verdict : Verdict → List Note
-notes_of_verdict verdict = map (note_of verdict.text) verdict.faults
+notes_of_verdict verdict = notes_on verdict.text verdict.faults
 
 -- the notes of a text of this name
 abbrev pub notes_in : List ModuleText → List ℕ → Option (List ℕ) → List Note

@@ -14,7 +14,7 @@ use Rattle.lsp_wire.specs.declared.types.Reply.TheVariants.{Symbols}
 use Rattle.lsp_wire.specs.declared.types.Symbol.{Symbol, roll-Symbol}
 use Rattle.lsp_answers.specs.States.{State, ModuleText}
 use Rattle.server_texts.specs.Answers.{module_at}
-use Rattle.server_texts.specs.Notes.{area_at}
+use Rattle.server_notes.specs.Areas.{area_at}
 
 -- ---- kinds of symbols, by LSP's numbers
 
