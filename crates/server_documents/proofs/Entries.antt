@@ -18,7 +18,7 @@ use Rattle.server_documents.specs.Documents.{named, put, without}
 use Rattle.server_documents.specs.declared.held.Held.{Held}
 use Rattle.server_documents.specs.declared.held.Held.TheVariants.{Document}
 use Rattle.server_documents.specs.declared.documents.Open.{Open}
-use Rattle.server_documents.specs.Held.{HasDocument, HaveDocuments, bytes_of, held_as, opened_entry, text_as}
+use Rattle.server_documents.specs.Held.{AreShort, HasDocument, HaveDocuments, bytes_of, held_as, opened_entry, text_as}
 
 -- ---- looked up
 
@@ -86,6 +86,25 @@ module _ {V : Type 0} where
           let same = same-text name e.0 (at-key name e.0 Equal is) in
           ap (λ k. cond (bytes_eq other k) (Some v) rest) (sym same) ∙ here (bytes_eq other name) refl ∙ ap (λ k. cond (bytes_eq other name) (Some v) (cond (bytes_eq other k) (Some e.1) rest)) same
       by Greater is more = ap (λ z. cond (bytes_eq other e.0) (Some e.1) z) more ∙ past (bytes_eq other name) (bytes_eq other e.0) refl refl (at-key name e.0 Greater is)
+
+-- ---- short texts
+
+pub short-put : (es : List (List ℕ × Held)) (name : List ℕ) (v : Held) → AreShort es → length (bytes_of v) < 2 ^ 31 → AreShort (insert_entry (slice_cmp nat_cmp) es name v)
+short-put [] name v all here = (here, tt)
+short-put (e ∷ es) name v all here = by (slice_cmp nat_cmp name e.0) (short-put es name v all.1 here)
+  where
+    by : (o : Ordering) → AreShort (insert_entry (slice_cmp nat_cmp) es name v) → AreShort (match_ordering o ((name, v) ∷ e ∷ es) ((e.0, v) ∷ es) (e ∷ insert_entry (slice_cmp nat_cmp) es name v))
+    by Less rest = (here, all)
+    by Equal rest = (here, all.1)
+    by Greater rest = (all.0, rest)
+
+pub short-taken : (test : List ℕ → Bool) (es : List (List ℕ × Held)) → AreShort es → AreShort (remove_entry test es)
+short-taken test [] all = tt
+short-taken test (e ∷ es) all = by (test e.0) (short-taken test es all.1)
+  where
+    by : (b : Bool) → AreShort (remove_entry test es) → AreShort (cond b es (e ∷ remove_entry test es))
+    by true rest = all.1
+    by false rest = (all.0, rest)
 
 -- ---- the texts of open documents
 

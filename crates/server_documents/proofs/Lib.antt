@@ -1,3 +1,4 @@
 mod Changing
 mod Closing
 mod Entries
+mod Limits

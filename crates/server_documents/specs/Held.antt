@@ -18,6 +18,10 @@ abbrev pub bytes_of : Held → List ℕ
 bytes_of (File bytes) = bytes
 bytes_of (Document text) = text
 
+-- how many they are
+abbrev pub held_len : Held → ℕ
+held_len held = length (bytes_of held)
+
 -- a module's text under its name
 abbrev pub text_as : List ℕ × Held → ModuleText
 text_as entry = record { name = entry.0; bytes = bytes_of entry.1 }
@@ -44,9 +48,18 @@ document_in None = None
 abbrev pub HasDocument : List (List ℕ × Held) → List ℕ → Type 0
 HasDocument entries name = (text : List ℕ) × (held_as entries name ≡ Some (Document text)) × (length text < 2 ^ 31)
 
+-- no text is longer than a text can be
+abbrev pub AreShort : List (List ℕ × Held) → Type 0
+AreShort entries = AllByRecursion (λ (entry : List ℕ × Held). length (bytes_of entry.1) < 2 ^ 31) entries
+
 -- so has the module of each open document
 abbrev pub HaveDocuments : List (List ℕ × Held) → List (List ℕ × Open) → Type 0
 HaveDocuments entries opened = AllByRecursion (λ (entry : List ℕ × Open). HasDocument entries entry.0) opened
+
+-- what is true of all that is held
+pub record AreHeld (entries : List (List ℕ × Held)) (opened : List (List ℕ × Open)) : Type 0 where
+  pub short : AreShort entries
+  pub documents : HaveDocuments entries opened
 
 -- an open document is no longer open, and the notice that takes its notes back is due; its text stays
 abbrev pub unopened : State → Opened → State

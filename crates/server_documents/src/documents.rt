@@ -1,14 +1,16 @@
 // The texts of a root's modules and the open documents.
-ghost use Rattle.std.specs.Prelude.{◌≡◌, ℕ, IfErr, IfNone, IfOk, List as ListOf, None, OnErr, OnOk, Some, ◌<◌, ◌^◌, cond, false, is_some, length, map, option_map};
+ghost use Rattle.std.specs.Prelude.{◌≡◌, ℕ, IfErr, IfNone, IfOk, IfSome, List as ListOf, None, OnErr, OnOk, Some, ◌<◌, ◌^◌, cond, false, is_some, length, map, option_map};
+ghost use Rattle.std.specs.BTreeMap.{values};
+ghost use Rattle.std.specs.List.{sum_by};
 ghost use Rattle.std.specs.Map.{lookup};
 ghost use Rattle.std.specs.Str.{bytes_eq};
 ghost use Rattle.doc_edit.specs.Edits.{first_backward, first_excess};
 ghost use Rattle.std.specs.Option.{option_copied};
-ghost use Rattle.lsp_answers.specs.States.{first_too_long};
+ghost use Rattle.lsp_answers.specs.States.{first_too_long, limit_of};
 ghost use Rattle.server_documents.specs.Documents as in_documents;
 ghost use Rattle.server_documents.specs.Documents.{put, without};
 ghost use Rattle.server_documents.specs.Held as in_held;
-ghost use Rattle.server_documents.specs.Held.{HasDocument, HaveDocuments, held_as, opened_entry, text_as};
+ghost use Rattle.server_documents.specs.Held.{AreHeld, AreShort, HasDocument, HaveDocuments, held_as, held_len, opened_entry, text_as};
 ghost use Rattle.server_documents.specs.declared.held.Held.{Held as HeldValue};
 
 use crate::held::Held;
@@ -20,6 +22,11 @@ use std::collections::BTreeMap;
 use std::marker::Model;
 use tla_text::{Text, TextError};
 use tool_list::{Chars, List, Memory};
+
+// The most modules whose texts are held, and the most bytes of these together.
+const MOST_MODULES: u64 = 1024;
+
+const MOST_BYTES: u64 = 1 << 25;
 
 /// Why a document was not changed.
 #[derive(Clone, Copy, Debug, PartialEq, Eq)]
@@ -99,7 +106,7 @@ impl Drop for Documents {
 impl Model for Documents {
     ghost use Rattle.std.specs.Prelude.{None, map};
     ghost use Rattle.lsp_answers.specs.States as states;
-    ghost use Rattle.server_documents.specs.Held.{HaveDocuments, opened_entry, text_as};
+    ghost use Rattle.server_documents.specs.Held.{AreHeld, opened_entry, text_as};
 
     ghost Value = { states.State };
 
@@ -111,7 +118,15 @@ impl Model for Documents {
       folder = None;
     } };
 
-    ghost invariant = { λ d. HaveDocuments d.texts.entries d.opened.entries };
+    ghost invariant = { λ d. AreHeld d.texts.entries d.opened.entries };
+}
+
+// The bytes of all texts.
+fn byte_count(texts: &BTreeMap<Chars, Held>) -> u64
+    requires { sum_by held_len (values texts.now) < 2 ^ 64 }
+    ensures { result ≡ sum_by held_len (values texts.now) }
+{
+    texts.values().map(|held| held.bytes().len() as u64).sum()
 }
 
 // Puts a document's text under a module's name, in the place of what is there.
@@ -122,6 +137,8 @@ fn put_text(texts: &mut BTreeMap<Chars, Held>, name: &Chars, held: Held) -> Resu
         ≡ cond (bytes_eq other name.now) (Some held) (held_as texts.old.entries other)) }
     ensures others { (other : ListOf ℕ) → bytes_eq other name.now ≡ false
         → held_as texts.new.entries other ≡ held_as texts.old.entries other }
+    ensures short { AreShort texts.old.entries → length (in_held.bytes_of held) < 2 ^ 31
+        → AreShort texts.new.entries }
     ensures err { OnErr result (texts.new.entries ≡ texts.old.entries) }
 {
     let Ok(name) = name.copied() else {
@@ -156,6 +173,7 @@ fn take_text(texts: &mut BTreeMap<Chars, Held>, name: &Chars)
         ≡ without (λ t. t.name) name.now (map text_as texts.old.entries) }
     ensures others { (other : ListOf ℕ) → bytes_eq other name.now ≡ false
         → held_as texts.new.entries other ≡ held_as texts.old.entries other }
+    ensures short { AreShort texts.old.entries → AreShort texts.new.entries }
 {
     // The proof needs that the names are in order.
     let _len = texts.len();
@@ -255,6 +273,23 @@ impl Documents {
         self.opened.contains_key(name)
     }
 
+    /// The limit that the texts pass, if one: the number of the modules where these are more than 1,024,
+    /// or else the bytes of all texts where these are more than 2^25.
+    pub fn limit(&self) -> Option<u64>
+        ensures { result ≡ limit_of self.now }
+    {
+        let count = self.texts.len() as u64;
+        if count > MOST_MODULES {
+            return Some(count);
+        }
+        let bytes = byte_count(&self.texts);
+        if bytes > MOST_BYTES {
+            Some(bytes)
+        } else {
+            None
+        }
+    }
+
     /// The module of an open document, under whatever spelling of its URI.
     pub fn opened_at(&self, alloc: Global, uri: &str) -> Result<Option<Chars>, Memory>
         ensures { IfOk result (λ name. name
@@ -272,7 +307,8 @@ impl Documents {
 
     /// A module whose document is not open gets the bytes of its file, or loses what it has.
     pub fn set_file(&mut self, name: &Chars, bytes: Option<List<u8>>) -> Result<(), Memory>
-        requires { is_some (in_documents.opened_as self.old name.now) ≡ false }
+        requires closed { is_some (in_documents.opened_as self.old name.now) ≡ false }
+        requires short { IfSome bytes (λ bytes. length bytes < 2 ^ 31) }
         ensures { OnOk result (self.new ≡ in_documents.with_text self.old name.now bytes) }
     {
         match bytes {

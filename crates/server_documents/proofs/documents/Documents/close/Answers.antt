@@ -19,13 +19,13 @@ returns-in_default-take_open-clause-name c =
     (names-none (c.self.inside.root) (map text_as c.self.inside.texts.entries) c.self.inside.opened.entries c.take_open.new.opened.entries c.self.inside.due c.args.uri.now c.in-Some.name (sym (c.in_ok-name.ensures ∙ ap (λ (r : Option Root). module_of r c.args.uri.now) c.as_ref.ensures.value) ∙ c.in-Some.is) (sym c.take_open.ensures.value ∙ c.in_default-take_open.is))
 
 pub invariant_of-self-in_err-uri : goal.invariant_of-self-in_err-uri
-invariant_of-self-in_err-uri c = c.take_open.ensures.documents c.self.inside.texts.entries c.self.invariant
+invariant_of-self-in_err-uri c = record { short = c.self.invariant.short; documents = c.take_open.ensures.documents c.self.inside.texts.entries c.self.invariant.documents }
 
 pub invariant_of-self-in_err-copied : goal.invariant_of-self-in_err-copied
-invariant_of-self-in_err-copied c = c.take_open.ensures.documents c.self.inside.texts.entries c.self.invariant
+invariant_of-self-in_err-copied c = record { short = c.self.invariant.short; documents = c.take_open.ensures.documents c.self.inside.texts.entries c.self.invariant.documents }
 
 pub invariant_of-self-2 : goal.invariant_of-self-2
-invariant_of-self-2 c = c.take_open.ensures.documents c.self.inside.texts.entries c.self.invariant
+invariant_of-self-2 c = record { short = c.self.invariant.short; documents = c.take_open.ensures.documents c.self.inside.texts.entries c.self.invariant.documents }
 
 pub returns-clause-closed : goal.returns-clause-closed
 returns-clause-closed c =
