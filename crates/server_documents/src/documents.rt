@@ -153,9 +153,11 @@ fn put_text(texts: &mut BTreeMap<Chars, Held>, name: &Chars, held: Held) -> Resu
 // Puts an open document under its module's name, in the place of what is there.
 fn put_open(opened: &mut BTreeMap<Chars, Open>, name: &Chars, document: Open) -> Result<(), Memory>
     ensures opened { OnOk result (map opened_entry opened.new.entries
-        ≡ put (λ o. o.name) (opened_entry (name.now, document)) (map opened_entry opened.old.entries)) }
-    ensures documents { OnOk result ((texts : ListOf (ListOf ℕ × HeldValue)) → HasDocument texts name.now
-        → HaveDocuments texts opened.old.entries → HaveDocuments texts opened.new.entries) }
+        ≡ put (λ o. o.name) (opened_entry (name.now, document))
+        (map opened_entry opened.old.entries)) }
+    ensures documents { OnOk result ((texts : ListOf (ListOf ℕ × HeldValue))
+        → HasDocument texts name.now → HaveDocuments texts opened.old.entries
+        → HaveDocuments texts opened.new.entries) }
     ensures err { OnErr result (opened.new.entries ≡ opened.old.entries) }
 {
     let Ok(name) = name.copied() else {
