@@ -3,7 +3,7 @@ use Rattle.std.specs.Prelude.{ℕ, ◌≡◌, ◌<◌, ◌^◌, List, [], length
 use Rattle.std.specs.List.{AllByRecursion}
 use Rattle.std.specs.Str.{bytes_eq}
 use Rattle.std.specs.Map.{lookup}
-use Rattle.lsp_answers.specs.States.{State, ModuleText, Opened}
+use Rattle.lsp_answers.specs.States.{Root, State, ModuleText, Opened}
 use Rattle.lsp_wire.specs.declared.types.Change.{Change}
 use Rattle.doc_edit.specs.Edits.{after_changes}
 use Rattle.server_documents.specs.Documents.{with_due, without}
@@ -33,6 +33,10 @@ opened_entry entry = record { name = entry.0; uri = entry.1.uri; sent = entry.1.
 -- nothing is held
 abbrev pub nothing : State
 nothing = record { root = None; texts = []; opened = []; due = None; folder = None }
+
+-- the client's root is taken
+abbrev pub with_root : State → Root → State
+with_root s root = record s { root = Some root }
 
 -- what is held under a name
 abbrev pub held_as : List (List ℕ × Held) → List ℕ → Option Held

@@ -258,6 +258,13 @@ impl Documents {
         self.root.as_ref()
     }
 
+    /// Takes the client's root, in the place of what is there. No text and no document changes.
+    pub fn set_root(&mut self, root: Root)
+        ensures { self.new ≡ in_held.with_root self.old root }
+    {
+        self.root = Some(root);
+    }
+
     /// The text of a module, if it has one.
     pub fn text(&self, name: &Chars) -> Option<&[u8]>
         ensures { option_copied result ≡ in_documents.text_of self.now name.now }
