@@ -1,29 +1,16 @@
 // A document from its open to its close.
+use crate::given::{URI, chars_of, check_text};
 use lsp_wire::Change;
 use server_documents::{ChangeFault, Documents};
 use std::alloc::Global;
 use std::process::Abort;
-use tool_list::{Chars, List};
-
-const URI: &str = "file:///w/A.tla";
-
-fn chars_of(rt: &impl Abort, alloc: Global, text: &str) -> Chars {
-    Chars::from_str(alloc, text).expect(rt, text)
-}
+use tool_list::List;
 
 fn change_to(rt: &impl Abort, alloc: Global, text: &str) -> List<Change> {
     let mut changes = List::new(alloc);
     let text = chars_of(rt, alloc, text);
     changes.push(Change { area: None, text }).expect(rt, "room");
     changes
-}
-
-fn check_text(rt: &impl Abort, documents: &Documents, name: &Chars, expected: &str) {
-    assert_eq!(rt;
-        documents.text(name),
-        Some(expected.as_bytes()),
-        "{expected}"
-    );
 }
 
 #[test]
