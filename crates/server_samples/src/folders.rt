@@ -1,5 +1,5 @@
 // Files of a folder that come, count again and go.
-use crate::given::{URI, chars_of, check_text};
+use crate::given::{URI, chars_of, check_text, open_text};
 use lsp_wire::FileEvent;
 use server_documents::Documents;
 use server_folder::{close, judge, take_files};
@@ -28,30 +28,38 @@ fn event_of(rt: &impl Abort, alloc: Global, gone: bool) -> List<FileEvent> {
     events
 }
 
+fn take_root(rt: &impl Abort, alloc: Global, documents: &mut Documents) {
+    let root = client_root(alloc, "file:///w/").expect(rt, "room");
+    documents.set_root(root.expect(rt, "a root"));
+}
+
+fn take_event(
+    rt: &impl Abort,
+    alloc: Global,
+    documents: &mut Documents,
+    folder: &mut MemoryFolder,
+    gone: bool,
+) {
+    let events = event_of(rt, alloc, gone);
+    assert_eq!(rt;
+        take_files(alloc, documents, folder, events.as_slice()),
+        Ok(())
+    );
+}
+
 #[test]
 fn reads_files_again(rt: HostRuntime) {
     let alloc = rt.alloc();
+    let name = chars_of(&rt, alloc, "A");
     let mut folder = folder_of(&rt, alloc, "/w", "A.tla", "file");
     let mut documents = Documents::new(alloc);
-    let root = client_root(alloc, "file:///w/").expect(&rt, "room");
-    documents.set_root(root.expect(&rt, "a root"));
-    let name = chars_of(&rt, alloc, "A");
-    let text = chars_of(&rt, alloc, "open");
-    assert!(&rt; text.as_str().len() < 1000);
-    documents.open(alloc, URI, &text).expect(&rt, "room");
+    take_root(&rt, alloc, &mut documents);
+    open_text(&rt, alloc, &mut documents, "open");
     assert_eq!(&rt; close(alloc, &mut documents, &mut folder, URI), Ok(()));
     check_text(&rt, &documents, &name, "file");
     assert_eq!(&rt; judge(&documents), Ok(()));
-    let gone = event_of(&rt, alloc, true);
-    assert_eq!(&rt;
-        take_files(alloc, &mut documents, &mut folder, gone.as_slice()),
-        Ok(())
-    );
+    take_event(&rt, alloc, &mut documents, &mut folder, true);
     assert_eq!(&rt; documents.text(&name), None);
-    let made = event_of(&rt, alloc, false);
-    assert_eq!(&rt;
-        take_files(alloc, &mut documents, &mut folder, made.as_slice()),
-        Ok(())
-    );
+    take_event(&rt, alloc, &mut documents, &mut folder, false);
     check_text(&rt, &documents, &name, "file");
 }

@@ -17,3 +17,9 @@ pub fn check_text(rt: &impl Abort, documents: &Documents, name: &Chars, expected
         "{expected}"
     );
 }
+
+pub fn open_text(rt: &impl Abort, alloc: Global, documents: &mut Documents, text: &str) {
+    let text = chars_of(rt, alloc, text);
+    assert!(rt; text.as_str().len() < 1000);
+    documents.open(alloc, URI, &text).expect(rt, "room");
+}
