@@ -1,7 +1,9 @@
 -- Documents with what a folder tells.
-use Rattle.std.specs.Prelude.{ℕ, List, Option, Some, None, option_map, option_and_then}
+use Rattle.std.specs.Prelude.{ℕ, List, Option, Some, None, option_map, option_and_then, ⊤}
 use Rattle.tool_io.specs.Folder.{Told, after_call}
 use Rattle.lsp_answers.specs.States.{Root, State}
+use Rattle.lsp_answers.specs.declared.AnswerFault.{AnswerFault}
+use Rattle.lsp_answers.specs.declared.AnswerFault.TheVariants.{Folder, Limit, Memory}
 use Rattle.server_documents.specs.Documents.{file_in, file_told}
 use Rattle.server_uris.specs.Uris.{module_of}
 use Rattle.lsp_wire.specs.declared.types.FileEvent.{FileEvent}
@@ -27,3 +29,15 @@ read_in (Some path) told name = file_in told path name
 -- a file was made, changed or deleted
 abbrev pub after_file : State → FileEvent → State
 after_file s event = file_told s event.gone (module_of s.root event.uri)
+
+-- a fault is a limit
+abbrev pub IsLimit : AnswerFault → Type 0
+IsLimit (Limit said) = ⊤
+IsLimit Folder = ⊥
+IsLimit Memory = ⊥
+
+-- a fault is of the folder, or want of memory
+abbrev pub IsNoLimit : AnswerFault → Type 0
+IsNoLimit (Limit said) = ⊥
+IsNoLimit Folder = ⊤
+IsNoLimit Memory = ⊤

@@ -1,9 +1,9 @@
 // Files of modules, read where a document is closed.
-ghost use Rattle.std.specs.Prelude.{◌≡◌, ◌<◌, ◌^◌, false, IfOk, IfSome, IsSome, IsTrue, OnOk, is_some, length};
+ghost use Rattle.std.specs.Prelude.{◌≡◌, ◌<◌, ◌^◌, false, IfErr, IfOk, IfSome, IsSome, IsTrue, OnOk, is_some, length};
 ghost use Rattle.std.specs.Option.{option_copied};
 ghost use Rattle.lsp_answers.specs.States.{HasAnswerCause, IsAfter, judged};
 ghost use Rattle.server_documents.specs.Documents.{after_close, after_files, opened_as, with_file};
-ghost use Rattle.server_folder.specs.Folders.{after_file, called_at, path_in, read_in, with_told};
+ghost use Rattle.server_folder.specs.Folders.{IsLimit, IsNoLimit, after_file, called_at, path_in, read_in, with_told};
 
 use file_names::{MOST, file_of};
 use lsp_answers::AnswerFault;
@@ -47,6 +47,7 @@ fn file_bytes<F: Folder>(
     ensures bytes { IsSome (F.told folder.old) → IfOk result (λ bytes. bytes
         ≡ read_in (path_in (option_copied root.entry)) (F.told folder.new) name.now) }
     ensures cause { HasAnswerCause (F.fault_count folder.old) (F.fault_count folder.new) result }
+    ensures quiet { IfErr result IsNoLimit }
 {
     let Some(path) = path_of(root) else {
         return Ok(None);
@@ -73,6 +74,7 @@ pub fn read_file<F: Folder>(
         ≡ with_file (with_told documents.old (F.told folder.old)) name.now) }
     ensures tells { IsSome (F.told folder.old) → OnOk result (IsSome (F.told folder.new)) }
     ensures cause { HasAnswerCause (F.fault_count folder.old) (F.fault_count folder.new) result }
+    ensures quiet { IfErr result IsNoLimit }
 {
     let bytes = file_bytes(alloc, documents.root(), folder, name.as_str())?;
     if !is_short(&bytes) {
@@ -93,6 +95,7 @@ pub fn close<F: Folder>(
         (with_told documents.new (F.told folder.new)
         ≡ after_close (with_told documents.old (F.told folder.old)) uri.now) }
     ensures cause { HasAnswerCause (F.fault_count folder.old) (F.fault_count folder.new) result }
+    ensures quiet { IfErr result IsNoLimit }
 {
     closes_by_parts();
     let Some(closed) = documents.close(alloc, uri)? else {
@@ -113,6 +116,7 @@ fn take_file<F: Folder>(
         ≡ after_file (with_told documents.old (F.told folder.old)) event.now) }
     ensures tells { IsSome (F.told folder.old) → OnOk result (IsSome (F.told folder.new)) }
     ensures cause { HasAnswerCause (F.fault_count folder.old) (F.fault_count folder.new) result }
+    ensures quiet { IfErr result IsNoLimit }
 {
     let Some(name) = module_of(alloc, documents.root(), event.uri.as_str())? else {
         return Ok(());
@@ -139,6 +143,7 @@ pub fn take_files<F: Folder>(
         (with_told documents.new (F.told folder.new)
         ≡ after_files (with_told documents.old (F.told folder.old)) events.now) }
     ensures cause { HasAnswerCause (F.fault_count folder.old) (F.fault_count folder.new) result }
+    ensures quiet { IfErr result IsNoLimit }
 {
     for event in events {
         take_file(alloc, documents, folder, event)?;
@@ -148,7 +153,8 @@ pub fn take_files<F: Folder>(
 
 /// Whether the texts are within the limits when a call is done.
 pub fn judge(documents: &Documents) -> Result<(), AnswerFault>
-    ensures { IsAfter (judged documents.now) result documents.now }
+    ensures limit { IsAfter (judged documents.now) result documents.now }
+    ensures quiet { IfErr result IsLimit }
 {
     match documents.limit() {
         Some(said) => Err(AnswerFault::Limit { said }),
