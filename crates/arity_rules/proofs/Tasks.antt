@@ -14,7 +14,7 @@ use Rattle.list_laws.proofs.Lists.{all-both}
 use Rattle.arity_rules.specs.declared.walk.Task.{Task}
 use Rattle.arity_rules.specs.Arities as arities
 use Rattle.arity_rules.specs.Arities.{Due, Role, count, is_known, is_part_inside, is_path, own_faults, part_due, part_faults, path_faults, role_of, tree_faults}
-use Rattle.arity_rules.specs.Walking.{AreDue, IsTaken, all_faults, all_size, below, part_tasks, path_tasks, segment_due, size, sizes, stack}
+use Rattle.arity_rules.specs.Tasks.{AreDue, IsTaken, all_faults, all_size, below, part_tasks, path_tasks, segment_due, size, sizes, stack}
 
 regroup : {A : Type 0} (a b c d : List A) → a ++ ((b ++ c) ++ d) ≡ (a ++ b) ++ (c ++ d)
 regroup a b c d = ap (λ z. a ++ z) (append_assoc b c d) ∙ sym (append_assoc a b (c ++ d))

@@ -1,3 +1,3 @@
 pub mod Arities
 pub mod Noted
-pub mod Walking
+pub mod Tasks

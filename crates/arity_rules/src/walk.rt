@@ -8,7 +8,7 @@ ghost use Rattle.arity_rules.specs.declared.place.Due.TheVariants.{Qualifier};
 ghost use Rattle.arity_rules.specs.declared.place.Role.TheVariants.{Other};
 ghost use Rattle.arity_rules.specs.Arities as arities;
 ghost use Rattle.arity_rules.specs.Noted.{told};
-ghost use Rattle.arity_rules.specs.Walking as walking;
+ghost use Rattle.arity_rules.specs.Tasks as walking;
 
 use crate::entity::{arity, order_at};
 use crate::faults::{push_if, push_other, push_use};

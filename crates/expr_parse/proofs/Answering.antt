@@ -34,7 +34,7 @@ use Rattle.expr_parse.specs.Goals.{stops, may_end, DerivesGoal, BeginsGoal, IsWh
 use Rattle.expr_stack.specs.StackMeaning.{Stands, Made}
 use Rattle.expr_parse.specs.TurnMeaning.{IsTurn, Turns, IsReady}
 use Rattle.expr_parse.specs.Ending.{Outermost, on_outermost, closing, ending_of, takes_whole, is_whole, IsLeft, Closes, IsOf, IsGoal}
-use Rattle.expr_parse.specs.Reading.{start_of, StandsAt, HasRead, IsRefusing, IsAnswer, IsDone, IsStepTo, HasStepped}
+use Rattle.expr_parse.specs.MachineMeaning.{start_of, StandsAt, HasRead, IsRefusing, IsAnswer, IsDone, IsStepTo, HasStepped}
 use Rattle.tree_parts.proofs.Growing.{grows-same, grows-on}
 
 abbrev on_last : {X : Type 0} → Option Outermost → (Outermost → Option X) → Option X

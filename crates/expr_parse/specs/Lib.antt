@@ -1,4 +1,4 @@
 pub mod Goals
 pub mod TurnMeaning
 pub mod Ending
-pub mod Reading
+pub mod MachineMeaning

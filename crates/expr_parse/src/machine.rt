@@ -12,7 +12,7 @@ ghost use Rattle.expr_parse.specs.Ending as ends;
 ghost use Rattle.tree_parts.specs.Parts.{Grows};
 ghost use Rattle.expr_stack.specs.StackMeaning.{Stands};
 ghost use Rattle.expr_parse.specs.TurnMeaning.{IsTurn, IsTurnReady, Turns};
-ghost use Rattle.expr_parse.specs.Reading.{StandsAt, HasRead, IsReady, IsRefusing, IsAnswer, IsDone, HasStepped, start_of};
+ghost use Rattle.expr_parse.specs.MachineMeaning.{StandsAt, HasRead, IsReady, IsRefusing, IsAnswer, IsDone, HasStepped, start_of};
 
 use crate::begins::{due, goes_on};
 use crate::ending::{close, is_whole, whole};

@@ -1,7 +1,7 @@
 pub mod Readable
 pub mod TextEnds
 pub mod TextGrows
-pub mod TextLies
+pub mod LexemesInText
 mod Held
 mod HeldTrees
 mod FewNames

@@ -17,7 +17,7 @@ use Rattle.tla_model.specs.Stretches.{one_of}
 use Rattle.tla_model.specs.ModuleNames.{instance_names, instances, instances_from, instances_in, instantiated}
 use Rattle.module_model.specs.Instances.{all_named_instances, all_path_starts, named_instance, named_instances, path_start, path_starts, paths_in, unit_trees}
 use Rattle.instance_names.specs.Forms.{word_at, word_start}
-use Rattle.instance_names.specs.Walking.{HoldsNone, IsTaken, all_collected, collected, due_trees, parts_of, root_in}
+use Rattle.instance_names.specs.Collected.{HoldsNone, IsTaken, all_collected, collected, due_trees, parts_of, root_in}
 use Rattle.instance_names.proofs.TreeWalk.{unit-due, unit-there}
 
 module _ {A : Type 0} (given : Form.the_data → Trees → List A) where

@@ -10,7 +10,7 @@ use Rattle.tla_tree.proofs.Nodes.{tree_at-node, before-there}
 use Rattle.tla_tree.proofs.Walks.{turned}
 use Rattle.unit_grammar.specs.UnitNodes.{nodes_in, unit_at}
 use Rattle.module_model.specs.Instances.{unit_trees}
-use Rattle.instance_names.specs.Walking.{AreDue, IsTaken, due_trees, parts_of, root_in, sizes}
+use Rattle.instance_names.specs.Collected.{AreDue, IsTaken, due_trees, parts_of, root_in, sizes}
 
 sizes-append : (a b : List Tree) → sizes (trees (a ++ b)) ≡ sizes (trees a) + sizes (trees b)
 sizes-append [] b = omega arith

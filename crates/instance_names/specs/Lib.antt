@@ -1,3 +1,3 @@
 pub mod Forms
 pub mod Named
-pub mod Walking
+pub mod Collected

@@ -6,7 +6,7 @@ ghost use Rattle.tla_tree.specs.Syntax.{trees};
 ghost use Rattle.tla_model.specs.Stretches.{one_of};
 ghost use Rattle.module_model.specs.Instances as instances;
 ghost use Rattle.instance_names.specs.Forms as forms;
-ghost use Rattle.instance_names.specs.Walking.{parts_of};
+ghost use Rattle.instance_names.specs.Collected.{parts_of};
 
 use tla_symbols::Lexeme;
 use tla_tree::{Form, Tree};

@@ -5,7 +5,7 @@ ghost use Rattle.tla_tree.specs.Syntax.{trees};
 ghost use Rattle.unit_grammar.specs.UnitNodes.{nodes_in, unit_at};
 ghost use Rattle.module_model.specs.Instances.{all_named_instances, named_instance, unit_trees};
 ghost use Rattle.instance_names.specs.Named.{named_as};
-ghost use Rattle.instance_names.specs.Walking.{parts_of};
+ghost use Rattle.instance_names.specs.Collected.{parts_of};
 
 use crate::forms::{defined_in, instance_among};
 use crate::walk::{due_in, step};

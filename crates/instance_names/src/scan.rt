@@ -3,7 +3,7 @@ ghost use Rattle.std.specs.Prelude.{◌≡◌, false};
 ghost use Rattle.module_model.specs.Instances.{named_instance, path_start as path_starts_at};
 ghost use Rattle.instance_names.specs.Forms.{word_at};
 ghost use Rattle.instance_names.specs.Named.{NamesNone};
-ghost use Rattle.instance_names.specs.Walking.{HoldsNone};
+ghost use Rattle.instance_names.specs.Collected.{HoldsNone};
 
 use crate::forms::{defined_in, path_start, word_start};
 use tla_tree::Tree;

@@ -7,7 +7,7 @@ ghost use Rattle.module_model.specs.Instances as instances;
 ghost use Rattle.module_model.specs.Instances.{paths_in, unit_trees};
 ghost use Rattle.module_model.specs.Resolution.{words_of};
 ghost use Rattle.instance_names.specs.Forms.{word_at};
-ghost use Rattle.instance_names.specs.Walking.{all_collected};
+ghost use Rattle.instance_names.specs.Collected.{all_collected};
 
 use crate::forms::{path_start, word_start};
 use crate::scan::{may_hold_path, may_hold_word};

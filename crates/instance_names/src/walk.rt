@@ -1,7 +1,7 @@
 // A walk over the nodes of a unit, in the order of the text.
 ghost use Rattle.std.specs.Prelude.{◌≡◌, ◌++◌, IfOk, OnOk, reverse};
 ghost use Rattle.tla_model.specs.Stretches.{one_of};
-ghost use Rattle.instance_names.specs.Walking.{AreDue, IsStep, root_in};
+ghost use Rattle.instance_names.specs.Collected.{AreDue, IsStep, root_in};
 
 use std::alloc::Global;
 use tla_tree::{Tree, Unit};

@@ -2,5 +2,5 @@ pub mod EachOnce
 pub mod ExportedInstances
 pub mod NamedInstances
 pub mod NestedEnds
-pub mod Sounding
+pub mod ScopeSoundness
 pub mod Staying

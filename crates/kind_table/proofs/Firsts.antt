@@ -13,7 +13,7 @@ use Rattle.kind_table.specs.declared.flat.Form.TheVariants as variant
 use Rattle.kind_table.specs.declared.flat.Node as node
 use Rattle.kind_table.specs.declared.flat.FlatModule as tables
 use Rattle.kind_table.specs.Flattened.{IsFirsts, first_node, first_of, flat_of, form_of, least_among, least_at, least_of, node_of, number_in}
-use Rattle.kind_table.proofs.Reading.{node-at, nodes-long}
+use Rattle.kind_table.proofs.TableEntries.{node-at, nodes-long}
 
 -- the parts that a node's kind is made of
 abbrev pub needed : Form → List ℕ → List ℕ

@@ -2,6 +2,6 @@ pub mod Unfolding
 pub mod Growth
 pub mod Equality
 pub mod Weighing
-pub mod Reading
+pub mod TableEntries
 pub mod Firsts
 pub mod KindLists

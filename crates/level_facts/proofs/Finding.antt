@@ -24,7 +24,7 @@ use Rattle.kind_table.specs.Weights.{body_cost, longest, node_cost, path_length,
 use Rattle.kind_table.proofs.Unfolding.{alike-expressions, alike-meanings, meaning-step, same-body, same-expression, same-meaning, same-operator, weight-step}
 use Rattle.kind_table.proofs.Growth.{grows_on, kinds-leaves, kinds-meanings, load_on, longer, meaning_on, meanings_on, weight_on}
 use Rattle.kind_table.proofs.Weighing.{cost-split, longest-at, times-most}
-use Rattle.kind_table.proofs.Reading.{node-read}
+use Rattle.kind_table.proofs.TableEntries.{node-read}
 use Rattle.level_facts.specs.declared.steps.Reached.{Reached}
 use Rattle.level_facts.specs.Judged.{IsClosure, IsFound, IsOperand, Picked, ReachesPath, lower_cost_of, use_kind_of}
 use Rattle.level_facts.proofs.Likes.{kind-bounded, kinds-texts, reached-same, rest-same, same-trans, used-same}

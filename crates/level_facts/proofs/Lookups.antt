@@ -6,7 +6,7 @@ use Rattle.kind_table.specs.declared.flat.Node as node
 use Rattle.kind_table.specs.declared.flat.Definition as definition
 use Rattle.kind_table.specs.declared.flat.FlatModule as table
 use Rattle.kind_table.specs.Flattened.{definition_of, flat_of, node_of}
-use Rattle.kind_table.proofs.Reading.{definition-none, definition-read, node-at}
+use Rattle.kind_table.proofs.TableEntries.{definition-none, definition-read, node-at}
 
 module _ (t : table.FlatModule) where
   -- a definition that is there

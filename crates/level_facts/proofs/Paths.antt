@@ -22,7 +22,7 @@ use Rattle.kind_table.specs.Table.{AllWithin, Grows, IsTable, meaning, meanings}
 use Rattle.kind_table.specs.Weights.{body_cost, heaviest, load, longest, node_cost, times, weight}
 use Rattle.kind_table.proofs.Unfolding.{alike-meanings, same-body}
 use Rattle.kind_table.proofs.Growth.{grows_not, grows_on, load_on, meanings_on, within_on}
-use Rattle.kind_table.proofs.Reading.{definition-there, instance-there}
+use Rattle.kind_table.proofs.TableEntries.{definition-there, instance-there}
 use Rattle.kind_table.proofs.Weighing.{heaviest-lower, load-append, load-drop, load-take, map-append, map-drop, map-take, times-more, times-most, within-append, within-drop, within-take}
 use Rattle.level_facts.specs.declared.steps.Reached.{Reached}
 use Rattle.level_facts.specs.Judged.{EvaluatesAll, IsReached, LeadsThrough, MeetsGuards, Reaches, ReachesPath, UsesPath, around_of, lower_cost_of, use_kind_of}

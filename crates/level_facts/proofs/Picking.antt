@@ -17,7 +17,7 @@ use Rattle.kind_table.proofs.Growth.{grows_not}
 use Rattle.kind_table.proofs.Weighing.{cost-le, cost-split}
 use Rattle.kind_table.specs.declared.flat.FlatModule as tables
 use Rattle.kind_table.specs.Flattened.{flat_of}
-use Rattle.kind_table.proofs.Reading.{nodes-long}
+use Rattle.kind_table.proofs.TableEntries.{nodes-long}
 use Rattle.level_facts.specs.declared.facts.KindFacts.{KindFacts}
 use Rattle.level_facts.specs.Facts.{IsFacts}
 use Rattle.level_facts.specs.Judged.{Found, IsFound, Picked, Steps}

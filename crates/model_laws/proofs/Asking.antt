@@ -25,7 +25,7 @@ use Rattle.module_model.specs.Resolution.{ReadState}
 use Rattle.module_model.specs.TreeFindings.{walk}
 use Rattle.model_laws.proofs.Forgetting.{extends-keep, forget, forget-added, joined-keeps, scope_of, scope-after, taken-forget}
 use Rattle.model_laws.proofs.Items.{all-kept}
-use Rattle.model_laws.proofs.Walking.{walk-same}
+use Rattle.model_laws.proofs.SameModules.{walk-same}
 
 -- the names of modules of instances are among the names behind INSTANCE
 module _ (P : Lexeme → Type 0) where

@@ -4,6 +4,6 @@ mod NameSamples
 pub mod Replacing
 mod Items
 mod Forgetting
-mod Walking
+mod SameModules
 mod Asking
 pub mod Settling

@@ -1,2 +1,2 @@
-mod Lying
+mod NamesInText
 pub mod Refused

@@ -9,7 +9,7 @@ use Rattle.expr_parse.specs.declared.goal.Goal.{Goal}
 use Rattle.expr_parse.specs.declared.goal.Step.{Step}
 use Rattle.expr_parse.specs.declared.machine.ExprMachine.{ExprMachine}
 use Rattle.expr_parse.specs.Goals.{BeginsGoal, IsWhole, DerivesGoal, IsSame}
-use Rattle.expr_parse.specs.Reading.{HasRead, IsAnswer}
+use Rattle.expr_parse.specs.MachineMeaning.{HasRead, IsAnswer}
 use Rattle.step_bench.specs.Stepping.{GoesOn, AllGoOn, EndsAt, StopsAt, HasStopped}
 
 all_and_next : (front lexemes : List Lexeme) (next : Lexeme) → AllGoOn front lexemes → GoesOn (front ++ lexemes) next → AllGoOn front (lexemes ++ next ∷ [])

@@ -1,3 +1,3 @@
 pub mod FunctionNames
-pub mod Lying
+pub mod BindersInText
 pub mod Parameters

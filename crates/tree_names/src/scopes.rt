@@ -7,7 +7,7 @@ ghost use Rattle.tla_model.specs.Lexemes.{LiesIn};
 ghost use Rattle.tla_model.specs.Scopes as scopes;
 ghost use Rattle.tla_model.specs.Tables as tables;
 ghost use Rattle.name_context.specs.AsTables.{context_of};
-ghost use Rattle.tree_names.specs.Lying.{BindersLie};
+ghost use Rattle.tree_names.specs.BindersInText.{BindersLie};
 
 use crate::text::ModuleText;
 use name_context::Context;

@@ -11,7 +11,7 @@ use Rattle.tla_model.specs.Entities.{Binding, all_placed, bound_as, defined, is_
 use Rattle.tla_model.specs.Lexemes.{LiesIn, all_lexemes, form_lexemes, lexemes}
 use Rattle.tla_model.specs.Scopes.{all_grouped, binders, names_in}
 use Rattle.list_laws.proofs.Lists.{all-both, all-left, all-right}
-use Rattle.tree_names.specs.Lying.{BindersLie}
+use Rattle.tree_names.specs.BindersInText.{BindersLie}
 use Rattle.declared_names.specs.Nodes.{form_at, parts_at}
 
 -- ---- a lexeme that may be there

@@ -21,10 +21,10 @@ use Rattle.unit_grammar.specs.FirstBad.{IsDerivable, Begins}
 use Rattle.unit_machine.specs.declared.wait.Wait.{Wait}
 use Rattle.unit_machine.specs.Machine.{Frame, Begun, OfDefinition, Focus, State, run, opening}
 use Rattle.unit_laws.proofs.Flat.{plain_variables, plain_constants, Rest, closes, ends, whole-derives}
-use Rattle.unit_laws.proofs.ReadingParts.{bounds-quiet}
+use Rattle.unit_laws.proofs.PartCompleteness.{bounds-quiet}
 use Rattle.expr_grammar.specs.Tables.{name_leaf}
 use Rattle.unit_laws.proofs.Views.{Sort, Made, Defining, HasRead, declaration, declaration_name, places, places_read, prefix_place, symbol_place, infix_place, definition_name, parameters_read, define, body, prefix_name, prefix_define, infix_name, infix_define, postfix_define, bounds_read, bounds_define, right, instance_name, instance_read, replacements_read, replacement_start, replacement_arrow, replacement_right, complete, Stack, base, above, Under, claims, awaits, Opened, opened_definition, Wholes, Goes, Opens, FocusOk, at_opening, at_word, at_name, at_dashes, at_read, at_extends, at_extended, at_unit, at_line, at_local, at_variable, at_variables, at_closed, at_declared, at_part, at_expression, at_bounds}
-use Rattle.unit_laws.proofs.SoundingParts.{parameters-close, replacements-close}
+use Rattle.unit_laws.proofs.MoveSoundness.{parameters-close, replacements-close}
 use Rattle.unit_laws.proofs.Soundness.{GoingOk, opening-sound, plain-goes, Finishes, by_part, by_claim, finish-goes, taking-sound, outermost-opens, nested-opens, names-close, replacement-quiet, made-quiet}
 
 -- a lexeme of no place

@@ -19,7 +19,7 @@ use Rattle.unit_machine.specs.declared.wait.Move.{Move}
 use Rattle.unit_machine.specs.Tables.{unit_start, due_move, move, after_expression, after_bounds}
 use Rattle.unit_machine.specs.Machine.{Frame, frame, Begun, OfConstants, OfDefinition, OfInstance, OfAssumption, OfTheorem, Focus, Stands, Declared, Part, Expression, Bounds, State, started, unit_due, due_moved, after_declared, finished, node, taking, reading, moved, part_step, given, expression_step, bounds_before, reading_bounds, bounds_step, focus_step, step, run, opening, answered, answer, parse}
 use Rattle.unit_laws.proofs.Flat.{whole-derives}
-use Rattle.unit_laws.proofs.ReadingUnits.{run-nothing}
+use Rattle.unit_laws.proofs.UnitCompleteness.{run-nothing}
 use Rattle.unit_laws.proofs.Views.{Wholes, FocusOk, at_opening, at_word, at_name, at_dashes, at_read, at_extends, at_extended, at_unit, at_line, at_local, at_variable, at_variables, at_closed, at_declared, at_part, at_expression, at_bounds}
 use Rattle.unit_laws.proofs.Soundness.{GoingOk, opening-sound}
 use Rattle.unit_laws.proofs.FirstBad.{refused-first}

@@ -5,7 +5,7 @@ use Rattle.tla_symbols.specs.declared.lexeme.Lexeme.{Lexeme}
 use Rattle.unit_grammar.specs.Units.{ModuleUnits}
 use Rattle.unit_grammar.specs.FirstBad.{IsDerivable, Begins, IsFirstBad}
 use Rattle.unit_machine.specs.Machine.{State, run, opening, parse, RefusesAt}
-use Rattle.unit_laws.proofs.ReadingUnits.{derives-parses, refused-ends}
+use Rattle.unit_laws.proofs.UnitCompleteness.{derives-parses, refused-ends}
 use Rattle.unit_laws.proofs.Completing.{unrefused-begins}
 
 pub unrefused-completes : (lexemes : List Lexeme) (reached : State) → run (Some opening) lexemes ≡ Some reached → (rest : List Lexeme) × (found : ModuleUnits) × (parse (lexemes ++ rest) ≡ Some found)

@@ -2,10 +2,10 @@ mod Samples
 mod Stopping
 mod Flat
 mod Moving
-mod ReadingParts
-pub mod ReadingUnits
+mod PartCompleteness
+pub mod UnitCompleteness
 mod Views
-mod SoundingParts
+mod MoveSoundness
 pub mod Soundness
 mod Completing
 pub mod FirstBad

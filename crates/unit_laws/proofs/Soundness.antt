@@ -30,10 +30,10 @@ use Rattle.unit_machine.specs.Tables.{is_dashes, is_module, is_extends, may_be_l
 use Rattle.unit_machine.specs.Machine.{Frame, frame, Begun, OfConstants, OfDefinition, Focus, Stands, Part, Bounds, State, state, unit_of, ended, closed, started, unit_due, due_moved, after_declared, finished, concluded, node, taking, shut, reading, moved, part_step, given, expression_step, bounds_before, reading_bounds, bounds_step, focus_step, step, run, opening, whole, answered, answer, parse}
 use Rattle.unit_laws.proofs.Flat.{Plain, plain_variables, plain_constants, plain_definition, plain_instance, plain_assumption, plain_theorem, plain_line, Rest, closes, ends, goes, opens, whole as as_whole, whole-derives}
 use Rattle.unit_laws.proofs.Moving.{run-snoc}
-use Rattle.unit_laws.proofs.ReadingParts.{bounds-quiet}
-use Rattle.unit_laws.proofs.ReadingUnits.{begins_unit, FirstBegins, rest-begins, facts, run-nothing}
+use Rattle.unit_laws.proofs.PartCompleteness.{bounds-quiet}
+use Rattle.unit_laws.proofs.UnitCompleteness.{begins_unit, FirstBegins, rest-begins, facts, run-nothing}
 use Rattle.unit_laws.proofs.Views.{Sort, Made, ParametersSeen, HasRead, declaration, definition_name, parameters_read, prefix_name, bounds_read, instance_name, replacements_read, complete, Holds, parameters, replacements, body_instance, wants, Stack, base, above, Under, claims, awaits, Opened, opened_constants, opened_definition, opened_instance, opened_assumption, opened_theorem, Wholes, Goes, Opens, NamesSeen, FocusOk, at_opening, at_word, at_name, at_dashes, at_read, at_extends, at_extended, at_unit, at_line, at_local, at_variable, at_variables, at_closed, at_declared, at_part, at_expression, at_bounds}
-use Rattle.unit_laws.proofs.SoundingParts.{MoveOk, move-sound, parameters-more, parameters-close}
+use Rattle.unit_laws.proofs.MoveSoundness.{MoveOk, move-sound, parameters-more, parameters-close}
 
 abbrev pub GoingOk : List Lexeme → Option State → Type 0
 GoingOk ts None = Unit {0}

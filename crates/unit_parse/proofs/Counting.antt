@@ -4,7 +4,7 @@ use Rattle.tla_symbols.specs.declared.lexeme.Lexeme.{Lexeme}
 use Rattle.tla_tree.specs.Arena.{Node}
 use Rattle.expr_parse.specs.declared.machine.ExprMachine.{ExprMachine}
 use Rattle.expr_parse.specs.declared.goal.Step.{Step}
-use Rattle.expr_parse.specs.Reading.{IsAnswer}
+use Rattle.expr_parse.specs.MachineMeaning.{IsAnswer}
 use Rattle.unit_parse.specs.declared.reader.Fed.{Fed}
 use Rattle.unit_parse.specs.NodeCounts.{IsFewRead, FeedsFew, IsFewFed}
 

@@ -14,7 +14,7 @@ use Rattle.expr_laws.proofs.Stopping.{done-derives, derives-done, done-bounds, b
 use Rattle.expr_parse.specs.declared.goal.Goal.{Goal}
 use Rattle.expr_parse.specs.declared.goal.Step.{Step}
 use Rattle.expr_parse.specs.Goals.{DerivesGoal, BeginsGoal, IsWhole}
-use Rattle.expr_parse.specs.Reading.{HasRead, IsAnswer, IsReady, start_of}
+use Rattle.expr_parse.specs.MachineMeaning.{HasRead, IsAnswer, IsReady, start_of}
 use Rattle.tree_parts.specs.Parts.{Grows, joined, parts_of}
 use Rattle.expr_parse.proofs.Answering.{begins-of, begins-not}
 use Rattle.tree_parts.proofs.Spans.{span-append}

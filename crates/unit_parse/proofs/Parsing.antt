@@ -10,7 +10,7 @@ use Rattle.unit_grammar.specs.Derivation.{DerivesModule}
 use Rattle.unit_grammar.specs.FirstBad.{EndsOnce, IsFirstBad}
 use Rattle.unit_machine.specs.Machine as Machine
 use Rattle.unit_machine.specs.Machine.{run, opening, whole, answer}
-use Rattle.unit_laws.proofs.ReadingUnits.{run-append}
+use Rattle.unit_laws.proofs.UnitCompleteness.{run-append}
 use Rattle.unit_laws.proofs.Soundness.{accepted-derives}
 use Rattle.unit_laws.proofs.FirstBad.{refused-first}
 use Rattle.unit_laws.proofs.Ending.{accepts-read}

@@ -4,7 +4,7 @@ use Rattle.std.specs.Prelude.{◌≡◌, ℕ, ◌+◌, ◌*◌, ◌≤◌, max, 
 use Rattle.tla_symbols.specs.declared.lexeme.Lexeme.{Lexeme}
 use Rattle.tla_tree.specs.Arena.{Node}
 use Rattle.expr_parse.specs.declared.machine.ExprMachine.{ExprMachine}
-use Rattle.expr_parse.specs.Reading.{HasRead}
+use Rattle.expr_parse.specs.MachineMeaning.{HasRead}
 use Rattle.unit_steps.specs.Waiting.{waiting_at}
 use Rattle.unit_parse.specs.declared.reader.Fed.{Fed}
 use Rattle.unit_parse.specs.declared.state.State.{State}

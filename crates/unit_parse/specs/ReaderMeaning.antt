@@ -9,7 +9,7 @@ use Rattle.tree_parts.specs.Parts.{IsPart, Grows, parts_of, span_of}
 use Rattle.expr_grammar.specs.Machine as Expressions
 use Rattle.expr_grammar.specs.Following.{done_before, bounds_done_before}
 use Rattle.expr_parse.specs.declared.goal.Goal.{Goal}
-use Rattle.expr_parse.specs.Reading.{HasRead, start_of}
+use Rattle.expr_parse.specs.MachineMeaning.{HasRead, start_of}
 use Rattle.unit_grammar.specs.Units.{UnitTree}
 use Rattle.unit_machine.specs.Machine as Machine
 use Rattle.unit_frames.specs.declared.frame.Frame.{Frame}

@@ -3,7 +3,7 @@ ghost use Rattle.std.specs.Prelude.{◌≡◌, ℕ, List, [], IfOk, length};
 ghost use Rattle.tla_symbols.specs.declared.lexeme.Lexeme.{Lexeme};
 ghost use Rattle.tla_tree.specs.Arena.{Node};
 ghost use Rattle.expr_grammar.specs.Machine as expressions;
-ghost use Rattle.expr_parse.specs.Reading.{HasRead, IsReady, start_of};
+ghost use Rattle.expr_parse.specs.MachineMeaning.{HasRead, IsReady, start_of};
 ghost use Rattle.unit_parse.specs.ReaderMeaning.{IsReading, Feeds};
 ghost use Rattle.unit_parse.specs.NodeCounts.{FeedsFew};
 

@@ -13,7 +13,7 @@ ghost use Rattle.tla_model.specs.Tables as tables;
 ghost use Rattle.module_model.specs.Modules as in_modules;
 ghost use Rattle.name_context.specs.AsTables.{context_of};
 ghost use Rattle.declared_names.specs.Listed.{listed};
-ghost use Rattle.tree_names.specs.Lying.{BindersLie};
+ghost use Rattle.tree_names.specs.BindersInText.{BindersLie};
 ghost use Rattle.unit_scope.specs.Readings.{GoOn};
 
 use declared_names::{defined, push_all_placed};

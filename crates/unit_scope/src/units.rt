@@ -11,7 +11,7 @@ ghost use Rattle.unit_scope.specs.Steps as steps;
 ghost use Rattle.unit_scope.specs.Steps.{IsLast, IsUnread, Leads, Tells};
 ghost use Rattle.tla_model.specs.Lexemes.{LexemesLie, LiesIn, all_lexemes, lexemes, unit_lexemes};
 ghost use Rattle.tla_model.specs.Scopes as scopes;
-ghost use Rattle.tree_names.specs.Lying.{BindersLie};
+ghost use Rattle.tree_names.specs.BindersInText.{BindersLie};
 ghost use Rattle.unit_grammar.specs.Units.{Constants, ModuleBegin, Variables};
 ghost use Rattle.unit_grammar.specs.UnitNodes.{HasNodes, module_of, nodes_in, unit_at};
 

@@ -1,4 +1,4 @@
-use Rattle.unit_laws.proofs.ReadingUnits.{derives-parses}
+use Rattle.unit_laws.proofs.UnitCompleteness.{derives-parses}
 use Rattle.unit_laws.proofs.accepts_derivable.Goals as goal
 
 pub returns : goal.returns

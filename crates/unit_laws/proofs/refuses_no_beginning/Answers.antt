@@ -1,4 +1,4 @@
-use Rattle.unit_laws.proofs.ReadingUnits.{refused-ends}
+use Rattle.unit_laws.proofs.UnitCompleteness.{refused-ends}
 use Rattle.unit_laws.proofs.refuses_no_beginning.Goals as goal
 
 pub returns : goal.returns

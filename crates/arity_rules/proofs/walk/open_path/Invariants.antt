@@ -1,6 +1,6 @@
 use Rattle.std.proofs.Common.{◌≡◌, ◌++◌, drop}
 use Rattle.arity_rules.specs.Noted.{told}
-use Rattle.arity_rules.specs.Walking.{path_tasks}
+use Rattle.arity_rules.specs.Tasks.{path_tasks}
 use Rattle.arity_rules.proofs.walk.open_path.Given as goal
 
 abbrev pub invariant-loop-index : goal.invariant-loop-index

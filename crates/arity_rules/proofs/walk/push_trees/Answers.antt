@@ -2,7 +2,7 @@ use Rattle.std.proofs.Common.{◌∙◌, ◌++◌, ap, false, reverse, subst, sy
 use Rattle.std.proofs.lemmas.List.{append-nil}
 use Rattle.arity_rules.specs.declared.place.Role.TheVariants as role
 use Rattle.arity_rules.specs.Noted.{told}
-use Rattle.arity_rules.specs.Walking.{AreDue, all_faults, part_tasks}
+use Rattle.arity_rules.specs.Tasks.{AreDue, all_faults, part_tasks}
 use Rattle.arity_rules.proofs.Tasks.{part-due, part-faults}
 use Rattle.arity_rules.proofs.walk.push_trees.Goals as goal
 

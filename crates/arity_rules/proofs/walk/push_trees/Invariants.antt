@@ -5,7 +5,7 @@ use Rattle.tla_tree.specs.Syntax.{trees}
 use Rattle.arity_rules.specs.declared.place.Role.TheVariants.{Other}
 use Rattle.arity_rules.specs.Arities.{part_faults}
 use Rattle.arity_rules.specs.Noted.{told}
-use Rattle.arity_rules.specs.Walking.{AreDue, all_faults, all_size, stack}
+use Rattle.arity_rules.specs.Tasks.{AreDue, all_faults, all_size, stack}
 use Rattle.arity_rules.proofs.walk.push_trees.Given as goal
 
 abbrev pub invariant-loop-next : goal.invariant-loop-next

@@ -1,5 +1,5 @@
 use Rattle.std.proofs.Common.{◌≡◌, ◌++◌, length}
-use Rattle.arity_rules.specs.Walking.{stack}
+use Rattle.arity_rules.specs.Tasks.{stack}
 use Rattle.arity_rules.proofs.walk.put_on_top.Given as goal
 
 abbrev pub invariant-loop-task : goal.invariant-loop-task

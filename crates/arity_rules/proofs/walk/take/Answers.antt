@@ -3,7 +3,7 @@ use Rattle.std.specs.List.{AllByRecursion}
 use Rattle.tla_tree.specs.Arena.{node_at}
 use Rattle.arity_rules.specs.Arities.{own_faults, role_of}
 use Rattle.arity_rules.specs.Noted.{told}
-use Rattle.arity_rules.specs.Walking.{below, stack}
+use Rattle.arity_rules.specs.Tasks.{below, stack}
 use Rattle.arity_rules.proofs.Tasks.{taken}
 use Rattle.arity_rules.proofs.walk.take.Goals as goal
 

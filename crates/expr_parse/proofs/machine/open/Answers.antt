@@ -1,7 +1,7 @@
 use Rattle.std.proofs.Common.{[], Some, refl, subst, sym}
 use Rattle.expr_parse.specs.declared.turn.Turn.TheVariants as Turn
 use Rattle.expr_parse.specs.TurnMeaning.{IsTurn}
-use Rattle.expr_parse.specs.Reading.{start_of}
+use Rattle.expr_parse.specs.MachineMeaning.{start_of}
 use Rattle.expr_parse.proofs.machine.open.Goals as goal
 
 pub returns-in_ok-put-in-Expression : goal.returns-in_ok-put-in-Expression

@@ -3,7 +3,7 @@ use Rattle.std.specs.Prelude.{map}
 use Rattle.unit_grammar.specs.UnitNodes.{unit_at}
 use Rattle.module_model.specs.Instances.{named_instance, unit_trees}
 use Rattle.instance_names.specs.Named.{named_as}
-use Rattle.instance_names.specs.Walking.{IsStep, IsTaken, all_collected}
+use Rattle.instance_names.specs.Collected.{IsStep, IsTaken, all_collected}
 use Rattle.instance_names.proofs.Collecting.{all-named-collected, next-taken, none-due}
 use Rattle.instance_names.proofs.named.named_instances.Goals as goal
 

@@ -4,7 +4,7 @@ use Rattle.tla_tree.specs.Syntax.{trees}
 use Rattle.unit_grammar.specs.UnitNodes.{unit_at}
 use Rattle.module_model.specs.Instances.{named_instance, unit_trees}
 use Rattle.instance_names.specs.Named.{named_as}
-use Rattle.instance_names.specs.Walking.{AreDue, all_collected, due_size, due_trees}
+use Rattle.instance_names.specs.Collected.{AreDue, all_collected, due_size, due_trees}
 use Rattle.instance_names.proofs.named.named_instances.Given as goal
 
 abbrev pub invariant-loop-todo : goal.invariant-loop-todo

@@ -3,7 +3,7 @@ use Rattle.std.specs.List.{AllByRecursion}
 use Rattle.tla_tree.specs.Syntax.{trees}
 use Rattle.module_model.specs.Instances.{named_instance}
 use Rattle.instance_names.specs.Forms.{defined_in}
-use Rattle.instance_names.specs.Walking.{parts_of}
+use Rattle.instance_names.specs.Collected.{parts_of}
 use Rattle.instance_names.proofs.Collecting.{none-next}
 use Rattle.instance_names.proofs.Giving.{none-named}
 use Rattle.instance_names.proofs.scan.may_hold_definition.Goals as goal

@@ -2,7 +2,7 @@ use Rattle.std.proofs.Common.{◌≡◌, ◌++◌}
 use Rattle.tla_tree.specs.Syntax.{trees}
 use Rattle.unit_grammar.specs.UnitNodes.{unit_at}
 use Rattle.module_model.specs.Instances.{path_start, unit_trees}
-use Rattle.instance_names.specs.Walking.{AreDue, all_collected, due_size, due_trees}
+use Rattle.instance_names.specs.Collected.{AreDue, all_collected, due_size, due_trees}
 use Rattle.instance_names.proofs.starts.push_paths.Given as goal
 
 abbrev pub invariant-loop-todo : goal.invariant-loop-todo

@@ -2,7 +2,7 @@ use Rattle.std.proofs.Common.{◌∙◌, ◌++◌, ap, subst}
 use Rattle.unit_grammar.specs.UnitNodes.{unit_at}
 use Rattle.module_model.specs.Instances.{unit_trees}
 use Rattle.instance_names.specs.Forms.{word_at, word_start}
-use Rattle.instance_names.specs.Walking.{IsStep, IsTaken, all_collected}
+use Rattle.instance_names.specs.Collected.{IsStep, IsTaken, all_collected}
 use Rattle.instance_names.proofs.Collecting.{next-taken}
 use Rattle.instance_names.proofs.starts.push_words.Goals as goal
 

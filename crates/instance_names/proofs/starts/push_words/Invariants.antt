@@ -3,7 +3,7 @@ use Rattle.tla_tree.specs.Syntax.{trees}
 use Rattle.unit_grammar.specs.UnitNodes.{unit_at}
 use Rattle.module_model.specs.Instances.{unit_trees}
 use Rattle.instance_names.specs.Forms.{word_at}
-use Rattle.instance_names.specs.Walking.{AreDue, all_collected, due_size, due_trees}
+use Rattle.instance_names.specs.Collected.{AreDue, all_collected, due_size, due_trees}
 use Rattle.instance_names.proofs.starts.push_words.Given as goal
 
 abbrev pub invariant-loop-todo : goal.invariant-loop-todo

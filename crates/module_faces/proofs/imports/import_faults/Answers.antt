@@ -1,6 +1,6 @@
 use Rattle.std.proofs.Common.{◌∙◌}
 use Rattle.unit_grammar.specs.UnitNodes.{module_of}
-use Rattle.module_faces.proofs.Lying.{names-lie}
+use Rattle.module_faces.proofs.NamesInText.{names-lie}
 use Rattle.module_faces.proofs.imports.import_faults.Goals as goal
 
 pub push_faults-requires : goal.push_faults-requires

@@ -1,6 +1,6 @@
 use Rattle.std.proofs.Common.{◌≡◌, ◌-◌, ◌*◌, ◌≤◌, [], length, take}
 use Rattle.expr_parse.specs.declared.goal.Goal.{Goal}
-use Rattle.expr_parse.specs.Reading.{HasRead, IsReady}
+use Rattle.expr_parse.specs.MachineMeaning.{HasRead, IsReady}
 use Rattle.step_bench.specs.Stepping.{AllGoOn}
 use Rattle.step_bench.proofs.stepping.step_over.Given as goal
 

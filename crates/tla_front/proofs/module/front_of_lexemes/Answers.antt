@@ -6,7 +6,7 @@ use Rattle.unit_heights.specs.FirstHigh.{BeginsFurther}
 use Rattle.tla_front.proofs.FrontSteps.{bad-front, bad-placed}
 use Rattle.front_laws.proofs.TextEnds.{text-ends}
 use Rattle.front_laws.proofs.TextGrows.{text-further, few-lexemes}
-use Rattle.front_laws.proofs.TextLies.{text-lies}
+use Rattle.front_laws.proofs.LexemesInText.{text-lies}
 use Rattle.tla_front.proofs.module.front_of_lexemes.Goals as goal
 
 pub parse_module-requires-clause-ends : goal.parse_module-requires-clause-ends

@@ -2,7 +2,7 @@ use Rattle.std.proofs.Common.{◌≡◌, ◌++◌}
 use Rattle.tla_model.specs.Contexts as contexts
 use Rattle.tla_model.specs.Scopes as scopes
 use Rattle.name_context.specs.AsTables.{context_of}
-use Rattle.tree_names.specs.Lying.{BindersLie}
+use Rattle.tree_names.specs.BindersInText.{BindersLie}
 use Rattle.tree_names.proofs.scopes.bind_all.Given as goal
 
 abbrev pub invariant-loop-binder : goal.invariant-loop-binder

@@ -1,6 +1,6 @@
 use Rattle.std.proofs.Common.{◌<◌, subst, sym}
 use Rattle.std.specs.List.{AllByRecursion}
-use Rattle.tree_names.specs.Lying.{BindersLie}
+use Rattle.tree_names.specs.BindersInText.{BindersLie}
 use Rattle.declared_names.specs.Nodes.{form_at, parts_at}
 use Rattle.tree_scope.proofs.NamesInText.{binders-lie, parts-lie}
 use Rattle.declared_names.proofs.Nodewise.{tree-at}

@@ -5,7 +5,7 @@ use Rattle.tla_model.specs.Scopes.{definition}
 use Rattle.name_context.specs.AsTables.{context_of}
 use Rattle.declared_names.proofs.Nodewise.{tree-at}
 use Rattle.declared_names.specs.Listed.{listed}
-use Rattle.tree_names.specs.Lying.{BindersLie}
+use Rattle.tree_names.specs.BindersInText.{BindersLie}
 use Rattle.declared_names.specs.Nodes.{form_at, parts_at}
 use Rattle.tree_scope.proofs.NamesInText.{defined-lies, held-lies}
 use Rattle.tree_scope.proofs.found.define.Goals as goal

@@ -1,6 +1,6 @@
 use Rattle.std.proofs.Common.{◌∙◌, ap, subst, sym}
 use Rattle.declared_names.specs.Listed.{listed}
-use Rattle.tree_names.specs.Lying.{BindersLie}
+use Rattle.tree_names.specs.BindersInText.{BindersLie}
 use Rattle.declared_names.specs.Nodes.{form_at, parts_at}
 use Rattle.tree_scope.proofs.NamesInText.{defined-lies, held-lies}
 use Rattle.tree_scope.proofs.visits.begin.Goals as goal

@@ -3,7 +3,7 @@ use Rattle.tla_model.specs.Scopes as scopes
 use Rattle.module_model.specs.Modules as in_modules
 use Rattle.name_context.specs.AsTables.{context_of}
 use Rattle.name_exports.specs.Brought.{ModuleNames, as_read}
-use Rattle.tree_names.specs.Lying.{BindersLie}
+use Rattle.tree_names.specs.BindersInText.{BindersLie}
 use Rattle.unit_scope.proofs.declaring.declare_all.Given as goal
 
 abbrev pub invariant-loop-binder : goal.invariant-loop-binder

@@ -4,7 +4,7 @@ use Rattle.tla_model.specs.Lexemes.{LiesIn}
 use Rattle.module_model.specs.Modules.{declare_all}
 use Rattle.declared_names.specs.Listed.{listed}
 use Rattle.name_exports.specs.Brought.{as_read}
-use Rattle.tree_names.specs.Lying.{BindersLie}
+use Rattle.tree_names.specs.BindersInText.{BindersLie}
 use Rattle.unit_scope.proofs.Lexemes.{definition-lies}
 use Rattle.unit_scope.proofs.declaring.define.Goals as goal
 

@@ -1,6 +1,6 @@
 use Rattle.expr_grammar.specs.Machine.{run}
 use Rattle.std.proofs.Common.{Some, None, true, false, ◌≡◌, sym, ◌∙◌}
-use Rattle.expr_parse.specs.Reading.{start_of}
+use Rattle.expr_parse.specs.MachineMeaning.{start_of}
 use Rattle.expr_parse.proofs.Answering.{done-by, read-by, refused-stays, refused-stands, ends-not}
 use Rattle.expr_parse.proofs.machine.ExprMachine.answer.Goals as goal
 

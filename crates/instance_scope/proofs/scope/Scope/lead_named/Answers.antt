@@ -10,7 +10,7 @@ use Rattle.instance_scope.specs.Scoped.{AreGiven, module_in}
 use Rattle.instance_leads.proofs.Knowing.{and-none, known-added}
 use Rattle.instance_leads.proofs.Naming.{on-so}
 use Rattle.instance_scope.proofs.NamedInstances.{own-text}
-use Rattle.instance_scope.proofs.Sounding.{given-added}
+use Rattle.instance_scope.proofs.ScopeSoundness.{given-added}
 use Rattle.instance_scope.proofs.scope.Scope.lead_named.Goals as goal
 
 pub returns-clause-given : goal.returns-clause-given

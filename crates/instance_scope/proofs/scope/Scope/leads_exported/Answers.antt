@@ -8,7 +8,7 @@ use Rattle.instance_scope.specs.Scoped.{AreGiven, known_of, module_in}
 use Rattle.module_model.specs.Exports.{face_outside}
 use Rattle.instance_scope.proofs.ExportedInstances.{face-given, nested-known}
 use Rattle.instance_leads.proofs.Naming.{ok-so}
-use Rattle.instance_scope.proofs.Sounding.{none-given}
+use Rattle.instance_scope.proofs.ScopeSoundness.{none-given}
 use Rattle.instance_scope.proofs.scope.Scope.leads_exported.Goals as goal
 
 pub returns-in-Imported-clause-given : goal.returns-in-Imported-clause-given

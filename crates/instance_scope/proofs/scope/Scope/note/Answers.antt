@@ -5,7 +5,7 @@ use Rattle.instance_leads.specs.Leading.{known_in}
 use Rattle.instance_scope.specs.Scoped.{IsSound, known_of}
 use Rattle.instance_leads.proofs.Knowing.{known-joined}
 use Rattle.instance_leads.proofs.Naming.{on-so}
-use Rattle.instance_scope.proofs.Sounding.{sound-joined}
+use Rattle.instance_scope.proofs.ScopeSoundness.{sound-joined}
 use Rattle.instance_scope.proofs.scope.Scope.note.Goals as goal
 
 pub returns-clause-sound : goal.returns-clause-sound

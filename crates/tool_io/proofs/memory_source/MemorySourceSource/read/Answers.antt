@@ -1,6 +1,6 @@
 use Rattle.std.proofs.Common.{◌-◌, List, ℕ, length, take, drop, ap, ◌∙◌}
 use Rattle.std.proofs.lemmas.List.{take_rest}
-use Rattle.tool_io.proofs.Reading.{read_by}
+use Rattle.tool_io.proofs.ReadLemmas.{read_by}
 use Rattle.tool_io.proofs.memory_source.MemorySourceSource.read.Goals as goal
 
 pub returns-clause-bytes : goal.returns-clause-bytes

@@ -4,7 +4,7 @@ use Rattle.tla_tree.specs.Arena.{tree_at}
 use Rattle.tla_tree.specs.Syntax.{trees}
 use Rattle.tla_model.specs.Lexemes.{LiesIn}
 use Rattle.tla_model.specs.declared.names.Binding.TheVariants as as_binding
-use Rattle.tree_names.specs.Lying.{BindersLie}
+use Rattle.tree_names.specs.BindersInText.{BindersLie}
 use Rattle.unit_scope.proofs.Lexemes.{placed-lie}
 use Rattle.unit_scope.proofs.UnitParts.{constants-read}
 use Rattle.unit_scope.proofs.nesting.Nesting.read_constants.Goals as goal

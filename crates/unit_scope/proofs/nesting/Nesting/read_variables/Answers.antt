@@ -1,6 +1,6 @@
 use Rattle.std.proofs.Common.{subst, sym}
 use Rattle.tla_model.specs.Lexemes.{LiesIn}
-use Rattle.tree_names.specs.Lying.{BindersLie}
+use Rattle.tree_names.specs.BindersInText.{BindersLie}
 use Rattle.unit_scope.proofs.Lexemes.{variables-lie}
 use Rattle.unit_scope.proofs.UnitParts.{variables-read}
 use Rattle.unit_scope.proofs.nesting.Nesting.read_variables.Goals as goal

@@ -22,7 +22,7 @@ use Rattle.unit_machine.specs.Tables.{is_dashes, is_module, is_extends, may_be_l
 use Rattle.unit_machine.specs.Machine.{after_declared, OfConstants, OfDefinition, OfInstance, OfAssumption, OfTheorem, State, state, Stands, started, unit_due, due_moved, step, run, opening, answer, parse}
 use Rattle.unit_laws.proofs.Flat.{Plain, plain_variables, plain_constants, plain_definition, plain_instance, plain_assumption, plain_theorem, plain_line, Rest, closes, ends, goes, opens, Whole, whole, derives-whole}
 use Rattle.unit_laws.proofs.Moving.{around, at, reads-on}
-use Rattle.unit_laws.proofs.ReadingParts.{read-constants, Follows, InstanceRead, read-instance, DefinitionRead, read-definition}
+use Rattle.unit_laws.proofs.PartCompleteness.{read-constants, Follows, InstanceRead, read-instance, DefinitionRead, read-definition}
 
 -- what begins a unit, or ends a module
 abbrev pub begins_unit : LexKind → Bool

@@ -19,7 +19,7 @@ use Rattle.unit_machine.specs.declared.wait.Wait.{Wait}
 use Rattle.unit_machine.specs.declared.wait.Move.{Move}
 use Rattle.unit_machine.specs.Tables.{if_move, move}
 use Rattle.unit_machine.specs.Machine.{frame}
-use Rattle.unit_laws.proofs.ReadingParts.{joined-then, joined-one}
+use Rattle.unit_laws.proofs.PartCompleteness.{joined-then, joined-one}
 use Rattle.unit_laws.proofs.Views.{Sort, Made, PlacesSeen, ParametersSeen, ReplacementsSeen, HasRead, declaration, declaration_name, places, places_read, prefix_place, symbol_place, infix_place, definition_name, parameters_read, define, body, prefix_name, prefix_define, infix_name, infix_define, postfix_define, bounds_read, bounds_define, right, instance_name, instance_read, replacements_read, replacement_start, replacement_arrow, replacement_right, complete, Holds, parameters, replacements, body_instance, Awaits}
 
 -- what a move makes
