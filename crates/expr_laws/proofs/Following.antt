@@ -67,7 +67,7 @@ mutual
   factors-quiet (more_factors t k m j d d') p q = more_factors t k m j d (factors-quiet d' p q)
 
   arms-quiet : {xs : Trees} {a : List Lexeme} {i : ℕ} {o : Option Lexeme} → DerivesArms xs a i o → (p : Option Lexeme) → IsQuietNext p → DerivesArms xs a i p
-  arms-quiet (last_arm {i = i} d m) p q = last_arm (arm-quiet d p q) (quiet-arms i p q)
+  arms-quiet (last_arm {inner = i} d m) p q = last_arm (arm-quiet d p q) (quiet-arms i p q)
   arms-quiet (other_arm k l d) p q = other_arm k l (before-quiet d p q)
   arms-quiet (more_arms t k d d') p q = more_arms t k d (arms-quiet d' p q)
 
