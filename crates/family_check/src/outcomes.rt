@@ -16,12 +16,12 @@ ghost use Rattle.family_tables.specs.Tables.{entry_of, names_in};
 ghost use Rattle.family_tables.specs.declared.reading.Reading.TheVariants as reading;
 
 use check_core::{Checked, check_module};
-use family_tables::{Module, Outcome, Plan, Reading, Table, copied, imports_of};
+use family_tables::{Module, Outcome, Plan, Reading, Table, imports_of};
 use std::alloc::Global;
 use step_count::Steps;
 use tla_model::Diagnostic;
 use tla_tree::ModuleTree;
-use tool_list::{Chars, List, Memory};
+use tool_list::{Chars, List, Memory, copied};
 
 // What was found of a module, and how many uses are shown of it.
 #[derive(Drop)]

@@ -14,7 +14,7 @@ mod verdict;
 
 pub use imports::imports_of;
 pub use order::{Plan, plan_of};
-pub use outcome::{Outcome, copied};
+pub use outcome::Outcome;
 pub use reading::{Module, Reading};
 pub use table::Table;
 pub use verdict::verdicts_of;

@@ -1,11 +1,9 @@
 // What was found of a module.
-ghost use Rattle.std.specs.Prelude.{◌≡◌, IfOk};
 
 use module_model::Face;
-use std::alloc::Global;
 use std::sync::Arc;
 use tla_model::Diagnostic;
-use tool_list::{List, Memory};
+use tool_list::List;
 
 /// What was found of a module: its faults, or else what it exports.
 pub enum Outcome {
@@ -20,11 +18,4 @@ impl Drop for Outcome {
             Outcome::Refused(_) | Outcome::Accepted(_) => {}
         }
     }
-}
-
-/// The same faults.
-pub fn copied(alloc: Global, faults: &[Diagnostic]) -> Result<List<Diagnostic>, Memory>
-    ensures { IfOk result (λ copy. copy ≡ faults.now) }
-{
-    Ok(List::from_vec(faults.iter().copied().collect(alloc)?))
 }

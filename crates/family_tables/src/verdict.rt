@@ -7,13 +7,13 @@ ghost use Rattle.family_tables.specs.Outcomes.{IsSaid};
 ghost use Rattle.family_tables.specs.Tables.{entry_of};
 ghost use Rattle.family_facts.specs.Verdicts.{text_of};
 
-use crate::outcome::{Outcome, copied};
+use crate::outcome::Outcome;
 use crate::table::Table;
 use family_facts::{File, Verdict};
 use std::alloc::Global;
 use tla_model::Diagnostic;
 use tla_text::{Text, TextError};
-use tool_list::{Chars, List, Memory};
+use tool_list::{Chars, List, Memory, copied};
 
 // A front of some bytes that is a text.
 fn front_text(alloc: Global, bytes: &[u8], at: usize) -> Result<Text, Memory>

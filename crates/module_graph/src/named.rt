@@ -10,13 +10,13 @@ ghost use Rattle.module_graph.specs.Imports.{AreNamesPlaced};
 ghost use Rattle.module_graph.specs.Named.{AddsEnclosing, AddsNeeded, AreNamed, Passes};
 ghost use Rattle.module_graph.specs.UnitNames.{begun_name};
 
-use crate::unit_names::{copied, module_names};
+use crate::unit_names::module_names;
 use module_scope::Nesting;
 use std::alloc::Global;
 use tla_model::spelled;
 use tla_symbols::Lexeme;
 use tla_tree::{ModuleTree, Unit};
-use tool_list::{List, Memory};
+use tool_list::{List, Memory, copied};
 
 /// Module names of a text, after EXTENDS and INSTANCE, in its order, each as often as it stands there.
 pub struct NamedModules {

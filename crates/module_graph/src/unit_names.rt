@@ -9,14 +9,7 @@ use crate::trees::instances;
 use std::alloc::Global;
 use tla_symbols::Lexeme;
 use tla_tree::{Tree, Unit};
-use tool_list::{List, Memory};
-
-/// The same names. `Memory` comes where there was no room.
-pub fn copied(alloc: Global, names: &[Lexeme]) -> Result<List<Lexeme>, Memory>
-    ensures { IfOk result (λ copy. copy ≡ names.now) }
-{
-    Ok(List::from_vec(names.iter().copied().collect(alloc)?))
-}
+use tool_list::{List, Memory, copied};
 
 /// The node of a unit in which instances may stand.
 pub fn node_of(unit: &Unit) -> Option<u32>

@@ -7,6 +7,5 @@ mod check;
 mod generate;
 mod output;
 mod program;
-mod slices;
 
 pub use program::run;

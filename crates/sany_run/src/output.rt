@@ -3,7 +3,6 @@ ghost use Rattle.std.specs.Prelude.{◌≢◌, [], OnErr};
 ghost use Rattle.tool_io.specs.Causes.{HasCause};
 ghost use Rattle.sany_run.specs.Output.{Writes};
 
-use crate::slices::skip;
 use tool_io::{IoFault, Sink};
 
 /// Writes all bytes, in as many calls as it takes.

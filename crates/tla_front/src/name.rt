@@ -1,22 +1,9 @@
 // How lexemes are spelled.
-ghost use Rattle.std.specs.Prelude.{◌≡◌, ◌≤◌, ◌↔◌, IsTrue, length, take, drop};
+ghost use Rattle.std.specs.Prelude.{◌≡◌, ◌↔◌, IsTrue};
 ghost use Rattle.tla_model.specs.Lexemes.{spelled};
 
 use tla_symbols::Lexeme;
-
-fn first_bytes(bytes: &[u8], count: usize) -> &[u8]
-    requires { count ≤ length bytes.now }
-    ensures { result.now ≡ take count bytes.now }
-{
-    &bytes[..count]
-}
-
-fn skip(bytes: &[u8], count: usize) -> &[u8]
-    requires { count ≤ length bytes.now }
-    ensures { result.now ≡ drop count bytes.now }
-{
-    &bytes[count..]
-}
+use tool_list::{prefix, skip};
 
 // The bytes of a lexeme, in the text that it stands in.
 fn spelling(text: &[u8], lexeme: Lexeme) -> &[u8]
@@ -25,7 +12,7 @@ fn spelling(text: &[u8], lexeme: Lexeme) -> &[u8]
     let start = lexeme.span.start as usize;
     let len = (lexeme.span.end as usize).saturating_sub(start);
     let rest = skip(text, start.min(text.len()));
-    first_bytes(rest, len.min(rest.len()))
+    prefix(rest, len.min(rest.len()))
 }
 
 /// Whether a lexeme of this text is spelled so.

@@ -2,7 +2,8 @@
 ghost use Rattle.std.specs.Prelude.{◌≡◌};
 ghost use Rattle.tla_lexeme.specs.Lexing as lexing;
 
-use crate::slices::{begins, first_of, skip};
+use crate::slices::{begins, first_of};
+use tool_list::skip;
 
 /// How many bytes the comment has that begins a text, if it ends.
 pub fn comment_len(text: &[u8]) -> Option<usize>

@@ -5,8 +5,9 @@ ghost use Rattle.tla_lexeme.specs.declared.class.Class.TheVariants.{WordChar};
 ghost use Rattle.tla_lexeme.specs.LexemeSets.{is_in};
 
 use crate::class::{Class, run_len};
-use crate::slices::{begins, skip};
+use crate::slices::begins;
 use memchr::memmem;
+use tool_list::skip;
 
 fn begins_with_module(text: &[u8]) -> bool
     ensures { result ≡ module_part.begins_with_module text.now }

@@ -4,7 +4,8 @@ ghost use Rattle.tla_lexeme.specs.LexemeSets.{base_of};
 ghost use Rattle.tla_lexeme.specs.Lengths as lengths;
 
 use crate::class::{Class, run_len};
-use crate::slices::{first_of, skip};
+use crate::slices::first_of;
+use tool_list::skip;
 
 /// How many bytes a point and the digits after it have at a text's beginning: 0 where they are not there.
 pub fn fraction_len(text: &[u8]) -> usize

@@ -10,12 +10,11 @@ ghost use Rattle.tla_lexeme.specs.Spans.{IsPlaced};
 ghost use Rattle.tla_symbols.specs.declared.lexeme.LexKind.{LexKind};
 
 use crate::begin::{Begin, Member, what_begins};
-use crate::slices::skip;
 use crate::word::bare_len;
 use std::alloc::Global;
 use tla_symbols::{LexKind, Lexeme, Span, Word};
 use tla_text::{Place, Text};
-use tool_list::{List, Memory};
+use tool_list::{List, Memory, skip};
 
 // How many words `MODULE` and how many runs of `=` have been read.
 #[derive(Clone, Copy)]

@@ -9,9 +9,9 @@ ghost use Rattle.tla_lexeme.specs.declared.class.Class.TheVariants.{WordChar};
 use crate::begin::Member;
 use crate::class::{Class, run_len};
 use crate::number::{based_len, fraction_len};
-use crate::slices::{prefix, skip};
 use crate::table::longest_spelled;
 use tla_symbols::LexKind;
+use tool_list::{prefix, skip};
 
 // How many signs a text begins with, where they are four or more, and else 0.
 fn long_run_len(class: Class, text: &[u8]) -> usize

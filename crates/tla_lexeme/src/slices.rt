@@ -1,5 +1,5 @@
 //! Parts of slices.
-ghost use Rattle.std.specs.Prelude.{◌≡◌, ◌≤◌, [], ◌∷◌, MatchOption, drop, length, nat_eq, take};
+ghost use Rattle.std.specs.Prelude.{◌≡◌, [], ◌∷◌, MatchOption, nat_eq};
 ghost use Rattle.std.specs.List.{starts_with};
 
 /// The first item, and what follows it.
@@ -8,21 +8,6 @@ pub fn first_of<T: Copy>(items: &[T]) -> Option<(T, &[T])>
 {
     let (first, more) = items.split_first()?;
     Some((*first, more))
-}
-
-pub fn prefix<T>(items: &[T], count: usize) -> &[T]
-    requires { count ≤ length items.now }
-    ensures { result.now ≡ take count items.now }
-{
-    &items[..count]
-}
-
-/// What follows the first so many items.
-pub fn skip<T>(items: &[T], count: usize) -> &[T]
-    requires { count ≤ length items.now }
-    ensures { result.now ≡ drop count items.now }
-{
-    &items[count..]
 }
 
 pub fn begins(text: &[u8], prefix: &[u8]) -> bool

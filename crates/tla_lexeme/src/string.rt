@@ -5,8 +5,9 @@ ghost use Rattle.tla_lexeme.specs.Lengths as lengths;
 
 use crate::begin::Member;
 use crate::class::Class;
-use crate::slices::{first_of, skip};
+use crate::slices::first_of;
 use tla_symbols::LexKind;
+use tool_list::skip;
 
 // What a byte in a string does.
 enum Step {

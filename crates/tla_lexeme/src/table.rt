@@ -4,9 +4,9 @@ ghost use Rattle.tla_lexeme.specs.LexemeSets as sets;
 ghost use Rattle.tla_lexeme.specs.Lexing as lexing;
 
 use crate::begin::Member;
-use crate::slices::prefix;
 use tla_spelling::{mark_of, op_of, word_of};
 use tla_symbols::LexKind;
+use tool_list::prefix;
 
 /// The kind of a reserved word, a symbol or a mark.
 pub fn table_kind(spelling: &[u8]) -> Option<LexKind>

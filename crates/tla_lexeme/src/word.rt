@@ -8,9 +8,10 @@ ghost use Rattle.tla_lexeme.specs.declared.class.Class.TheVariants.{WordChar, Di
 use crate::begin::Member;
 use crate::class::{Class, run_len};
 use crate::number::fraction_len;
-use crate::slices::{begins, prefix, skip};
+use crate::slices::begins;
 use crate::table::table_kind;
 use tla_symbols::{LexKind, Mark};
+use tool_list::{prefix, skip};
 
 /// How many letters, digits and `_` a text begins with, where none is a letter, and else 0. Where this
 /// is known it is not counted again, so that a long run of digits and `_` is read once.

@@ -13,7 +13,7 @@ ghost use Rattle.unit_frames.specs.FrameMeaning.{AreParts, IsFrame, Makes, Takes
 use std::alloc::Global;
 use tla_symbols::{Lexeme, Span};
 use tla_tree::{Form, Tree};
-use tool_list::{List, Memory};
+use tool_list::{List, Memory, copied};
 use tree_parts::{Part, add, covered, joined, leaf};
 use unit_machine::Wait;
 
@@ -35,14 +35,6 @@ pub fn then(numbers: List<u32>, node: u32) -> Result<List<u32>, Memory>
     let mut numbers = numbers;
     numbers.push(node)?;
     Ok(numbers)
-}
-
-fn copied(alloc: Global, numbers: &[u32]) -> Result<List<u32>, Memory>
-    ensures { IfOk result (λ copy. copy ≡ numbers.now) }
-{
-    let mut copy = Vec::new(alloc);
-    copy.extend_from_slice(numbers)?;
-    Ok(List::from_vec(copy))
 }
 
 impl Frame {
