@@ -18,7 +18,7 @@ use Rattle.family_facts.specs.Family.{Member, Diagnosed, is_there}
 use Rattle.family_facts.specs.Facts.{texts_of}
 use Rattle.family_check.specs.Findings.{AreUseCounts, count_in, count_or_none, use_count_of}
 use Rattle.family_tables.specs.Modules.{Entry, IsEntry, IsReading, AreModules, tree_count}
-use Rattle.family_tables.specs.Outcomes.{AreOutcomes, IsSaid, IsSomeModule, Says, after_ticks, faults_of, trees_in}
+use Rattle.family_tables.specs.Outcomes.{AreOutcomes, IsSaid, IsSomeModule, Matches, faults_of, trees_in}
 use Rattle.family_facts.specs.Fronts.{front_of}
 use Rattle.family_facts.specs.Verdicts.{AreVerdicts, IsUseCount, IsVerdict, IsVerdictPlaced, after_checks, check_count, checks_of, family_of, member_of, text_of, use_count_on, uses_on, verdicts_on}
 use Rattle.family_tables.specs.declared.outcome.Outcome.{Outcome}
@@ -48,7 +48,7 @@ zip-map R S [] (y ∷ ys) f h = absurd h
 zip-map R S (x ∷ xs) [] f h = absurd h
 zip-map R S (x ∷ xs) (y ∷ ys) f h = (f x y (here x xs) h.0, zip-map R S xs ys (λ a b c. f a b (behind x xs a c)) h.1)
 
-says-faults : (faults : List Diagnostic) (outside : ModuleView) (o : outcome.the_data) → Says faults outside o → faults_of (Some o) ≡ faults
+says-faults : (faults : List Diagnostic) (outside : ModuleView) (o : outcome.the_data) → Matches faults outside o → faults_of (Some o) ≡ faults
 says-faults faults outside (outcome.Refused found) h = h.0
 says-faults faults outside (outcome.Accepted face) h = sym h.0
 

@@ -28,7 +28,7 @@ use Rattle.family_facts.specs.Family.{Member, Diagnosed, IsDiagnosed, IsGiven, f
 use Rattle.family_tables.specs.Modules.{Entry, IsEntry, AreModules, tree_count}
 use Rattle.family_tables.specs.Plans as plans
 use Rattle.family_tables.specs.Plans.{AreOnce, IsPlan}
-use Rattle.family_tables.specs.Outcomes.{AreImports, IsMember, IsOutcome, IsReady, IsSomeModule, Says, after_ticks, trees_in, trees_of}
+use Rattle.family_tables.specs.Outcomes.{AreImports, IsMember, IsOutcome, IsReady, IsSomeModule, Matches, trees_in, trees_of}
 use Rattle.family_tables.specs.Tables.{entry_of, names_in}
 use Rattle.family_tables.specs.declared.order.Plan.{Plan}
 use Rattle.family_tables.specs.declared.outcome.Outcome.{Outcome}
@@ -68,7 +68,7 @@ tree-diagnosed family name tree needs imports ch h imported told =
 
 -- what is said of it, and how many uses are shown
 pub tree-found : (family : List Member) (name : List ℕ) (tree : ModuleTree) (needs : List (List ℕ)) (imports : Imports) (ch : CheckedModule) (o : outcome.the_data) (count : ℕ) → IsMember family name (reading.Tree tree) needs → AreImports family name needs imports → facts_told ch ≡ facts_of (given_in imports) tree.source (module_of tree) →
-    ((outside : ModuleView) → (ch.faults ≡ [] → face_outside ch.face ≡ outside) → Says ch.faults outside o) → count ≡ length (unless_any ch.faults ch.uses) → IsFound family name o count
+    ((outside : ModuleView) → (ch.faults ≡ [] → face_outside ch.face ≡ outside) → Matches ch.faults outside o) → count ≡ length (unless_any ch.faults ch.uses) → IsFound family name o count
 tree-found family name tree needs imports ch o count h imported told says counted =
     let k = facts-checked (given_in imports) tree.source (module_of tree) ch told in
     let m : Member = h.member in

@@ -58,7 +58,7 @@ fn lone_fault(alloc: Global, fault: Diagnostic) -> Result<List<Diagnostic>, Memo
 fn outcome_of(alloc: Global, checked: &Checked) -> Result<Outcome, Memory>
     ensures says { (outside : ModuleView)
         → (checked.now.faults ≡ [] → face_outside checked.now.face ≡ outside)
-        → IfOk result (outcomes_of.Says checked.now.faults outside) }
+        → IfOk result (outcomes_of.Matches checked.now.faults outside) }
     ensures agreed { (outcomes : ListOf (ListOf ℕ × Outcome)) → (imports : Imports)
         → (name : ListOf ℕ) → AreFrom outcomes imports → IsFaceOver imports name checked.now.face
         → IfOk result (IsAgreed outcomes name) }

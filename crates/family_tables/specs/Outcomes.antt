@@ -21,15 +21,15 @@ use Rattle.family_facts.specs.declared.verdict.File.{File}
 use Rattle.family_facts.specs.declared.verdict.Verdict.{Verdict}
 
 -- an outcome says these faults, and what the module is to others where there are none
-abbrev pub Says : List Diagnostic → ModuleView → Outcome → Type 0
-Says faults outside (Outcome.Refused found) = (found ≡ faults) × (faults ≢ [])
-Says faults outside (Outcome.Accepted face) = (faults ≡ []) × (face_outside (arc_value face) ≡ outside)
+abbrev pub Matches : List Diagnostic → ModuleView → Outcome → Type 0
+Matches faults outside (Outcome.Refused found) = (found ≡ faults) × (faults ≢ [])
+Matches faults outside (Outcome.Accepted face) = (faults ≡ []) × (face_outside (arc_value face) ≡ outside)
 
 -- an outcome says what is found of the member of a name
 pub record IsOutcome (family : List Member) (name : List ℕ) (outcome : Outcome) : Type 0 where
   pub found : Diagnosed
   pub diagnosed : IsDiagnosed family name found
-  pub says : Says found.faults found.outside outcome
+  pub says : Matches found.faults found.outside outcome
 
 -- ---- imports
 
