@@ -31,7 +31,6 @@ use Rattle.family_facts.proofs.FrontLaws.{front-is}
 use Rattle.family_facts.proofs.Members.{AreOneEach, member-there}
 use Rattle.family_facts.proofs.Saying.{file-there}
 use Rattle.family_facts.proofs.OneVerdict.{HasNoOther, IsCheckedOf, Found, of_fault, of_tree, found-of, fault-same, tree-same, tree-no-fault}
-use Rattle.family_check.proofs.Checking.{ticks-within}
 use Rattle.span_laws.specs.NodeSpans.{NodeSpans, SpansText}
 
 all-by : {A : Type 0} (P : A → Type 0) (xs : List A) → ((x : A) → Contains xs x → P x) → All P xs
@@ -153,10 +152,8 @@ trees-same one (m ∷ family) (e ∷ entries) h =
     let rest = trees-same one family entries h.1 in
     sum_by-cons (λ (x : Entry). tree_count x.1.reading) e entries ∙ ((λ i. first i + rest i) ∙ sym (sum_by-cons (λ (x : Member). check_count (front_of x.name x.bytes)) m family))
 
-pub steps-are : HasNoOther → (files : List File) (entries : List Entry) (old new : ℕ) → AreModules (family_of files) entries → old < 2 ^ 64 → new ≡ after_ticks (trees_in entries) old → new ≡ after_checks (checks_of files) old
-steps-are one files entries old new are few ticks =
-    let l : old ≤ 2 ^ 64 - 1 = omega (arith, few) in
-    ticks ∙ (ticks-within (trees_in entries) old l ∙ ap (λ n. min (old + n) (2 ^ 64 - 1)) (trees-same one (family_of files) entries are))
+pub steps-are : HasNoOther → (files : List File) (entries : List Entry) (old new : ℕ) → AreModules (family_of files) entries → new ≡ after_checks (trees_in entries) old → new ≡ after_checks (checks_of files) old
+steps-are one files entries old new are checks = checks ∙ ap (λ n. after_checks n old) (trees-same one (family_of files) entries are)
 
 -- ---- answers
 
@@ -167,9 +164,6 @@ verdicts-answer files one outcomes verdicts are said = one verdicts (verdicts-ar
 pub placed-answer : HasNoOther → FaultsInText → NodesInText → (files : List File) (entries : List Entry) (outcomes : List (List ℕ × Outcome)) (verdicts : List Verdict) → AreOneEach (family_of files) → AreModules (family_of files) entries → AreOutcomes (family_of files) outcomes →
     AllZip (IsSaid outcomes) files verdicts → All IsVerdictPlaced verdicts
 placed-answer one law nodes files entries outcomes verdicts distinct modules are said = verdicts-placed one law nodes files entries verdicts distinct modules (verdicts-are files outcomes verdicts are said)
-
-pub steps-answer : HasNoOther → (files : List File) (entries : List Entry) (old new count : ℕ) → AreModules (family_of files) entries → count < 2 ^ 64 → count ≡ old → new ≡ after_ticks (trees_in entries) old → new ≡ after_checks (checks_of files) old
-steps-answer one files entries old new count are few is ticks = steps-are one files entries old new are (subst (λ n. n < 2 ^ 64) is few) ticks
 
 -- ---- uses
 

@@ -24,6 +24,7 @@ use Rattle.module_facts.proofs.Checked.{facts-checked}
 use Rattle.list_laws.proofs.Lists.{contains-map}
 use Rattle.list_laws.proofs.Texts.{same-text}
 use Rattle.family_facts.specs.Family as families
+use Rattle.family_facts.specs.Verdicts.{after_checks}
 use Rattle.family_facts.specs.Family.{Member, Diagnosed, IsDiagnosed, IsGiven, front_fault, checked, is_there}
 use Rattle.family_tables.specs.Modules.{Entry, IsEntry, AreModules, tree_count}
 use Rattle.family_tables.specs.Plans as plans
@@ -178,9 +179,9 @@ entries-all P family modules plan entries are planned names found name there =
     let s = entry-some entries name (subst (λ ns. Contains ns name) (sym names) ((planned.order.all name).1 known)) in
     (s.0, s.1, found name s.0 s.1)
 
-pub ticks-more : (n : ℕ) (r : reading.the_data) (before old new : ℕ) → old ≡ after_ticks n before → new ≡ after_ticks (tree_count r) old → new ≡ after_ticks (n + tree_count r) before
-ticks-more n (reading.Tree tree) before old new is tick = let e : n + 1 ≡ suc n = omega arith in tick ∙ (ap (λ s. min (s + 1) (2 ^ 64 - 1)) is ∙ ap (λ k. after_ticks k before) (sym e))
-ticks-more n (reading.Fault fault) before old new is tick = let e : n + 0 ≡ n = omega arith in tick ∙ (is ∙ ap (λ k. after_ticks k before) (sym e))
+-- checks, and more of them
+pub checks-more : (n m before old new : ℕ) → old ≡ after_checks n before → new ≡ after_checks m old → new ≡ after_checks (n + m) before
+checks-more n m before old new is more = omega (arith, is, more)
 
 -- the modules that a plan orders are all modules
 pub trees-all : (modules : List Entry) (plan : Plan) → AreOnce (names_in modules) → IsPlan modules plan → sum_by (λ name. trees_of (entry_of modules name)) plan.order ≡ trees_in modules
@@ -192,15 +193,10 @@ trees-all modules plan once planned =
     let same : (e.0, s.0) ≡ e = same-entry modules (e.0, s.0) e once (entry-found modules e.0 s.0 s.1) c refl in
     ap trees_of s.1 ∙ ap (λ (x : Entry). tree_count x.1.reading) same)
 
--- so many ticks
-pub ticks-within : (n steps : ℕ) → steps ≤ 2 ^ 64 - 1 → after_ticks n steps ≡ min (steps + n) (2 ^ 64 - 1)
-ticks-within zero steps l = omega (arith, l)
-ticks-within (suc n) steps l = let e = ticks-within n steps l in omega (arith, e, l)
-
-pub steps-more : (modules : List Entry) (order : List (List ℕ)) (i : ℕ) (d name : List ℕ) (m : Module) (before old new : ℕ) → i < length order → name ≡ get_or order i d → entry_of modules name ≡ Some m → old ≡ after_ticks (sum_by (λ n. trees_of (entry_of modules n)) (take i order)) before → new ≡ after_ticks (tree_count m.reading) old →
-    new ≡ after_ticks (sum_by (λ n. trees_of (entry_of modules n)) (take (i + 1) order)) before
+pub steps-more : (modules : List Entry) (order : List (List ℕ)) (i : ℕ) (d name : List ℕ) (m : Module) (before old new : ℕ) → i < length order → name ≡ get_or order i d → entry_of modules name ≡ Some m → old ≡ after_checks (sum_by (λ n. trees_of (entry_of modules n)) (take i order)) before → new ≡ after_checks (tree_count m.reading) old →
+    new ≡ after_checks (sum_by (λ n. trees_of (entry_of modules n)) (take (i + 1) order)) before
 steps-more modules order i d name m before old new l is e h tick =
     let count : List ℕ → ℕ = λ n. trees_of (entry_of modules n) in
     let here : count (get_or order i d) ≡ tree_count m.reading = ap count (sym is) ∙ ap trees_of e in
     let whole : sum_by count (take (i + 1) order) ≡ sum_by count (take i order) + tree_count m.reading = sum_by_more count order i d l ∙ ap (λ k. sum_by count (take i order) + k) here in
-    ticks-more (sum_by count (take i order)) m.reading before old new h tick ∙ ap (λ k. after_ticks k before) (sym whole)
+    checks-more (sum_by count (take i order)) (tree_count m.reading) before old new h tick ∙ ap (λ k. after_checks k before) (sym whole)

@@ -54,8 +54,6 @@ fn check_modules<L>(
     front_nodes_placed();
     verdicts_are();
     use_counts_are();
-    // The proof needs that a count is below 2^64.
-    let _count = steps.count();
     let plan = plan_of(alloc, modules)?;
     let found = check_all(alloc, modules, &plan, steps)?;
     let verdicts = verdicts_of(alloc, files, &found.outcomes)?;

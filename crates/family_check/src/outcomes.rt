@@ -5,6 +5,7 @@ ghost use Rattle.module_model.specs.Given.{IsFaceOver};
 ghost use Rattle.module_model.specs.Imports.{Imports};
 ghost use Rattle.std.specs.List.{All};
 ghost use Rattle.family_facts.specs.Family.{Member};
+ghost use Rattle.family_facts.specs.Verdicts.{after_checks};
 ghost use Rattle.module_facts.specs.Checks.{unless_any};
 ghost use Rattle.family_check.specs.Findings.{AreUseCounts, IsFound};
 ghost use Rattle.family_tables.specs.Agreement.{AreAgreed, AreFrom, IsAgreed};
@@ -98,7 +99,7 @@ fn check_tree<L>(
         → outcomes_of.IsMember family name.now (reading.Tree tree.now) needs.now
         → IfOk result (λ found. IsFound family name.now found.outcome found.use_count) }
     ensures agreed { IfOk result (λ found. IsAgreed outcomes.now name.now found.outcome) }
-    ensures steps { IfOk result (λ _. steps.new ≡ outcomes_of.after_ticks 1 steps.old) }
+    ensures steps { IfOk result (λ _. steps.new ≡ after_checks 1 steps.old) }
 {
     let imported = imports_of(alloc, plan, outcomes, name, needs)?;
     let checked = check_module(alloc, name, tree, &imported, steps)?;
@@ -126,8 +127,10 @@ fn check_one<L>(
         → IfOk result (λ found. IsFound family name.now found.outcome found.use_count) }
     ensures agreed { IfOk result (λ found. IsAgreed outcomes.now name.now found.outcome) }
     ensures steps { IfOk result (λ _. steps.new
-        ≡ outcomes_of.after_ticks (modules_of.tree_count module.now.reading) steps.old) }
+        ≡ after_checks (modules_of.tree_count module.now.reading) steps.old) }
 {
+    // The proof needs that a count is below 2^64.
+    let _count = steps.count();
     match &module.reading {
         Reading::Tree(tree) => {
             let needs = module.needs.as_slice();
@@ -157,9 +160,11 @@ pub fn check_all<L>(
     ensures use_counts { (family : ListOf Member) → modules_of.AreModules family modules.now
         → IfOk result (λ found. AreUseCounts family found.use_counts) }
     ensures steps { IfOk result (λ _. steps.new
-        ≡ outcomes_of.after_ticks (outcomes_of.trees_in modules.now) steps.old) }
+        ≡ after_checks (outcomes_of.trees_in modules.now) steps.old) }
 {
     front_laws::one_front();
+    // The proof needs that a count is below 2^64.
+    let _count = steps.count();
     let mut outcomes = Table::new(alloc);
     let mut use_counts = Table::new(alloc);
     for name in plan.order.as_slice() {

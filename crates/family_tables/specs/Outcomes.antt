@@ -70,11 +70,6 @@ IsSomeModule name «module» = (bytes : List ℕ) × IsModule name bytes «modul
 abbrev pub AreOutcomes : List Member → List (List ℕ × Outcome) → Type 0
 AreOutcomes family outcomes = (name : List ℕ) → is_there family name ≡ true → (outcome : Outcome) × (entry_of outcomes name ≡ Some outcome) × IsOutcome family name outcome
 
--- a count after so many ticks
-abbrev pub after_ticks : ℕ → ℕ → ℕ
-after_ticks zero steps = steps
-after_ticks (suc n) steps = min (after_ticks n steps + 1) (2 ^ 64 - 1)
-
 -- how many of these modules have a tree
 abbrev pub trees_in : List Entry → ℕ
 trees_in entries = sum_by (λ entry. tree_count entry.1.reading) entries

@@ -1,6 +1,6 @@
 use Rattle.std.proofs.Common.{◌∙◌}
 use Rattle.family_facts.specs.Verdicts.{family_of}
-use Rattle.family_check.proofs.Answering.{modules-some, verdicts-answer, placed-answer, steps-answer, uses-answer}
+use Rattle.family_check.proofs.Answering.{modules-some, verdicts-answer, placed-answer, steps-are, uses-answer}
 use Rattle.family_check.proofs.Once.{modules-once}
 use Rattle.family_facts.proofs.Once.{members-differ}
 use Rattle.family_check.proofs.family.check_modules.Goals as goal
@@ -26,7 +26,7 @@ returns-clause-placed g c =
     placed-answer c.one_front.ensures.same c.faults_stand_in_text.ensures c.front_nodes_placed.ensures c.args.files.now c.args.modules.now c.in_ok-found.found.outcomes c.in_ok-verdicts.verdicts distinct c.requires.modules outcomes c.in_ok-verdicts.ensures
 
 pub returns-clause-steps : goal.returns-clause-steps
-returns-clause-steps g c = steps-answer c.one_front.ensures.same c.args.files.now c.args.modules.now c.args.steps.now c.check_all.new.steps c.count-count.result c.requires.modules c.count-count.type_inv c.count-count.ensures c.in_ok-found.ensures.steps
+returns-clause-steps g c = steps-are c.one_front.ensures.same c.args.files.now c.args.modules.now c.args.steps.now c.check_all.new.steps c.requires.modules c.in_ok-found.ensures.steps
 
 pub returns-clause-use_count : goal.returns-clause-use_count
 returns-clause-use_count g c =

@@ -1,8 +1,8 @@
 use Rattle.std.proofs.Common.{◌<◌, ◌≤◌, ◌∙◌, List, ap, subst, sym, length, get_or}
 use Rattle.std.proofs.lemmas.List.{take_all}
-use Rattle.family_tables.specs.Outcomes.{IsOutcome, after_ticks, trees_of}
+use Rattle.family_tables.specs.Outcomes.{IsOutcome, trees_of}
 use Rattle.family_facts.specs.Family.{Member}
-use Rattle.family_facts.specs.Verdicts.{IsUseCount}
+use Rattle.family_facts.specs.Verdicts.{IsUseCount, after_checks}
 use Rattle.family_tables.specs.Modules.{AreModules}
 use Rattle.family_check.specs.Findings.{IsFound}
 use Rattle.family_check.proofs.Checking.{found-more, member-here, module-here, ordered-fresh, ordered-names, ordered-there, entries-all, ready-here, steps-more, trees-all}
@@ -91,5 +91,5 @@ returns-clause-steps g c =
     let modules = c.args.modules.now in
     let whole = take_all c.loop-name.name-index order (subst (λ ns. length ns ≤ c.loop-name.name-index) c.as_slice-name-items.ensures c.loop-name-test.false) in
     c.loop-name.invariant.steps
-    ∙ (ap (λ ns. after_ticks (sum_by (λ name. trees_of (entry_of modules name)) ns) c.args.steps.now) whole
-    ∙ ap (λ n. after_ticks n c.args.steps.now) (trees-all modules c.args.plan.now c.requires.once c.requires.plan))
+    ∙ (ap (λ ns. after_checks (sum_by (λ name. trees_of (entry_of modules name)) ns) c.args.steps.now) whole
+    ∙ ap (λ n. after_checks n c.args.steps.now) (trees-all modules c.args.plan.now c.requires.once c.requires.plan))

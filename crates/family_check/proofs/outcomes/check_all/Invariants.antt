@@ -1,11 +1,11 @@
 use Rattle.std.proofs.Common.{◌≡◌, ℕ, List, Some, take}
 use Rattle.std.specs.Prelude.{sum_by}
 use Rattle.family_facts.specs.Family.{Member}
-use Rattle.family_facts.specs.Verdicts.{IsUseCount}
+use Rattle.family_facts.specs.Verdicts.{IsUseCount, after_checks}
 use Rattle.family_tables.specs.Modules.{AreModules}
 use Rattle.family_tables.specs.declared.outcome.Outcome.{Outcome}
 use Rattle.family_tables.specs.Agreement.{AreAgreed}
-use Rattle.family_tables.specs.Outcomes.{IsOutcome, after_ticks, trees_of}
+use Rattle.family_tables.specs.Outcomes.{IsOutcome, trees_of}
 use Rattle.family_tables.specs.Tables.{entry_of, names_in}
 use Rattle.family_check.proofs.outcomes.check_all.Given as goal
 
@@ -16,5 +16,5 @@ invariant-loop-name g l = record {
   found : (family : List Member) → AreModules family l.modules → (other : List ℕ) (outcome : Outcome) → entry_of l.outcomes other ≡ Some outcome → IsOutcome family other outcome;
   counts : (family : List Member) → AreModules family l.modules → (other : List ℕ) (count : ℕ) → entry_of l.use_counts other ≡ Some count → IsUseCount family other count;
   agreed : AreAgreed l.outcomes;
-  steps : l.steps ≡ after_ticks (sum_by (λ name. trees_of (entry_of l.modules name)) (take l.name-index l.plan.order)) l.fn.steps;
+  steps : l.steps ≡ after_checks (sum_by (λ name. trees_of (entry_of l.modules name)) (take l.name-index l.plan.order)) l.fn.steps;
 }
