@@ -7,6 +7,7 @@ use Rattle.tla_symbols.specs.declared.lexeme.Mark.TheVariants as Mark
 use Rattle.tla_symbols.specs.declared.lexeme.Lexeme.{Lexeme}
 use Rattle.tla_tree.specs.Syntax.{Tree, Trees}
 use Rattle.tla_tree.specs.Alignment.{takes_left}
+use Rattle.expr_grammar.specs.Kinds.{is_right_bracket}
 use Rattle.expr_grammar.specs.Machine.{State, finish, finish_bounds}
 
 -- no operator (and so no bullet), and no `[]`, which an arm could follow
@@ -44,11 +45,6 @@ stops _ = false
 abbrev pub done_before : Option State → LexKind → Option Tree
 done_before state kind = cond (stops kind) (finish state) None
 
--- the lexeme before which bounds alone may be done: the `]` that closes the head of a function's definition
-abbrev pub closes_bounds : LexKind → Bool
-closes_bounds (LexKind.Mark Mark.RightBracket) = true
-closes_bounds _ = false
-
--- the bounds that are done before a lexeme, if they are
+-- the bounds that are done before a lexeme, if they are: alone before the `]` that closes the head of a function's definition
 abbrev pub bounds_done_before : Option State → LexKind → Option Trees
-bounds_done_before state kind = cond (closes_bounds kind) (finish_bounds state) None
+bounds_done_before state kind = cond (is_right_bracket kind) (finish_bounds state) None

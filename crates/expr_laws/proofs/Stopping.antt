@@ -8,8 +8,9 @@ use Rattle.tla_symbols.specs.declared.lexeme.Lexeme.{Lexeme}
 use Rattle.tla_tree.specs.Syntax.{Tree, Trees}
 use Rattle.tla_tree.specs.Alignment.{takes_left}
 use Rattle.tla_tree.specs.Derivation.{Derives, DerivesBounds}
+use Rattle.expr_grammar.specs.Kinds.{is_right_bracket}
 use Rattle.expr_grammar.specs.Machine.{run, start, finish, start_bounds, finish_bounds}
-use Rattle.expr_grammar.specs.Following.{IsQuiet, stops, done_before, closes_bounds, bounds_done_before}
+use Rattle.expr_grammar.specs.Following.{IsQuiet, stops, done_before, bounds_done_before}
 use Rattle.expr_laws.proofs.Complete.{derives-parses}
 use Rattle.expr_laws.proofs.Following.{before-quiet, bounds-quiet}
 use Rattle.expr_laws.proofs.Heading.{derives-bounds}
@@ -35,19 +36,19 @@ done-derives lexemes tree next e = by (stops next.kind) refl e
 pub derives-done : (lexemes : List Lexeme) (tree : Tree) (next : Lexeme) → stops next.kind ≡ true → Derives tree lexemes 0 (Some next) → done_before (run (Some start) lexemes) next.kind ≡ Some tree
 derives-done lexemes tree next s d = ap (λ b. cond b (finish (run (Some start) lexemes)) None) s ∙ derives-parses tree lexemes (before-quiet d None tt)
 
-closes-stops : (k : LexKind) → closes_bounds k ≡ true → stops k ≡ true
+closes-stops : (k : LexKind) → is_right_bracket k ≡ true → stops k ≡ true
 closes-stops (LexKind.Mark Mark.RightBracket) h = refl
 closes-stops _ h = cc
 
-closes-quiet : (t : Lexeme) → closes_bounds t.kind ≡ true → IsQuiet t
+closes-quiet : (t : Lexeme) → is_right_bracket t.kind ≡ true → IsQuiet t
 closes-quiet t h = stops-quiet t (closes-stops t.kind h)
 
-pub done-bounds : (lexemes : List Lexeme) (bounds : Trees) (next : Lexeme) → bounds_done_before (run (Some start_bounds) lexemes) next.kind ≡ Some bounds → (closes_bounds next.kind ≡ true) × DerivesBounds bounds lexemes 0 (Some next)
-done-bounds lexemes bounds next e = by (closes_bounds next.kind) refl e
+pub done-bounds : (lexemes : List Lexeme) (bounds : Trees) (next : Lexeme) → bounds_done_before (run (Some start_bounds) lexemes) next.kind ≡ Some bounds → (is_right_bracket next.kind ≡ true) × DerivesBounds bounds lexemes 0 (Some next)
+done-bounds lexemes bounds next e = by (is_right_bracket next.kind) refl e
   where
-    by : (b : Bool) → closes_bounds next.kind ≡ b → cond b (finish_bounds (run (Some start_bounds) lexemes)) None ≡ Some bounds → (closes_bounds next.kind ≡ true) × DerivesBounds bounds lexemes 0 (Some next)
+    by : (b : Bool) → is_right_bracket next.kind ≡ b → cond b (finish_bounds (run (Some start_bounds) lexemes)) None ≡ Some bounds → (is_right_bracket next.kind ≡ true) × DerivesBounds bounds lexemes 0 (Some next)
     by true s e = (s, bounds-quiet (accepted-bounds lexemes bounds e) (Some next) (closes-quiet next s))
     by false s e = cc
 
-pub bounds-done : (lexemes : List Lexeme) (bounds : Trees) (next : Lexeme) → closes_bounds next.kind ≡ true → DerivesBounds bounds lexemes 0 (Some next) → bounds_done_before (run (Some start_bounds) lexemes) next.kind ≡ Some bounds
+pub bounds-done : (lexemes : List Lexeme) (bounds : Trees) (next : Lexeme) → is_right_bracket next.kind ≡ true → DerivesBounds bounds lexemes 0 (Some next) → bounds_done_before (run (Some start_bounds) lexemes) next.kind ≡ Some bounds
 bounds-done lexemes bounds next s d = ap (λ b. cond b (finish_bounds (run (Some start_bounds) lexemes)) None) s ∙ derives-bounds bounds lexemes (bounds-quiet d None tt)

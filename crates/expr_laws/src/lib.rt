@@ -10,7 +10,8 @@ ghost use Rattle.tla_symbols.specs.declared.lexeme.Lexeme.{Lexeme};
 ghost use Rattle.tla_tree.specs.Syntax.{Tree, Trees};
 ghost use Rattle.tla_tree.specs.FirstBad.{DerivesWhole, Begins, IsFirstBad};
 ghost use Rattle.tla_tree.specs.Derivation.{Derives, DerivesBounds};
-ghost use Rattle.expr_grammar.specs.Following.{IsQuietNext, stops, done_before, closes_bounds, bounds_done_before};
+ghost use Rattle.expr_grammar.specs.Kinds.{is_right_bracket};
+ghost use Rattle.expr_grammar.specs.Following.{IsQuietNext, stops, done_before, bounds_done_before};
 ghost use Rattle.expr_grammar.specs.Counting.{nodes, all_nodes, held_by, made_step, made, made_bounds};
 ghost use Rattle.expr_grammar.specs.Machine.{State, step, run, start, parse, start_bounds, parse_bounds, RefusesAt};
 ghost use Rattle.expr_grammar.specs.BoundsAlone.{BeginsBounds, IsFirstBadOfBounds, RefusesBoundsAt};
@@ -110,9 +111,9 @@ pub fn done_exactly()
 pub fn bounds_done_exactly()
     ensures done { (lexemes : List Lexeme) → (bounds : Trees) → (next : Lexeme)
         → bounds_done_before (run (Some start_bounds) lexemes) next.kind ≡ Some bounds
-        → (closes_bounds next.kind ≡ true) × DerivesBounds bounds lexemes 0 (Some next) }
+        → (is_right_bracket next.kind ≡ true) × DerivesBounds bounds lexemes 0 (Some next) }
     ensures all { (lexemes : List Lexeme) → (bounds : Trees) → (next : Lexeme)
-        → closes_bounds next.kind ≡ true → DerivesBounds bounds lexemes 0 (Some next)
+        → is_right_bracket next.kind ≡ true → DerivesBounds bounds lexemes 0 (Some next)
         → bounds_done_before (run (Some start_bounds) lexemes) next.kind ≡ Some bounds }
 {}
 

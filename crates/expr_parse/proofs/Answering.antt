@@ -11,9 +11,10 @@ use Rattle.tla_tree.specs.Syntax.{Tree, Trees, trees, form}
 use Rattle.expr_grammar.specs.declared.wait.Wait.{Wait}
 use Rattle.expr_grammar.specs.declared.wait.Shape.{Shape}
 use Rattle.expr_grammar.specs.Tables.{shape, finishes, endable}
+use Rattle.expr_grammar.specs.Kinds.{is_right_bracket}
 use Rattle.expr_grammar.specs.Machine as Machine
-use Rattle.expr_grammar.specs.Machine.{State, At, Have, node, node_with, run, start, start_bounds, step, finish, finish_bounds, close_all, close_bounds, on_tree, on_bounds, whole, whole_bounds}
-use Rattle.expr_grammar.specs.Following.{closes_bounds, done_before, bounds_done_before}
+use Rattle.expr_grammar.specs.Machine.{State, At, Have, node, node_with, run, start, start_bounds, step, finish, finish_bounds, close_all, close_bounds, whole, whole_bounds}
+use Rattle.expr_grammar.specs.Following.{done_before, bounds_done_before}
 use Rattle.expr_grammar.specs.Counting.{made_run, made_finish}
 use Rattle.expr_laws.proofs.Complete.{run-append, refused-ends}
 use Rattle.expr_laws.proofs.Soundness.{accepted-derives, accepted-bounds}
@@ -106,7 +107,7 @@ expression-done lexemes next last s e w =
     let q : finish (run (Some start) lexemes) ≡ Some last.tree = finish-last (run (Some start) lexemes) ∙ (ap (λ z. on_last z (λ x. whole x.frame.wait x.tree)) e ∙ whole-taken last.frame.wait last.tree w) in
     rw (s, q) refl
 
-bounds-are-done : (lexemes : List Lexeme) (next : Lexeme) (last : Outermost) → closes_bounds next.kind ≡ true → ending_of (run (Some start_bounds) lexemes) ≡ Some last → takes_whole Goal.Bounds last.frame.wait (shape last.tree) ≡ true → bounds_done_before (run (Some start_bounds) lexemes) next.kind ≡ Some (trees (last.frame.parts ++ last.tree ∷ []))
+bounds-are-done : (lexemes : List Lexeme) (next : Lexeme) (last : Outermost) → is_right_bracket next.kind ≡ true → ending_of (run (Some start_bounds) lexemes) ≡ Some last → takes_whole Goal.Bounds last.frame.wait (shape last.tree) ≡ true → bounds_done_before (run (Some start_bounds) lexemes) next.kind ≡ Some (trees (last.frame.parts ++ last.tree ∷ []))
 bounds-are-done lexemes next last s e w =
     let q : finish_bounds (run (Some start_bounds) lexemes) ≡ Some (trees (last.frame.parts ++ last.tree ∷ [])) = finish-bounds-last (run (Some start_bounds) lexemes) ∙ (ap (λ z. on_last z bounds_by) e ∙ bounds-taken last.frame.wait (shape last.tree) _ w) in
     rw (s, q) refl

@@ -7,8 +7,8 @@ use Rattle.tla_tree.specs.Syntax.{Tree, form}
 use Rattle.tla_tree.specs.FirstBad.{Begins}
 use Rattle.tla_tree.specs.Derivation.{Derives, DerivesBounds}
 use Rattle.expr_grammar.specs.BoundsAlone.{BeginsBounds}
+use Rattle.expr_grammar.specs.Kinds.{is_right_bracket}
 use Rattle.expr_grammar.specs.Following as Following
-use Rattle.expr_grammar.specs.Following.{closes_bounds}
 use Rattle.tree_parts.specs.Parts.{parts_of}
 use Rattle.expr_parse.specs.declared.goal.Goal.{Goal}
 
@@ -19,7 +19,7 @@ stops kind = Following.stops kind
 -- the lexemes before which it may be done
 abbrev pub may_end : Goal → LexKind → Bool
 may_end Goal.Expression kind = stops kind
-may_end Goal.Bounds kind = closes_bounds kind
+may_end Goal.Bounds kind = is_right_bracket kind
 
 -- the tree derives the lexemes before the next one, outside all aligned lists; bounds are the parts of a tree
 abbrev pub DerivesGoal : Goal → Tree → List Lexeme → Lexeme → Type 0

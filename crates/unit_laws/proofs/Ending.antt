@@ -9,7 +9,7 @@ use Rattle.tla_tree.specs.Lexemes.{then}
 use Rattle.expr_grammar.specs.Kinds.{is_comma}
 use Rattle.expr_grammar.specs.Machine as Expressions
 use Rattle.expr_grammar.specs.Machine.{start}
-use Rattle.expr_grammar.specs.Following.{done_before}
+use Rattle.expr_grammar.specs.Following.{done_before, bounds_done_before}
 use Rattle.unit_grammar.specs.Units.{UnitTree, Constants, ModuleUnits}
 use Rattle.unit_grammar.specs.FirstBad.{IsDerivable, IsFirstBad, IsLast, EndsOnce}
 use Rattle.unit_machine.specs.declared.wait.Due.{Due}
@@ -17,7 +17,7 @@ use Rattle.unit_machine.specs.declared.wait.DueMove.{DueMove}
 use Rattle.unit_machine.specs.declared.wait.Wait.{Wait}
 use Rattle.unit_machine.specs.declared.wait.Move.{Move}
 use Rattle.unit_machine.specs.Tables.{unit_start, due_move, move, after_expression, after_bounds}
-use Rattle.unit_machine.specs.Machine.{Frame, frame, Begun, OfConstants, OfDefinition, OfInstance, OfAssumption, OfTheorem, Focus, Stands, Declared, Part, Expression, Bounds, State, started, unit_due, due_moved, after_declared, finished, node, taking, reading, moved, part_step, given, expression_step, bounds_before, reading_bounds, bounds_step, focus_step, step, run, opening, answered, answer, parse}
+use Rattle.unit_machine.specs.Machine.{Frame, frame, Begun, OfConstants, OfDefinition, OfInstance, OfAssumption, OfTheorem, Focus, Stands, Declared, Part, Expression, Bounds, State, started, unit_due, due_moved, after_declared, finished, node, taking, reading, moved, part_step, given, expression_step, reading_bounds, bounds_step, focus_step, step, run, opening, answered, answer, parse}
 use Rattle.unit_laws.proofs.Flat.{whole-derives}
 use Rattle.unit_laws.proofs.UnitCompleteness.{run-nothing}
 use Rattle.unit_laws.proofs.Views.{Wholes, FocusOk, at_opening, at_word, at_name, at_dashes, at_read, at_extends, at_extended, at_unit, at_line, at_local, at_variable, at_variables, at_closed, at_declared, at_part, at_expression, at_bounds}
@@ -237,7 +237,7 @@ focus-closes (Stands due names) d us t l = due_moved-closes (due_move due t) (du
 focus-closes (Declared xs) d us t l = declared-closes xs d us t l
 focus-closes (Part begun f fs) d us t l = part-closes fs begun f d us t l
 focus-closes (Expression begun fs st b) d us t l = expression-closes (done_before (Some st) t.kind) begun fs st b d us t l
-focus-closes (Bounds begun f st b) d us t l = bounds-closes (bounds_before (Some st) t.kind) begun f st b d us t l
+focus-closes (Bounds begun f st b) d us t l = bounds-closes (bounds_done_before (Some st) t.kind) begun f st b d us t l
 
 last-of : (t : Lexeme) → IsLast t → Last t.kind
 last-of t (inl e) = subst Last (sym e) closing

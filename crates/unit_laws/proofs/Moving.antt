@@ -13,14 +13,14 @@ use Rattle.expr_grammar.specs.Kinds.{is_right_bracket}
 use Rattle.expr_grammar.specs.Tables.{begins}
 use Rattle.expr_grammar.specs.Machine as Expressions
 use Rattle.expr_grammar.specs.Machine.{start, start_bounds, finish, finish_bounds, parse_bounds, begun as begun_with}
-use Rattle.expr_grammar.specs.Following.{stops, done_before}
+use Rattle.expr_grammar.specs.Following.{stops, done_before, bounds_done_before}
 use Rattle.expr_laws.proofs.Complete.{run-none}
 use Rattle.expr_laws.proofs.Stopping.{derives-done}
 use Rattle.unit_grammar.specs.Units.{UnitTree}
 use Rattle.unit_machine.specs.declared.wait.Wait.{Wait}
 use Rattle.unit_machine.specs.declared.wait.Move.{Move}
 use Rattle.unit_machine.specs.Tables.{move, after_expression, after_bounds}
-use Rattle.unit_machine.specs.Machine.{Frame, frame, Begun, OfConstants, Part, Expression, Bounds, State, state, finished, node, taking, shut, reading, moved, part_step, given, expression_step, bounds_before, reading_bounds, bounds_step, run}
+use Rattle.unit_machine.specs.Machine.{Frame, frame, Begun, OfConstants, Part, Expression, Bounds, State, state, finished, node, taking, shut, reading, moved, part_step, given, expression_step, reading_bounds, bounds_step, run}
 use Rattle.unit_laws.proofs.Stopping.{done-refused, bounds-refused}
 
 -- the unit that is read, what waits for the part, and where in the modules that is
@@ -170,7 +170,7 @@ bounds-on : (st : Expressions.State) (s : Lexeme) (a : List Lexeme) (o : Option 
 bounds-on st s a None e xs h = let q : finish_bounds (Expressions.run (Some st) (s ∷ a)) ≡ None = ap (λ z. finish_bounds (Expressions.run z a)) e ∙ ap finish_bounds (run-none a) in cc
 bounds-on st s a (Some next) e xs h = (next, e)
 
-not-yet : (st next : Expressions.State) (s : Lexeme) → Expressions.step st s ≡ Some next → bounds_before (Some st) s.kind ≡ None
+not-yet : (st next : Expressions.State) (s : Lexeme) → Expressions.step st s ≡ Some next → bounds_done_before (Some st) s.kind ≡ None
 not-yet st next s h = by (is_right_bracket s.kind) refl (finish_bounds (Some st)) refl
   where
     by : (c : Bool) → is_right_bracket s.kind ≡ c → (o : Option Trees) → finish_bounds (Some st) ≡ o → cond c o None ≡ None
@@ -181,12 +181,12 @@ not-yet st next s h = by (is_right_bracket s.kind) refl (finish_bounds (Some st)
 pub reads-bounds : (a : List Lexeme) (begun : Begun) (f : Frame) (st : Expressions.State) (b : List Lexeme) (d : ℕ) (us : List UnitTree) (t : Lexeme) (ts : List Lexeme) (xs : Trees) → Expressions.run (Some start_bounds) b ≡ Some st → is_right_bracket t.kind ≡ true → parse_bounds (b ++ a) ≡ Some xs → run (Some (state d us (Bounds begun f st b))) (a ++ t ∷ ts) ≡ run (part_step [] begun (frame (after_bounds f.wait) xs (f.read ++ (b ++ a))) d us t) ts
 reads-bounds [] begun f st b d us t ts xs e r h =
     let p : finish_bounds (Some st) ≡ Some xs = subst (λ z. finish_bounds z ≡ Some xs) (ap (λ z. Expressions.run (Some start_bounds) z) (append-nil b) ∙ e) h in
-    let q : bounds_before (Some st) t.kind ≡ Some xs = ap (λ z. cond z (finish_bounds (Some st)) None) r ∙ p in
+    let q : bounds_done_before (Some st) t.kind ≡ Some xs = ap (λ z. cond z (finish_bounds (Some st)) None) r ∙ p in
     ap (λ z. run (bounds_step z begun f st b d us t) ts) q ∙ ap (λ z. run (part_step [] begun (frame (after_bounds f.wait) xs (f.read ++ z)) d us t) ts) (sym (append-nil b))
 reads-bounds (u ∷ a) begun f st b d us t ts xs e r h =
     let q : Expressions.run (Some start_bounds) (b ++ u ∷ a) ≡ Expressions.run (Some st) (u ∷ a) = run-parts b (u ∷ a) (Some start_bounds) st e in
     let g : (next : Expressions.State) × (Expressions.step st u ≡ Some next) = bounds-on st u a (Expressions.step st u) refl xs (subst (λ z. finish_bounds z ≡ Some xs) q h) in
-    let n : bounds_before (Some st) u.kind ≡ None = not-yet st g.0 u g.1 in
+    let n : bounds_done_before (Some st) u.kind ≡ None = not-yet st g.0 u g.1 in
     let l : (b ++ u ∷ []) ++ a ≡ b ++ u ∷ a = append_assoc b (u ∷ []) a in
     let i : run (Some (state d us (Bounds begun f g.0 (b ++ u ∷ [])))) (a ++ t ∷ ts) ≡ run (part_step [] begun (frame (after_bounds f.wait) xs (f.read ++ ((b ++ u ∷ []) ++ a))) d us t) ts =
     reads-bounds a begun f g.0 (b ++ u ∷ []) d us t ts xs (run-snoc b u (Some start_bounds) st g.0 e g.1) r (subst (λ z. parse_bounds z ≡ Some xs) (sym l) h)

@@ -15,7 +15,7 @@ use Rattle.tla_tree.specs.Derivation.{Derives, DerivesBounds, DerivesDefinition,
 use Rattle.expr_grammar.specs.Kinds.{is_name, is_comma, is_right_bracket}
 use Rattle.expr_grammar.specs.Machine as Expressions
 use Rattle.expr_grammar.specs.Machine.{start, start_bounds, finish_bounds}
-use Rattle.expr_grammar.specs.Following.{IsQuiet, done_before}
+use Rattle.expr_grammar.specs.Following.{IsQuiet, done_before, bounds_done_before}
 use Rattle.expr_laws.proofs.KindTests.{name-is, comma-is, right_bracket-is}
 use Rattle.expr_laws.proofs.Following.{before-quiet}
 use Rattle.expr_laws.proofs.Stopping.{done-derives}
@@ -27,7 +27,7 @@ use Rattle.unit_machine.specs.declared.wait.DueMove.{DueMove}
 use Rattle.unit_machine.specs.declared.wait.Wait.{Wait}
 use Rattle.unit_machine.specs.declared.wait.Move.{Move}
 use Rattle.unit_machine.specs.Tables.{is_dashes, is_module, is_extends, may_be_local, unit_start, if_due, move, after_part, after_expression}
-use Rattle.unit_machine.specs.Machine.{Frame, frame, Begun, OfConstants, OfDefinition, Focus, Stands, Part, Bounds, State, state, unit_of, ended, closed, started, unit_due, due_moved, after_declared, finished, concluded, node, taking, shut, reading, moved, part_step, given, expression_step, bounds_before, reading_bounds, bounds_step, focus_step, step, run, opening, whole, answered, answer, parse}
+use Rattle.unit_machine.specs.Machine.{Frame, frame, Begun, OfConstants, OfDefinition, Focus, Stands, Part, Bounds, State, state, unit_of, ended, closed, started, unit_due, due_moved, after_declared, finished, concluded, node, taking, shut, reading, moved, part_step, given, expression_step, reading_bounds, bounds_step, focus_step, step, run, opening, whole, answered, answer, parse}
 use Rattle.unit_laws.proofs.Flat.{Plain, plain_variables, plain_constants, plain_definition, plain_instance, plain_assumption, plain_theorem, plain_line, Rest, closes, ends, goes, opens, whole as as_whole, whole-derives}
 use Rattle.unit_laws.proofs.Moving.{run-snoc}
 use Rattle.unit_laws.proofs.PartCompleteness.{bounds-quiet}
@@ -299,7 +299,7 @@ going-bounds q l n u b st t g s k m e None r = tt
 going-bounds {depth = depth} {us = us} {before = before} q l n u b st t g s k m e (Some su) r =
     renamed (Some (state (suc depth) us (Bounds (OfDefinition before) (frame (Wait.Bounds n) Nil (n ∷ u ∷ [])) su (b ++ t ∷ [])))) _ _ (longer q l (n ∷ u ∷ []) b t) (at_bounds q l g s k m (run-snoc b t (Some start_bounds) st su e r))
 
-bounds-sound : {depth : ℕ} {us : List UnitTree} {before : Option Lexeme} (q l : List Lexeme) (n u : Lexeme) (b : List Lexeme) (st : Expressions.State) (t : Lexeme) → Goes (suc depth) us q → SpellsLocal before l → IsName n → IsMark u Mark.LeftBracket → Expressions.run (Some start_bounds) b ≡ Some st → GoingOk ((q ++ (l ++ (n ∷ u ∷ b))) ++ t ∷ []) (bounds_step (bounds_before (Some st) t.kind) (OfDefinition before) (frame (Wait.Bounds n) Nil (n ∷ u ∷ [])) st b (suc depth) us t)
+bounds-sound : {depth : ℕ} {us : List UnitTree} {before : Option Lexeme} (q l : List Lexeme) (n u : Lexeme) (b : List Lexeme) (st : Expressions.State) (t : Lexeme) → Goes (suc depth) us q → SpellsLocal before l → IsName n → IsMark u Mark.LeftBracket → Expressions.run (Some start_bounds) b ≡ Some st → GoingOk ((q ++ (l ++ (n ∷ u ∷ b))) ++ t ∷ []) (bounds_step (bounds_done_before (Some st) t.kind) (OfDefinition before) (frame (Wait.Bounds n) Nil (n ∷ u ∷ [])) st b (suc depth) us t)
 bounds-sound {depth = depth} {us = us} {before = before} q l n u b st t g s k m e = by (is_right_bracket t.kind) refl (finish_bounds (Some st)) refl
   where
     by : (c : Bool) → is_right_bracket t.kind ≡ c → (o : Option Trees) → finish_bounds (Some st) ≡ o → GoingOk ((q ++ (l ++ (n ∷ u ∷ b))) ++ t ∷ []) (bounds_step (cond c o None) (OfDefinition before) (frame (Wait.Bounds n) Nil (n ∷ u ∷ [])) st b (suc depth) us t)

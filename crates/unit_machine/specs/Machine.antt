@@ -8,10 +8,10 @@ use Rattle.tla_symbols.specs.declared.lexeme.Lexeme.{Lexeme}
 use Rattle.tla_tree.specs.declared.form.Form.{Form}
 use Rattle.tla_tree.specs.Syntax.{Tree, Trees, Nil}
 use Rattle.tla_tree.specs.Lexemes.{built, then}
-use Rattle.expr_grammar.specs.Kinds.{is_comma, is_right_bracket}
+use Rattle.expr_grammar.specs.Kinds.{is_comma}
 use Rattle.expr_grammar.specs.Machine as Expressions
-use Rattle.expr_grammar.specs.Machine.{start, start_bounds, finish_bounds}
-use Rattle.expr_grammar.specs.Following.{done_before}
+use Rattle.expr_grammar.specs.Machine.{start, start_bounds}
+use Rattle.expr_grammar.specs.Following.{done_before, bounds_done_before}
 use Rattle.unit_grammar.specs.Units.{UnitTree, Variables, Constants, Instance, Assumption, Theorem, Line, ModuleBegin, ModuleEnd, ModuleUnits, defined}
 use Rattle.unit_machine.specs.declared.wait.Due.{Due}
 use Rattle.unit_machine.specs.declared.wait.DueMove.{DueMove}
@@ -164,10 +164,6 @@ abbrev pub expression_step : Option Tree → Begun → List Frame → Expression
 expression_step (Some x) begun fs st b d us t = given fs begun x b d us t
 expression_step None begun fs st b d us t = reading (Expressions.step st t) begun fs (b ++ t ∷ []) d us
 
--- the bounds that are done before a lexeme, if some are
-abbrev pub bounds_before : Option Expressions.State → LexKind → Option Trees
-bounds_before st kind = cond (is_right_bracket kind) (finish_bounds st) None
-
 -- bounds are read on with the lexeme, unless it is refused there
 abbrev pub reading_bounds : Option Expressions.State → Begun → Frame → List Lexeme → ℕ → List UnitTree → Option State
 reading_bounds None begun f b d us = None
@@ -184,7 +180,7 @@ focus_step (Stands due names) d us t = due_moved (due_move due t) names d us t
 focus_step (Declared xs) d us t = after_declared xs d us t
 focus_step (Part begun f fs) d us t = part_step fs begun f d us t
 focus_step (Expression begun fs st b) d us t = expression_step (done_before (Some st) t.kind) begun fs st b d us t
-focus_step (Bounds begun f st b) d us t = bounds_step (bounds_before (Some st) t.kind) begun f st b d us t
+focus_step (Bounds begun f st b) d us t = bounds_step (bounds_done_before (Some st) t.kind) begun f st b d us t
 
 -- one lexeme more
 abbrev pub step : State → Lexeme → Option State

@@ -11,14 +11,13 @@ use Rattle.tree_parts.specs.declared.part.Part.{Part}
 use Rattle.tree_parts.specs.Parts.{Grows, parts_of}
 use Rattle.tree_parts.proofs.Growing.{grows-same, grows-on}
 use Rattle.expr_grammar.specs.Machine as Expressions
-use Rattle.expr_grammar.specs.Kinds.{is_right_bracket}
-use Rattle.expr_grammar.specs.Machine.{start, start_bounds, finish, finish_bounds}
-use Rattle.expr_grammar.specs.Following.{stops, closes_bounds, done_before, bounds_done_before}
+use Rattle.expr_grammar.specs.Machine.{start, start_bounds, finish}
+use Rattle.expr_grammar.specs.Following.{stops, done_before, bounds_done_before}
 use Rattle.expr_parse.specs.declared.goal.Goal.{Goal}
 use Rattle.unit_machine.specs.Tables.{after_bounds}
 use Rattle.unit_grammar.specs.Units.{UnitTree}
 use Rattle.unit_machine.specs.Machine as Machine
-use Rattle.unit_machine.specs.Machine.{part_step, given, expression_step, bounds_step, bounds_before}
+use Rattle.unit_machine.specs.Machine.{part_step, given, expression_step, bounds_step}
 use Rattle.unit_frames.specs.declared.frame.Frame.{Frame}
 use Rattle.unit_frames.specs.declared.unfinished.Unfinished.{Unfinished}
 use Rattle.unit_frames.specs.FrameMeaning.{IsFrame, IsUnder}
@@ -102,15 +101,6 @@ enters-bounds nodes unfinished held reader (Some s) r k = by s.focus k
 
 -- ---- what the reader of expressions answered
 
--- bounds are done before the same lexemes, alone and in a unit
-same-bounds : (st : Expressions.State) (kind : LexKind) → bounds_before (Some st) kind ≡ bounds_done_before (Some st) kind
-same-bounds st kind = ap (λ z. cond z (finish_bounds (Some st)) None) (closes kind)
-  where
-    closes : (k : LexKind) → is_right_bracket k ≡ closes_bounds k
-    closes (LexKind.Mark Mark.RightBracket) = refl
-    closes (LexKind.Mark _) = refl
-    closes _ = refl
-
 pub fed-still : {nodes : List Arena.Node} {reader : ExprReader} {goal : Goal} {st : Expressions.State} {read : List Lexeme} {t : Lexeme} {fed : Fed} → IsFed nodes reader goal st read t fed → Feeds nodes nodes reader goal st read t fed
 fed-still {nodes = nodes} i = record { grows = grows-same nodes; is = i }
 
@@ -139,29 +129,29 @@ expression-done nodes more most reader part b fs d us st read t state h m = reco
   is = subst (IsMoved most state) (sym (ap (λ o. expression_step o b fs st read d us t) h.is.0)) m.is;
 }
 
-pub bounds-going : (nodes more : List Arena.Node) (unfinished : Unfinished) (held : Frame) (reader : ExprReader) (b : Machine.Begun) (f : Machine.Frame) (d : ℕ) (us : List UnitTree) (st : Expressions.State) (read : List Lexeme) (t : Lexeme) (fed : Fed) → fed ≡ Fed.Going → IsUnder nodes unfinished b [] d us → IsFrame nodes held f → Feeds nodes more reader Goal.Bounds st read t fed → Moves nodes more (Some (State.Bounds unfinished held reader)) (bounds_step (bounds_before (Some st) t.kind) b f st read d us t)
+pub bounds-going : (nodes more : List Arena.Node) (unfinished : Unfinished) (held : Frame) (reader : ExprReader) (b : Machine.Begun) (f : Machine.Frame) (d : ℕ) (us : List UnitTree) (st : Expressions.State) (read : List Lexeme) (t : Lexeme) (fed : Fed) → fed ≡ Fed.Going → IsUnder nodes unfinished b [] d us → IsFrame nodes held f → Feeds nodes more reader Goal.Bounds st read t fed → Moves nodes more (Some (State.Bounds unfinished held reader)) (bounds_step (bounds_done_before (Some st) t.kind) b f st read d us t)
 bounds-going nodes more unfinished held reader b f d us st read t fed q u i h =
     let k : Feeds nodes more reader Goal.Bounds st read t Fed.Going = subst (Feeds nodes more reader Goal.Bounds st read t) q h in
-    let e : bounds_step (bounds_before (Some st) t.kind) b f st read d us t ≡ Some (Machine.state d us (Machine.Bounds b f k.is.1.state (read ++ t ∷ []))) =
-    ap (λ o. bounds_step o b f st read d us t) (same-bounds st t.kind ∙ k.is.0) ∙ ap (λ o. Machine.reading_bounds o b f (read ++ t ∷ []) d us) k.is.1.steps
+    let e : bounds_step (bounds_done_before (Some st) t.kind) b f st read d us t ≡ Some (Machine.state d us (Machine.Bounds b f k.is.1.state (read ++ t ∷ []))) =
+    ap (λ o. bounds_step o b f st read d us t) k.is.0 ∙ ap (λ o. Machine.reading_bounds o b f (read ++ t ∷ []) d us) k.is.1.steps
     in
     record {
       grows = k.grows;
       is = subst (IsMoved more (Some (State.Bounds unfinished held reader))) (sym e) (under-grows nodes more unfinished b [] d us k.grows u, frame-grows nodes more held f k.grows i, k.is.1.is);
     }
 
-pub bounds-refused : (nodes more : List Arena.Node) (reader : ExprReader) (b : Machine.Begun) (f : Machine.Frame) (d : ℕ) (us : List UnitTree) (st : Expressions.State) (read : List Lexeme) (t : Lexeme) (fed : Fed) → fed ≡ Fed.Refused → Feeds nodes more reader Goal.Bounds st read t fed → Moves nodes more None (bounds_step (bounds_before (Some st) t.kind) b f st read d us t)
+pub bounds-refused : (nodes more : List Arena.Node) (reader : ExprReader) (b : Machine.Begun) (f : Machine.Frame) (d : ℕ) (us : List UnitTree) (st : Expressions.State) (read : List Lexeme) (t : Lexeme) (fed : Fed) → fed ≡ Fed.Refused → Feeds nodes more reader Goal.Bounds st read t fed → Moves nodes more None (bounds_step (bounds_done_before (Some st) t.kind) b f st read d us t)
 bounds-refused nodes more reader b f d us st read t fed q h =
     let k : Feeds nodes more reader Goal.Bounds st read t Fed.Refused = subst (Feeds nodes more reader Goal.Bounds st read t) q h in
-    let e : bounds_step (bounds_before (Some st) t.kind) b f st read d us t ≡ None =
-    ap (λ o. bounds_step o b f st read d us t) (same-bounds st t.kind ∙ k.is.0) ∙ ap (λ o. Machine.reading_bounds o b f (read ++ t ∷ []) d us) k.is.1
+    let e : bounds_step (bounds_done_before (Some st) t.kind) b f st read d us t ≡ None =
+    ap (λ o. bounds_step o b f st read d us t) k.is.0 ∙ ap (λ o. Machine.reading_bounds o b f (read ++ t ∷ []) d us) k.is.1
     in
     record { grows = k.grows; is = subst (IsMoved more None) (sym e) tt }
 
-pub bounds-done-is : (nodes more most : List Arena.Node) (reader : ExprReader) (part : Part) (b : Machine.Begun) (f : Machine.Frame) (d : ℕ) (us : List UnitTree) (st : Expressions.State) (read : List Lexeme) (t : Lexeme) (state : Option State) → Feeds nodes more reader Goal.Bounds st read t (Fed.Done part) → Moves more most state (part_step [] b (Machine.frame (after_bounds f.wait) (parts_of (tree_at more part.node)) (f.read ++ read)) d us t) → Moves nodes most state (bounds_step (bounds_before (Some st) t.kind) b f st read d us t)
+pub bounds-done-is : (nodes more most : List Arena.Node) (reader : ExprReader) (part : Part) (b : Machine.Begun) (f : Machine.Frame) (d : ℕ) (us : List UnitTree) (st : Expressions.State) (read : List Lexeme) (t : Lexeme) (state : Option State) → Feeds nodes more reader Goal.Bounds st read t (Fed.Done part) → Moves more most state (part_step [] b (Machine.frame (after_bounds f.wait) (parts_of (tree_at more part.node)) (f.read ++ read)) d us t) → Moves nodes most state (bounds_step (bounds_done_before (Some st) t.kind) b f st read d us t)
 bounds-done-is nodes more most reader part b f d us st read t state h m = record {
   grows = grows-on nodes more most h.grows m.grows;
-  is = subst (IsMoved most state) (sym (ap (λ o. bounds_step o b f st read d us t) (same-bounds st t.kind ∙ h.is.0))) m.is;
+  is = subst (IsMoved most state) (sym (ap (λ o. bounds_step o b f st read d us t) h.is.0)) m.is;
 }
 
 pub fed-done : (nodes more : List Arena.Node) (reader : ExprReader) (goal : Goal) (st : Expressions.State) (read : List Lexeme) (t : Lexeme) (fed : Fed) (part : Part) → fed ≡ Fed.Done part → Feeds nodes more reader goal st read t fed → Feeds nodes more reader goal st read t (Fed.Done part)

@@ -2,7 +2,7 @@
 ghost use Rattle.std.specs.Prelude.{◌+◌, ℕ, List, [], Some, IfOk, length};
 ghost use Rattle.tla_symbols.specs.declared.lexeme.Lexeme.{Lexeme};
 ghost use Rattle.expr_grammar.specs.Machine as expressions;
-ghost use Rattle.expr_grammar.specs.Following.{done_before};
+ghost use Rattle.expr_grammar.specs.Following.{done_before, bounds_done_before};
 ghost use Rattle.expr_parse.specs.declared.goal.Goal.TheVariants as goals;
 ghost use Rattle.unit_grammar.specs.Units as units;
 ghost use Rattle.unit_machine.specs.Machine as machine;
@@ -90,7 +90,7 @@ fn bounds_fed(
         → IsUnder tree.old unfinished b [] depth us → IsFrame tree.old frame f
         → IsFed tree.old reader goals.Bounds st read lexeme fed
         → Moves tree.old tree.new moved
-        (machine.bounds_step (machine.bounds_before (Some st) lexeme.kind) b f st read depth us
+        (machine.bounds_step (bounds_done_before (Some st) lexeme.kind) b f st read depth us
         lexeme)) }
     ensures few { IfOk result (λ moved. (count : ℕ)
         → IsFewFed tree.old reader.machine (length unfinished.below.items + 1) count lexeme fed
@@ -118,7 +118,7 @@ pub(crate) fn bounds_step(
         → IsUnder tree.old unfinished b [] depth us → IsFrame tree.old frame f
         → IsReading tree.old reader goals.Bounds st read
         → Moves tree.old tree.new moved
-        (machine.bounds_step (machine.bounds_before (Some st) lexeme.kind) b f st read depth us
+        (machine.bounds_step (bounds_done_before (Some st) lexeme.kind) b f st read depth us
         lexeme)) }
     ensures few { IfOk result (λ moved. (count : ℕ)
         → IsFewRead tree.old reader.machine (length unfinished.below.items + 1) count
