@@ -1,5 +1,5 @@
 -- The machine: a stack of frames, each with the parts and the lexemes that it has read.
-use Rattle.std.specs.Prelude.{◌≡◌, ℕ, suc, ◌+◌, take, max, nat_lt, Bool, true, false, cond, List, [], ◌∷◌, ◌++◌, Option, Some, None}
+use Rattle.std.specs.Prelude.{◌≡◌, ℕ, suc, ◌+◌, take, max, nat_lt, Bool, true, false, cond, List, [], ◌∷◌, ◌++◌, Option, Some, None, option_and_then}
 use Rattle.tla_symbols.specs.declared.lexeme.Lexeme.{Lexeme}
 use Rattle.tla_tree.specs.declared.form.Form.{Form}
 use Rattle.tla_tree.specs.Syntax.{Tree, Trees, Nil, trees}
@@ -84,16 +84,6 @@ led (Lead.Push w) f fs e b t = Some (ready (frame w (e ∷ []) (b ++ t ∷ []) �
 led (Lead.Node form) f fs e b t = Some (Have (f ∷ fs) (built form (one e) (b ++ t ∷ [])) (b ++ t ∷ []))
 led Lead.NoLead f fs e b t = None
 
--- goes on with the form of a frame that ends, and refuses where the frame may not end
-abbrev pub on_form : Option Form → (Form → Option State) → Option State
-on_form None go = None
-on_form (Some form) go = go form
-
--- the same at the end of the lexemes, where the answer is a tree
-abbrev pub on_tree : Option Form → (Form → Option Tree) → Option Tree
-on_tree None go = None
-on_tree (Some form) go = go form
-
 -- the way that is chosen at an operator: the frame ends, or it waits; at a clash the lexeme is refused
 abbrev pub act : Choice → Option State → Option State → Option State
 act Ends ends waits = ends
@@ -107,7 +97,7 @@ operator_step (f ∷ fs) e b t =
     cond (takes f.wait (role t.kind))
     (cond (is_expression (shape e)) (Some (At (frame Wait.Factor (f.parts ++ e ∷ []) (f.read ++ (b ++ t ∷ [])) ∷ fs))) None)
     (act (choice f.wait (edge_of (role t.kind)))
-    (on_form (finishes f.wait (shape e)) (λ form. operator_step fs (node_with form f e b) (f.read ++ b) t))
+    (option_and_then (λ form. operator_step fs (node_with form f e b) (f.read ++ b) t) (finishes f.wait (shape e)))
     (cond (is_expression (shape e)) (led (lead (role t.kind) t) f fs e b t) None))
 
 -- the move of the table for a lexeme after a part; the last argument says how a frame ends before the lexeme
@@ -147,8 +137,8 @@ abbrev pub leave : List Frame → Tree → List Lexeme → Lexeme → Option Sta
 leave [] e b t = None
 leave (f ∷ fs) e b t =
     on_bullet (cond (is_expression (shape e)) (list_of f.wait) None) f fs e b t
-    (on_form (finishes f.wait (shape e)) (λ form.
-    (cond (nat_lt t.col (inner fs)) (leave fs (node_with form f e b) (f.read ++ b) t) (within fs (node_with form f e b) (f.read ++ b) t))))
+    (option_and_then (λ form.
+    (cond (nat_lt t.col (inner fs)) (leave fs (node_with form f e b) (f.read ++ b) t) (within fs (node_with form f e b) (f.read ++ b) t))) (finishes f.wait (shape e)))
 
 -- a lexeme after a finished part, left of the innermost list's items or among them
 abbrev pub have : List Frame → Tree → List Lexeme → Lexeme → Option State
@@ -156,7 +146,7 @@ have fs e b t = cond (nat_lt t.col (inner fs)) (leave fs e b t) (within fs e b t
 
 -- a frame that ends before the lexeme with no part to come
 abbrev pub ended : Option Form → Frame → List Frame → Lexeme → Option State
-ended o f fs t = on_form o (λ form. have fs (node form f) f.read t)
+ended o f fs t = option_and_then (λ form. have fs (node form f) f.read t) o
 
 -- the move of the table for a lexeme in a frame without a finished part; what it refuses may end the frame
 abbrev pub marked : MarkMove → Frame → List Frame → Lexeme → Option State
@@ -206,12 +196,12 @@ whole _ e = None
 abbrev pub close_all : List Frame → Tree → List Lexeme → Option Tree
 close_all [] e b = None
 close_all (f ∷ []) e b = whole f.wait e
-close_all (f ∷ g ∷ fs) e b = on_tree (finishes f.wait (shape e)) (λ form. close_all (g ∷ fs) (node_with form f e b) (f.read ++ b))
+close_all (f ∷ g ∷ fs) e b = option_and_then (λ form. close_all (g ∷ fs) (node_with form f e b) (f.read ++ b)) (finishes f.wait (shape e))
 
 -- the answer where no part is finished: the innermost frame must end without one
 abbrev pub finish_due : List Frame → Option Tree
 finish_due [] = None
-finish_due (f ∷ fs) = on_tree (endable f.wait None) (λ form. close_all fs (node form f) f.read)
+finish_due (f ∷ fs) = option_and_then (λ form. close_all fs (node form f) f.read) (endable f.wait None)
 
 -- the one expression that has been read, if it is whole here
 abbrev pub finish : Option State → Option Tree
@@ -232,21 +222,16 @@ abbrev pub whole_bounds : Wait → Shape → Trees → Option Trees
 whole_bounds Wait.WholeBounds Shape.Bound bounds = Some bounds
 whole_bounds _ _ bounds = None
 
--- goes on with the form of a frame that ends, where the answer is bounds
-abbrev pub on_bounds : Option Form → (Form → Option Trees) → Option Trees
-on_bounds None go = None
-on_bounds (Some form) go = go form
-
 -- the frames round a finished part end with it, the innermost first, and leave bounds
 abbrev pub close_bounds : List Frame → Tree → List Lexeme → Option Trees
 close_bounds [] e b = None
 close_bounds (f ∷ []) e b = whole_bounds f.wait (shape e) (trees (f.parts ++ e ∷ []))
-close_bounds (f ∷ g ∷ fs) e b = on_bounds (finishes f.wait (shape e)) (λ form. close_bounds (g ∷ fs) (node_with form f e b) (f.read ++ b))
+close_bounds (f ∷ g ∷ fs) e b = option_and_then (λ form. close_bounds (g ∷ fs) (node_with form f e b) (f.read ++ b)) (finishes f.wait (shape e))
 
 -- the bounds where no part is finished: the innermost frame must end without one
 abbrev pub finish_due_bounds : List Frame → Option Trees
 finish_due_bounds [] = None
-finish_due_bounds (f ∷ fs) = on_bounds (endable f.wait None) (λ form. close_bounds fs (node form f) f.read)
+finish_due_bounds (f ∷ fs) = option_and_then (λ form. close_bounds fs (node form f) f.read) (endable f.wait None)
 
 -- the bounds that have been read, if they are whole here
 abbrev pub finish_bounds : Option State → Option Trees

@@ -1,6 +1,6 @@
 -- Each state that the machine reaches fits: each frame makes a part that the frame below it takes.
 use Rattle.std.proofs.Common.{◌≡◌, Bool, true, false, List, [], ◌∷◌, ◌++◌, Option, Some, None, refl, ap, sym, subst, ◌∙◌}
-use Rattle.std.specs.Prelude.{cond, is_none, nat_lt}
+use Rattle.std.specs.Prelude.{cond, is_none, nat_lt, option_and_then}
 use Rattle.tla_symbols.specs.declared.lexeme.Lexeme.{Lexeme}
 use Rattle.tla_tree.specs.declared.form.Form.{Form}
 use Rattle.tla_tree.specs.Syntax.{Tree, Trees, Nil, trees}
@@ -14,7 +14,7 @@ use Rattle.expr_grammar.specs.declared.wait.PartMove.{PartMove}
 use Rattle.expr_grammar.specs.declared.wait.Lead.{Lead}
 use Rattle.expr_grammar.specs.Kinds.{is_name}
 use Rattle.expr_grammar.specs.Tables.{mode, child, list_of, goes_on, begins, at_mark, endable, absorbs, role, edge_of, lead, takes, choice, shape, is_expression, converted, finishes, at_part}
-use Rattle.expr_grammar.specs.Machine.{Frame, frame, State, At, Have, inner, ready, complete, absorbed, node, node_with, led, on_form, act, operator_step, moved, part_step, is_operator, within, on_bullet, leave, have, ended, marked, begun, step, run, start, start_bounds}
+use Rattle.expr_grammar.specs.Machine.{Frame, frame, State, At, Have, inner, ready, complete, absorbed, node, node_with, led, act, operator_step, moved, part_step, is_operator, within, on_bullet, leave, have, ended, marked, begun, step, run, start, start_bounds}
 use Rattle.expr_laws.proofs.CompletingKinds.{Kind, Goal, bottom, makes, wanted, meets, shows, rough, shows-form, meets-shows, meets-no_step, bottom-shows}
 use Rattle.expr_laws.proofs.CompletingTables.{takes_sets, Grows, same, to_bound, KeepsMark, mark-kept, KeepsPart, part-kept, BeginsExpression, begins-kept, begins_something, begins-wanted, waits-wanted, LeadsExpression, leads-kept, takes-factor, absorbs-step, absorbs-no_step}
 
@@ -115,7 +115,7 @@ led-fits goal (Lead.Push w) f fs e b t h m u = ready-fits goal w (e ∷ []) (b +
 led-fits goal (Lead.Node form) f fs e b t h m u = (expression-taken f.wait form (one e) (b ++ t ∷ []) h m, u)
 led-fits goal Lead.NoLead f fs e b t h m u = tt
 
-on-form-fits : (goal : Goal) (o : Option Form) (go : Form → Option State) → ((form : Form) → FitsNext goal (go form)) → FitsNext goal (on_form o go)
+on-form-fits : (goal : Goal) (o : Option Form) (go : Form → Option State) → ((form : Form) → FitsNext goal (go form)) → FitsNext goal (option_and_then go o)
 on-form-fits goal None go h = tt
 on-form-fits goal (Some form) go h = h form
 

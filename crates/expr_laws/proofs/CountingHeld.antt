@@ -1,6 +1,6 @@
 -- What the trees of a state have more after a step was made, and the tree or the bounds that the machine finds have no more nodes than it made.
 use Rattle.std.proofs.Common.{◌≡◌, ℕ, suc, ◌+◌, ◌≤◌, Bool, true, false, List, [], ◌∷◌, ◌++◌, Option, Some, None, refl, ap, arith}
-use Rattle.std.specs.Prelude.{cond, nat_lt}
+use Rattle.std.specs.Prelude.{cond, nat_lt, option_and_then}
 use Rattle.tla_symbols.specs.declared.lexeme.Lexeme.{Lexeme}
 use Rattle.tla_tree.specs.declared.form.Form.{Form}
 use Rattle.tla_tree.specs.Syntax.{Tree, Trees, Node, Nil, Cons, trees}
@@ -14,7 +14,7 @@ use Rattle.expr_grammar.specs.declared.wait.Shape.{Shape}
 use Rattle.expr_grammar.specs.declared.wait.Start.{Start}
 use Rattle.expr_grammar.specs.declared.wait.Wait.{Wait}
 use Rattle.expr_grammar.specs.Tables.{mode, Child, child, list_of, goes_on, begins, at_mark, endable, absorbs, role, edge_of, lead, takes, choice, shape, is_expression, name_of, names_of, bound_of, converted, finishes, at_part}
-use Rattle.expr_grammar.specs.Machine.{whole, whole_bounds, on_bounds, close_bounds, finish_bounds, parse_bounds, start_bounds, Frame, frame, State, At, Have, inner, with_child, entry, ready, node, node_with, absorbed, complete, led, on_form, on_tree, act, operator_step, moved, part_step, is_operator, within, on_bullet, leave, have, ended, marked, begun, step, run, start, close_all, finish, parse}
+use Rattle.expr_grammar.specs.Machine.{whole, whole_bounds, close_bounds, finish_bounds, parse_bounds, start_bounds, Frame, frame, State, At, Have, inner, with_child, entry, ready, node, node_with, absorbed, complete, led, act, operator_step, moved, part_step, is_operator, within, on_bullet, leave, have, ended, marked, begun, step, run, start, close_all, finish, parse}
 use Rattle.expr_grammar.specs.Counting.{nodes, all_nodes, held, held_by, made_name, made_names, made_bound, made_converted, made_led, made_ending, made_choice, made_operator, made_move, made_part, made_within, made_bullet, made_leave, made_have, made_ended, made_mark, made_begun, made_step, made_run, made_close, made_finish, made, made_bounds}
 use Rattle.expr_laws.proofs.Counting.{nodes-then}
 
@@ -85,7 +85,7 @@ choice-counted Choice.Ends m n x y k h j = h
 choice-counted Choice.Waits m n x y k h j = j
 choice-counted Choice.Clashes m n x y k h j = omega arith
 
-form-counted : (o : Option Form) (go : Form → ℕ) (next : Form → Option State) (k : ℕ) → ((form : Form) → Counted (suc (go form)) (next form) k) → Counted (made_ending o go) (on_form o next) k
+form-counted : (o : Option Form) (go : Form → ℕ) (next : Form → Option State) (k : ℕ) → ((form : Form) → Counted (suc (go form)) (next form) k) → Counted (made_ending o go) (option_and_then next o) k
 form-counted None go next k h = omega arith
 form-counted (Some form) go next k h = h form
 
@@ -176,7 +176,7 @@ abbrev nodes_found : Option Tree → ℕ
 nodes_found None = 0
 nodes_found (Some tree) = nodes tree
 
-found-counted : (o : Option Form) (go : Form → ℕ) (next : Form → Option Tree) (k : ℕ) → ((form : Form) → nodes_found (next form) ≤ k + suc (go form)) → nodes_found (on_tree o next) ≤ k + made_ending o go
+found-counted : (o : Option Form) (go : Form → ℕ) (next : Form → Option Tree) (k : ℕ) → ((form : Form) → nodes_found (next form) ≤ k + suc (go form)) → nodes_found (option_and_then next o) ≤ k + made_ending o go
 found-counted None go next k h = omega arith
 found-counted (Some form) go next k h = h form
 
@@ -209,7 +209,7 @@ abbrev bounds_found : Option Trees → ℕ
 bounds_found None = 0
 bounds_found (Some bounds) = all_nodes bounds
 
-found-bounds : (o : Option Form) (go : Form → ℕ) (next : Form → Option Trees) (k : ℕ) → ((form : Form) → bounds_found (next form) ≤ k + suc (go form)) → bounds_found (on_bounds o next) ≤ k + made_ending o go
+found-bounds : (o : Option Form) (go : Form → ℕ) (next : Form → Option Trees) (k : ℕ) → ((form : Form) → bounds_found (next form) ≤ k + suc (go form)) → bounds_found (option_and_then next o) ≤ k + made_ending o go
 found-bounds None go next k h = omega arith
 found-bounds (Some form) go next k h = h form
 

@@ -3,7 +3,7 @@
 -- Each frame may still make one node, and an identifier one more where it turns out to bind. What is still to be made is
 -- kept against what was made: two for each frame and one for each identifier.
 use Rattle.std.proofs.Common.{◌≡◌, ℕ, suc, ◌+◌, ◌*◌, ◌≤◌, Bool, true, false, List, [], ◌∷◌, ◌++◌, Option, Some, None, length, arith}
-use Rattle.std.specs.Prelude.{cond, nat_lt}
+use Rattle.std.specs.Prelude.{cond, nat_lt, option_and_then}
 use Rattle.tla_symbols.specs.declared.lexeme.Lexeme.{Lexeme}
 use Rattle.tla_tree.specs.declared.form.Form.{Form}
 use Rattle.tla_tree.specs.Syntax.{Tree, Trees, Node, Nil, Cons, trees}
@@ -18,7 +18,7 @@ use Rattle.expr_grammar.specs.declared.wait.Start.{Start}
 use Rattle.expr_grammar.specs.declared.wait.Wait.{Wait}
 use Rattle.expr_grammar.specs.Kinds.{is_name, is_left_angle}
 use Rattle.expr_grammar.specs.Tables.{mode, Child, child, list_of, goes_on, begins, at_mark, endable, absorbs, role, edge_of, lead, takes, choice, shape, is_expression, name_of, names_of, bound_of, converted, finishes, at_part}
-use Rattle.expr_grammar.specs.Machine.{Frame, frame, State, At, Have, inner, with_child, entry, ready, node, node_with, absorbed, complete, led, on_form, act, operator_step, moved, part_step, is_operator, within, on_bullet, leave, have, ended, marked, begun, step, run, start, start_bounds}
+use Rattle.expr_grammar.specs.Machine.{Frame, frame, State, At, Have, inner, with_child, entry, ready, node, node_with, absorbed, complete, led, act, operator_step, moved, part_step, is_operator, within, on_bullet, leave, have, ended, marked, begun, step, run, start, start_bounds}
 use Rattle.expr_grammar.specs.Counting.{made_name, made_names, made_bound, made_converted, made_led, made_ending, made_choice, made_operator, made_move, made_part, made_within, made_bullet, made_leave, made_have, made_ended, made_mark, made_begun, made_step, made_run, made_close, made_finish, made, made_bounds}
 
 abbrev names : Form → ℕ
@@ -126,7 +126,7 @@ choice-within Choice.Ends m n x y k h j = h
 choice-within Choice.Waits m n x y k h j = j
 choice-within Choice.Clashes m n x y k h j = omega arith
 
-form-within : (o : Option Form) (go : Form → ℕ) (next : Form → Option State) (k : ℕ) → ((form : Form) → Within (suc (go form)) (next form) k) → Within (made_ending o go) (on_form o next) k
+form-within : (o : Option Form) (go : Form → ℕ) (next : Form → Option State) (k : ℕ) → ((form : Form) → Within (suc (go form)) (next form) k) → Within (made_ending o go) (option_and_then next o) k
 form-within None go next k h = omega arith
 form-within (Some form) go next k h = h form
 

@@ -1,6 +1,6 @@
 -- What the machine accepts is derivable, by the tree that it answers.
 use Rattle.std.proofs.Common.{◌≡◌, ℕ, suc, ◌<◌, ◌≤◌, inl, inr, Bool, true, false, List, [], ◌∷◌, ◌++◌, Option, Some, None, refl, ap, sym, subst, ◌∙◌, append_assoc, append-nil, arith}
-use Rattle.std.specs.Prelude.{cond, nat_lt}
+use Rattle.std.specs.Prelude.{cond, nat_lt, option_and_then}
 use Rattle.std.proofs.lemmas.Bool.Decides.{nat_tests}
 use Rattle.tla_symbols.specs.declared.lexeme.Lexeme.{Lexeme}
 use Rattle.tla_tree.specs.declared.form.Form.{Form}
@@ -22,7 +22,7 @@ use Rattle.expr_grammar.specs.declared.wait.Lead.{Lead}
 use Rattle.expr_grammar.specs.declared.wait.Shape.{Shape}
 use Rattle.expr_grammar.specs.Kinds.{is_name, is_comma}
 use Rattle.expr_grammar.specs.Tables.{if_goes, keeps, mode, Child, child, list_of, goes_on, begins, at_mark, endable, absorbs, role, edge_of, lead, takes, choice, shape, is_expression, ends_with, ends_with_part, finishes, after_expression, after_part, or_finish, at_part}
-use Rattle.expr_grammar.specs.Machine.{start_bounds, whole_bounds, on_bounds, close_bounds, finish_due_bounds, finish_bounds, parse_bounds, Frame, frame, State, At, Have, inside, inside_list, inner, entry, with_child, ready, node_with, on_tree, absorbed, complete, led, on_form, act, operator_step, moved, part_step, is_operator, within, on_bullet, leave, have, ended, marked, begun, due, step, run, start, close_all, finish_due, finish, parse}
+use Rattle.expr_grammar.specs.Machine.{start_bounds, whole_bounds, close_bounds, finish_due_bounds, finish_bounds, parse_bounds, Frame, frame, State, At, Have, inside, inside_list, inner, entry, with_child, ready, node_with, absorbed, complete, led, act, operator_step, moved, part_step, is_operator, within, on_bullet, leave, have, ended, marked, begun, due, step, run, start, close_all, finish_due, finish, parse}
 use Rattle.expr_laws.proofs.KindTests.{comma-is}
 use Rattle.expr_laws.proofs.Tabled.{promised, IsNoBullet}
 use Rattle.expr_laws.proofs.Asking.{AllFit}
@@ -251,7 +251,7 @@ going-if ts true m n f g = f refl
 going-if ts false m n f g = g refl
 
 -- a frame that ends round its part
-ends-going : (v : Wait) (w : Wait) (i : ℕ) (ps : List Tree) (a : List Lexeme) (e : Tree) (b : List Lexeme) (t : Lexeme) (ts : List Lexeme) (o : Option Form) (go : Form → Option State) → EndOk w i ps a e b (Some t) o → ((form : Form) → o ≡ Some form → Stands w (built form (trees (ps ++ e ∷ [])) (a ++ b)) (a ++ b) i (Some t) → Going ts (go form)) → Going ts (on_form o go)
+ends-going : (v : Wait) (w : Wait) (i : ℕ) (ps : List Tree) (a : List Lexeme) (e : Tree) (b : List Lexeme) (t : Lexeme) (ts : List Lexeme) (o : Option Form) (go : Form → Option State) → EndOk w i ps a e b (Some t) o → ((form : Form) → o ≡ Some form → Stands w (built form (trees (ps ++ e ∷ [])) (a ++ b)) (a ++ b) i (Some t) → Going ts (go form)) → Going ts (option_and_then go o)
 ends-going v w i ps a e b t ts None go h k = tt
 ends-going v w i ps a e b t ts (Some form) go h k = k form refl h
 
@@ -305,7 +305,7 @@ part-moves w i v ps a h x b t l s = by (is_expression (shape x)) refl
     by true e = let o : Operand v x b (inside v i) (Some t) = operand-of v x b (inside v i) (Some t) s e in operand-moves w i v ps a h x b t o.derives o.subscript
     by false e = other-moves w i v ps a h x b t l e refl s
 
-moved-sound : (f g : Frame) (fs : List Frame) (e : Tree) (b : List Lexeme) (t : Lexeme) (m : PartMove) (o : Option Form) (go : Form → Option State) → Chain (g ∷ fs) → PartOk g.wait (inner (g ∷ fs)) f.parts f.read e b t m → From (inner (g ∷ fs)) f.read → From (inner (g ∷ fs)) b → inner (g ∷ fs) ≤ t.col → (m ≡ PartMove.Refused → Going (spelled (f ∷ g ∷ fs) ++ (b ++ t ∷ [])) (on_form o go)) → Going (spelled (f ∷ g ∷ fs) ++ (b ++ t ∷ [])) (moved (or_finish m o) f (g ∷ fs) e b t go)
+moved-sound : (f g : Frame) (fs : List Frame) (e : Tree) (b : List Lexeme) (t : Lexeme) (m : PartMove) (o : Option Form) (go : Form → Option State) → Chain (g ∷ fs) → PartOk g.wait (inner (g ∷ fs)) f.parts f.read e b t m → From (inner (g ∷ fs)) f.read → From (inner (g ∷ fs)) b → inner (g ∷ fs) ≤ t.col → (m ≡ PartMove.Refused → Going (spelled (f ∷ g ∷ fs) ++ (b ++ t ∷ [])) (option_and_then go o)) → Going (spelled (f ∷ g ∷ fs) ++ (b ++ t ∷ [])) (moved (or_finish m o) f (g ∷ fs) e b t go)
 moved-sound f g fs e b t m o go c h r k l q = by m h q
   where
     whole-read : From (inner (g ∷ fs)) (f.read ++ (b ++ t ∷ []))
@@ -314,11 +314,11 @@ moved-sound f g fs e b t m o go c h r k l q = by m h q
     same : spelled (g ∷ fs) ++ (f.read ++ (b ++ t ∷ [])) ≡ spelled (f ∷ g ∷ fs) ++ (b ++ t ∷ [])
     same = sym (append_assoc (spelled (g ∷ fs)) f.read (b ++ t ∷ []))
 
-    finished : (o : Option Form) → Going (spelled (f ∷ g ∷ fs) ++ (b ++ t ∷ [])) (on_form o go) → Going (spelled (f ∷ g ∷ fs) ++ (b ++ t ∷ [])) (moved (or_finish PartMove.Refused o) f (g ∷ fs) e b t go)
+    finished : (o : Option Form) → Going (spelled (f ∷ g ∷ fs) ++ (b ++ t ∷ [])) (option_and_then go o) → Going (spelled (f ∷ g ∷ fs) ++ (b ++ t ∷ [])) (moved (or_finish PartMove.Refused o) f (g ∷ fs) e b t go)
     finished None x = tt
     finished (Some form) x = x
 
-    by : (m : PartMove) → PartOk g.wait (inner (g ∷ fs)) f.parts f.read e b t m → (m ≡ PartMove.Refused → Going (spelled (f ∷ g ∷ fs) ++ (b ++ t ∷ [])) (on_form o go)) → Going (spelled (f ∷ g ∷ fs) ++ (b ++ t ∷ [])) (moved (or_finish m o) f (g ∷ fs) e b t go)
+    by : (m : PartMove) → PartOk g.wait (inner (g ∷ fs)) f.parts f.read e b t m → (m ≡ PartMove.Refused → Going (spelled (f ∷ g ∷ fs) ++ (b ++ t ∷ [])) (option_and_then go o)) → Going (spelled (f ∷ g ∷ fs) ++ (b ++ t ∷ [])) (moved (or_finish m o) f (g ∷ fs) e b t go)
     by (PartMove.Finish form) h q = absurd h
     by (PartMove.Done form u) h q = renamed (Some (complete (g ∷ fs) _ (f.read ++ (b ++ t ∷ [])))) _ _ same (complete-sound g fs c _ (f.read ++ (b ++ t ∷ [])) h whole-read)
     by (PartMove.Goes u v) h q = renamed (Some (ready (frame u _ (f.read ++ (b ++ t ∷ [])) ∷ g ∷ fs))) _ _ same (started g fs u _ (f.read ++ (b ++ t ∷ [])) c h whole-read)
@@ -409,7 +409,7 @@ leave-link f g gs c h r e b t s k l go =
     (λ first x q y. next first x q (true-goes-on first t y))
     (λ first q y. ends (subst (λ z. IsNoBullet z t) (sym q) y))
     (λ q. ends (subst (λ z. IsNoBullet z t) (sym q) tt))
-    (λ first x q. subst (λ z. Going (spelled (f ∷ g ∷ gs) ++ (b ++ t ∷ [])) (on_form z (λ form. (cond (nat_lt t.col (inner (g ∷ gs))) (leave (g ∷ gs) (node_with form f e b) (f.read ++ b) t) (within (g ∷ gs) (node_with form f e b) (f.read ++ b) t))))) (sym (list-part f.wait first (shape e) q x)) tt)
+    (λ first x q. subst (λ z. Going (spelled (f ∷ g ∷ gs) ++ (b ++ t ∷ [])) (option_and_then (λ form. (cond (nat_lt t.col (inner (g ∷ gs))) (leave (g ∷ gs) (node_with form f e b) (f.read ++ b) t) (within (g ∷ gs) (node_with form f e b) (f.read ++ b) t))) z)) (sym (list-part f.wait first (shape e) q x)) tt)
   where
     near : From (inner (g ∷ gs)) b
     near = From-less (inner (g ∷ gs)) (inner (f ∷ g ∷ gs)) b (outside (list_of f.wait) (inner (g ∷ gs))) k
@@ -429,7 +429,7 @@ leave-link f g gs c h r e b t s k l go =
         (λ x. renamed _ _ _ (spelled-on (spelled (g ∷ gs)) f.read b t) (go _ n read (grind (arith, nat_tests))))
         (λ x. let y : inner (g ∷ gs) ≤ t.col = grind (arith, nat_tests) in renamed _ _ _ (spelled-on (spelled (g ∷ gs)) f.read b t) (within-sound g gs c _ (f.read ++ b) t n (shut form z (list_of f.wait) refl y) read y))
 
-    ends : IsNoBullet (list_of f.wait) t → Going (spelled (f ∷ g ∷ gs) ++ (b ++ t ∷ [])) (on_form (finishes f.wait (shape e)) (λ form. (cond (nat_lt t.col (inner (g ∷ gs))) (leave (g ∷ gs) (node_with form f e b) (f.read ++ b) t) (within (g ∷ gs) (node_with form f e b) (f.read ++ b) t))))
+    ends : IsNoBullet (list_of f.wait) t → Going (spelled (f ∷ g ∷ gs) ++ (b ++ t ∷ [])) (option_and_then (λ form. (cond (nat_lt t.col (inner (g ∷ gs))) (leave (g ∷ gs) (node_with form f e b) (f.read ++ b) t) (within (g ∷ gs) (node_with form f e b) (f.read ++ b) t))) (finishes f.wait (shape e)))
     ends n =
         ends-going f.wait g.wait (inner (g ∷ gs)) f.parts f.read e b t _ (finishes f.wait (shape e)) _
         (ends-sound g.wait (inner (g ∷ gs)) f.wait f.parts f.read h e b (Some t) k (by_column l n) refl s)
@@ -490,7 +490,7 @@ closing-if : (ts : List Lexeme) (b : Bool) (m n : Option Tree) → (b ≡ true �
 closing-if ts true m n f g = f refl
 closing-if ts false m n f g = g refl
 
-tree-going : (w : Wait) (i : ℕ) (ps : List Tree) (a : List Lexeme) (e : Tree) (b : List Lexeme) (ts : List Lexeme) (o : Option Form) (go : Form → Option Tree) → EndOk w i ps a e b None o → ((form : Form) → Stands w (built form (trees (ps ++ e ∷ [])) (a ++ b)) (a ++ b) i None → Closing ts (go form)) → Closing ts (on_tree o go)
+tree-going : (w : Wait) (i : ℕ) (ps : List Tree) (a : List Lexeme) (e : Tree) (b : List Lexeme) (ts : List Lexeme) (o : Option Form) (go : Form → Option Tree) → EndOk w i ps a e b None o → ((form : Form) → Stands w (built form (trees (ps ++ e ∷ [])) (a ++ b)) (a ++ b) i None → Closing ts (go form)) → Closing ts (option_and_then go o)
 tree-going w i ps a e b ts None go h k = tt
 tree-going w i ps a e b ts (Some form) go h k = k form h
 
@@ -503,7 +503,7 @@ close-sound f fs (link {g = g} {fs = gs} c h r) e b s k =
     (λ form q. subst (λ z. Closing z (close_all (g ∷ gs) (node_with form f e b) (f.read ++ b))) (sym (append_assoc (spelled (g ∷ gs)) f.read b))
     (close-sound g gs c (node_with form f e b) (f.read ++ b) q (From-both (inner (g ∷ gs)) f.read b r (From-less (inner (g ∷ gs)) (inner (f ∷ g ∷ gs)) b (outside (list_of f.wait) (inner (g ∷ gs))) k))))
 
-head-closes : (f g : Frame) (gs : List Frame) (o : Option Form) → Chain (g ∷ gs) → HeadOk g.wait (inner (g ∷ gs)) f.parts f.read None o → From (inner (g ∷ gs)) f.read → Closing (spelled (f ∷ g ∷ gs)) (on_tree o (λ form. close_all (g ∷ gs) (built form (trees f.parts) f.read) f.read))
+head-closes : (f g : Frame) (gs : List Frame) (o : Option Form) → Chain (g ∷ gs) → HeadOk g.wait (inner (g ∷ gs)) f.parts f.read None o → From (inner (g ∷ gs)) f.read → Closing (spelled (f ∷ g ∷ gs)) (option_and_then (λ form. close_all (g ∷ gs) (built form (trees f.parts) f.read) f.read) o)
 head-closes f g gs None c h r = tt
 head-closes f g gs (Some form) c h r = close-sound g gs c _ f.read h.0 r
 
@@ -528,7 +528,7 @@ abbrev ClosingBounds : List Lexeme → Option Trees → Type 0
 ClosingBounds ts None = Unit {0}
 ClosingBounds ts (Some bounds) = DerivesBounds bounds ts 0 None
 
-bounds-going : (w : Wait) (i : ℕ) (ps : List Tree) (a : List Lexeme) (e : Tree) (b : List Lexeme) (ts : List Lexeme) (o : Option Form) (go : Form → Option Trees) → EndOk w i ps a e b None o → ((form : Form) → Stands w (built form (trees (ps ++ e ∷ [])) (a ++ b)) (a ++ b) i None → ClosingBounds ts (go form)) → ClosingBounds ts (on_bounds o go)
+bounds-going : (w : Wait) (i : ℕ) (ps : List Tree) (a : List Lexeme) (e : Tree) (b : List Lexeme) (ts : List Lexeme) (o : Option Form) (go : Form → Option Trees) → EndOk w i ps a e b None o → ((form : Form) → Stands w (built form (trees (ps ++ e ∷ [])) (a ++ b)) (a ++ b) i None → ClosingBounds ts (go form)) → ClosingBounds ts (option_and_then go o)
 bounds-going w i ps a e b ts None go h k = tt
 bounds-going w i ps a e b ts (Some form) go h k = k form h
 
@@ -544,7 +544,7 @@ close-bounds-sound f fs (link {g = g} {fs = gs} c h r) e b s k =
     (λ form q. subst (λ z. ClosingBounds z (close_bounds (g ∷ gs) (node_with form f e b) (f.read ++ b))) (sym (append_assoc (spelled (g ∷ gs)) f.read b))
     (close-bounds-sound g gs c (node_with form f e b) (f.read ++ b) q (From-both (inner (g ∷ gs)) f.read b r (From-less (inner (g ∷ gs)) (inner (f ∷ g ∷ gs)) b (outside (list_of f.wait) (inner (g ∷ gs))) k))))
 
-head-closes-bounds : (f g : Frame) (gs : List Frame) (o : Option Form) → Chain (g ∷ gs) → HeadOk g.wait (inner (g ∷ gs)) f.parts f.read None o → From (inner (g ∷ gs)) f.read → ClosingBounds (spelled (f ∷ g ∷ gs)) (on_bounds o (λ form. close_bounds (g ∷ gs) (built form (trees f.parts) f.read) f.read))
+head-closes-bounds : (f g : Frame) (gs : List Frame) (o : Option Form) → Chain (g ∷ gs) → HeadOk g.wait (inner (g ∷ gs)) f.parts f.read None o → From (inner (g ∷ gs)) f.read → ClosingBounds (spelled (f ∷ g ∷ gs)) (option_and_then (λ form. close_bounds (g ∷ gs) (built form (trees f.parts) f.read) f.read) o)
 head-closes-bounds f g gs None c h r = tt
 head-closes-bounds f g gs (Some form) c h r = close-bounds-sound g gs c _ f.read h.0 r
 

@@ -1,6 +1,6 @@
 -- What steps answer, in the terms of the grammar.
 use Rattle.std.proofs.Common.{◌≡◌, ℕ, ◌+◌, ◌*◌, ◌≤◌, Bool, true, false, List, [], ◌∷◌, ◌++◌, Option, Some, None, length, refl, ap, sym, subst, ◌∙◌, length-append, arith}
-use Rattle.std.specs.Prelude.{cond}
+use Rattle.std.specs.Prelude.{cond, option_and_then}
 use Rattle.tla_symbols.specs.declared.lexeme.LexKind.{LexKind}
 use Rattle.tla_symbols.specs.declared.lexeme.Lexeme.{Lexeme}
 use Rattle.tla_tree.specs.declared.form.Form.{Form}
@@ -34,7 +34,7 @@ use Rattle.tree_parts.specs.Parts.{parts_of, IsPart, Grows}
 use Rattle.expr_parse.specs.Goals.{stops, may_end, DerivesGoal, BeginsGoal, IsWhole, IsSame}
 use Rattle.expr_stack.specs.StackMeaning.{Stands, Made}
 use Rattle.expr_parse.specs.TurnMeaning.{IsTurn, Turns, IsReady}
-use Rattle.expr_parse.specs.Ending.{Outermost, on_outermost, closing, ending_of, takes_whole, is_whole, IsLeft, Closes, IsOf, IsGoal}
+use Rattle.expr_parse.specs.Ending.{Outermost, closing, ending_of, takes_whole, is_whole, IsLeft, Closes, IsOf, IsGoal}
 use Rattle.expr_parse.specs.MachineMeaning.{start_of, StandsAt, HasRead, IsRefusing, IsAnswer, IsDone, IsStepTo, HasStepped}
 use Rattle.tree_parts.proofs.Growing.{grows-same, grows-on}
 
@@ -47,7 +47,7 @@ close-last [] e b = refl
 close-last (f ∷ []) e b = refl
 close-last (f ∷ g ∷ fs) e b = by-form (λ x c. close-last (g ∷ fs) x c) (finishes f.wait (shape e))
   where
-    by-form : ((x : Tree) → (c : List Lexeme) → close_all (g ∷ fs) x c ≡ on_last (closing (g ∷ fs) x c) (λ last. whole last.frame.wait last.tree)) → (o : Option Form) → on_tree o (λ form. close_all (g ∷ fs) (node_with form f e b) (f.read ++ b)) ≡ on_last (on_outermost o (λ form. closing (g ∷ fs) (node_with form f e b) (f.read ++ b))) (λ last. whole last.frame.wait last.tree)
+    by-form : ((x : Tree) → (c : List Lexeme) → close_all (g ∷ fs) x c ≡ on_last (closing (g ∷ fs) x c) (λ last. whole last.frame.wait last.tree)) → (o : Option Form) → option_and_then (λ form. close_all (g ∷ fs) (node_with form f e b) (f.read ++ b)) o ≡ on_last (option_and_then (λ form. closing (g ∷ fs) (node_with form f e b) (f.read ++ b)) o) (λ last. whole last.frame.wait last.tree)
     by-form rest None = refl
     by-form rest (Some form) = rest (node_with form f e b) (f.read ++ b)
 
@@ -59,7 +59,7 @@ close-bounds [] e b = refl
 close-bounds (f ∷ []) e b = refl
 close-bounds (f ∷ g ∷ fs) e b = by-form (λ x c. close-bounds (g ∷ fs) x c) (finishes f.wait (shape e))
   where
-    by-form : ((x : Tree) → (c : List Lexeme) → close_bounds (g ∷ fs) x c ≡ on_last (closing (g ∷ fs) x c) bounds_by) → (o : Option Form) → on_bounds o (λ form. close_bounds (g ∷ fs) (node_with form f e b) (f.read ++ b)) ≡ on_last (on_outermost o (λ form. closing (g ∷ fs) (node_with form f e b) (f.read ++ b))) bounds_by
+    by-form : ((x : Tree) → (c : List Lexeme) → close_bounds (g ∷ fs) x c ≡ on_last (closing (g ∷ fs) x c) bounds_by) → (o : Option Form) → option_and_then (λ form. close_bounds (g ∷ fs) (node_with form f e b) (f.read ++ b)) o ≡ on_last (option_and_then (λ form. closing (g ∷ fs) (node_with form f e b) (f.read ++ b)) o) bounds_by
     by-form rest None = refl
     by-form rest (Some form) = rest (node_with form f e b) (f.read ++ b)
 
@@ -68,7 +68,7 @@ finish-last None = refl
 finish-last (Some (At [])) = refl
 finish-last (Some (At (f ∷ fs))) = by-form (endable f.wait None)
   where
-    by-form : (o : Option Form) → on_tree o (λ form. close_all fs (node form f) f.read) ≡ on_last (on_outermost o (λ form. closing fs (node form f) f.read)) (λ last. whole last.frame.wait last.tree)
+    by-form : (o : Option Form) → option_and_then (λ form. close_all fs (node form f) f.read) o ≡ on_last (option_and_then (λ form. closing fs (node form f) f.read) o) (λ last. whole last.frame.wait last.tree)
     by-form None = refl
     by-form (Some form) = close-last fs (node form f) f.read
 finish-last (Some (Have fs e b)) = close-last fs e b
@@ -78,7 +78,7 @@ finish-bounds-last None = refl
 finish-bounds-last (Some (At [])) = refl
 finish-bounds-last (Some (At (f ∷ fs))) = by-form (endable f.wait None)
   where
-    by-form : (o : Option Form) → on_bounds o (λ form. close_bounds fs (node form f) f.read) ≡ on_last (on_outermost o (λ form. closing fs (node form f) f.read)) bounds_by
+    by-form : (o : Option Form) → option_and_then (λ form. close_bounds fs (node form f) f.read) o ≡ on_last (option_and_then (λ form. closing fs (node form f) f.read) o) bounds_by
     by-form None = refl
     by-form (Some form) = close-bounds fs (node form f) f.read
 finish-bounds-last (Some (Have fs e b)) = close-bounds fs e b

@@ -1,6 +1,6 @@
 -- How frames end, one by one.
 use Rattle.std.proofs.Common.{◌≡◌, ℕ, zero, suc, ◌+◌, ◌-◌, ◌<◌, Bool, true, false, List, [], ◌∷◌, ◌++◌, Option, Some, None, length, take, refl, ap, sym, subst, ◌∙◌, length-append, arith}
-use Rattle.std.specs.Prelude.{reverse, slice_index_or}
+use Rattle.std.specs.Prelude.{reverse, slice_index_or, option_and_then}
 use Rattle.std.proofs.lemmas.List.{reverse-append, reverse-reverse, length-reverse, take-append-le}
 use Rattle.std.proofs.Math.Seq.{take-length}
 use Rattle.tla_symbols.specs.declared.lexeme.Lexeme.{Lexeme}
@@ -24,7 +24,7 @@ use Rattle.expr_parse.specs.declared.turn.Turn.TheVariants as Turn
 use Rattle.tree_parts.specs.Parts.{IsPart}
 use Rattle.expr_stack.specs.StackMeaning.{AreFrames, Stands, IsWait, IsTop, Opens, Made}
 use Rattle.expr_parse.specs.TurnMeaning.{IsTurn, IsReady}
-use Rattle.expr_parse.specs.Ending.{on_outermost, closing, ending, ending_of, takes_whole, is_whole, shape_of_form, on_ending, all_end, IsLeft, Closes}
+use Rattle.expr_parse.specs.Ending.{closing, ending, ending_of, takes_whole, is_whole, shape_of_form, on_ending, all_end, IsLeft, Closes}
 use Rattle.tree_parts.proofs.Growing.{grows-same, grows-on}
 use Rattle.expr_parse.proofs.Going.{Goes, AtTop, close-goes}
 use Rattle.expr_parse.proofs.Operating.{finishing}
@@ -87,7 +87,7 @@ all-closing goal nodes (h ∷ k ∷ hs) numbers (f ∷ g ∷ fs) e b s =
     ap (λ w. on_ending (finishes w (shape e)) (λ form. all_end goal (k ∷ hs) (shape_of_form form))) s.0
     ∙ by-form (λ x c. all-closing goal nodes (k ∷ hs) _ (g ∷ fs) x c s.4) (finishes f.wait (shape e))
   where
-    by-form : ((x : Tree) → (c : List Lexeme) → all_end goal (k ∷ hs) (shape x) ≡ is_whole goal (closing (g ∷ fs) x c)) → (o : Option Form) → on_ending o (λ form. all_end goal (k ∷ hs) (shape_of_form form)) ≡ is_whole goal (on_outermost o (λ form. closing (g ∷ fs) (node_with form f e b) (f.read ++ b)))
+    by-form : ((x : Tree) → (c : List Lexeme) → all_end goal (k ∷ hs) (shape x) ≡ is_whole goal (closing (g ∷ fs) x c)) → (o : Option Form) → on_ending o (λ form. all_end goal (k ∷ hs) (shape_of_form form)) ≡ is_whole goal (option_and_then (λ form. closing (g ∷ fs) (node_with form f e b) (f.read ++ b)) o)
     by-form rest None = refl
     by-form rest (Some form) = all-alike goal (k ∷ hs) (shape_of_form form) (shape (node_with form f e b)) (shape_of_form-alike goal form _ _) ∙ rest (node_with form f e b) (f.read ++ b)
 
@@ -136,13 +136,13 @@ due-whole goal nodes (h ∷ hs) outer numbers (f ∷ fs) form wait x w s o q k =
     let r : endable f.wait None ≡ Some form = ap (λ z. endable z None) (sym w) ∙ sym q in
     k ∙ (ap (λ z. all_end goal z (shape_of_form form)) (o h hs refl)
     ∙ (all-alike goal hs (shape_of_form form) (shape (node form f)) (shape_of_form-alike goal form _ _)
-    ∙ (all-closing goal nodes hs _ fs (node form f) f.read s.4 ∙ ap (λ z. is_whole goal (on_outermost z (λ form. closing fs (node form f) f.read))) (sym r))))
+    ∙ (all-closing goal nodes hs _ fs (node form f) f.read s.4 ∙ ap (λ z. is_whole goal (option_and_then (λ form. closing fs (node form f) f.read) z)) (sym r))))
 
 pub due-stays : (goal : Goal) (frames : List Machine.Frame) (wait : Wait) → IsWait (Some wait) frames → None ≡ endable wait None → false ≡ is_whole goal (ending (At frames))
 due-stays goal [] wait w q = absurd w
 due-stays goal (f ∷ fs) wait w q =
     let r : endable f.wait None ≡ None = ap (λ z. endable z None) (sym w) ∙ sym q in
-    ap (λ z. is_whole goal (on_outermost z (λ form. closing fs (node form f) f.read))) (sym r)
+    ap (λ z. is_whole goal (option_and_then (λ form. closing fs (node form f) f.read) z)) (sym r)
 
 pub read-whole : (goal : Goal) (nodes : List Arena.Node) (stack : Stack) (part : Part) (state : Option State) (sh : Shape) (x : Bool) → IsTurn nodes stack (Turn.Read part) state → sh ≡ shape (tree_at nodes part.node) → x ≡ all_end goal (reverse stack.frames.items) sh → x ≡ is_whole goal (ending_of state)
 read-whole goal nodes stack part None sh x t s k = absurd t

@@ -1,6 +1,6 @@
 -- What a lexeme that stands left of a list's items does to the frames, turn by turn.
 use Rattle.std.proofs.Common.{◌≡◌, ℕ, suc, ◌<◌, ◌≤◌, Bool, true, false, List, [], ◌∷◌, ◌++◌, Option, Some, None, refl, ap, sym, subst, ◌∙◌, arith}
-use Rattle.std.specs.Prelude.{cond, nat_lt}
+use Rattle.std.specs.Prelude.{cond, nat_lt, option_and_then}
 use Rattle.std.proofs.lemmas.Bool.Decides.{nat_tests}
 use Rattle.tla_symbols.specs.declared.lexeme.Lexeme.{Lexeme}
 use Rattle.tla_tree.specs.declared.form.Form.{Form}
@@ -11,7 +11,7 @@ use Rattle.expr_grammar.specs.declared.wait.Wait.{Wait}
 use Rattle.expr_grammar.specs.declared.wait.Shape.{Shape}
 use Rattle.expr_grammar.specs.Tables.{shape, is_expression, list_of, goes_on, finishes}
 use Rattle.expr_grammar.specs.Machine as Machine
-use Rattle.expr_grammar.specs.Machine.{State, At, frame, inner, node_with, on_bullet, on_form, leave, within}
+use Rattle.expr_grammar.specs.Machine.{State, At, frame, inner, node_with, on_bullet, leave, within}
 use Rattle.expr_grammar.specs.Counting.{made_leave, made_within, made_bullet, made_ending}
 use Rattle.expr_stack.specs.declared.stack.Frame.{Frame}
 use Rattle.tree_parts.specs.declared.part.Part.{Part}
@@ -64,7 +64,7 @@ leave-open f below e b t q r = (bullet-none (cond (is_expression (shape e)) (lis
 leave-ends : (f : Machine.Frame) (below : List Machine.Frame) (e : Tree) (b : List Lexeme) (t : Lexeme) (form : Form) (left : Bool) → continues f.wait (shape e) t ≡ None → finishes f.wait (shape e) ≡ Some form → nat_lt t.col (inner below) ≡ left → (leave (f ∷ below) e b t ≡ cond left (leave below (node_with form f e b) (f.read ++ b) t) (within below (node_with form f e b) (f.read ++ b) t)) × (made_leave (f ∷ below) e b t ≡ suc (cond left (made_leave below (node_with form f e b) (f.read ++ b) t) (made_within below (node_with form f e b) (f.read ++ b) t)))
 leave-ends f below e b t form left q r l =
     let k = bullet-none (cond (is_expression (shape e)) (list_of f.wait) None) t f below e b
-    (on_form (finishes f.wait (shape e)) (λ form. (cond (nat_lt t.col (inner below)) (leave below (node_with form f e b) (f.read ++ b) t) (within below (node_with form f e b) (f.read ++ b) t))))
+    (option_and_then (λ form. (cond (nat_lt t.col (inner below)) (leave below (node_with form f e b) (f.read ++ b) t) (within below (node_with form f e b) (f.read ++ b) t))) (finishes f.wait (shape e)))
     (made_ending (finishes f.wait (shape e)) (λ form. (cond (nat_lt t.col (inner below)) (made_leave below (node_with form f e b) (f.read ++ b) t) (made_within below (node_with form f e b) (f.read ++ b) t)))) q
     in
     (k.0 ∙ rw (r, l) refl, k.1 ∙ rw (r, l) refl)

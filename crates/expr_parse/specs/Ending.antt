@@ -1,5 +1,5 @@
 -- How what is read ends: all frames end but the outermost one, which takes the last part as the whole.
-use Rattle.std.specs.Prelude.{◌≡◌, ℕ, ◌+◌, ◌<◌, ◌≤◌, Bool, true, false, List, [], ◌∷◌, ◌++◌, length, Option, Some, None}
+use Rattle.std.specs.Prelude.{◌≡◌, ℕ, ◌+◌, ◌<◌, ◌≤◌, Bool, true, false, List, [], ◌∷◌, ◌++◌, length, Option, Some, None, option_and_then}
 use Rattle.tla_symbols.specs.declared.lexeme.Lexeme.{Lexeme}
 use Rattle.tla_tree.specs.declared.form.Form.{Form}
 use Rattle.tla_tree.specs.Forms.{helps}
@@ -24,21 +24,16 @@ pub record Outermost : Type 0 where
   pub tree : Tree
   pub spelled : List Lexeme
 
--- goes on with the form of a frame that ends, and leaves nothing where the frame may not end
-abbrev pub on_outermost : Option Form → (Form → Option Outermost) → Option Outermost
-on_outermost None go = None
-on_outermost (Some form) go = go form
-
 -- what is left when all frames but the outermost have ended, if they may
 abbrev pub closing : List Machine.Frame → Tree → List Lexeme → Option Outermost
 closing [] e b = None
 closing (f ∷ []) e b = Some (record { frame = f; tree = e; spelled = b })
-closing (f ∷ g ∷ fs) e b = on_outermost (finishes f.wait (shape e)) (λ form. closing (g ∷ fs) (node_with form f e b) (f.read ++ b))
+closing (f ∷ g ∷ fs) e b = option_and_then (λ form. closing (g ∷ fs) (node_with form f e b) (f.read ++ b)) (finishes f.wait (shape e))
 
 -- the same of a state, whose innermost frame must end by itself where no part is finished
 abbrev pub ending : State → Option Outermost
 ending (At []) = None
-ending (At (f ∷ fs)) = on_outermost (endable f.wait None) (λ form. closing fs (node form f) f.read)
+ending (At (f ∷ fs)) = option_and_then (λ form. closing fs (node form f) f.read) (endable f.wait None)
 ending (Have fs e b) = closing fs e b
 
 -- the same, where a refused lexeme has left no state

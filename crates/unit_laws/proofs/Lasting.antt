@@ -1,6 +1,6 @@
 -- The closing run, the text's end and a place without a lexeme are read by no expression, and end what is read.
 use Rattle.std.proofs.Common.{◌≡◌, ℕ, Bool, true, false, List, [], ◌∷◌, ◌++◌, Option, Some, None, refl, ap, sym, subst, ◌∙◌}
-use Rattle.std.specs.Prelude.{cond, nat_lt}
+use Rattle.std.specs.Prelude.{cond, nat_lt, option_and_then}
 use Rattle.tla_symbols.specs.declared.lexeme.LexKind.{LexKind}
 use Rattle.tla_symbols.specs.declared.lexeme.Lexeme.{Lexeme}
 use Rattle.tla_symbols.specs.declared.lexeme.Span.{Span}
@@ -14,7 +14,7 @@ use Rattle.expr_grammar.specs.declared.wait.MarkMove.{MarkMove}
 use Rattle.expr_grammar.specs.declared.wait.PartMove.{PartMove}
 use Rattle.expr_grammar.specs.declared.wait.Shape.{Shape}
 use Rattle.expr_grammar.specs.Tables.{mode, begins, list_of, goes_on, role, shape, is_expression, finishes, after_expression, after_part, or_finish, finish_by, at_part, at_mark, endable}
-use Rattle.expr_grammar.specs.Machine.{Frame, State, At, Have, inner, node, node_with, on_form, operator_step, part_step, moved, is_operator, within, on_bullet, leave, have, ended, begun, marked, step}
+use Rattle.expr_grammar.specs.Machine.{Frame, State, At, Have, inner, node, node_with, operator_step, part_step, moved, is_operator, within, on_bullet, leave, have, ended, begun, marked, step}
 
 -- the three kinds of a last lexeme
 pub data Last : LexKind → Type 0 where
@@ -106,7 +106,7 @@ pub either-none : (c : Bool) (m n : Option State) → m ≡ None → n ≡ None 
 either-none true m n h k = h
 either-none false m n h k = k
 
-on-form-none : (o : Option Form) (go : Form → Option State) → ((form : Form) → go form ≡ None) → on_form o go ≡ None
+on-form-none : (o : Option Form) (go : Form → Option State) → ((form : Form) → go form ≡ None) → option_and_then go o ≡ None
 on-form-none None go h = refl
 on-form-none (Some form) go h = h form
 

@@ -1,6 +1,6 @@
 -- What is a whole expression goes on with none of the lexemes before which it is done, nor bounds with `]`.
 use Rattle.std.proofs.Common.{◌≡◌, Bool, true, false, List, [], ◌∷◌, ◌++◌, Option, Some, None, refl, ap, subst, ◌∙◌}
-use Rattle.std.specs.Prelude.{cond, nat_lt}
+use Rattle.std.specs.Prelude.{cond, nat_lt, option_and_then}
 use Rattle.tla_symbols.specs.declared.op.Op.TheVariants as Op
 use Rattle.tla_symbols.specs.declared.lexeme.LexKind.{LexKind}
 use Rattle.tla_symbols.specs.declared.lexeme.Word.TheVariants as Word
@@ -16,7 +16,7 @@ use Rattle.expr_grammar.specs.declared.wait.PartMove.{PartMove}
 use Rattle.expr_grammar.specs.declared.wait.Shape.{Shape}
 use Rattle.expr_grammar.specs.Kinds.{is_bang, is_always, is_comma, is_left_paren, is_with, is_right_bracket}
 use Rattle.expr_grammar.specs.Tables.{list_of, is_junction, role, shape, is_expression, ends_with, ends_with_part, finishes, after_expression, after_part, or_finish, finish_by, at_part, mode, begins, at_mark, endable}
-use Rattle.expr_grammar.specs.Machine.{Frame, State, At, Have, inner, node, node_with, on_form, on_tree, operator_step, part_step, moved, is_operator, within, on_bullet, leave, have, ended, step, run, start, whole, close_all, finish, begun, marked, whole_bounds, on_bounds, close_bounds, finish_bounds}
+use Rattle.expr_grammar.specs.Machine.{Frame, State, At, Have, inner, node, node_with, operator_step, part_step, moved, is_operator, within, on_bullet, leave, have, ended, step, run, start, whole, close_all, finish, begun, marked, whole_bounds, close_bounds, finish_bounds}
 use Rattle.expr_grammar.specs.Following.{stops}
 use Rattle.expr_laws.proofs.KindTests.{right_bracket-is}
 use Rattle.expr_laws.proofs.CompletingKinds.{Kind, Goal, makes, wanted, meets}
@@ -96,17 +96,17 @@ within-refused {t = t} {fs = fs} {e = e} {b = b} q c = ap (λ z. cond z (operato
 leave-refused : {t : Lexeme} {fs : List Frame} {e : Tree} {b : List Lexeme} → Quiet t.kind → Closes t fs e b → leave fs e b t ≡ None
 leave-refused {t = t} {e = e} {b = b} q (bottom {f = f} h k) =
     let go : Form → Option State = λ form. cond (nat_lt t.col (inner [])) (leave [] (node_with form f e b) (f.read ++ b) t) (within [] (node_with form f e b) (f.read ++ b) t) in
-    no-bullet (cond (is_expression (shape e)) (list_of f.wait) None) f [] e b t (on_form (finishes f.wait (shape e)) go) q.junction ∙ ap (λ o. on_form o go) k
+    no-bullet (cond (is_expression (shape e)) (list_of f.wait) None) f [] e b t (option_and_then go (finishes f.wait (shape e))) q.junction ∙ ap (λ o. option_and_then go o) k
 leave-refused {t = t} {e = e} {b = b} q (above {f = f} {g = g} {fs = fs} form h r c) =
     let go : Form → Option State = λ form. cond (nat_lt t.col (inner (g ∷ fs))) (leave (g ∷ fs) (node_with form f e b) (f.read ++ b) t) (within (g ∷ fs) (node_with form f e b) (f.read ++ b) t) in
-    no-bullet (cond (is_expression (shape e)) (list_of f.wait) None) f (g ∷ fs) e b t (on_form (finishes f.wait (shape e)) go) q.junction
-    ∙ (ap (λ o. on_form o go) h ∙ either-none (nat_lt t.col (inner (g ∷ fs))) _ _ (leave-refused q c) (within-refused q c))
+    no-bullet (cond (is_expression (shape e)) (list_of f.wait) None) f (g ∷ fs) e b t (option_and_then go (finishes f.wait (shape e))) q.junction
+    ∙ (ap (λ o. option_and_then go o) h ∙ either-none (nat_lt t.col (inner (g ∷ fs))) _ _ (leave-refused q c) (within-refused q c))
 
 have-refused : {t : Lexeme} {fs : List Frame} {e : Tree} {b : List Lexeme} → Quiet t.kind → Closes t fs e b → have fs e b t ≡ None
 have-refused {t = t} {fs = fs} q c = either-none (nat_lt t.col (inner fs)) _ _ (leave-refused q c) (within-refused q c)
 
 -- a definition ends no expression by itself, nor does an instance
-on-tree-none : (o : Option Form) (go : Form → Option Tree) → ((form : Form) → go form ≡ None) → on_tree o go ≡ None
+on-tree-none : (o : Option Form) (go : Form → Option Tree) → ((form : Form) → go form ≡ None) → option_and_then go o ≡ None
 on-tree-none None go h = refl
 on-tree-none (Some form) go h = h form
 
@@ -133,7 +133,7 @@ no-definition (f ∷ []) e b u = ap (λ w. whole w e) (definition-under f.wait u
 no-definition (f ∷ g ∷ fs) e b u =
     let d : (n : Lexeme) × (f.wait ≡ Wait.Handing Handed.Definition n) = definition-under f.wait u.0 in
     let k : finishes f.wait (shape e) ≡ None = ap (λ w. finishes w (shape e)) d.1 ∙ handing-ends d.0 (shape e) in
-    ap (λ o. on_tree o (λ form. close_all (g ∷ fs) (node_with form f e b) (f.read ++ b))) k
+    ap (λ o. option_and_then (λ form. close_all (g ∷ fs) (node_with form f e b) (f.read ++ b)) o) k
 
 no-instance : (fs : List Frame) (e : Tree) (b : List Lexeme) → Under Goal.ForExpression fs Kind.Instance → close_all fs e b ≡ None
 no-instance [] e b u = refl
@@ -169,7 +169,7 @@ closes-all (f ∷ []) e b t x u h = let k : (at_part f.wait (shape e) t ≡ Part
 closes-all (f ∷ g ∷ fs) e b t x u h =
     by-form (finishes f.wait (shape e)) refl (λ form. close_all (g ∷ fs) (node_with form f e b) (f.read ++ b)) h (λ form q k. above form q (settles _ _ k) (closes-all (g ∷ fs) (node_with form f e b) (f.read ++ b) t x u.1 k))
   where
-    by-form : (o : Option Form) → finishes f.wait (shape e) ≡ o → (go : Form → Option Tree) → on_tree o go ≡ Some x → ((form : Form) → finishes f.wait (shape e) ≡ Some form → go form ≡ Some x → Closes t (f ∷ g ∷ fs) e b) → Closes t (f ∷ g ∷ fs) e b
+    by-form : (o : Option Form) → finishes f.wait (shape e) ≡ o → (go : Form → Option Tree) → option_and_then go o ≡ Some x → ((form : Form) → finishes f.wait (shape e) ≡ Some form → go form ≡ Some x → Closes t (f ∷ g ∷ fs) e b) → Closes t (f ∷ g ∷ fs) e b
     by-form None q go k r = cc
     by-form (Some form) q go k r = r form q k
 
@@ -203,7 +203,7 @@ due-refused f fs t form q h c =
     let m : begun (begins (mode f.wait) t) f fs t ≡ None = ap (λ s. begun s f fs t) w.0 ∙ (ap (λ m. marked m f fs t) w.1 ∙ k) in
     either-none (nat_lt t.col (inner (f ∷ fs))) _ _ k m
 
-on-tree-some : (P : Type 0) (o : Option Form) (go : Form → Option Tree) (x : Tree) → on_tree o go ≡ Some x → ((form : Form) → o ≡ Some form → go form ≡ Some x → P) → P
+on-tree-some : (P : Type 0) (o : Option Form) (go : Form → Option Tree) (x : Tree) → option_and_then go o ≡ Some x → ((form : Form) → o ≡ Some form → go form ≡ Some x → P) → P
 on-tree-some P None go x h k = cc
 on-tree-some P (Some form) go x h k = k form refl h
 
@@ -232,7 +232,7 @@ bounds-refuse : (w : Wait) (sh : Shape) (ps : Trees) (t : Lexeme) (xs : Trees) �
 bounds-refuse Wait.WholeBounds Shape.Bound ps t xs b h = let c : is_comma t.kind ≡ false = ap is_comma (right_bracket-is t.kind b) in (rw (c), refl)
 bounds-refuse _ _ ps t xs b h = cc
 
-on-bounds-some : (P : Type 0) (o : Option Form) (go : Form → Option Trees) (xs : Trees) → on_bounds o go ≡ Some xs → ((form : Form) → o ≡ Some form → go form ≡ Some xs → P) → P
+on-bounds-some : (P : Type 0) (o : Option Form) (go : Form → Option Trees) (xs : Trees) → option_and_then go o ≡ Some xs → ((form : Form) → o ≡ Some form → go form ≡ Some xs → P) → P
 on-bounds-some P None go xs h k = cc
 on-bounds-some P (Some form) go xs h k = k form refl h
 
