@@ -1,6 +1,7 @@
 -- The meanings of names, as they are noted.
 use Rattle.std.proofs.Common.{◌≡◌, ◌↔◌, ◌||◌, ℕ, zero, suc, min, drop, length, List, [], ◌∷◌, Bool, true, false, Option, Some, None, nat_eq, refl, ap, sym, ◌∙◌, arith, true≢false}
 use Rattle.std.specs.Prelude.{Contains, map}
+use Rattle.std.specs.Option.{option_or}
 use Rattle.std.specs.List.{list_any}
 use Rattle.std.specs.Map.{lookup}
 use Rattle.std.proofs.lemmas.List.Folds.{list_any_at}
@@ -12,7 +13,7 @@ use Rattle.tla_model.specs.Scopes.{Finding}
 use Rattle.module_model.specs.declared.bound.Bound.{Bound}
 use Rattle.module_model.specs.Bindings.{IsBoundBy, Resolved, faults, resolved}
 use Rattle.arity_rules.specs.Arities.{declared, is_unknown, meaning, or_built_in, says_unknown}
-use Rattle.arity_rules.specs.Noted.{declarations, either, meaning_by}
+use Rattle.arity_rules.specs.Noted.{declarations, meaning_by}
 
 -- uses with their entities, taken apart and put together
 pub together : (all : List Resolved) → declarations (map (λ r. r.«use») all) (map (λ r. r.entity) all) ≡ map (λ r. (r.«use».name.start, r.entity)) all
@@ -63,6 +64,6 @@ none-left (u ∷ uses) [] n is = rw (drop-nil n) (nothing (drop n (u ∷ uses)))
 none-left (u ∷ uses) (e ∷ entities) zero is = absurd (omega (arith, is))
 none-left (u ∷ uses) (e ∷ entities) (suc n) is = none-left uses entities n (omega (arith, is))
 
-pub either-none : (o : Option Entity) → either o None ≡ o
+pub either-none : (o : Option Entity) → option_or o None ≡ o
 either-none None = refl
 either-none (Some e) = refl

@@ -1,5 +1,6 @@
 -- How the meanings of names are kept: under where each begins.
 use Rattle.std.specs.Prelude.{◌≡◌, ℕ, List, [], ◌∷◌, Option, Some, None, if◌then◌else◌, nat_eq}
+use Rattle.std.specs.Option.{option_or}
 use Rattle.std.specs.List.{list_any}
 use Rattle.std.specs.Map.{lookup}
 use Rattle.tla_model.specs.declared.Diagnostic.{Diagnostic}
@@ -12,11 +13,6 @@ abbrev pub declarations : List Use → List Entity → List (ℕ × Entity)
 declarations (u ∷ uses) (e ∷ entities) = (u.name.start, e) ∷ declarations uses entities
 declarations _ _ = []
 
--- the first of two that is there
-abbrev pub either : Option Entity → Option Entity → Option Entity
-either (Some e) other = Some e
-either None other = other
-
 -- one more name, with its entity
 abbrev pub only : ℕ → Entity → ℕ → Option Entity
 only start e x = if nat_eq x start then Some e else None
@@ -27,7 +23,7 @@ AreDeclared entries declarations = (start : ℕ) → lookup (nat_eq start) entri
 
 -- the name that begins here is noted, unless one was before
 abbrev pub IsDeclared : ℕ → Entity → List (ℕ × Entity) → List (ℕ × Entity) → Type 0
-IsDeclared start e old new = (x : ℕ) → lookup (nat_eq x) new ≡ either (lookup (nat_eq x) old) (only start e x)
+IsDeclared start e old new = (x : ℕ) → lookup (nat_eq x) new ≡ option_or (lookup (nat_eq x) old) (only start e x)
 
 -- these are the names of which faults say that they mean nothing
 abbrev pub AreUnknown : List ℕ → List Diagnostic → Type 0

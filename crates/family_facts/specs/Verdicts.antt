@@ -1,5 +1,5 @@
 -- The verdicts on the files of a family, and what they take.
-use Rattle.std.specs.Prelude.{◌≡◌, ◌+◌, ◌-◌, ◌^◌, min, ℕ, List, [], ◌∷◌, Option, Some, None, length, map, slice_get, take, sum_by, codes, unwrap_or}
+use Rattle.std.specs.Prelude.{◌≡◌, ◌+◌, ◌-◌, ◌^◌, min, ℕ, List, [], length, map, take, sum_by, unwrap_or}
 use Rattle.std.specs.List.{All, AllZip}
 use Rattle.tla_lexeme.specs.Spans.{IsPlaced}
 use Rattle.tla_model.specs.declared.entity.Use.{Use}

@@ -1,6 +1,6 @@
 -- Modules that are read, one after another.
-use Rattle.std.proofs.Common.{◌≡◌, ◌<◌, ◌^◌, ℕ, zero, suc, ◌+◌, List, [], ◌∷◌, ◌++◌, Option, Some, None, refl, sym, ap, ◌∙◌, cond, map, filter, not, take, length, get_or, arith, true, false, Bool, ◌||◌, ⊎_elim, subst, append_assoc, Bor}
-use Rattle.std.specs.Prelude.{Contains, slice_get, is_some, option_copied, unwrap_or}
+use Rattle.std.proofs.Common.{◌≡◌, ◌<◌, ◌^◌, ℕ, ◌+◌, List, [], ◌∷◌, ◌++◌, Option, Some, None, refl, sym, ap, ◌∙◌, cond, map, filter, not, take, length, get_or, arith, true, false, Bool, ◌||◌, ⊎_elim, subst, append_assoc, Bor}
+use Rattle.std.specs.Prelude.{Contains, is_some, option_copied, unwrap_or}
 use Rattle.std.specs.List.{fold}
 use Rattle.std.specs.Str.{bytes_eq}
 use Rattle.std.proofs.lemmas.Bool.{cases_Bool}

@@ -1,6 +1,6 @@
 -- Where the instances lead that an imported module exports.
 use Rattle.std.proofs.Common.{◌≡◌, ⊎_elim, ◌<◌, ◌≤◌, ℕ, Bool, true, false, cond, List, [], ◌∷◌, ◌++◌, Option, Some, None, is_some, get_or, length, map, take, refl, ap, sym, subst, ◌∙◌, true≢false}
-use Rattle.std.specs.Prelude.{◌+◌}
+use Rattle.std.specs.Prelude.{◌+◌, unwrap_or}
 use Rattle.std.specs.Borrow.{Bor}
 use Rattle.std.specs.List.{AllByRecursion}
 use Rattle.std.specs.Str.{bytes_eq}
@@ -20,7 +20,7 @@ use Rattle.tla_model.specs.EntityKinds.{is_instance, is_meant, words_meant}
 use Rattle.tla_model.specs.Stretches.{shown}
 use Rattle.tla_model.specs.Tables.{AreNew, Named, Word, Symbol, Table, added, lookup, same_symbol}
 use Rattle.module_model.specs.declared.face.Face.{Face}
-use Rattle.module_model.specs.Exports.{Behind, Exports, Known, and_known, behind_along, entry_of, exports_of, face_exports, face_instances, face_outside, found_behind, known_among, known_as, known_by, none_known, of_symbols, of_words, or_none, standing}
+use Rattle.module_model.specs.Exports.{Behind, Exports, Known, and_known, behind_along, entry_of, exports_of, face_exports, face_instances, face_outside, found_behind, known_among, known_as, known_by, none_known, of_symbols, of_words, standing}
 use Rattle.module_model.specs.Given.{AreReached, IsWhole}
 use Rattle.module_model.specs.NamedModules.{exported_known}
 use Rattle.module_model.specs.Parts.{reached}
@@ -47,7 +47,7 @@ of-face face decl held there led = by (reached face.parts decl) refl there led
     by (Some table) is there led = record { table = table; stands = is; led = led }
 
 pub known-led : (nested : List Ended) (face : Face) (leads new : Leads) (decl put : DeclId) (held : Held) → put ≡ decl → IsLedBy face (reached face.parts decl) held → new ≡ added same_decl leads put held →
-    known_in nested new ≡ and_known (known_in nested leads) (known_as decl (behind_along (face_instances face) (or_none (face_instances face decl))))
+    known_in nested new ≡ and_known (known_in nested leads) (known_as decl (behind_along (face_instances face) (unwrap_or (face_instances face decl) [])))
 known-led nested face leads new decl put held same led is =
     ap (known_in nested) (is ∙ ap (λ z. added same_decl leads z held) same) ∙ known-added nested leads decl held
     ∙ ap (λ (behind : Behind). and_known (known_in nested leads) (known_as decl behind)) (fun_ext (λ path. led-along nested face (reached face.parts decl) held path led))
@@ -188,9 +188,9 @@ values-shown (entry ∷ rest) = ap (λ z. entry.1.now ∷ z) (values-shown rest)
 
 -- ---- as code has them
 
-pub meant-here : (face : Face) (meaning : Meaning) (one : Entity) (callee : Callee) (orders : List ℕ) → meaning ≡ Declared one callee → one ≡ entity.Instance orders → known_as callee.decl (behind_along (face_instances face) (or_none (face_instances face callee.decl))) ≡ known_here face (meaning ∷ [])
+pub meant-here : (face : Face) (meaning : Meaning) (one : Entity) (callee : Callee) (orders : List ℕ) → meaning ≡ Declared one callee → one ≡ entity.Instance orders → known_as callee.decl (behind_along (face_instances face) (unwrap_or (face_instances face callee.decl) [])) ≡ known_here face (meaning ∷ [])
 meant-here face meaning one callee orders is instance =
-    sym (and-none (known_as callee.decl (behind_along (face_instances face) (or_none (face_instances face callee.decl)))))
+    sym (and-none (known_as callee.decl (behind_along (face_instances face) (unwrap_or (face_instances face callee.decl) []))))
     ∙ sym (ap (λ z. known_here face (z ∷ [])) (is ∙ ap (λ (e : Entity). Declared e callee) instance))
 
 pub here-all : {A : Type 0} (face : Face) (of : A → Meaning) (xs : List A) (i : ℕ) (first now : Known) → length xs ≤ i → now ≡ and_known first (known_here face (map of (take i xs))) → now ≡ and_known first (known_here face (map of xs))

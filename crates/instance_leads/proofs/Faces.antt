@@ -1,5 +1,5 @@
 -- Where instances lead by faces.
-use Rattle.std.proofs.Common.{◌≡◌, Bool, true, false, cond, List, [], ◌∷◌, Option, Some, None, refl, ap, sym, ◌∙◌}
+use Rattle.std.proofs.Common.{◌≡◌, Bool, true, false, cond, List, [], ◌∷◌, Option, Some, None, refl, ap, sym, ◌∙◌, unwrap_or}
 use Rattle.std.specs.Borrow.{Bor}
 use mathlib.Core.Path.{fun_ext}
 use Rattle.tla_model.specs.declared.names.Meaning.TheVariants.{BuiltIn, Declared}
@@ -7,7 +7,7 @@ use Rattle.tla_model.specs.Entities.{Meaning}
 use Rattle.tla_model.specs.EntityKinds.{is_instance}
 use Rattle.tla_model.specs.Tables.{Named, Table}
 use Rattle.module_model.specs.declared.face.Face.{Face}
-use Rattle.module_model.specs.Exports.{Instances, Path, behind_instance, behind_along, entry_of, exports_of, face_exports, face_instances, found_behind, instances_in, onward, or_none, standing}
+use Rattle.module_model.specs.Exports.{Instances, Path, behind_instance, behind_along, entry_of, exports_of, face_exports, face_instances, found_behind, instances_in, onward, standing}
 use Rattle.module_model.specs.Parts.{ByText, reached}
 use Rattle.tree_tasks.specs.declared.held.Held.{Held}
 use Rattle.tree_tasks.specs.declared.held.Held.TheVariants.{Nowhere, Imported, Reached, Nested}
@@ -21,7 +21,7 @@ pub along-nothing : (instances : Instances) (path : Path) → behind_along insta
 along-nothing instances [] = refl
 along-nothing instances (name ∷ path) = along-nothing instances path
 
-pub led-along : (nested : List Ended) (face : Face) (found : Option (Table Meaning)) (held : Held) (path : Path) → IsLedBy face found held → behind_at nested held path ≡ behind_along (face_instances face) (or_none (standing found)) path
+pub led-along : (nested : List Ended) (face : Face) (found : Option (Table Meaning)) (held : Held) (path : Path) → IsLedBy face found held → behind_at nested held path ≡ behind_along (face_instances face) (unwrap_or (standing found) []) path
 led-along nested face None Nowhere path led = sym (along-nothing (face_instances face) path)
 led-along nested face None (Imported of) path led = absurd led
 led-along nested face None (Reached of exports) path led = absurd led
@@ -31,12 +31,12 @@ led-along nested face (Some table) (Imported of) path led = absurd led
 led-along nested face (Some table) (Reached of exports) path led = (λ i. behind_along (face_instances (led.0 i)) (exports_of (led.1 i)) path)
 led-along nested face (Some table) (Nested number) path led = absurd led
 
-found-on : (parts : ByText) (meaning : Option Meaning) → or_none (standing (table_on parts meaning)) ≡ found_behind (instances_in parts) meaning
+found-on : (parts : ByText) (meaning : Option Meaning) → unwrap_or (standing (table_on parts meaning)) [] ≡ found_behind (instances_in parts) meaning
 found-on parts None = refl
 found-on parts (Some BuiltIn) = refl
 found-on parts (Some (Declared entity callee)) = by (is_instance entity)
   where
-    by : (b : Bool) → or_none (standing (cond b (reached parts callee.decl) None)) ≡ cond b (or_none (instances_in parts callee.decl)) []
+    by : (b : Bool) → unwrap_or (standing (cond b (reached parts callee.decl) None)) [] ≡ cond b (unwrap_or (instances_in parts callee.decl) []) []
     by true = refl
     by false = refl
 

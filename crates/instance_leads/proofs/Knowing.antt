@@ -1,6 +1,6 @@
 -- What is known of instances by where they lead, as more is noted.
-use Rattle.std.proofs.Common.{◌≡◌, ◌⊎◌, ⊎_elim, inl, inr, Bool, true, false, cond, nat_eq, List, [], ◌∷◌, ◌++◌, Option, Some, None, is_some, refl, ap, sym, ◌∙◌}
-use Rattle.std.specs.Str.{bytes_eq}
+use Rattle.std.proofs.Common.{◌≡◌, ◌⊎◌, ⊎_elim, inl, inr, Bool, true, false, cond, List, [], ◌∷◌, ◌++◌, Option, Some, None, is_some, refl, ap, sym, ◌∙◌}
+use Rattle.std.specs.Option.{option_or}
 use mathlib.Core.Path.{fun_ext}
 use Rattle.std.proofs.lemmas.Bool.{and_from, and_parts}
 use Rattle.std.proofs.lemmas.Bool.Decides.{Decides-eqb}
@@ -11,7 +11,6 @@ use Rattle.tla_model.specs.Tables.{added, lookup}
 use Rattle.tla_model.proofs.Stretching.{found-first, found-next}
 use Rattle.tla_model.proofs.Same.{decl-equal, decl-itself}
 use Rattle.module_model.specs.Exports.{Known, and_known, known_as, none_known}
-use Rattle.module_model.specs.Parts.{first_of}
 use Rattle.module_model.proofs.PartTables.{first-assoc, first-none}
 use Rattle.tree_tasks.specs.declared.held.Held.{Held}
 use Rattle.instance_leads.specs.declared.ended.Ended.{Ended}
@@ -21,60 +20,60 @@ use Rattle.instance_leads.specs.Leading.{Leads, behind_at, behind_found, known_i
 
 -- ---- the first of what is found
 
-first-three : {A : Type 0} (found : Option A) (b : Bool) (x : A) (rest : Option A) → first_of (first_of found (cond b (Some x) None)) rest ≡ first_of found (cond b (Some x) rest)
+first-three : {A : Type 0} (found : Option A) (b : Bool) (x : A) (rest : Option A) → option_or (option_or found (cond b (Some x) None)) rest ≡ option_or found (cond b (Some x) rest)
 first-three None true x rest = refl
 first-three None false x rest = refl
 first-three (Some y) b x rest = refl
 
 -- ---- one more
 
-found-added : (leads : Leads) (decl : DeclId) (held : Held) (other : DeclId) → lookup same_decl (added same_decl leads decl held) other ≡ first_of (lookup same_decl leads other) (cond (same_decl other decl) (Some held) None)
+found-added : (leads : Leads) (decl : DeclId) (held : Held) (other : DeclId) → lookup same_decl (added same_decl leads decl held) other ≡ option_or (lookup same_decl leads other) (cond (same_decl other decl) (Some held) None)
 found-added leads decl held other = by (lookup same_decl leads decl) refl
   where
-    there : (x : Held) → lookup same_decl leads decl ≡ Some x → (found : Option Held) → lookup same_decl leads other ≡ found → (b : Bool) → same_decl other decl ≡ b → found ≡ first_of found (cond b (Some held) None)
+    there : (x : Held) → lookup same_decl leads decl ≡ Some x → (found : Option Held) → lookup same_decl leads other ≡ found → (b : Bool) → same_decl other decl ≡ b → found ≡ option_or found (cond b (Some held) None)
     there x at (Some y) is b same = refl
     there x at None is false same = refl
     there x at None is true same = let e : lookup same_decl leads other ≡ Some x = ap (lookup same_decl leads) (decl-equal other decl same) ∙ at in let no = sym is ∙ e in cc
 
-    new : (found : Option Held) → lookup same_decl leads other ≡ found → lookup same_decl (leads ++ (decl, held) ∷ []) other ≡ first_of found (cond (same_decl other decl) (Some held) None)
+    new : (found : Option Held) → lookup same_decl leads other ≡ found → lookup same_decl (leads ++ (decl, held) ∷ []) other ≡ option_or found (cond (same_decl other decl) (Some held) None)
     new (Some y) is = found-first same_decl leads ((decl, held) ∷ []) other y is
     new None is = found-next same_decl leads ((decl, held) ∷ []) other is
 
-    by : (found : Option Held) → lookup same_decl leads decl ≡ found → lookup same_decl (cond (is_some found) leads (leads ++ (decl, held) ∷ [])) other ≡ first_of (lookup same_decl leads other) (cond (same_decl other decl) (Some held) None)
+    by : (found : Option Held) → lookup same_decl leads decl ≡ found → lookup same_decl (cond (is_some found) leads (leads ++ (decl, held) ∷ [])) other ≡ option_or (lookup same_decl leads other) (cond (same_decl other decl) (Some held) None)
     by (Some x) at = there x at (lookup same_decl leads other) refl (same_decl other decl) refl
-    by None at = new (lookup same_decl leads other) refl ∙ ap (λ z. first_of z (cond (same_decl other decl) (Some held) None)) refl
+    by None at = new (lookup same_decl leads other) refl ∙ ap (λ z. option_or z (cond (same_decl other decl) (Some held) None)) refl
 
 -- where something leads was noted before, or it is what is noted now
 pub added-cases : (leads : Leads) (decl : DeclId) (held : Held) (other : DeclId) (found : Held) → lookup same_decl (added same_decl leads decl held) other ≡ Some found → (lookup same_decl leads other ≡ Some found) ⊎ ((other ≡ decl) × (held ≡ found))
 added-cases leads decl held other found at = by (lookup same_decl leads other) refl (same_decl other decl) refl (sym (found-added leads decl held other) ∙ at)
   where
-    by : (before : Option Held) → lookup same_decl leads other ≡ before → (b : Bool) → same_decl other decl ≡ b → first_of before (cond b (Some held) None) ≡ Some found → (lookup same_decl leads other ≡ Some found) ⊎ ((other ≡ decl) × (held ≡ found))
+    by : (before : Option Held) → lookup same_decl leads other ≡ before → (b : Bool) → same_decl other decl ≡ b → option_or before (cond b (Some held) None) ≡ Some found → (lookup same_decl leads other ≡ Some found) ⊎ ((other ≡ decl) × (held ≡ found))
     by (Some x) is b same first = inl (is ∙ first)
     by None is true same first = inr (decl-equal other decl same, cc first)
     by None is false same first = let no = first in cc
 
 -- ---- all of others
 
-pub found-joined : (leads more : Leads) (decl : DeclId) → lookup same_decl (joined_leads leads more) decl ≡ first_of (lookup same_decl leads decl) (lookup same_decl more decl)
+pub found-joined : (leads more : Leads) (decl : DeclId) → lookup same_decl (joined_leads leads more) decl ≡ option_or (lookup same_decl leads decl) (lookup same_decl more decl)
 found-joined leads [] decl = sym (first-none (lookup same_decl leads decl))
 found-joined leads (entry ∷ rest) decl =
     found-joined (added same_decl leads entry.0 entry.1) rest decl
-    ∙ ap (λ z. first_of z (lookup same_decl rest decl)) (found-added leads entry.0 entry.1 decl)
+    ∙ ap (λ z. option_or z (lookup same_decl rest decl)) (found-added leads entry.0 entry.1 decl)
     ∙ first-three (lookup same_decl leads decl) (same_decl decl entry.0) entry.1 (lookup same_decl rest decl)
 
 pub joined-first : (leads more : Leads) (decl : DeclId) (held : Held) → lookup same_decl leads decl ≡ Some held → lookup same_decl (joined_leads leads more) decl ≡ Some held
-joined-first leads more decl held at = found-joined leads more decl ∙ ap (λ z. first_of z (lookup same_decl more decl)) at
+joined-first leads more decl held at = found-joined leads more decl ∙ ap (λ z. option_or z (lookup same_decl more decl)) at
 
 pub joined-cases : (leads more : Leads) (decl : DeclId) (held : Held) → lookup same_decl (joined_leads leads more) decl ≡ Some held → (lookup same_decl leads decl ≡ Some held) ⊎ (lookup same_decl more decl ≡ Some held)
 joined-cases leads more decl held at = by (lookup same_decl leads decl) refl (sym (found-joined leads more decl) ∙ at)
   where
-    by : (before : Option Held) → lookup same_decl leads decl ≡ before → first_of before (lookup same_decl more decl) ≡ Some held → (lookup same_decl leads decl ≡ Some held) ⊎ (lookup same_decl more decl ≡ Some held)
+    by : (before : Option Held) → lookup same_decl leads decl ≡ before → option_or before (lookup same_decl more decl) ≡ Some held → (lookup same_decl leads decl ≡ Some held) ⊎ (lookup same_decl more decl ≡ Some held)
     by (Some x) is first = inl (is ∙ first)
     by None is first = inr first
 
 -- ---- what is known
 
-first-behind : (nested : List Ended) (a b : Option Held) → behind_found nested (first_of a b) ≡ first_of (behind_found nested a) (behind_found nested b)
+first-behind : (nested : List Ended) (a b : Option Held) → behind_found nested (option_or a b) ≡ option_or (behind_found nested a) (behind_found nested b)
 first-behind nested None b = refl
 first-behind nested (Some x) b = refl
 
@@ -85,7 +84,7 @@ pub known-added : (nested : List Ended) (leads : Leads) (decl : DeclId) (held : 
 known-added nested leads decl held = fun_ext (λ other.
     ap (behind_found nested) (found-added leads decl held other)
     ∙ first-behind nested (lookup same_decl leads other) (cond (same_decl other decl) (Some held) None)
-    ∙ ap (first_of (known_in nested leads other)) (by (same_decl other decl)))
+    ∙ ap (option_or (known_in nested leads other)) (by (same_decl other decl)))
   where
     by : (b : Bool) → behind_found nested (cond b (Some held) None) ≡ cond b (Some (behind_at nested held)) None
     by true = refl
@@ -100,12 +99,12 @@ and-none a = fun_ext (λ decl. first-none (a decl))
 -- ---- what is kept of what is known
 
 pub added-first : (leads : Leads) (decl : DeclId) (held : Held) (other : DeclId) (found : Held) → lookup same_decl leads other ≡ Some found → lookup same_decl (added same_decl leads decl held) other ≡ Some found
-added-first leads decl held other found at = found-added leads decl held other ∙ ap (λ z. first_of z (cond (same_decl other decl) (Some held) None)) at
+added-first leads decl held other found at = found-added leads decl held other ∙ ap (λ z. option_or z (cond (same_decl other decl) (Some held) None)) at
 
 added-is : (leads : Leads) (decl : DeclId) (held : Held) → is_some (lookup same_decl (added same_decl leads decl held) decl) ≡ true
-added-is leads decl held = ap is_some (found-added leads decl held decl ∙ ap (λ b. first_of (lookup same_decl leads decl) (cond b (Some held) None)) (decl-itself decl)) ∙ by (lookup same_decl leads decl)
+added-is leads decl held = ap is_some (found-added leads decl held decl ∙ ap (λ b. option_or (lookup same_decl leads decl) (cond b (Some held) None)) (decl-itself decl)) ∙ by (lookup same_decl leads decl)
   where
-    by : (found : Option Held) → is_some (first_of found (Some held)) ≡ true
+    by : (found : Option Held) → is_some (option_or found (Some held)) ≡ true
     by None = refl
     by (Some x) = refl
 

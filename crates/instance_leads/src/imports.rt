@@ -1,8 +1,8 @@
 // Where the instances lead that an imported module exports.
-ghost use Rattle.std.specs.Prelude.{◌≡◌, ◌∷◌, [], IfOk, List as ListOf, OnOk, is_some, map, true};
+ghost use Rattle.std.specs.Prelude.{◌≡◌, ◌∷◌, [], IfOk, List as ListOf, OnOk, is_some, map, true, unwrap_or};
 ghost use Rattle.std.specs.List.{AllByRecursion};
 ghost use Rattle.tla_model.specs.declared.names.Meaning.TheVariants.{Declared};
-ghost use Rattle.module_model.specs.Exports.{and_known, behind_along, face_instances, face_outside, known_as, or_none};
+ghost use Rattle.module_model.specs.Exports.{and_known, behind_along, face_instances, face_outside, known_as};
 ghost use Rattle.module_model.specs.Given.{IsWhole};
 ghost use Rattle.module_model.specs.NamedModules.{exported_known};
 ghost use Rattle.instance_leads.specs.Found.{AreOfFace, IsTold, known_here};
@@ -25,7 +25,7 @@ fn put_instance<'a>(more: &mut Leads<'a>, face: &'a Face, decl: &'a DeclId) -> R
     ensures known { OnOk result ((nested : ListOf EndedModule) → known_in nested more.new
         ≡ and_known (known_in nested more.old)
         (known_as decl.now (behind_along (face_instances face.now)
-        (or_none (face_instances face.now decl.now))))) }
+        (unwrap_or (face_instances face.now decl.now) [])))) }
 {
     more.put(decl.module.as_str(), decl.place, led_on_face(face, decl))
 }

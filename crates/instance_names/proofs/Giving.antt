@@ -1,6 +1,7 @@
 -- What a node gives, by its form and those of its parts.
 use Rattle.std.proofs.Common.{◌≡◌, ℕ, zero, suc, ◌+◌, ◌≤◌, ◌<◌, true, false, List, [], ◌∷◌, Option, add-one, drop, drop-cons, get_or, length, refl, ap, sym, ◌∙◌, arith}
 use Rattle.std.specs.Prelude.{is_some, map}
+use Rattle.std.specs.Option.{option_or}
 use Rattle.list_laws.proofs.Options.{none-there}
 use Rattle.tla_symbols.specs.declared.lexeme.Lexeme.{Lexeme}
 use Rattle.tla_tree.specs.Arena.{Node as ArenaNode, AreThere, node_at, tree_at}
@@ -10,7 +11,6 @@ use Rattle.tla_tree.specs.declared.form.Form.TheVariants as Form
 use Rattle.tla_tree.proofs.Nodes.{tree_at-form}
 use Rattle.tla_model.specs.Stretches.{one_of}
 use Rattle.module_model.specs.Instances.{instance_among, named_instance, path_start}
-use Rattle.module_model.specs.Parts.{first_of}
 use Rattle.instance_names.specs.Forms.{defined_in, is_identifier, module_in, segment_start}
 
 -- ---- paths
@@ -55,7 +55,7 @@ long-path form nodes children d there is long = by children there long ∙ sym (
 
 -- ---- instances
 
-among-tree : (x : Tree) (rest : Trees) → instance_among (Cons x rest) ≡ first_of (module_in (Syntax.form x)) (instance_among rest)
+among-tree : (x : Tree) (rest : Trees) → instance_among (Cons x rest) ≡ option_or (module_in (Syntax.form x)) (instance_among rest)
 among-tree (Node (Form.Instance l) s parts) rest = refl
 among-tree (Node _ s parts) rest = refl
 
@@ -66,13 +66,13 @@ there-at nodes (child ∷ children) (suc i) d lt there = there-at nodes children
 
 -- a node is an INSTANCE, or it stands among those behind it
 pub among-at : (nodes : List ArenaNode) (children : List ℕ) (i d : ℕ) → i < length children → AreThere nodes children →
-    instance_among (trees (map (tree_at nodes) (drop i children))) ≡ first_of (module_in (node_at nodes (get_or children i d)).form) (instance_among (trees (map (tree_at nodes) (drop (i + 1) children))))
+    instance_among (trees (map (tree_at nodes) (drop i children))) ≡ option_or (module_in (node_at nodes (get_or children i d)).form) (instance_among (trees (map (tree_at nodes) (drop (i + 1) children))))
 among-at nodes children i d lt there =
     let rest = trees (map (tree_at nodes) (drop (i + 1) children)) in
     let child = get_or children i d in
     let parted : drop i children ≡ child ∷ drop (i + 1) children = rw (add-one, drop-cons children i d) refl in
     ap (λ z. instance_among (trees (map (tree_at nodes) z))) parted ∙ among-tree (tree_at nodes child) rest
-    ∙ ap (λ f. first_of (module_in f) (instance_among rest)) (form-at nodes child (there-at nodes children i d lt there))
+    ∙ ap (λ f. option_or (module_in f) (instance_among rest)) (form-at nodes child (there-at nodes children i d lt there))
 
 -- a definition of an instance names it
 pub named-one : (form : Form.the_data) (parts : Trees) → named_instance form parts ≡ map (λ name. (name, instance_among parts)) (one_of (defined_in form))

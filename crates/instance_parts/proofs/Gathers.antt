@@ -1,6 +1,7 @@
 -- Steps by which instances are gathered.
 use Rattle.std.proofs.Common.{◌≡◌, ◌<◌, ℕ, zero, suc, arith, length, Bool, true, false, cond, List, [], ◌∷◌, ◌++◌, Option, Some, None, is_some, nat_eq, slice_set, refl, ap, sym, subst, ◌∙◌, true≢false}
 use Rattle.std.specs.Prelude.{⊤, slice_get}
+use Rattle.std.specs.Option.{option_or}
 use Rattle.std.specs.Str.{bytes_eq}
 use Rattle.std.proofs.lemmas.Bool.Decides.{nat_tests}
 use Rattle.std.proofs.lemmas.Slice.Eq.{bytes_eq-Decides}
@@ -12,7 +13,7 @@ use Rattle.module_model.specs.declared.face.Face.{Face}
 use Rattle.module_model.specs.Exports.{Exports, Instances, exports_of, standing}
 use Rattle.module_model.specs.Given.{AreFaces, imported}
 use Rattle.module_model.specs.Imports.{Imports}
-use Rattle.module_model.specs.Parts.{AreJoined, ByText, InText, first_of, in_part, reached}
+use Rattle.module_model.specs.Parts.{AreJoined, ByText, InText, in_part, reached}
 use Rattle.tree_tasks.specs.declared.held.Held.{Held}
 use Rattle.tree_tasks.specs.declared.held.Held.TheVariants.{Nowhere, Imported, Reached, Nested}
 use Rattle.instance_leads.specs.declared.ended.Ended.{Ended}
@@ -131,7 +132,7 @@ module _ (scope : Scope) (sound : IsSound scope) (mine : InText) (parts : ByText
 
   -- what parts tell
   parts-tell : (decl : DeclId) (table : Table Meaning) → reached parts decl ≡ Some table → told decl ≡ Some (exports_of table)
-  parts-tell decl table is = ap (λ found. standing (first_of found (own decl))) is
+  parts-tell decl table is = ap (λ found. standing (option_or found (own decl))) is
 
   parts-foreign : (decl : DeclId) (table : Table Meaning) → reached parts decl ≡ Some table → bytes_eq decl.«module» title ≡ false
   parts-foreign decl table is = gathered.apart decl (exports_of table) (ap standing is)
@@ -154,17 +155,17 @@ module _ (scope : Scope) (sound : IsSound scope) (mine : InText) (parts : ByText
     face-foreign decl table is = sound.faces.foreign of.name face of.is decl (exports_of table) (ap standing is)
 
     -- by what the parts held, and by what the face tells
-    more-by : (decl : DeclId) (one two : Found) → reached parts decl ≡ one → reached face.parts decl ≡ two → more decl ≡ standing (first_of (first_of one two) (own decl))
-    more-by decl one two is at = ap (λ found. standing (first_of found (own decl))) (joined decl ∙ (λ i. first_of (is i) (at i)))
+    more-by : (decl : DeclId) (one two : Found) → reached parts decl ≡ one → reached face.parts decl ≡ two → more decl ≡ standing (option_or (option_or one two) (own decl))
+    more-by decl one two is at = ap (λ found. standing (option_or found (own decl))) (joined decl ∙ (λ i. option_or (is i) (at i)))
 
     join-told : (decl : DeclId) (entries : Exports) → told decl ≡ Some entries → more decl ≡ Some entries
     join-told decl entries is = by (reached parts decl) (reached face.parts decl) refl refl
       where
         by : (one two : Found) → reached parts decl ≡ one → reached face.parts decl ≡ two → more decl ≡ Some entries
         by (Some table) two here there = more-by decl (Some table) two here there ∙ sym (parts-tell decl table here) ∙ is
-        by None None here there = more-by decl None None here there ∙ ap (λ found. standing (first_of found (own decl))) (sym here) ∙ is
+        by None None here there = more-by decl None None here there ∙ ap (λ found. standing (option_or found (own decl))) (sym here) ∙ is
         by None (Some table) here there =
-            let none : told decl ≡ None = (λ i. standing (first_of (here i) (own-only title mine decl (face-foreign decl table there) i))) in
+            let none : told decl ≡ None = (λ i. standing (option_or (here i) (own-only title mine decl (face-foreign decl table there) i))) in
             absurd (differ entries (sym is ∙ none))
           where
             differ : (x : Exports) → Some x ≡ None → ⊥
@@ -190,7 +191,7 @@ module _ (scope : Scope) (sound : IsSound scope) (mine : InText) (parts : ByText
     own-before decl entries mine is = by (reached face.parts decl) refl
       where
         by : (two : Found) → reached face.parts decl ≡ two → told decl ≡ Some entries
-        by None there = ap (λ found. standing (first_of found (own decl))) (none-own decl mine) ∙ sym (more-by decl None None (none-own decl mine) there) ∙ is
+        by None there = ap (λ found. standing (option_or found (own decl))) (none-own decl mine) ∙ sym (more-by decl None None (none-own decl mine) there) ∙ is
         by (Some table) there = both (bytes_eq decl.«module» title) mine (face-foreign decl table there)
 
     pub join-gathered : AreGathered scope mine all seen
@@ -216,7 +217,7 @@ module _ (scope : Scope) (sound : IsSound scope) (mine : InText) (parts : ByText
         apart : (decl : DeclId) (entries : Exports) → standing (reached all decl) ≡ Some entries → (one two : Found) → reached parts decl ≡ one → reached face.parts decl ≡ two → bytes_eq decl.«module» title ≡ false
         apart decl entries is (Some table) two here there = parts-foreign decl table here
         apart decl entries is None (Some table) here there = face-foreign decl table there
-        apart decl entries is None None here there = absurd (differ entries (sym is ∙ ap standing (joined decl ∙ (λ i. first_of (here i) (there i)))))
+        apart decl entries is None None here there = absurd (differ entries (sym is ∙ ap standing (joined decl ∙ (λ i. option_or (here i) (there i)))))
           where
             differ : (x : Exports) → Some x ≡ None → ⊥
             differ x e = cc
@@ -238,17 +239,17 @@ module _ (scope : Scope) (sound : IsSound scope) (mine : InText) (parts : ByText
     put-told decl entries is = by (reached parts decl) refl
       where
         by : (one : Found) → reached parts decl ≡ one → put decl ≡ Some entries
-        by (Some found) here = ap (λ z. standing (first_of z (reached ((title, with_own) ∷ []) decl))) here ∙ sym (parts-tell decl found here) ∙ is
+        by (Some found) here = ap (λ z. standing (option_or z (reached ((title, with_own) ∷ []) decl))) here ∙ sym (parts-tell decl found here) ∙ is
         by None here = in-text (bytes_eq decl.«module» title) refl (own decl) refl
           where
             in-text : (b : Bool) → bytes_eq decl.«module» title ≡ b → (two : Found) → own decl ≡ two → put decl ≡ Some entries
-            in-text b e None there = absurd (differ entries (sym is ∙ (λ i. standing (first_of (here i) (there i)))))
+            in-text b e None there = absurd (differ entries (sym is ∙ (λ i. standing (option_or (here i) (there i)))))
               where
                 differ : (x : Exports) → Some x ≡ None → ⊥
                 differ x e = cc
             in-text true e (Some found) there =
-                (λ i. standing (first_of (here i) ((own-at title with_own decl e ∙ kept-at decl.place found (sym (own-at title mine decl e) ∙ there)) i)))
-                ∙ sym (λ i. standing (first_of (here i) (there i))) ∙ is
+                (λ i. standing (option_or (here i) ((own-at title with_own decl e ∙ kept-at decl.place found (sym (own-at title mine decl e) ∙ there)) i)))
+                ∙ sym (λ i. standing (option_or (here i) (there i))) ∙ is
             in-text false e (Some found) there = absurd (differ found (sym there ∙ own-only title mine decl e))
               where
                 differ : (x : Table Meaning) → Some x ≡ None → ⊥
@@ -266,9 +267,9 @@ module _ (scope : Scope) (sound : IsSound scope) (mine : InText) (parts : ByText
 
         by : (found : Found) → lookup nat_eq mine place ≡ found → put (decl_of title place) ≡ Some (exported_at scope.nested.items held)
         by None is =
-            (λ i. standing (first_of (here i) ((own-at title with_own (decl_of title place) (text-itself title title refl) ∙ lookup-put mine place table is) i))) ∙ ap Some same
+            (λ i. standing (option_or (here i) ((own-at title with_own (decl_of title place) (text-itself title title refl) ∙ lookup-put mine place table is) i))) ∙ ap Some same
         by (Some found) is =
-            let before : told (decl_of title place) ≡ Some (exports_of found) = (λ i. standing (first_of (here i) ((at ∙ is) i))) in
+            let before : told (decl_of title place) ≡ Some (exports_of found) = (λ i. standing (option_or (here i) ((at ∙ is) i))) in
             let one : IsOwn scope told seen (decl_of title place) (exports_of found) = gathered.own (decl_of title place) (exports_of found) (text-itself title title refl) before in
             put-told (decl_of title place) (exports_of found) before ∙ ap Some (one.same ∙ ap (exported_at scope.nested.items) (some-same one.held held (sym one.known ∙ known)))
 
@@ -279,7 +280,7 @@ module _ (scope : Scope) (sound : IsSound scope) (mine : InText) (parts : ByText
     put-gathered = record {
       own = λ decl entries mine is. own-put decl entries mine is (nat_eq decl.place place) refl;
       foreign = λ decl entries other is.
-          let before : IsForeign scope told decl entries = gathered.foreign decl entries other (ap (λ z. standing (first_of (reached parts decl) z)) (own-only title mine decl other ∙ sym (own-only title with_own decl other)) ∙ is) in
+          let before : IsForeign scope told decl entries = gathered.foreign decl entries other (ap (λ z. standing (option_or (reached parts decl) z)) (own-only title mine decl other ∙ sym (own-only title with_own decl other)) ∙ is) in
           record { name = before.name; face = before.face; import = before.import; stands = before.stands; all = told-on told put put-told before.face before.all };
       apart = gathered.apart;
     }
@@ -289,7 +290,7 @@ module _ (scope : Scope) (sound : IsSound scope) (mine : InText) (parts : ByText
             let that : decl ≡ decl_of title place = (λ i. record { «module» = same-text decl.«module» title mine i; place = eqb-true decl.place place e i }) in
             record { held = held; known = ap (lookup same_decl scope.known) that ∙ known; same = some-equal entries (exported_at scope.nested.items held) (sym is ∙ ap put that ∙ put-is); closed = closed-on told put seen seen put-grown held closed }
         own-put decl entries of is false e =
-            let before : told decl ≡ Some entries = (ap (λ z. standing (first_of (reached parts decl) z)) (own-at title mine decl of ∙ sym (lookup-other mine place table decl.place e) ∙ sym (own-at title with_own decl of))) ∙ is in
+            let before : told decl ≡ Some entries = (ap (λ z. standing (option_or (reached parts decl) z)) (own-at title mine decl of ∙ sym (lookup-other mine place table decl.place e) ∙ sym (own-at title with_own decl of))) ∙ is in
             let one : IsOwn scope told seen decl entries = gathered.own decl entries of before in
             record { held = one.held; known = one.known; same = one.same; closed = closed-on told put seen seen put-grown one.held one.closed }
 

@@ -1,11 +1,12 @@
 -- What was gathered, as parts of a face.
 use Rattle.std.proofs.Common.{◌≡◌, Bool, true, false, List, [], ◌∷◌, Some, is_some, refl, ap, sym, subst, ◌∙◌}
+use Rattle.std.specs.Option.{option_or}
 use mathlib.Core.Path.{fun_ext}
 use Rattle.std.specs.Str.{bytes_eq}
 use Rattle.tla_model.specs.declared.ids.DeclId.{DeclId}
 use Rattle.module_model.specs.Exports.{Exports, Instances, entries_along, instances_in, standing}
 use Rattle.module_model.specs.Given.{AreReached, ComesFrom, Reached, Text}
-use Rattle.module_model.specs.Parts.{ByText, InText, first_of, reached}
+use Rattle.module_model.specs.Parts.{ByText, InText, reached}
 use Rattle.instance_scope.specs.declared.scope.Scope.{Scope}
 use Rattle.instance_parts.specs.Gathering.{AreGathered, AreRoots, IsForeign, IsOwn, told_by}
 use Rattle.instance_parts.specs.Parts.{AreParts}
@@ -34,7 +35,7 @@ module _ (scope : Scope) (sound : IsSound scope) (mine : InText) (parts : ByText
       (λ other. let foreign : IsForeign scope told decl entries = gathered.foreign decl entries other is in Reached foreign.name foreign.face foreign.import foreign.stands)
 
   -- with the part of the text
-  pub are-parts : AreDone scope told seen → AreRoots scope told seen shown → (all : ByText) → ((decl : DeclId) → reached all decl ≡ first_of (reached parts decl) (reached ((scope.title.now, mine) ∷ []) decl)) → AreParts scope shown all
+  pub are-parts : AreDone scope told seen → AreRoots scope told seen shown → (all : ByText) → ((decl : DeclId) → reached all decl ≡ option_or (reached parts decl) (reached ((scope.title.now, mine) ∷ []) decl)) → AreParts scope shown all
   are-parts done roots all joined =
       let same : instances_in all ≡ told = fun_ext (λ decl. ap standing (joined decl)) in
       record {

@@ -1,6 +1,6 @@
 -- What is gathered of instances leads where instances lead.
 use Rattle.std.proofs.Common.{◌≡◌, ◌<◌, ◌≤◌, ℕ, zero, suc, arith, length, Bool, true, false, cond, List, [], ◌∷◌, Option, Some, None, refl, ap, sym, subst, ◌∙◌}
-use Rattle.std.specs.Prelude.{is_some, slice_get}
+use Rattle.std.specs.Prelude.{is_some, slice_get, unwrap_or}
 use Rattle.tla_model.specs.declared.ids.Callee.{Callee}
 use Rattle.tla_model.specs.declared.ids.DeclId.{DeclId}
 use Rattle.tla_model.specs.declared.names.Meaning.TheVariants.{BuiltIn, Declared}
@@ -8,7 +8,7 @@ use Rattle.tla_model.specs.Entities.{Entity, Meaning, same_decl}
 use Rattle.tla_model.specs.EntityKinds.{is_instance}
 use Rattle.tla_model.specs.Tables.{lookup, same_named}
 use Rattle.module_model.specs.declared.face.Face.{Face}
-use Rattle.module_model.specs.Exports.{Exports, Instances, Path, at_path, behind_along, behind_meaning, entries_along, entries_from, entry_of, exports_of, face_exports, face_instances, found_behind, or_none}
+use Rattle.module_model.specs.Exports.{Exports, Instances, Path, at_path, behind_along, behind_meaning, entries_along, entries_from, entry_of, exports_of, face_exports, face_instances, found_behind}
 use Rattle.module_model.specs.Given.{AreReached, IsWhole}
 use Rattle.module_model.specs.Imports.{Imports}
 use Rattle.tree_tasks.specs.declared.held.Held.{Held}
@@ -23,12 +23,12 @@ use Rattle.instance_scope.specs.Scoped.{IsSound, known_of}
 
 -- what is no instance has nothing behind it; what is one has what is told of it
 found-by : (told : Instances) (meaning : Option Meaning) (P : Exports → Type 0) → P [] →
-    ((entity : Entity) (callee : Callee) → meaning ≡ Some (Declared entity callee) → is_instance entity ≡ true → P (or_none (told callee.decl))) → P (found_behind told meaning)
+    ((entity : Entity) (callee : Callee) → meaning ≡ Some (Declared entity callee) → is_instance entity ≡ true → P (unwrap_or (told callee.decl) [])) → P (found_behind told meaning)
 found-by told None P nothing some = nothing
 found-by told (Some BuiltIn) P nothing some = nothing
 found-by told (Some (Declared entity callee)) P nothing some = by (is_instance entity) refl
   where
-    by : (b : Bool) → is_instance entity ≡ b → P (cond b (or_none (told callee.decl)) [])
+    by : (b : Bool) → is_instance entity ≡ b → P (cond b (unwrap_or (told callee.decl) []) [])
     by true is = some entity callee refl is
     by false is = nothing
 
@@ -41,13 +41,13 @@ none-within (x ∷ xs) zero none within = cc
 none-within (x ∷ xs) (suc number) none within = none-within xs number none (omega (arith, within))
 
 meaning-along : (told other : Instances) (path : Path) (meaning : Option Meaning) →
-    ((entity : Entity) (callee : Callee) → meaning ≡ Some (Declared entity callee) → is_instance entity ≡ true → behind_along told (or_none (told callee.decl)) path ≡ behind_along other (or_none (other callee.decl)) path) →
+    ((entity : Entity) (callee : Callee) → meaning ≡ Some (Declared entity callee) → is_instance entity ≡ true → behind_along told (unwrap_or (told callee.decl) []) path ≡ behind_along other (unwrap_or (other callee.decl) []) path) →
     behind_along told (found_behind told meaning) path ≡ behind_along other (found_behind other meaning) path
 meaning-along told other path None same = along-nothing told path ∙ sym (along-nothing other path)
 meaning-along told other path (Some BuiltIn) same = along-nothing told path ∙ sym (along-nothing other path)
 meaning-along told other path (Some (Declared entity callee)) same = by (is_instance entity) refl
   where
-    by : (b : Bool) → is_instance entity ≡ b → behind_along told (cond b (or_none (told callee.decl)) []) path ≡ behind_along other (cond b (or_none (other callee.decl)) []) path
+    by : (b : Bool) → is_instance entity ≡ b → behind_along told (cond b (unwrap_or (told callee.decl) []) []) path ≡ behind_along other (cond b (unwrap_or (other callee.decl) []) []) path
     by true is = same entity callee refl is
     by false is = along-nothing told path ∙ sym (along-nothing other path)
 
@@ -69,11 +69,11 @@ module _ (told : Instances) (face : Face) (whole : IsWhole face) (all : IsTold t
     where
       by : (found : Option Exports) {other : DeclId} → face_instances face other ≡ found → is_some (face_instances face other) ≡ true → (decl : DeclId) → decl ≡ other →
           ((x : Exports) → AreReached (face_instances face) x → behind_along told x path ≡ behind_along (face_instances face) x path) →
-          behind_along told (or_none (told decl)) path ≡ behind_along (face_instances face) (or_none (face_instances face decl)) path
+          behind_along told (unwrap_or (told decl) []) path ≡ behind_along (face_instances face) (unwrap_or (face_instances face decl) []) path
       by None is there decl same rest = cc
       by (Some x) is there decl same rest =
           let here : face_instances face decl ≡ Some x = ap (face_instances face) same ∙ is in
-          ap (λ z. behind_along told (or_none z) path) (all decl x here) ∙ rest x (whole.behind decl x here) ∙ ap (λ z. behind_along (face_instances face) (or_none z) path) (sym here)
+          ap (λ z. behind_along told (unwrap_or z []) path) (all decl x here) ∙ rest x (whole.behind decl x here) ∙ ap (λ z. behind_along (face_instances face) (unwrap_or z []) path) (sym here)
 
 -- what is said of all instances among entries is said of those that are found there
 all-reached : {A : Type 0} (said : DeclId → Option A) (entries : Exports) → AreTold said entries → AreReached said entries
@@ -134,15 +134,15 @@ module _ (scope : Scope) (sound : IsSound scope) (told : Instances) (seen : List
       on rest ended is (Some BuiltIn) met = along-nothing told path ∙ sym (nowhere-behind nested path)
       on rest ended is (Some (Declared entity callee)) met = by (is_instance entity) refl
         where
-          by : (b : Bool) → is_instance entity ≡ b → behind_along told (cond b (or_none (told callee.decl)) []) path ≡ behind_at nested (cond b (or_nowhere (lookup same_decl ended.instances callee.decl)) Nowhere) path
+          by : (b : Bool) → is_instance entity ≡ b → behind_along told (cond b (unwrap_or (told callee.decl) []) []) path ≡ behind_at nested (cond b (or_nowhere (lookup same_decl ended.instances callee.decl)) Nowhere) path
           by false e = along-nothing told path ∙ sym (nowhere-behind nested path)
           by true e = found (lookup same_decl ended.instances callee.decl) refl (all-reached (lookup same_decl ended.instances) (exports_of ended.exports) (sound.told number ended is) name entity callee met e)
             where
-              found : (o : Option Held) → lookup same_decl ended.instances callee.decl ≡ o → is_some (lookup same_decl ended.instances callee.decl) ≡ true → behind_along told (or_none (told callee.decl)) path ≡ behind_at nested (or_nowhere (lookup same_decl ended.instances callee.decl)) path
+              found : (o : Option Held) → lookup same_decl ended.instances callee.decl ≡ o → is_some (lookup same_decl ended.instances callee.decl) ≡ true → behind_along told (unwrap_or (told callee.decl) []) path ≡ behind_at nested (or_nowhere (lookup same_decl ended.instances callee.decl)) path
               found None at some = cc
               found (Some held) at some =
                   let gained : IsGained nested told seen callee.decl held = done.each number ended is closed callee.decl held at in
-                  ap (λ z. behind_along told (or_none z) path) gained.is
+                  ap (λ z. behind_along told (unwrap_or z []) path) gained.is
                   ∙ rest held (there-more scope.imported.now number (length nested) held (omega (arith, there)) (sound.there number ended is callee.decl held at)) gained.closed
                   ∙ ap (λ z. behind_at nested (or_nowhere z) path) (sym at)
 
@@ -156,11 +156,11 @@ module _ (scope : Scope) (sound : IsSound scope) (told : Instances) (seen : List
       on (Some BuiltIn) met = along-nothing told path
       on (Some (Declared entity callee)) met = by (is_instance entity) refl
         where
-          by : (b : Bool) → is_instance entity ≡ b → behind_along told (cond b (or_none (told callee.decl)) []) path ≡ cond b (at_path (known_of scope callee.decl) path) []
+          by : (b : Bool) → is_instance entity ≡ b → behind_along told (cond b (unwrap_or (told callee.decl) []) []) path ≡ cond b (at_path (known_of scope callee.decl) path) []
           by false e = along-nothing told path
           by true e =
               let root : IsRoot scope told seen callee.decl = roots name entity callee met e in
-              ap (λ z. behind_along told (or_none z) path) root.gained.is
+              ap (λ z. behind_along told (unwrap_or z []) path) root.gained.is
               ∙ held-along path root.held (sound.known callee.decl root.held root.known) root.gained.closed
               ∙ ap (λ z. at_path (behind_found nested z) path) (sym root.known)
 

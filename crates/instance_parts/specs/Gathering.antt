@@ -1,5 +1,6 @@
 -- The instances that exports reach, while they are gathered.
 use Rattle.std.specs.Prelude.{◌≡◌, ⊤, ℕ, Bool, List, [], ◌∷◌, Some, false, is_some, true, slice_get}
+use Rattle.std.specs.Option.{option_or}
 use Rattle.std.specs.Str.{bytes_eq}
 use Rattle.tla_model.specs.declared.ids.Callee.{Callee}
 use Rattle.tla_model.specs.declared.ids.DeclId.{DeclId}
@@ -11,7 +12,7 @@ use Rattle.module_model.specs.declared.face.Face.{Face}
 use Rattle.module_model.specs.Exports.{Exports, Instances, entry_of, exports_of, face_exports, face_instances, standing}
 use Rattle.module_model.specs.Given.{imported}
 use Rattle.module_model.specs.Imports.{Imports}
-use Rattle.module_model.specs.Parts.{ByText, InText, first_of, reached}
+use Rattle.module_model.specs.Parts.{ByText, InText, reached}
 use Rattle.tree_tasks.specs.declared.held.Held.{Held}
 use Rattle.tree_tasks.specs.declared.held.Held.TheVariants.{Nowhere, Imported, Reached, Nested}
 use Rattle.instance_leads.specs.declared.ended.Ended.{Ended}
@@ -27,7 +28,7 @@ exported_at nested (Nested number) = exports_shown (slice_get nested number)
 
 -- what is told of instances, by parts of other texts and by that of the text
 abbrev pub told_by : List ℕ → InText → ByText → Instances
-told_by title own parts decl = standing (first_of (reached parts decl) (reached ((title, own) ∷ []) decl))
+told_by title own parts decl = standing (option_or (reached parts decl) (reached ((title, own) ∷ []) decl))
 
 -- all that a face says of instances is told
 abbrev pub IsTold : Instances → Face → Type 0

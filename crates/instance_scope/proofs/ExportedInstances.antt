@@ -1,6 +1,7 @@
 -- What is known of the instances that modules of names export.
 use Rattle.std.proofs.Common.{◌≡◌, ℕ, Bool, true, false, cond, List, [], ◌∷◌, length, Option, Some, None, is_some, refl, ap, sym, ◌∙◌, true≢false}
 use Rattle.std.specs.Prelude.{slice_get}
+use Rattle.std.specs.Option.{option_or}
 use mathlib.Core.Path.{fun_ext}
 use Rattle.tla_model.specs.declared.ids.DeclId.{DeclId}
 use Rattle.tla_model.specs.declared.names.Meaning.TheVariants.{BuiltIn, Declared}
@@ -13,7 +14,6 @@ use Rattle.module_model.specs.Exports.{Behind, Exports, Known, ModuleView, and_k
 use Rattle.module_model.specs.Given.{imported}
 use Rattle.module_model.specs.Imports.{Imports}
 use Rattle.module_model.specs.NamedModules.{exported_known}
-use Rattle.module_model.specs.Parts.{first_of}
 use Rattle.module_model.proofs.PartTables.{first-none}
 use Rattle.tree_tasks.specs.declared.held.Held.{Held}
 use Rattle.tree_tasks.specs.declared.held.Held.TheVariants.{Nowhere, Imported, Reached, Nested}
@@ -77,12 +77,12 @@ none-more known decl behind (Declared entity callee) told none = by (is_instance
 none-among : (known : Known) (decl : DeclId) (view : ModuleView) (entries : Exports) → AreTold known entries → known decl ≡ None → known_among view entries decl ≡ None
 none-among known decl view [] told none = refl
 none-among known decl view (entry ∷ rest) told none =
-    ap (λ z. first_of z (known_among view rest decl)) (none-more known decl (onward view.entries entry.0) entry.1 told.0 none) ∙ none-among known decl view rest told.1 none
+    ap (λ z. option_or z (known_among view rest decl)) (none-more known decl (onward view.entries entry.0) entry.1 told.0 none) ∙ none-among known decl view rest told.1 none
 
 nothing-more : (known : Known) (view : ModuleView) (entries : Exports) → AreTold known entries → known ≡ and_known known (known_among view entries)
 nothing-more known view entries told = fun_ext (λ decl. by decl (known decl) refl)
   where
-    by : (decl : DeclId) (found : Option Behind) → known decl ≡ found → found ≡ first_of found (known_among view entries decl)
+    by : (decl : DeclId) (found : Option Behind) → known decl ≡ found → found ≡ option_or found (known_among view entries decl)
     by decl None is = sym (none-among known decl view entries told is)
     by decl (Some behind) is = refl
 

@@ -1,6 +1,7 @@
 -- While a module is read, it is known what stands behind each instance that it exports so far.
 use Rattle.std.proofs.Common.{◌≡◌, ℕ, Bool, true, false, cond, List, [], ◌∷◌, ◌++◌, ◌⊎◌, inl, inr, Option, Some, None, is_some, if◌then◌else◌, nat_eq, refl, ap, sym, subst, ◌∙◌}
 use Rattle.std.specs.Prelude.{⊤}
+use Rattle.std.specs.Option.{option_or}
 use Rattle.std.specs.List.{AllByRecursion}
 use Rattle.std.specs.Str.{bytes_eq}
 use Rattle.std.proofs.lemmas.Bool.{and_from}
@@ -29,7 +30,6 @@ use Rattle.module_model.specs.Instances as i
 use Rattle.module_model.specs.Modules as m
 use Rattle.module_model.specs.Modules.{Reading}
 use Rattle.module_model.specs.NamedModules as n
-use Rattle.module_model.specs.Parts.{first_of}
 use Rattle.module_model.specs.Resolution as r
 use Rattle.module_model.specs.Resolution.{ReadState}
 use Rattle.module_model.proofs.Entries.{entry-of-table}
@@ -100,11 +100,11 @@ told-put said table name meaning all told other found at =
 
 -- ---- what is known further
 
-some-first : {A : Type 0} (a b : Option A) → is_some a ≡ true → is_some (first_of a b) ≡ true
+some-first : {A : Type 0} (a b : Option A) → is_some a ≡ true → is_some (option_or a b) ≡ true
 some-first None b some = cc some
 some-first (Some x) b some = refl
 
-some-other : {A : Type 0} (a b : Option A) → is_some b ≡ true → is_some (first_of a b) ≡ true
+some-other : {A : Type 0} (a b : Option A) → is_some b ≡ true → is_some (option_or a b) ≡ true
 some-other None b some = some
 some-other (Some x) b some = refl
 
@@ -214,7 +214,7 @@ module _ (text : Text) where
       let decl : DeclId = declaration text l in
       let behind : Behind = n.behind_named text named (i.instance_among parts) in
       let others : Known = n.known_named text named (i.all_named_instances parts ++ []) in
-      ((λ is. some-other (known decl) (first_of (known_as decl behind decl) (others decl)) (some-first (known_as decl behind decl) (others decl) (known-itself decl behind))), tt)
+      ((λ is. some-other (known decl) (option_or (known_as decl behind decl) (others decl)) (some-first (known_as decl behind decl) (others decl) (known-itself decl behind))), tt)
   told-defined known named (Node _ span parts) = tt
 
 -- ---- units

@@ -6,7 +6,7 @@ use Rattle.std.proofs.lemmas.Bool.{eqb-true}
 use Rattle.std.specs.List.{AllByRecursion, IsDistinct}
 use Rattle.std.specs.Map.{keys_of, lookup}
 use Rattle.std.specs.Borrow.{Bor}
-use Rattle.std.specs.Option.{option_copied, option_map}
+use Rattle.std.specs.Option.{option_copied, option_map, option_or}
 use Rattle.std.specs.Str.{bytes_eq}
 use Rattle.std.specs.String.{string_eq}
 use Rattle.std.specs.declared.alloc.Global.{Global}
@@ -19,7 +19,7 @@ use Rattle.list_laws.proofs.Texts.{same-text, text-itself}
 use Rattle.tla_model.specs.declared.ids.DeclId.{DeclId}
 use Rattle.tla_model.specs.Entities.{Meaning}
 use Rattle.tla_model.specs.Tables as tables
-use Rattle.module_model.specs.Parts.{AreJoined, AreUnited, ByText, InText, IsSet, by_text, first_of, in_part, in_text, reached, table_shown}
+use Rattle.module_model.specs.Parts.{AreJoined, AreUnited, ByText, InText, IsSet, by_text, in_part, in_text, reached, table_shown}
 
 -- by the places of names
 pub lookup-place : {Z : Type 0} → (rows : List (ℕ × Arc (tables.Table Meaning) Z)) (place : ℕ) → option_map (λ (x : Arc (tables.Table Meaning) Z). arc_value x) (lookup (λ (key : ℕ). nat_eq place key) rows) ≡ tables.lookup nat_eq (in_text rows) place
@@ -53,20 +53,20 @@ no-text found is = ap (λ f. option_map (λ (x : Arc InText _). arc_value x) (op
 
 -- ---- what is found in several
 
-pub first-none : {A : Type 0} (found : Option A) → first_of found None ≡ found
+pub first-none : {A : Type 0} (found : Option A) → option_or found None ≡ found
 first-none None = refl
 first-none (Some x) = refl
 
-pub first-assoc : {A : Type 0} (a b c : Option A) → first_of (first_of a b) c ≡ first_of a (first_of b c)
+pub first-assoc : {A : Type 0} (a b c : Option A) → option_or (option_or a b) c ≡ option_or a (option_or b c)
 first-assoc None b c = refl
 first-assoc (Some x) b c = refl
 
-lookup-both : (a b : InText) (place : ℕ) → tables.lookup nat_eq (a ++ b) place ≡ first_of (tables.lookup nat_eq a place) (tables.lookup nat_eq b place)
+lookup-both : (a b : InText) (place : ℕ) → tables.lookup nat_eq (a ++ b) place ≡ option_or (tables.lookup nat_eq a place) (tables.lookup nat_eq b place)
 lookup-both [] b place = refl
 lookup-both (row ∷ a) b place = by (nat_eq place row.0) (lookup-both a b place)
   where
-    by : (same : Bool) → tables.lookup nat_eq (a ++ b) place ≡ first_of (tables.lookup nat_eq a place) (tables.lookup nat_eq b place) →
-        cond same (Some row.1) (tables.lookup nat_eq (a ++ b) place) ≡ first_of (cond same (Some row.1) (tables.lookup nat_eq a place)) (tables.lookup nat_eq b place)
+    by : (same : Bool) → tables.lookup nat_eq (a ++ b) place ≡ option_or (tables.lookup nat_eq a place) (tables.lookup nat_eq b place) →
+        cond same (Some row.1) (tables.lookup nat_eq (a ++ b) place) ≡ option_or (cond same (Some row.1) (tables.lookup nat_eq a place)) (tables.lookup nat_eq b place)
     by true rest = refl
     by false rest = rest
 
@@ -74,11 +74,11 @@ lookup-both (row ∷ a) b place = by (nat_eq place row.0) (lookup-both a b place
 there-first : (rows : InText) (place : ℕ) (table : tables.Table Meaning) → is_some (tables.lookup nat_eq rows place) ≡ true → AreUnited rows rows ((place, table) ∷ [])
 there-first rows place table there other = by (nat_eq other place) refl
   where
-    found : (o : Option (tables.Table Meaning)) → is_some o ≡ true → o ≡ first_of o (Some table)
+    found : (o : Option (tables.Table Meaning)) → is_some o ≡ true → o ≡ option_or o (Some table)
     found None none = cc
     found (Some x) some = refl
 
-    by : (same : Bool) → nat_eq other place ≡ same → tables.lookup nat_eq rows other ≡ first_of (tables.lookup nat_eq rows other) (cond same (Some table) None)
+    by : (same : Bool) → nat_eq other place ≡ same → tables.lookup nat_eq rows other ≡ option_or (tables.lookup nat_eq rows other) (cond same (Some table) None)
     by true is = found (tables.lookup nat_eq rows other) (ap (λ (p : ℕ). is_some (tables.lookup nat_eq rows p)) (eqb-true other place is) ∙ there)
     by false is = sym (first-none (tables.lookup nat_eq rows other))
 
@@ -87,7 +87,7 @@ pub added-united : (rows : InText) (place : ℕ) (table : tables.Table Meaning) 
 added-united rows place table other = by (is_some (tables.lookup nat_eq rows place)) refl
   where
     by : (there : Bool) → is_some (tables.lookup nat_eq rows place) ≡ there →
-        tables.lookup nat_eq (cond there rows (rows ++ (place, table) ∷ [])) other ≡ first_of (tables.lookup nat_eq rows other) (tables.lookup nat_eq ((place, table) ∷ []) other)
+        tables.lookup nat_eq (cond there rows (rows ++ (place, table) ∷ [])) other ≡ option_or (tables.lookup nat_eq rows other) (tables.lookup nat_eq ((place, table) ∷ []) other)
     by true is = there-first rows place table is other
     by false is = lookup-both rows ((place, table) ∷ []) other
 
@@ -95,13 +95,13 @@ added-united rows place table other = by (is_some (tables.lookup nat_eq rows pla
 
 -- some of the other's instances were put, and these are to come
 abbrev pub IsUniting : InText → InText → InText → InText → Type 0
-IsUniting now old rest all = (place : ℕ) → first_of (tables.lookup nat_eq now place) (tables.lookup nat_eq rest place) ≡ first_of (tables.lookup nat_eq old place) (tables.lookup nat_eq all place)
+IsUniting now old rest all = (place : ℕ) → option_or (tables.lookup nat_eq now place) (tables.lookup nat_eq rest place) ≡ option_or (tables.lookup nat_eq old place) (tables.lookup nat_eq all place)
 
 first-row : (place : ℕ) (table : tables.Table Meaning) (rest : InText) (other : ℕ) →
-    first_of (tables.lookup nat_eq ((place, table) ∷ []) other) (tables.lookup nat_eq rest other) ≡ tables.lookup nat_eq ((place, table) ∷ rest) other
+    option_or (tables.lookup nat_eq ((place, table) ∷ []) other) (tables.lookup nat_eq rest other) ≡ tables.lookup nat_eq ((place, table) ∷ rest) other
 first-row place table rest other = by (nat_eq other place)
   where
-    by : (same : Bool) → first_of (cond same (Some table) None) (tables.lookup nat_eq rest other) ≡ cond same (Some table) (tables.lookup nat_eq rest other)
+    by : (same : Bool) → option_or (cond same (Some table) None) (tables.lookup nat_eq rest other) ≡ cond same (Some table) (tables.lookup nat_eq rest other)
     by true = refl
     by false = refl
 
@@ -111,16 +111,16 @@ unite-next rows i place exports now new old all at is so other =
     let rest = in_text (drop (i + 1) rows) in
     let one : InText = (place, arc_value exports) ∷ [] in
     let late = tables.lookup nat_eq rest other in
-    ap (λ z. first_of (tables.lookup nat_eq z other) late) is
-    ∙ ap (λ found. first_of found late) (added-united now place (arc_value exports) other)
+    ap (λ z. option_or (tables.lookup nat_eq z other) late) is
+    ∙ ap (λ found. option_or found late) (added-united now place (arc_value exports) other)
     ∙ first-assoc (tables.lookup nat_eq now other) (tables.lookup nat_eq one other) late
-    ∙ ap (first_of (tables.lookup nat_eq now other)) (first-row place (arc_value exports) rest other)
-    ∙ ap (λ z. first_of (tables.lookup nat_eq now other) (tables.lookup nat_eq (in_text z) other)) (sym (drop-at rows i (place, exports) at))
+    ∙ ap (option_or (tables.lookup nat_eq now other)) (first-row place (arc_value exports) rest other)
+    ∙ ap (λ z. option_or (tables.lookup nat_eq now other) (tables.lookup nat_eq (in_text z) other)) (sym (drop-at rows i (place, exports) at))
     ∙ so other
 
 pub unite-all : (new old rest all : InText) → rest ≡ [] → IsUniting new old rest all → AreUnited new old all
 unite-all new old rest all done so place =
-    sym (first-none (tables.lookup nat_eq new place)) ∙ ap (λ z. first_of (tables.lookup nat_eq new place) (tables.lookup nat_eq z place)) (sym done) ∙ so place
+    sym (first-none (tables.lookup nat_eq new place)) ∙ ap (λ z. option_or (tables.lookup nat_eq new place) (tables.lookup nat_eq z place)) (sym done) ∙ so place
 
 -- all of these are there
 pub there-next : {Z : Type 0} (rows : List (ℕ × Arc (tables.Table Meaning) Z)) (i place : ℕ) (exports : Arc (tables.Table Meaning) Z) (own all : InText) →
@@ -130,7 +130,7 @@ there-next rows i place exports own all at there so =
 
 -- what two are united with, one after the other
 pub united-both : (part mid first second : InText) → AreUnited mid [] first → AreUnited part mid second → AreUnited part first second
-united-both part mid first second one two place = two place ∙ ap (λ found. first_of found (tables.lookup nat_eq second place)) (one place)
+united-both part mid first second one two place = two place ∙ ap (λ found. option_or found (tables.lookup nat_eq second place)) (one place)
 
 -- ---- texts
 
@@ -181,14 +181,14 @@ set-itself rows title part is other = by (bytes_eq other title) refl
 
 -- where a part is put that has what was there and what is added, it is added
 pub set-joined : (new old : ByText) (title : List ℕ) (after part : InText) (there : Option InText) → tables.lookup bytes_eq old title ≡ there → IsSet new old title after →
-    ((place : ℕ) → tables.lookup nat_eq after place ≡ first_of (in_part there place) (tables.lookup nat_eq part place)) → AreJoined new old ((title, part) ∷ [])
+    ((place : ℕ) → tables.lookup nat_eq after place ≡ option_or (in_part there place) (tables.lookup nat_eq part place)) → AreJoined new old ((title, part) ∷ [])
 set-joined new old title after part there is set has decl = by (bytes_eq decl.«module» title) refl
   where
-    by : (same : Bool) → bytes_eq decl.«module» title ≡ same → reached new decl ≡ first_of (reached old decl) (in_part (cond same (Some part) None) decl.place)
+    by : (same : Bool) → bytes_eq decl.«module» title ≡ same → reached new decl ≡ option_or (reached old decl) (in_part (cond same (Some part) None) decl.place)
     by true e =
         ap (λ found. in_part found decl.place) (set decl.«module» ∙ ap (λ (b : Bool). cond b (Some after) (tables.lookup bytes_eq old decl.«module»)) e)
         ∙ has decl.place
-        ∙ ap (λ found. first_of (in_part found decl.place) (tables.lookup nat_eq part decl.place)) (sym is ∙ ap (tables.lookup bytes_eq old) (sym (same-text decl.«module» title e)))
+        ∙ ap (λ found. option_or (in_part found decl.place) (tables.lookup nat_eq part decl.place)) (sym is ∙ ap (tables.lookup bytes_eq old) (sym (same-text decl.«module» title e)))
     by false e =
         ap (λ found. in_part found decl.place) (set decl.«module» ∙ ap (λ (b : Bool). cond b (Some after) (tables.lookup bytes_eq old decl.«module»)) e)
         ∙ sym (first-none (reached old decl))
@@ -197,7 +197,7 @@ set-joined new old title after part there is set has decl = by (bytes_eq decl.«
 
 -- some of the other's parts were added, and these are to come
 abbrev pub IsJoining : ByText → ByText → ByText → ByText → Type 0
-IsJoining now old rest all = (decl : DeclId) → first_of (reached now decl) (reached rest decl) ≡ first_of (reached old decl) (reached all decl)
+IsJoining now old rest all = (decl : DeclId) → option_or (reached now decl) (reached rest decl) ≡ option_or (reached old decl) (reached all decl)
 
 -- a title that none of the texts has
 absent : {Z : Type 0} (rows : List (String Global × Arc InText Z)) (title : String Global) → AllByRecursion (λ other. string_eq title other ≡ false) (keys_of rows) → tables.lookup bytes_eq (by_text rows) (string_bytes title) ≡ None
@@ -205,13 +205,13 @@ absent [] title none = refl
 absent (row ∷ rows) title none = ap (λ (b : Bool). cond b (Some (arc_value row.1)) (tables.lookup bytes_eq (by_text rows) (string_bytes title))) none.0 ∙ absent rows title none.1
 
 first-text : (title : List ℕ) (part : InText) (rest : ByText) → tables.lookup bytes_eq rest title ≡ None → (decl : DeclId) →
-    first_of (reached ((title, part) ∷ []) decl) (reached rest decl) ≡ reached ((title, part) ∷ rest) decl
+    option_or (reached ((title, part) ∷ []) decl) (reached rest decl) ≡ reached ((title, part) ∷ rest) decl
 first-text title part rest none decl = by (bytes_eq decl.«module» title) refl
   where
     by : (same : Bool) → bytes_eq decl.«module» title ≡ same →
-        first_of (in_part (cond same (Some part) None) decl.place) (reached rest decl) ≡ in_part (cond same (Some part) (tables.lookup bytes_eq rest decl.«module»)) decl.place
+        option_or (in_part (cond same (Some part) None) decl.place) (reached rest decl) ≡ in_part (cond same (Some part) (tables.lookup bytes_eq rest decl.«module»)) decl.place
     by true e =
-        ap (λ found. first_of (tables.lookup nat_eq part decl.place) (in_part found decl.place)) (ap (tables.lookup bytes_eq rest) (same-text decl.«module» title e) ∙ none)
+        ap (λ found. option_or (tables.lookup nat_eq part decl.place) (in_part found decl.place)) (ap (tables.lookup bytes_eq rest) (same-text decl.«module» title e) ∙ none)
         ∙ first-none (tables.lookup nat_eq part decl.place)
     by false e = refl
 
@@ -230,14 +230,14 @@ join-next rows i title part now new old all distinct at joined so decl =
     let rest = by_text (drop (i + 1) rows) in
     let one : ByText = (string_bytes title, arc_value part) ∷ [] in
     let none : tables.lookup bytes_eq rest (string_bytes title) ≡ None = absent (drop (i + 1) rows) title (rw add-one (distinct-from rows i (title, part) distinct at)) in
-    ap (λ found. first_of found (reached rest decl)) (joined decl)
+    ap (λ found. option_or found (reached rest decl)) (joined decl)
     ∙ first-assoc (reached now decl) (reached one decl) (reached rest decl)
-    ∙ ap (first_of (reached now decl)) (first-text (string_bytes title) (arc_value part) rest none decl)
-    ∙ ap (λ z. first_of (reached now decl) (reached (by_text z) decl)) (sym (drop-at rows i (title, part) at))
+    ∙ ap (option_or (reached now decl)) (first-text (string_bytes title) (arc_value part) rest none decl)
+    ∙ ap (λ z. option_or (reached now decl) (reached (by_text z) decl)) (sym (drop-at rows i (title, part) at))
     ∙ so decl
 
 pub join-all : (new old rest all : ByText) → rest ≡ [] → IsJoining new old rest all → AreJoined new old all
-join-all new old rest all done so decl = sym (first-none (reached new decl)) ∙ ap (λ z. first_of (reached new decl) (reached z decl)) (sym done) ∙ so decl
+join-all new old rest all done so decl = sym (first-none (reached new decl)) ∙ ap (λ z. option_or (reached new decl) (reached z decl)) (sym done) ∙ so decl
 
 -- ---- tables in code
 

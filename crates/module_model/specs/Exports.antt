@@ -1,12 +1,13 @@
 -- What modules are to those that name them, and where it comes from for the imported ones: from their faces.
-use Rattle.std.specs.Prelude.{ℕ, List, [], ◌∷◌, ◌++◌, Option, Some, None, filter, if◌then◌else◌}
+use Rattle.std.specs.Prelude.{ℕ, List, [], ◌∷◌, ◌++◌, Option, Some, None, filter, if◌then◌else◌, unwrap_or}
+use Rattle.std.specs.Option.{option_or}
 use Rattle.tla_symbols.specs.declared.op.Op.{Op}
 use Rattle.tla_model.specs.declared.names.Meaning.TheVariants.{BuiltIn, Declared}
 use Rattle.module_model.specs.declared.face.Face.{Face}
 use Rattle.tla_model.specs.declared.ids.DeclId.{DeclId}
 use Rattle.module_model.specs.declared.imported.Import.{Import}
 use Rattle.module_model.specs.Imports.{Imports, import_of}
-use Rattle.module_model.specs.Parts.{ByText, first_of, reached}
+use Rattle.module_model.specs.Parts.{ByText, reached}
 use Rattle.tla_model.specs.Tables.{Table, Named, Word, Symbol, lookup, same_named}
 use Rattle.tla_model.specs.Entities.{Meaning, same_decl}
 pub use Rattle.tla_model.specs.EntityKinds.{is_instance, is_meant, stands_behind, stands_for_parameter}
@@ -54,7 +55,7 @@ known_as instance behind decl = if same_decl decl instance then Some behind else
 
 -- what was known stays, and more is
 abbrev pub and_known : Known → Known → Known
-and_known known more decl = first_of (known decl) (more decl)
+and_known known more decl = option_or (known decl) (more decl)
 
 -- what is found, and no entries where nothing is
 abbrev pub at_path : Option Behind → Path → Exports
@@ -154,16 +155,11 @@ face_instances face = instances_in face.parts
 abbrev pub face_exports : Face → Exports
 face_exports face = exports_of (arc_value face.exports)
 
--- what is found, and no entries where nothing is
-abbrev pub or_none : Option Exports → Exports
-or_none None = []
-or_none (Some exports) = exports
-
 -- what the module exports of an instance that a name means, among those of a face; what is no instance has none
 abbrev pub found_behind : Instances → Option Meaning → Exports
 found_behind instances None = []
 found_behind instances (Some BuiltIn) = []
-found_behind instances (Some (Declared entity callee)) = if is_instance entity then or_none (instances callee.decl) else []
+found_behind instances (Some (Declared entity callee)) = if is_instance entity then unwrap_or (instances callee.decl) [] else []
 
 -- what stands behind an instance whose module exports these: its definitions and instances, and what stands behind these
 abbrev pub behind_along : Instances → Exports → Behind

@@ -1,5 +1,6 @@
 -- The instances that a face reaches, in parts: by the text that declares them, and by the places of their names there.
 use Rattle.std.specs.Prelude.{◌≡◌, ℕ, List, Option, None, Some, if◌then◌else◌, map, nat_eq, string_bytes, String}
+use Rattle.std.specs.Option.{option_or}
 use Rattle.std.specs.Arc.{arc_value}
 use Rattle.std.specs.Borrow.{Bor}
 use Rattle.std.specs.Str.{bytes_eq}
@@ -39,18 +40,13 @@ abbrev pub table_shown : {Z : Type 0} → Option (Bor (Arc (Table Meaning) Z)) �
 table_shown None = None
 table_shown (Some table) = Some (arc_value table.now)
 
--- the first, or else the other
-abbrev pub first_of : {A : Type 0} → Option A → Option A → Option A
-first_of None other = other
-first_of (Some first) other = Some first
-
 -- these are those of the first, with those of the others that are not among them
 abbrev pub AreJoined : ByText → ByText → ByText → Type 0
-AreJoined new first others = (decl : DeclId) → reached new decl ≡ first_of (reached first decl) (reached others decl)
+AreJoined new first others = (decl : DeclId) → reached new decl ≡ option_or (reached first decl) (reached others decl)
 
 -- the instances of a text are those of the first, with those of the other that are not among them
 abbrev pub AreUnited : InText → InText → InText → Type 0
-AreUnited new first other = (place : ℕ) → lookup nat_eq new place ≡ first_of (lookup nat_eq first place) (lookup nat_eq other place)
+AreUnited new first other = (place : ℕ) → lookup nat_eq new place ≡ option_or (lookup nat_eq first place) (lookup nat_eq other place)
 
 -- this is the part of a text, and the parts of the others are as they were
 abbrev pub IsSet : ByText → ByText → List ℕ → InText → Type 0

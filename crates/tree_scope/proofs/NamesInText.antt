@@ -20,10 +20,6 @@ unfoldable pub is_named : Option Lexeme → Bool
 is_named None = false
 is_named (Some l) = true
 
-unfoldable pub or_else : Lexeme → Option Lexeme → Lexeme
-or_else d None = d
-or_else d (Some l) = l
-
 -- ---- names in a text
 
 module _ (source : List ℕ) where

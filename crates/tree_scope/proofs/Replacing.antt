@@ -1,6 +1,6 @@
 -- What INSTANCE replaces, from what is due of it.
 use Rattle.std.proofs.Common.{◌≡◌, ℕ, ◌+◌, ◌<◌, ◌≤◌, List, [], ◌∷◌, ◌++◌, Bool, true, false, true≢false, append_assoc, get_or, length, suc, take, zero, refl, ap, sym, subst, ◌∙◌, arith}
-use Rattle.std.specs.Prelude.{◌||◌, IfSome, if◌then◌else◌, Option, Some, None}
+use Rattle.std.specs.Prelude.{◌||◌, IfSome, if◌then◌else◌, Option, Some, None, unwrap_or}
 use Rattle.std.specs.List.{AllByRecursion}
 use Rattle.std.proofs.lemmas.List.{append-nil}
 use Rattle.std.proofs.lemmas.Option.{slice_get-get_or}
@@ -27,7 +27,7 @@ use Rattle.tree_tasks.specs.declared.tasks.Naming.TheVariants as how
 use Rattle.tree_tasks.specs.declared.tasks.Task.TheVariants as task
 use Rattle.tree_scope.specs.TasksDone.{AreReady, IsDone, IsNode, IsPath, all_size, emit, run, size, sizes, trees_at}
 use Rattle.tree_tasks.specs.WalkTasks.{Task, AreWhole, implied_of, instance_tasks, left_of, naming, noted, noted_all, replacements, replacing, visits}
-use Rattle.tree_scope.proofs.NamesInText.{held-lies, is_named, or_else, parts-lie}
+use Rattle.tree_scope.proofs.NamesInText.{held-lies, is_named, parts-lie}
 use Rattle.tree_scope.proofs.NodeTasks.{done, ready-append, size-append, size-is, visits-ready, visits-size, walk-is}
 use Rattle.tree_scope.proofs.Noting.{HasThese, or-assoc, or-past, put-found, these-more}
 use Rattle.tree_scope.proofs.Shapes.{walk-instance}
@@ -42,8 +42,8 @@ names_of source (Some l) = name_of source l ∷ []
 
 -- the left side of a replacement lies where its lexemes do
 left-lies : (source : List ℕ) (form : Form.the_data) (l : Lexeme) → left_of form ≡ Some l → AllByRecursion (LiesIn source) (form_lexemes form) → LiesIn source l
-unfolding is_named or_else
-left-lies source (Form.Replacement n) l e lie = subst (LiesIn source) (ap (or_else n) e) lie.0
+unfolding is_named
+left-lies source (Form.Replacement n) l e lie = subst (LiesIn source) (ap (λ found. unwrap_or found n) e) lie.0
 left-lies source _ l e lie = absurd (true≢false (sym (ap is_named e)))
 
 left-one : (source : List ℕ) (form : Form.the_data) (s : Span) (parts rest : Trees) → left_sides source (Cons (Node form s parts) rest) ≡ names_of source (left_of form) ++ left_sides source rest

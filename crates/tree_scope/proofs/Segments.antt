@@ -1,6 +1,6 @@
 -- The segments of a path, from what is due of them.
 use Rattle.std.proofs.Common.{◌≡◌, ℕ, suc, zero, ◌+◌, ◌<◌, ◌≤◌, List, [], ◌∷◌, ◌++◌, Bool, true, false, true≢false, drop, length, refl, ap, sym, subst, ◌∙◌, add-one, arith}
-use Rattle.std.specs.Prelude.{is_some, if◌then◌else◌, nat_eq, option_map, slice_get, Option, Some, None}
+use Rattle.std.specs.Prelude.{is_some, if◌then◌else◌, nat_eq, option_map, slice_get, Option, Some, None, unwrap_or}
 use Rattle.std.specs.List.{AllByRecursion}
 use Rattle.std.proofs.Math.Dec.{eqb-suc-suc, eqb-zero-suc}
 use Rattle.tla_symbols.specs.declared.lexeme.Lexeme.{Lexeme}
@@ -24,12 +24,12 @@ use Rattle.tree_scope.specs.TasksDone.{AreFound, AreReady, IsDone, IsPath, all_s
 use Rattle.tree_tasks.specs.WalkTasks.{Task, called, leads, path_tasks, segment_of, visits}
 use Rattle.tree_scope.proofs.TaskFindings.{each-run, emit-append}
 use Rattle.tree_scope.proofs.NodeTasks.{ready-append, size-append, visits-ready, visits-size}
-use Rattle.tree_scope.proofs.NamesInText.{held-lies, is_named, or_else, parts-lie}
+use Rattle.tree_scope.proofs.NamesInText.{held-lies, is_named, parts-lie}
 
 -- the name of a segment lies where its lexemes do
 segment-lies : (source : List ℕ) (form : Form.the_data) (l : Lexeme) → segment_of form ≡ Some l → AllByRecursion (LiesIn source) (form_lexemes form) → LiesIn source l
-unfolding is_named or_else
-segment-lies source (Form.Segment n) l e lie = subst (LiesIn source) (ap (or_else n) e) lie.0
+unfolding is_named
+segment-lies source (Form.Segment n) l e lie = subst (LiesIn source) (ap (λ found. unwrap_or found n) e) lie.0
 segment-lies source _ l e lie = absurd (true≢false (sym (ap is_named e)))
 
 -- ---- the end of a path
@@ -100,10 +100,10 @@ module _ (text : Text) (around : Surroundings) (held : Held → Behind) (nodes :
       segments text around context (Cons (Node form s parts) rest) ≡
       use_findings l (meaning_of context (name_of source l)) ++ walk_each text around context parts
       ++ next_of context (path_number text around l) (meaning_of context (name_of source l)) (behind_meaning around.known (meaning_of context (name_of source l))) rest
-  unfolding is_named or_else
+  unfolding is_named
   first-segment context (Form.Segment n) s parts rest l e =
       ap (λ z. use_findings z (meaning_of context (name_of source z)) ++ walk_each text around context parts
-      ++ next_of context (path_number text around z) (meaning_of context (name_of source z)) (behind_meaning around.known (meaning_of context (name_of source z))) rest) (ap (or_else n) e)
+      ++ next_of context (path_number text around z) (meaning_of context (name_of source z)) (behind_meaning around.known (meaning_of context (name_of source z))) rest) (ap (λ found. unwrap_or found n) e)
   first-segment context _ s parts rest l e = absurd (true≢false (sym (ap is_named e)))
 
   no-first : (context : Context) (form : Form.the_data) (s : Span) (parts rest : Trees) → segment_of form ≡ None → segments text around context (Cons (Node form s parts) rest) ≡ []
@@ -115,10 +115,10 @@ module _ (text : Text) (around : Surroundings) (held : Held → Behind) (nodes :
       path text around context number behind (Cons (Node form s parts) rest) ≡
       use_findings l (called_by number rest (entry_of (behind []) (name_of source l))) ++ walk_each text around context parts
       ++ next_of context number (entry_of (behind []) (name_of source l)) (onward behind (name_of source l)) rest
-  unfolding is_named or_else
+  unfolding is_named
   further-segment context number behind (Form.Segment n) s parts rest l e =
       ap (λ z. use_findings z (called_by number rest (entry_of (behind []) (name_of source z))) ++ walk_each text around context parts
-      ++ next_of context number (entry_of (behind []) (name_of source z)) (onward behind (name_of source z)) rest) (ap (or_else n) e)
+      ++ next_of context number (entry_of (behind []) (name_of source z)) (onward behind (name_of source z)) rest) (ap (λ found. unwrap_or found n) e)
   further-segment context number behind _ s parts rest l e = absurd (true≢false (sym (ap is_named e)))
 
   no-further : (context : Context) (number : ℕ) (behind : Behind) (form : Form.the_data) (s : Span) (parts rest : Trees) → segment_of form ≡ None → path text around context number behind (Cons (Node form s parts) rest) ≡ []

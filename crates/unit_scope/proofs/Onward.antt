@@ -21,7 +21,6 @@ use Rattle.module_model.specs.Exports.{Known, ModuleView, and_known, exports_by,
 use Rattle.module_model.specs.Instances.{brought_by, nested_view}
 use Rattle.module_model.specs.Modules.{Reading, behind_nested}
 use Rattle.module_model.specs.NamedModules.{exported_known, known_from_all, module_at, unit_of}
-use Rattle.module_model.specs.Parts.{first_of}
 use Rattle.module_model.specs.Resolution.{ReadState}
 use Rattle.module_model.specs.Resolution as resolution
 use Rattle.instance_leads.specs.Leading.{view_at, views}

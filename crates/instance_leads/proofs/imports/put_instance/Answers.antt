@@ -1,7 +1,7 @@
-use Rattle.std.proofs.Common.{◌≡◌, List, sym, subst}
+use Rattle.std.proofs.Common.{◌≡◌, List, sym, subst, unwrap_or}
 use Rattle.tla_model.specs.Entities.{same_decl}
 use Rattle.tla_model.specs.Tables.{added}
-use Rattle.module_model.specs.Exports.{and_known, behind_along, face_instances, known_as, or_none}
+use Rattle.module_model.specs.Exports.{and_known, behind_along, face_instances, known_as}
 use Rattle.instance_leads.specs.declared.ended.Ended.{Ended}
 use Rattle.instance_leads.specs.Found.{AreOfFace, IsOfFace}
 use Rattle.instance_leads.specs.Keys.{decl_of}
@@ -25,6 +25,6 @@ returns-clause-known c =
     let put = decl_of c.as_str.result.now c.args.decl.now.place in
     let same : put ≡ c.args.decl.now = (λ i. decl_of (c.as_str.ensures i) c.args.decl.now.place) in
     on-so (c.put.new.self ≡ added same_decl c.args.more.now put c.led_on_face.result)
-    ((nested : List Ended) → known_in nested c.put.new.self ≡ and_known (known_in nested c.args.more.now) (known_as c.args.decl.now (behind_along (face_instances c.args.face.now) (or_none (face_instances c.args.face.now c.args.decl.now))))) c.put.result
+    ((nested : List Ended) → known_in nested c.put.new.self ≡ and_known (known_in nested c.args.more.now) (known_as c.args.decl.now (behind_along (face_instances c.args.face.now) (unwrap_or (face_instances c.args.face.now c.args.decl.now) [])))) c.put.result
     (λ is nested. known-led nested c.args.face.now c.args.more.now c.put.new.self c.args.decl.now put c.led_on_face.result same c.led_on_face.ensures is)
     c.put.ensures
