@@ -21,7 +21,7 @@ use Rattle.tla_model.specs.Tables.{Table, Named, Word, Symbol, added, has, looku
 use Rattle.tla_model.proofs.Same.{decl-equal}
 use Rattle.module_scope.specs.Environments.{Environment, Scope, begun, ended, meaning as module_meaning, first as first_scope}
 use Rattle.module_model.specs.Exports.{Exports, Known, ModuleView, exported, exports_by, exports_of, instantiable, of_symbols, of_words}
-use Rattle.module_model.specs.Instances.{brought_by, nested_view, passed, through}
+use Rattle.module_model.specs.Instances.{brought_by, brought_entries, nested_view, through}
 use Rattle.module_model.specs.Modules.{Reading, begun_in, clashes, constants, declare_all, exports_under, extends_all, joined, left, text_of, unread, with_entry}
 use Rattle.module_model.specs.NamedModules.{module_under as view_under, unit_of}
 use Rattle.module_model.specs.Resolution.{ReadState, instance_brings, words_of, read_all as read_names}
@@ -133,7 +133,7 @@ module _ (declares : Declarations) where
   through-kind unit BuiltIn = refl
   through-kind unit (Declared e callee) = refl
 
-  passed-declared : (unit : UnitId) (parameters entries : Exports) → AllByRecursion IsDefinition entries → AllByRecursion IsDefinition (passed unit parameters entries)
+  passed-declared : (unit : UnitId) (parameters entries : Exports) → AllByRecursion IsDefinition entries → AllByRecursion IsDefinition (brought_entries unit parameters entries)
   passed-declared unit [] entries all = all
   passed-declared unit (parameter ∷ parameters) [] all = tt
   passed-declared unit (parameter ∷ parameters) (entry ∷ rest) all =

@@ -2,7 +2,7 @@
 ghost use Rattle.std.specs.Prelude.{◌≡◌, IfOk, Some};
 ghost use Rattle.std.specs.Option.{option_copied};
 ghost use Rattle.module_model.specs.Exports.{face_outside, instantiable};
-ghost use Rattle.module_model.specs.Instances.{brought_by, passed};
+ghost use Rattle.module_model.specs.Instances.{brought_by, brought_entries};
 ghost use Rattle.name_exports.specs.Brought.{IsBrought, IsJoined};
 ghost use Rattle.tree_names.specs.Parameters.{entries_in};
 ghost use Rattle.instance_leads.specs.Found.{unit_if};
@@ -75,7 +75,7 @@ fn bring_there<'a>(
     ended: &Ended<'a>,
 ) -> Result<bool, Memory>
     ensures { IfOk result (λ clash. IsJoined local names.old names.new clash
-        (passed unit.now (parameters_shown (Some ended.now))
+        (brought_entries unit.now (parameters_shown (Some ended.now))
         (instantiable (exports_shown (Some ended.now))))) }
 {
     let parameters = nested_parameters(alloc, &ended.parameters)?;
@@ -93,7 +93,7 @@ pub fn bring_ended_through<'a>(
     ended: Option<&Ended<'a>>,
 ) -> Result<bool, Memory>
     ensures { IfOk result (λ clash. IsJoined local names.old names.new clash
-        (passed unit.now (parameters_shown (option_copied ended.entry))
+        (brought_entries unit.now (parameters_shown (option_copied ended.entry))
         (instantiable (exports_shown (option_copied ended.entry))))) }
 {
     match ended {

@@ -148,7 +148,7 @@ told-through : (known : Known) (unit : UnitId) (meaning : Meaning) → IsTold kn
 told-through known unit BuiltIn told = tt
 told-through known unit (Declared entity callee) told = told
 
-told-passed : (known : Known) (unit : UnitId) (parameters entries : Exports) → AreTold known entries → AreTold known (i.passed unit parameters entries)
+told-passed : (known : Known) (unit : UnitId) (parameters entries : Exports) → AreTold known entries → AreTold known (i.brought_entries unit parameters entries)
 told-passed known unit [] entries told = told
 told-passed known unit (parameter ∷ parameters) entries told =
     all-mapped (λ (entry : Named × Meaning). (entry.0, i.through unit entry.1)) (λ (entry : Named × Meaning). IsTold known entry.1) entries

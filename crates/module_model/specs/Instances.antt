@@ -52,13 +52,13 @@ through unit BuiltIn = BuiltIn
 through unit (Declared entity callee) = Declared entity (record callee { via = callee.via ++ unit ∷ [] })
 
 -- the entries that are brought: others than those of the module, where it has parameters to replace
-abbrev pub passed : UnitId → Exports → Exports → Exports
-passed unit [] entries = entries
-passed unit (parameter ∷ parameters) entries = map (λ entry. (entry.0, through unit entry.1)) entries
+abbrev pub brought_entries : UnitId → Exports → Exports → Exports
+brought_entries unit [] entries = entries
+brought_entries unit (parameter ∷ parameters) entries = map (λ entry. (entry.0, through unit entry.1)) entries
 
 -- what this INSTANCE without a name brings of a module: its definitions and instances
 abbrev pub brought_by : UnitId → ModuleView → Exports
-brought_by unit view = passed unit view.parameters (instantiable (exported view))
+brought_by unit view = brought_entries unit view.parameters (instantiable (exported view))
 
 -- of the entries of a nested module, its parameters: the constants and variables that the context round it does not hold
 abbrev pub own_parameters : Context → Exports → Exports
