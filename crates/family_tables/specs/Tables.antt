@@ -1,7 +1,8 @@
 -- Tables under names.
-use Rattle.std.specs.Prelude.{ℕ, List, [], ◌∷◌, Option, Some, None, if◌then◌else◌, map, string_bytes, String}
+use Rattle.std.specs.Prelude.{ℕ, List, Option, map, string_bytes, String}
 use Rattle.std.specs.Str.{bytes_eq}
 use Rattle.std.specs.declared.alloc.Global.{Global}
+use Rattle.tla_model.specs.Tables.{lookup}
 
 -- the rows of a table, as names with items
 abbrev pub entries_of : {T : Type 0} → List (String Global × T) → List (List ℕ × T)
@@ -9,8 +10,7 @@ entries_of rows = map (λ row. (string_bytes row.0, row.1)) rows
 
 -- the item under a name, if there is one
 abbrev pub entry_of : {T : Type 0} → List (List ℕ × T) → List ℕ → Option T
-entry_of [] name = None
-entry_of (entry ∷ rest) name = if bytes_eq name entry.0 then Some entry.1 else entry_of rest name
+entry_of entries name = lookup bytes_eq entries name
 
 -- the names of a table, in their order
 abbrev pub names_in : {T : Type 0} → List (List ℕ × T) → List (List ℕ)

@@ -1,7 +1,8 @@
 -- Imports under their names.
-use Rattle.std.specs.Prelude.{◌≡◌, ℕ, List, [], ◌∷◌, Option, Some, None, if◌then◌else◌, map, string_bytes, String}
+use Rattle.std.specs.Prelude.{◌≡◌, ℕ, List, Option, None, map, string_bytes, String}
 use Rattle.std.specs.Str.{bytes_eq}
 use Rattle.std.specs.declared.alloc.Global.{Global}
+use Rattle.tla_model.specs.Tables.{lookup}
 use Rattle.module_model.specs.declared.imported.Import.{Import}
 
 -- each name with its import, in the order in which they were added
@@ -10,8 +11,7 @@ Imports = List (List ℕ × Import)
 
 -- the import under a name, if there is one
 abbrev pub import_of : Imports → List ℕ → Option Import
-import_of [] name = None
-import_of (entry ∷ rest) name = if bytes_eq name entry.0 then Some entry.1 else import_of rest name
+import_of imports name = lookup bytes_eq imports name
 
 -- no import stands under the name
 abbrev pub HasNoImport : Imports → List ℕ → Type 0
