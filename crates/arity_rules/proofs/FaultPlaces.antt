@@ -14,7 +14,6 @@ use Rattle.tla_model.specs.Lexemes.{all_lexemes, form_lexemes, lexemes, unit_lex
 use Rattle.tla_model.specs.Scopes.{Finding}
 use Rattle.module_model.specs.declared.bound.Implied.{Implied}
 use Rattle.module_model.specs.Bindings.{implied}
-use Rattle.module_model.specs.Instances.{unit_trees}
 use Rattle.span_laws.specs.NodeSpans.{PartSpans, TreeSpans, UnitSpans}
 use Rattle.arity_rules.specs.declared.place.Due.TheVariants as due
 use Rattle.arity_rules.specs.declared.place.Role.TheVariants as role

@@ -1,8 +1,7 @@
 -- The faults of what is to be looked at.
-use Rattle.std.proofs.Common.{◌≡◌, ℕ, suc, ◌+◌, ◌<◌, ◌≤◌, List, [], ◌∷◌, ◌++◌, Bool, true, false, Option, length, append_assoc, reverse, refl, ap, sym, subst, ◌∙◌, arith}
+use Rattle.std.proofs.Common.{◌≡◌, ℕ, suc, ◌+◌, ◌<◌, ◌≤◌, List, [], ◌∷◌, ◌++◌, Bool, true, false, Option, length, append_assoc, refl, ap, sym, subst, ◌∙◌, arith}
 use Rattle.std.specs.Prelude.{map, if◌then◌else◌}
 use Rattle.std.specs.List.{AllByRecursion}
-use Rattle.std.proofs.lemmas.List.{reverse-append}
 use Rattle.tla_tree.specs.Arena.{Node as ArenaNode, AreThere, node_at, tree_at}
 use Rattle.tla_tree.specs.Syntax.{Trees, span, trees}
 use Rattle.tla_tree.proofs.Nodes.{before-there, tree_at-form}
@@ -14,7 +13,7 @@ use Rattle.list_laws.proofs.Lists.{all-both}
 use Rattle.arity_rules.specs.declared.walk.Task.{Task}
 use Rattle.arity_rules.specs.Arities as arities
 use Rattle.arity_rules.specs.Arities.{Due, Role, count, is_known, is_part_inside, is_path, own_faults, part_due, part_faults, path_faults, role_of, tree_faults}
-use Rattle.arity_rules.specs.Tasks.{AreDue, IsTaken, all_faults, all_size, below, part_tasks, path_tasks, segment_due, size, sizes, stack}
+use Rattle.arity_rules.specs.Tasks.{AreDue, IsTaken, all_faults, all_size, below, part_tasks, path_tasks, segment_due, size, sizes}
 
 regroup : {A : Type 0} (a b c d : List A) → a ++ ((b ++ c) ++ d) ≡ (a ++ b) ++ (c ++ d)
 regroup a b c d = ap (λ z. a ++ z) (append_assoc b c d) ∙ sym (append_assoc a b (c ++ d))

@@ -1,5 +1,5 @@
 // The faults of arity in a module.
-ghost use Rattle.std.specs.Prelude.{◌≡◌, ◌++◌, ◌∷◌, [], ℕ, List as ListOf, IfOk, OnOk, map};
+ghost use Rattle.std.specs.Prelude.{◌≡◌, ◌++◌, ℕ, List as ListOf, IfOk, OnOk};
 ghost use Rattle.tla_tree.specs.Arena.{AreThere};
 ghost use Rattle.unit_grammar.specs.UnitNodes.{HasNodes, module_of, nodes_in, unit_at};
 ghost use Rattle.tla_model.specs.Scopes.{Finding};

@@ -1,5 +1,5 @@
 // What the names of a text mean, by where they begin.
-ghost use Rattle.std.specs.Prelude.{◌≡◌, ℕ, IfOk, OnOk, OnErr, None, Some, nat_eq, option_copied};
+ghost use Rattle.std.specs.Prelude.{◌≡◌, ℕ, IfOk, OnOk, None, Some, option_copied};
 ghost use Rattle.arity_rules.specs.Arities as arities;
 ghost use Rattle.arity_rules.specs.Noted as noted;
 

@@ -1,6 +1,5 @@
 // The faults of trees.
-ghost use Rattle.std.specs.Prelude.{◌≡◌, ◌++◌, ◌∷◌, [], ◌<◌, ℕ, None, Some, IfOk, OnOk, false, if◌then◌else◌, length, map, option_copied};
-ghost use Rattle.tla_symbols.specs.Symbols as symbols;
+ghost use Rattle.std.specs.Prelude.{◌≡◌, ◌++◌, ◌<◌, None, Some, IfOk, OnOk, false, if◌then◌else◌, length, map, option_copied};
 ghost use Rattle.tla_tree.specs.Arena.{AreThere, tree_at};
 ghost use Rattle.tla_tree.specs.Syntax.{trees};
 ghost use Rattle.tla_model.specs.Scopes as scopes;

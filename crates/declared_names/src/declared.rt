@@ -1,5 +1,5 @@
 // The names that a text declares.
-ghost use Rattle.std.specs.Prelude.{◌≡◌, ◌++◌, ◌∷◌, [], ◌<◌, ◌≤◌, IfOk, OnOk, length, map, reverse};
+ghost use Rattle.std.specs.Prelude.{◌≡◌, ◌++◌, ◌<◌, ◌≤◌, IfOk, OnOk, length, map, reverse};
 ghost use Rattle.tla_tree.specs.Arena.{AreThere, tree_at};
 ghost use Rattle.tla_tree.specs.Syntax.{trees};
 ghost use Rattle.tla_model.specs.Entities as entities;

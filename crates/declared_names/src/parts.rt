@@ -1,6 +1,5 @@
 // The names among the parts of a node.
 ghost use Rattle.std.specs.Prelude.{◌≡◌, ◌++◌, ◌∷◌, [], ◌<◌, IfOk, OnOk, length, map};
-ghost use Rattle.std.specs.List.{AllByRecursion};
 ghost use Rattle.tla_tree.specs.Arena.{AreThere, node_at, tree_at};
 ghost use Rattle.tla_tree.specs.Syntax.{trees};
 ghost use Rattle.tla_model.specs.Entities as entities;

@@ -1,10 +1,10 @@
 //! One change of a text.
-ghost use Rattle.std.specs.Prelude.{◌≡◌, ◌<◌, ◌≤◌, ◌^◌, ◌++◌, ◌∷◌, [], false, length, IfErr, IfOk, MatchOption, OnOk};
+ghost use Rattle.std.specs.Prelude.{◌≡◌, ◌<◌, ◌≤◌, ◌^◌, ◌∷◌, [], false, length, IfErr, IfOk, MatchOption, OnOk};
 ghost use Rattle.std.specs.Str.{IsCharBoundary, IsUtf8};
 ghost use Rattle.std.specs.declared.option.Option.TheVariants.{None};
 ghost use Rattle.tla_text.specs.Places.{spliced};
 ghost use Rattle.doc_edit.specs.Edits.{is_after, is_backward, first_backward, start_of, end_of};
-ghost use Rattle.doc_edit.specs.Edits.{after_change, first_excess, most_bytes, IsRefused};
+ghost use Rattle.doc_edit.specs.Edits.{after_change, first_excess, IsRefused};
 
 use crate::EditError;
 use lsp_wire::{Area, Change, Position};

@@ -12,7 +12,7 @@ use Rattle.tla_tree.specs.Edges.{Edge, Operator, Open, Meets, right_edge, right_
 use Rattle.tla_tree.specs.Shapes.{BindsOne}
 use Rattle.tla_tree.specs.Lexemes.{IsName, IsMark, built, then, joined}
 use Rattle.tla_tree.specs.Headings.{DerivesNameList, last_name, more_names, DerivesNames, names, DerivesTupleNames, tuple_names, DerivesBinder, binder_name, binder_tuple}
-use Rattle.tla_tree.specs.Derivation.{DerivesFactors, last_factor, more_factors, DerivesBound, bound, tuple_bound}
+use Rattle.tla_tree.specs.Derivation.{DerivesFactors, last_factor, more_factors}
 use Rattle.precedence.specs.declared.Choice.TheVariants as Choice
 use Rattle.precedence.specs.Choices.{op_number, fix_number, same_op, same_edge, meets, joins, choose as choose_order}
 use Rattle.precedence.proofs.Orders.{meets-true}

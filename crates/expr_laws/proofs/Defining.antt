@@ -13,7 +13,7 @@ use Rattle.tla_tree.specs.declared.form.Form.{Form}
 use Rattle.tla_tree.specs.Syntax.{Tree, Trees, Nil, trees}
 use Rattle.tla_tree.specs.Lexemes.{IsName, IsWord, IsMark, IsSymbol, is_given, built, joined}
 use Rattle.tla_tree.specs.Headings.{DerivesPlaces, last_place, more_places, DerivesParameter, plain, of_places, prefix_symbol, infix_symbol, postfix_symbol, DerivesParameters, last_parameter, more_parameters, DerivesHead, constant, with_parameters, IsReplaceable, by_name, by_symbol}
-use Rattle.tla_tree.specs.Derivation.{DerivesDefinitions, last_definition, more_definitions, DerivesDefinition, operator as operator_definition, prefix_operator, infix_operator, postfix_operator, function_of, module_of, DerivesInstance, without, with_replacements, DerivesReplacement, replaced, replaced_by_symbol}
+use Rattle.tla_tree.specs.Derivation.{DerivesDefinitions, last_definition, more_definitions, DerivesDefinition, operator as operator_definition, prefix_operator, infix_operator, postfix_operator, function_of, module_of}
 use Rattle.expr_grammar.specs.declared.wait.Handed.TheVariants as Handed
 use Rattle.expr_grammar.specs.declared.wait.Wait.{Wait}
 use Rattle.expr_grammar.specs.declared.wait.Mode.TheVariants as Mode

@@ -13,7 +13,7 @@ use Rattle.tla_tree.specs.Edges.{Edge, Operator, operator, AllMeet, right_edge}
 use Rattle.tla_tree.specs.Shapes.{IsBareMember, BindsOne, HasOnePart, HasParts, AreBareSegments, IsPlainName, ArePlainNames, IsBinder}
 use Rattle.tla_tree.specs.Lexemes.{IsName, IsMark, IsSymbol, place, built, one, two, then, joined}
 use Rattle.tla_tree.specs.Headings.{DerivesNameList, last_name, more_names, DerivesTupleNames, tuple_names}
-use Rattle.tla_tree.specs.Derivation.{Derives, node, Spells, identifier, infixed, DerivesUpdate, update}
+use Rattle.tla_tree.specs.Derivation.{Derives, node, Spells, identifier, infixed}
 use Rattle.precedence.specs.declared.Choice.TheVariants as Choice
 use Rattle.precedence.specs.Choices.{choose as choose_order}
 use Rattle.precedence.proofs.Orders.{choose-ends, choose-waits}

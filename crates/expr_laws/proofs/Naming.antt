@@ -14,7 +14,7 @@ use Rattle.tla_tree.specs.Edges.{Edge, Open, AllJoin}
 use Rattle.tla_tree.specs.Alignment.{IsBullet, GoesOn, takes_left, MayFollow, MayFollowArms}
 use Rattle.tla_tree.specs.Shapes.{HasNoPart, AreBareSegments}
 use Rattle.tla_tree.specs.Lexemes.{IsName, built, one, joined}
-use Rattle.tla_tree.specs.Derivation.{DerivesSegments, last_segment, more_segments, bare, applied, DerivesArguments, last_argument, more_arguments, DerivesArm, arm}
+use Rattle.tla_tree.specs.Derivation.{DerivesSegments, last_segment, more_segments, bare, applied, DerivesArguments, last_argument, more_arguments}
 use Rattle.expr_grammar.specs.declared.wait.Handed.TheVariants as Handed
 use Rattle.expr_grammar.specs.declared.wait.Wait.{Wait}
 use Rattle.expr_grammar.specs.declared.wait.Mode.TheVariants as Mode

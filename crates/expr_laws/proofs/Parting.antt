@@ -8,8 +8,8 @@ use Rattle.tla_tree.specs.declared.form.Form.{Form}
 use Rattle.tla_tree.specs.Syntax.{Tree, Trees, Cons, trees}
 use Rattle.tla_tree.specs.Shapes.{BindsOne, IsSubscript}
 use Rattle.tla_tree.specs.Lexemes.{IsName, IsMark, IsSymbol, is_passed, built, one, joined}
-use Rattle.tla_tree.specs.Headings.{names as of_list, binder_name, binder_tuple, DerivesParameter, DerivesParameters, last_parameter, more_parameters, with_parameters, plain, of_places, prefix_symbol, infix_symbol, postfix_symbol}
-use Rattle.tla_tree.specs.Derivation.{Derives, node, parentheses, set, set_filter, set_image, application, function, function_set, record_of, record_set, except, tuple, fairness, DerivesList, last, more, DerivesSegments, more_segments, DerivesSegment, bare, applied, DerivesArguments, last_argument, more_arguments, expression as operand_argument, passed, DerivesBound, bound as of_names, tuple_bound, DerivesBounds, last_bound, more_bounds, DerivesFields, last_field, more_fields, named, DerivesUpdate, update as of_steps, DerivesUpdates, last_update, more_updates, DerivesStep, field_step, index_step, DerivesArms, more_arms, DerivesArm, arm as of_guard, DerivesDefinitions, last_definition, more_definitions, DerivesDefinition, operator, prefix_operator, infix_operator, postfix_operator, function_of, module_of, DerivesInstance, without, with_replacements, DerivesReplacements, more_replacements, DerivesReplacement, replaced, replaced_by_symbol}
+use Rattle.tla_tree.specs.Headings.{names as of_list, binder_name, binder_tuple, DerivesParameter, DerivesParameters, last_parameter, more_parameters, with_parameters}
+use Rattle.tla_tree.specs.Derivation.{Derives, node, parentheses, set, set_filter, set_image, application, function, function_set, record_of, record_set, except, tuple, fairness, DerivesList, last, more, DerivesSegments, more_segments, DerivesSegment, bare, applied, DerivesArguments, last_argument, more_arguments, expression as operand_argument, passed, DerivesBound, DerivesBounds, last_bound, more_bounds, DerivesFields, last_field, more_fields, named, DerivesUpdate, DerivesUpdates, last_update, more_updates, DerivesStep, field_step, index_step, DerivesArms, more_arms, DerivesArm, DerivesDefinitions, last_definition, more_definitions, DerivesDefinition, operator, prefix_operator, infix_operator, postfix_operator, function_of, module_of, DerivesReplacements, more_replacements, DerivesReplacement}
 use Rattle.expr_grammar.specs.declared.wait.Binding.{Binding}
 use Rattle.expr_grammar.specs.declared.wait.Handed.TheVariants as Handed
 use Rattle.expr_grammar.specs.declared.wait.Wait.{Wait}

@@ -11,7 +11,7 @@ use Rattle.tla_symbols.specs.Symbols.{range_of}
 use Rattle.tla_tree.specs.declared.form.Form.{Form}
 use Rattle.tla_tree.specs.Syntax.{Tree, Trees, Node, Cons, trees}
 use Rattle.tla_tree.specs.Edges.{Edge, AllJoin, right_edge, right_edge_of_last, left_edge}
-use Rattle.tla_tree.specs.Alignment.{IsBullet, GoesOn, From, MayFollow}
+use Rattle.tla_tree.specs.Alignment.{IsBullet, GoesOn, MayFollow}
 use Rattle.tla_tree.specs.Shapes.{IsSubscript}
 use Rattle.tla_tree.specs.Lexemes.{IsWord, IsMark, IsSymbol, is_passed, built, one, joined}
 use Rattle.tla_tree.specs.Derivation.{DerivesArms, last_arm, other_arm, more_arms, DerivesItems, last_item, more_items}
@@ -26,7 +26,7 @@ use Rattle.expr_grammar.specs.declared.wait.Shape.{Shape}
 use Rattle.expr_grammar.specs.Kinds.{is_comma, is_maps_to, is_colon}
 use Rattle.expr_grammar.specs.Tables.{mode, list_of, is_bullet, begins, at_mark, endable, role, edge_of, shape, is_expression, at_part}
 use Rattle.expr_grammar.specs.Machine.{inside, is_operator}
-use Rattle.expr_laws.proofs.Tabled.{InItem, EndsHead, head_by_column, head_by_mark, Part, headed, Closed, close, done, Begun, pushed, shifted, leafed, went}
+use Rattle.expr_laws.proofs.Tabled.{EndsHead, head_by_column, head_by_mark, Part, headed, Closed, close, done, Begun, pushed, shifted, leafed, went}
 use Rattle.expr_laws.proofs.Asking.{continues, Follows, AllFit, absurd-bool}
 use Rattle.expr_laws.proofs.Starting.{start-at, mark-role, trees-snoc, renamed-closed, symbol-leaf}
 use Rattle.expr_laws.proofs.Bounding.{in-square, square-move}

@@ -37,7 +37,6 @@ use Rattle.expr_laws.proofs.Parting.{bounds-mark, bounds-close, PartOk, operand-
 use Rattle.expr_laws.proofs.Ending.{item-at, after, at_end, by_column, by_mark, by_operator, EndOk, ends-sound}
 use Rattle.expr_laws.proofs.Joining.{last-edge, EdgeOk, ends-edges, Shuts, list-shuts, list-part, LeadOk, lead-sound, factor-sound}
 use Rattle.expr_laws.proofs.PartShapes.{arm-shape, bound-shape, instance-shape, parameter-shape, replacement-shape, update-shape}
-use Rattle.expr_laws.proofs.Complete.{run-none}
 
 -- each frame has read what its wait says, under the wait of the frame below it
 pub data Chain : List Frame → Type 0 where

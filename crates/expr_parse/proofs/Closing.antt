@@ -11,7 +11,7 @@ use Rattle.tla_tree.specs.Lexemes.{built}
 use Rattle.tla_tree.specs.Syntax.{Tree, Trees, Node, Nil, Cons, trees}
 use Rattle.expr_grammar.specs.declared.wait.Wait.{Wait}
 use Rattle.expr_grammar.specs.declared.wait.Shape.{Shape}
-use Rattle.expr_grammar.specs.Tables.{shape, plain_shape, infix_shape, member_shape, is_expression, finishes, endable}
+use Rattle.expr_grammar.specs.Tables.{shape, plain_shape, infix_shape, is_expression, finishes, endable}
 use Rattle.expr_grammar.specs.Machine as Machine
 use Rattle.expr_grammar.specs.Machine.{State, At, Have, node, node_with}
 use Rattle.expr_grammar.specs.Counting.{made_close, made_last, made_finish}

@@ -1,5 +1,5 @@
 // What a lexeme does where a part or a lexeme is due.
-ghost use Rattle.std.specs.Prelude.{◌≡◌, ◌↔◌, ℕ, List, [], ◌∷◌, ◌++◌, Option, Some, None, IsTrue, ◌<◌, ◌-◌, ◌^◌, IfOk};
+ghost use Rattle.std.specs.Prelude.{◌≡◌, ◌↔◌, List, [], ◌∷◌, Option, Some, None, IsTrue, ◌<◌, ◌-◌, ◌^◌, IfOk};
 ghost use Rattle.tla_symbols.specs.declared.lexeme.Lexeme.{Lexeme};
 ghost use Rattle.tla_tree.specs.Arena.{Node};
 ghost use Rattle.tla_tree.specs.Syntax as syntax;
@@ -7,7 +7,7 @@ ghost use Rattle.expr_grammar.specs.Tables as tables;
 ghost use Rattle.expr_grammar.specs.Machine as machine;
 ghost use Rattle.expr_grammar.specs.Counting as counting;
 ghost use Rattle.expr_grammar.specs.declared.wait.MarkMove.TheVariants as MarkMove;
-ghost use Rattle.tree_parts.specs.Parts.{IsPart, IsThere, span_of};
+ghost use Rattle.tree_parts.specs.Parts.{IsPart, span_of};
 ghost use Rattle.expr_stack.specs.StackMeaning.{IsOpen, Stands, Opens};
 ghost use Rattle.expr_parse.specs.TurnMeaning.{IsDue, IsTurn, Turns};
 

@@ -1,17 +1,16 @@
 // Parts that turn out to be something else than they were read as.
-ghost use Rattle.std.specs.Prelude.{◌≡◌, ◌<◌, ℕ, List, [], ◌∷◌, ◌++◌, ◌↔◌, IfOk, IsTrue, length, map, slice_index_or, suc};
+ghost use Rattle.std.specs.Prelude.{◌≡◌, ◌<◌, List, [], ◌∷◌, ◌++◌, ◌↔◌, IfOk, IsTrue, length, slice_index_or};
 ghost use Rattle.tla_symbols.specs.declared.lexeme.Lexeme.{Lexeme};
 ghost use Rattle.tla_tree.specs.declared.form.Form.TheVariants as Form;
-ghost use Rattle.tla_tree.specs.Arena.{Node, AreThere, tree_at, node_at};
+ghost use Rattle.tla_tree.specs.Arena.{tree_at, node_at};
 ghost use Rattle.tla_tree.specs.Syntax as syntax;
-ghost use Rattle.tla_tree.specs.Syntax.{trees};
 ghost use Rattle.tla_tree.specs.Lexemes.{built, one};
 ghost use Rattle.expr_grammar.specs.Tables as tables;
 ghost use Rattle.expr_grammar.specs.Machine as machine;
 ghost use Rattle.expr_grammar.specs.Counting as counting;
 ghost use Rattle.expr_grammar.specs.declared.wait.Conversion.TheVariants as Conversion;
 ghost use Rattle.tree_parts.specs.Parts.{parts_of, IsPart, IsThere, span_of};
-ghost use Rattle.expr_stack.specs.StackMeaning.{IsOpen, Opens};
+ghost use Rattle.expr_stack.specs.StackMeaning.{Opens};
 ghost use Rattle.expr_parse.specs.TurnMeaning.{Becomes, Converts, Renamed, AreNames, AreOperands, AreTwo};
 
 use expr_grammar::{Conversion, Shape};

@@ -1,14 +1,12 @@
 // What a lexeme does after a part.
-ghost use Rattle.std.specs.Prelude.{◌≡◌, ◌<◌, ℕ, cond, List, [], ◌∷◌, ◌++◌, Option, Some, None, OnOk, IfOk, length};
+ghost use Rattle.std.specs.Prelude.{◌≡◌, ◌<◌, cond, List, [], ◌∷◌, ◌++◌, Option, Some, None, IfOk};
 ghost use Rattle.tla_symbols.specs.declared.lexeme.Lexeme.{Lexeme};
-ghost use Rattle.tla_tree.specs.Arena.{Node, tree_at};
-ghost use Rattle.tla_tree.specs.Syntax as syntax;
+ghost use Rattle.tla_tree.specs.Arena.{Node};
 ghost use Rattle.expr_grammar.specs.declared.wait.Wait.TheVariants as Wait;
 ghost use Rattle.expr_grammar.specs.declared.wait.PartMove.TheVariants as PartMove;
 ghost use Rattle.expr_grammar.specs.Tables as tables;
 ghost use Rattle.expr_grammar.specs.Machine as machine;
 ghost use Rattle.expr_grammar.specs.Counting as counting;
-ghost use Rattle.tree_parts.specs.Parts.{IsPart};
 ghost use Rattle.expr_parse.specs.TurnMeaning.{IsReady, CanTake, Follows, FollowsFrame, continues};
 
 use crate::begins::{complete, goes_on as frame_goes_on};

@@ -4,8 +4,7 @@
 //! it needs. A text that begins with `!` is broken.
 #![tactic(auto)]
 
-ghost use Rattle.std.specs.Prelude.{◌≡◌, ◌+◌, ◌*◌, ◌%◌, ◌^◌, ◌<◌, ℕ, List, IfOk, drop, fold, slice_index};
-ghost use Rattle.fact_values.specs.States.{State};
+ghost use Rattle.std.specs.Prelude.{◌≡◌, ◌+◌, ◌*◌, ◌%◌, ◌<◌, ℕ, List, IfOk, slice_index};
 ghost use Rattle.fact_store.specs.Given.{input_state, states};
 ghost use Rattle.fact_samples.specs.Sample as sample;
 

@@ -1,5 +1,5 @@
 -- What is found of modules, one after another.
-use Rattle.std.proofs.Common.{◌≡◌, ◌<◌, ◌≤◌, ℕ, zero, suc, ◌+◌, ◌-◌, ◌^◌, min, List, [], ◌∷◌, ◌++◌, Option, Some, None, Result, Ok, Err, IfOk, refl, sym, ap, ◌∙◌, cond, take, length, get_or, arith, true, false, ⊎_elim, subst}
+use Rattle.std.proofs.Common.{◌≡◌, ◌<◌, ℕ, ◌+◌, ◌-◌, List, [], ◌∷◌, ◌++◌, Option, Some, None, refl, sym, ap, ◌∙◌, cond, take, length, get_or, arith, true, false, ⊎_elim, subst}
 use Rattle.std.specs.Prelude.{Contains, IsSome, is_some, slice_get, sum_by}
 use Rattle.std.specs.List.{All}
 use Rattle.std.specs.Str.{bytes_eq}
@@ -16,7 +16,6 @@ use Rattle.tla_tree.specs.declared.unit.ModuleTree.{ModuleTree}
 use Rattle.front_laws.specs.Fronts.{Tree, Fault, IsFront}
 use Rattle.unit_grammar.specs.Units.{ModuleUnits}
 use Rattle.unit_grammar.specs.UnitNodes.{module_of}
-use Rattle.tool_list.specs.declared.Memory.{Memory}
 use Rattle.module_facts.proofs.Inserting.{in-order}
 use Rattle.module_facts.specs.Ordered.{in_order}
 use Rattle.module_facts.specs.Checks.{CheckedModule, ImportStatus, all_faults, all_uses, facts_of, facts_told, files_given, given_in, unless_any}
@@ -24,8 +23,8 @@ use Rattle.module_facts.proofs.Checked.{facts-checked}
 use Rattle.list_laws.proofs.Lists.{contains-map}
 use Rattle.list_laws.proofs.Texts.{same-text}
 use Rattle.family_facts.specs.Family as families
-use Rattle.family_facts.specs.Verdicts.{after_checks}
 use Rattle.family_facts.specs.Family.{Member, Diagnosed, IsDiagnosed, IsGiven, front_fault, checked, is_there}
+use Rattle.family_facts.specs.Verdicts.{after_checks}
 use Rattle.family_tables.specs.Modules.{Entry, IsEntry, AreModules, tree_count}
 use Rattle.family_tables.specs.Plans as plans
 use Rattle.family_tables.specs.Plans.{AreOnce, IsPlan}

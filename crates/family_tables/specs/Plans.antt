@@ -1,5 +1,5 @@
 -- In which order modules are checked, and which of their needs are cyclic.
-use Rattle.std.specs.Prelude.{◌≡◌, ◌<◌, ◌↔◌, ◌⊎◌, ℕ, List, Option, Some, None, Contains, IsSome, slice_get}
+use Rattle.std.specs.Prelude.{◌≡◌, ◌<◌, ◌↔◌, ℕ, List, Option, Some, None, Contains, IsSome, slice_get}
 use Rattle.std.specs.FinMap.{get}
 use Rattle.index_graph.specs.Leading.{Leads, LeadsBack}
 pub use Rattle.name_graph.specs.Family.{AreOnce}

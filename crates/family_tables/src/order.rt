@@ -1,5 +1,5 @@
 // The order in which modules are checked.
-ghost use Rattle.std.specs.Prelude.{◌≡◌, ◌↔◌, ℕ, List as ListOf, IsTrue, IfOk, Contains};
+ghost use Rattle.std.specs.Prelude.{◌↔◌, List as ListOf, IsTrue, IfOk};
 ghost use Rattle.name_graph.specs.Family as graphs;
 ghost use Rattle.index_graph.specs.Leading.{LeadsBack};
 ghost use Rattle.family_tables.specs.Modules.{Entry};

@@ -1,15 +1,11 @@
 -- Names and meanings that are the same, and what stands for them.
 use Rattle.std.proofs.Common.{◌≡◌, ℕ, suc, Bool, true, cond, List, [], ◌∷◌, refl, ap, ◌∙◌}
-use Rattle.std.specs.Prelude.{◌&&◌, nat_eq}
-use Rattle.std.specs.Str.{bytes_eq}
+use Rattle.std.specs.Prelude.{◌&&◌}
 use Rattle.std.proofs.lemmas.Bool.{and_parts}
-use Rattle.std.proofs.lemmas.Bool.Decides.{Decides-eqb}
 use Rattle.std.proofs.lemmas.Slice.Eq.{bytes_eq-Decides}
 use denote.Enum.Bare.{same_true, true_same}
 use Rattle.tla_symbols.specs.contracts.op.Op as op
 use Rattle.tla_model.specs.declared.names.Meaning.TheVariants.{BuiltIn, Declared}
-use Rattle.tla_model.specs.declared.ids.DeclId.{DeclId}
-use Rattle.tla_model.specs.declared.ids.UnitId.{UnitId}
 use Rattle.tla_model.specs.Tables.{Named, Word, Symbol, same_named}
 use Rattle.tla_model.specs.Entities.{Meaning, same_decl, same_meaning, same_units}
 use Rattle.tla_model.proofs.Same.{decl-equal, units-equal}

@@ -13,7 +13,7 @@ use Rattle.std.proofs.lemmas.Slice.Eq.{bytes_eq-Decides}
 use Rattle.tla_symbols.specs.declared.op.Op.{Op}
 use Rattle.tla_model.specs.Entities.{Entity, Meaning}
 use Rattle.tla_model.specs.EntityKinds.{is_meant, words_meant}
-use Rattle.tla_model.specs.Tables.{AreNew, Named, Word, Symbol, Table, find, lookup, same_named, same_symbol}
+use Rattle.tla_model.specs.Tables.{AreNew, Named, Word, Symbol, Table, find, lookup, same_symbol}
 use Rattle.tla_model.proofs.Stretching.{found-first, found-next}
 use Rattle.module_model.specs.Exports.{entry_of, exports_of, of_symbols, of_words}
 use Rattle.module_model.proofs.Entries.{entry-of-table}

@@ -1,12 +1,11 @@
 -- A node is taken of those that are due.
-use Rattle.std.proofs.Common.{◌≡◌, ℕ, ◌+◌, ◌<◌, List, [], ◌∷◌, ◌++◌, length, reverse, refl, ap, sym, subst, ◌∙◌, arith}
+use Rattle.std.proofs.Common.{◌≡◌, ℕ, ◌+◌, ◌<◌, List, [], ◌∷◌, ◌++◌, reverse, refl, ap, ◌∙◌, arith}
 use Rattle.std.specs.Prelude.{map}
 use Rattle.std.specs.List.{AllByRecursion}
-use Rattle.std.proofs.lemmas.List.{map-append, reverse-append, reverse-reverse}
+use Rattle.std.proofs.lemmas.List.{map-append}
 use Rattle.tla_tree.specs.Arena.{Node as ArenaNode, AreThere, node_at, tree_at}
-use Rattle.tla_tree.specs.Syntax.{Tree, Node, trees}
+use Rattle.tla_tree.specs.Syntax.{Tree, trees}
 use Rattle.tla_tree.specs.declared.unit.Unit.TheVariants as unit
-use Rattle.tla_tree.proofs.Nodes.{tree_at-node, before-there}
 use Rattle.tla_tree.proofs.Walks.{turned}
 use Rattle.unit_grammar.specs.UnitNodes.{nodes_in, unit_at}
 use Rattle.module_model.specs.Instances.{unit_trees}

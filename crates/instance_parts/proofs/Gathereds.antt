@@ -1,7 +1,6 @@
 -- What is gathered stays so while more is gathered.
 use Rattle.std.proofs.Common.{◌≡◌, ◌<◌, ◌≤◌, ◌+◌, ℕ, zero, suc, arith, length, Bool, true, false, cond, List, [], ◌∷◌, Option, Some, None, is_some, refl, ap, sym, subst, ◌∙◌, true≢false}
 use Rattle.std.specs.Prelude.{◌&&◌, ◌++◌, map, nat_eq, slice_get}
-use Rattle.std.specs.Option.{option_map}
 use Rattle.tla_symbols.specs.declared.op.Op.{Op}
 use Rattle.std.proofs.lemmas.Slice.Eq.{bytes_eq-Decides}
 use Rattle.std.proofs.lemmas.Bool.Decides.{nat_tests}
@@ -11,7 +10,7 @@ use Rattle.tla_model.specs.declared.names.Meaning.TheVariants.{Declared}
 use Rattle.tla_model.specs.Entities.{Entity, Meaning, same_decl}
 use Rattle.tla_model.specs.EntityKinds.{is_instance, is_meant, words_meant}
 use Rattle.tla_model.specs.Tables.{Named, Symbol, Table, Word, lookup, same_named}
-use Rattle.tla_model.proofs.Same.{decl-equal, decl-itself}
+use Rattle.tla_model.proofs.Same.{decl-equal}
 use Rattle.module_model.specs.Exports.{Exports, entry_of, exports_of, of_symbols, of_words}
 use Rattle.module_model.specs.Given.{AreReached}
 use Rattle.tree_tasks.specs.declared.held.Held.{Held}

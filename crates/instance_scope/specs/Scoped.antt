@@ -6,13 +6,12 @@ use Rattle.tla_model.specs.declared.ids.DeclId.{DeclId}
 use Rattle.tla_model.specs.Entities.{Meaning, same_decl}
 use Rattle.tla_model.specs.Tables.{Table, lookup}
 use Rattle.module_model.specs.declared.face.Face.{Face}
-use Rattle.module_model.specs.Given.{AreFaces, AreReached, ComesFrom, imported}
+use Rattle.module_model.specs.Given.{AreFaces, imported}
 use Rattle.module_model.specs.Imports.{Imports}
-use Rattle.module_model.specs.Parts.{ByText}
 use Rattle.tree_tasks.specs.declared.held.Held.{Held}
 use Rattle.tree_tasks.specs.declared.held.Held.TheVariants.{Reached}
 use Rattle.module_scope.specs.Environments.{Environment}
-use Rattle.module_model.specs.Exports.{Exports, Known, ModuleView, Path, entries_along, entries_from, exports_of, face_instances, files_of, instances_in}
+use Rattle.module_model.specs.Exports.{Known, ModuleView, exports_of, face_instances, files_of}
 use Rattle.module_model.specs.NamedModules.{module_at}
 use Rattle.module_model.specs.TreeFindings.{Surroundings}
 use Rattle.instance_leads.specs.declared.ended.Ended.{Ended}

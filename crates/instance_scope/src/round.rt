@@ -1,7 +1,7 @@
 // What is round the trees of a place, by what is known there.
 ghost use Rattle.std.specs.Prelude.{◌≡◌, IfOk};
 ghost use Rattle.std.specs.Option.{option_copied};
-ghost use Rattle.module_model.specs.Exports.{entry_of, exports_of, instantiable};
+ghost use Rattle.module_model.specs.Exports.{entry_of, instantiable};
 ghost use Rattle.name_context.specs.AsTables.{meant_by};
 ghost use Rattle.tree_names.specs.Parameters.{entries_in};
 ghost use Rattle.instance_leads.specs.Leading.{behind_at, exports_shown, leads_on, leads_shown, parameters_shown};

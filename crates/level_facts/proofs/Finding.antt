@@ -19,7 +19,7 @@ use Rattle.kind_table.specs.declared.flat.Form as table
 use Rattle.kind_table.specs.declared.flat.Node as node
 use Rattle.kind_table.specs.declared.flat.FlatModule as tables
 use Rattle.kind_table.specs.Flattened.{flat_of, form_of, node_of}
-use Rattle.kind_table.specs.Table.{AllWithin, Grows, IsStored, bounded_kind, meaning, meanings, value_at}
+use Rattle.kind_table.specs.Table.{AllWithin, Grows, bounded_kind, meaning, meanings, value_at}
 use Rattle.kind_table.specs.Weights.{body_cost, longest, node_cost, path_length, times, weight}
 use Rattle.kind_table.proofs.Unfolding.{alike-expressions, alike-meanings, meaning-step, same-body, same-expression, same-meaning, same-operator, weight-step}
 use Rattle.kind_table.proofs.Growth.{grows_on, kinds-leaves, kinds-meanings, load_on, longer, meaning_on, meanings_on, weight_on}

@@ -1,5 +1,5 @@
 -- Items of the same kinds, through the forms.
-use Rattle.std.proofs.Common.{◌≡◌, ℕ, zero, suc, Bool, true, false, List, [], ◌∷◌, ◌++◌, Option, Some, None, refl, ap, ◌∙◌, take, drop}
+use Rattle.std.proofs.Common.{◌≡◌, ℕ, Bool, true, false, List, [], ◌∷◌, ◌++◌, Option, Some, None, refl, ap, ◌∙◌}
 use Rattle.std.specs.Prelude.{◌&&◌}
 use Rattle.kind_text.specs.ExpandedKind.{Operands, is_at_most, kind, kinds}
 use Rattle.kind_text.specs.Substitution.{Alike, Item, Same, judged, texts}

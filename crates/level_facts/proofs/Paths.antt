@@ -11,7 +11,7 @@ use Rattle.kind_text.specs.Substitution.{Alike, Item, Same}
 use Rattle.kind_text.specs.FlatModule.{Definition, FlatModule, UsesDefinition, UsesInstance}
 use Rattle.kind_text.specs.FlatModule as flat
 use Rattle.kind_text.specs.Expansion as expansion
-use Rattle.kind_text.specs.Expansion.{along_path, applied_to_rest, are_met, body, guard, guards_of, items, judged_at, start, text, text_of, through, used}
+use Rattle.kind_text.specs.Expansion.{along_path, are_met, body, guards_of, items, start, text, text_of, through}
 use Rattle.kind_text.proofs.Unfolding.{kind-guard}
 use Rattle.kind_table.specs.declared.argument.Arg.{Arg}
 use Rattle.kind_table.specs.declared.flat.Instance.{Instance}

@@ -1,6 +1,5 @@
 // The kinds of bodies, node by node: only a use of a definition goes deeper.
 ghost use Rattle.std.specs.Prelude.{◌≡◌, ◌+◌, ◌<◌, ◌≤◌, IfOk, OnOk, length, slice_get, map};
-ghost use Rattle.std.specs.List.{AllByRecursion};
 ghost use Rattle.kind_text.specs.ExpandedKind.{kind};
 ghost use Rattle.kind_text.specs.Substitution.{judged, leaves};
 ghost use Rattle.kind_text.specs.FlatModule.{IsOrdered, UsesDefinition, UsesInstance, places_of};
@@ -9,7 +8,7 @@ ghost use Rattle.kind_table.specs.Flattened.{flat_of, path_at};
 ghost use Rattle.kind_table.specs.Table.{AllWithin, Grows, meaning, meanings};
 ghost use Rattle.kind_table.specs.Weights.{load};
 ghost use Rattle.level_facts.specs.Facts.{IsFacts};
-ghost use Rattle.level_facts.specs.Judged.{Evaluates, EvaluatesAll, Found, IsReached, LeadsThrough, MeetsGuards, Picked, ReachesPath, Steps, UsesPath, is_within, lower_cost_of, use_kind_of};
+ghost use Rattle.level_facts.specs.Judged.{Evaluates, EvaluatesAll, Found, IsReached, LeadsThrough, MeetsGuards, ReachesPath, Steps, UsesPath, is_within, lower_cost_of, use_kind_of};
 
 use crate::facts::{Key, KindFacts, keep, number};
 use crate::steps::{

@@ -1,5 +1,5 @@
 // What of a node needs no other body.
-ghost use Rattle.std.specs.Prelude.{◌≡◌, IfOk, OnOk, true, length, map, slice_get};
+ghost use Rattle.std.specs.Prelude.{◌≡◌, IfOk, OnOk, true, map, slice_get};
 ghost use Rattle.kind_text.specs.ExpandedKind.{ruled};
 ghost use Rattle.kind_text.specs.FlatModule.{places_of};
 ghost use Rattle.kind_table.specs.Flattened.{flat_of};

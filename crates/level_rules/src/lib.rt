@@ -4,7 +4,7 @@
 //! Knows nothing of trees, names or places in a text, and takes no memory.
 #![tactic(auto)]
 
-ghost use Rattle.std.specs.Prelude.{◌≡◌, Some, None, IfOk, IfErr, fold, max};
+ghost use Rattle.std.specs.Prelude.{◌≡◌, Some, IfOk, IfErr, max};
 ghost use Rattle.level_rules.specs.Kinds as kinds;
 
 use tla_symbols::{Kind, Rule};

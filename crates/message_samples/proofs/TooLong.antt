@@ -1,5 +1,5 @@
 -- The limit that a text meets which is too long.
-use Rattle.std.proofs.Common.{◌≡◌, ℕ, ◌<◌, cond, ltb, List, [], ◌∷◌, length, Option, Some, None, ap, ◌∙◌}
+use Rattle.std.proofs.Common.{◌≡◌, ℕ, ◌<◌, cond, ltb, [], ◌∷◌, length, Option, Some, None, ap, ◌∙◌}
 use Rattle.std.proofs.lemmas.Bool.{lt-ltb}
 use Rattle.std.proofs.lemmas.List.{length-replicate}
 use Rattle.lsp_answers.specs.States.{State, After, first_too_long, most_bytes, unless_limit}

@@ -1,14 +1,10 @@
 -- While a module is read, it is known what stands behind each instance that it exports so far.
-use Rattle.std.proofs.Common.{◌≡◌, ℕ, Bool, true, false, cond, List, [], ◌∷◌, ◌++◌, ◌⊎◌, inl, inr, Option, Some, None, is_some, if◌then◌else◌, nat_eq, refl, ap, sym, subst, ◌∙◌}
+use Rattle.std.proofs.Common.{◌≡◌, ℕ, Bool, true, false, cond, List, [], ◌∷◌, ◌++◌, ◌⊎◌, inl, inr, Option, Some, None, is_some, if◌then◌else◌, refl, ap, sym, subst, ◌∙◌}
 use Rattle.std.specs.Prelude.{⊤}
 use Rattle.std.specs.Option.{option_or}
 use Rattle.std.specs.List.{AllByRecursion}
 use Rattle.std.specs.Str.{bytes_eq}
-use Rattle.std.proofs.lemmas.Bool.{and_from}
-use Rattle.std.proofs.lemmas.Bool.Decides.{Decides-eqb}
-use Rattle.std.proofs.lemmas.Slice.Eq.{bytes_eq-Decides}
 use Rattle.tla_symbols.specs.declared.lexeme.Lexeme.{Lexeme}
-use Rattle.tla_symbols.specs.declared.op.Op.{Op}
 use Rattle.tla_tree.specs.declared.form.Form.TheVariants as Form
 use Rattle.tla_tree.specs.Syntax.{Tree, Node, Nil, Cons}
 use Rattle.unit_grammar.specs.Units.{UnitTree, Variables, Constants, OperatorDefinition, FunctionDefinition, ModuleDefinition, Instance, Assumption, Theorem, Line, ModuleBegin, ModuleEnd, ModuleUnits}
@@ -17,14 +13,14 @@ use Rattle.tla_model.specs.declared.ids.UnitId.{UnitId}
 use Rattle.tla_model.specs.declared.names.Binder.{Binder}
 use Rattle.tla_model.specs.declared.names.Binding.TheVariants as as_binding
 use Rattle.tla_model.specs.declared.names.Meaning.TheVariants.{BuiltIn, Declared}
-use Rattle.tla_model.specs.Entities.{Meaning, Text, all_placed, bound_as, declaration, meant, name_of, same_decl, variables}
+use Rattle.tla_model.specs.Entities.{Meaning, Text, all_placed, bound_as, declaration, meant, name_of, variables}
 use Rattle.tla_model.specs.EntityKinds.{is_instance}
 use Rattle.tla_model.specs.Lexemes.{spelled}
 use Rattle.tla_model.specs.Scopes.{definition}
-use Rattle.tla_model.specs.Tables.{Table, Named, Word, Symbol, added, empty, find, has, lookup, put, same_named, same_symbol}
+use Rattle.tla_model.specs.Tables.{Table, Named, Word, Symbol, added, empty, find, has, lookup, put, same_symbol}
 use Rattle.tla_model.proofs.Same.{decl-itself}
 use Rattle.module_scope.specs.Environments.{Environment, meaning}
-use Rattle.module_model.specs.Exports.{Behind, Exports, Known, ModuleView, and_known, entry_of, exported, exports_by, exports_of, instantiable, is_meant, known_among, known_as, known_by, none_known, of_symbols, of_words, onward, stands_behind}
+use Rattle.module_model.specs.Exports.{Behind, Exports, Known, ModuleView, and_known, exported, exports_by, exports_of, instantiable, is_meant, known_among, known_as, known_by, none_known, onward, stands_behind}
 use Rattle.module_model.specs.Given.{AreReached}
 use Rattle.module_model.specs.Instances as i
 use Rattle.module_model.specs.Modules as m

@@ -1,12 +1,11 @@
 -- The face of a module that is not accepted holds all that its exports reach, over any imports.
 use Rattle.std.proofs.Common.{◌≡◌, ℕ, List, Option, Some, None, ap}
-use Rattle.tla_model.specs.declared.ids.Callee.{Callee}
 use Rattle.tla_model.specs.declared.ids.DeclId.{DeclId}
 use Rattle.tla_model.specs.declared.names.Meaning.TheVariants.{Declared}
-use Rattle.tla_model.specs.Entities.{Entity, Meaning}
+use Rattle.tla_model.specs.Entities.{Meaning}
 use Rattle.tla_model.specs.Tables.{Named}
 use Rattle.module_model.specs.declared.face.Face.{Face}
-use Rattle.module_model.specs.Exports.{Exports, entry_of, face_exports, face_instances, instances_in, is_instance}
+use Rattle.module_model.specs.Exports.{Exports, entry_of, face_exports, face_instances, instances_in}
 use Rattle.module_model.specs.Given.{IsFaceOver, IsWhole}
 use Rattle.module_model.specs.Imports.{Imports}
 use Rattle.module_faces.specs.Faces.{IsRefusedFace}

@@ -1,5 +1,5 @@
 -- A checked module tells the facts of a module exactly where it tells each of them.
-use Rattle.std.proofs.Common.{◌≡◌, ℕ, List, [], ◌∷◌, Option, Some, refl, sym, ap, ◌∙◌}
+use Rattle.std.proofs.Common.{◌≡◌, ℕ, List, [], ◌∷◌, Some, refl, ap}
 use Rattle.tla_model.specs.declared.Diagnostic.{Diagnostic}
 use Rattle.module_model.specs.Exports.{ModuleView, face_outside}
 use Rattle.module_model.specs.Resolution.{outside_in}

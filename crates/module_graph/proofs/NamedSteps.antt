@@ -1,5 +1,5 @@
 -- Module names that are found unit by unit.
-use Rattle.std.proofs.Common.{◌≡◌, ℕ, ◌+◌, ◌<◌, ◌≤◌, Bool, List, [], ◌∷◌, ◌++◌, length, drop, get_or, refl, ap, sym, subst, ◌∙◌, append_assoc, add-one, drop-cons}
+use Rattle.std.proofs.Common.{◌≡◌, ℕ, ◌+◌, ◌<◌, ◌≤◌, Bool, List, [], ◌∷◌, ◌++◌, length, drop, get_or, ap, sym, subst, ◌∙◌, append_assoc}
 use Rattle.std.specs.Prelude.{⊤, filter, map}
 use Rattle.std.proofs.lemmas.List.{append-nil, drop_all}
 use Rattle.tla_symbols.specs.declared.lexeme.Lexeme.{Lexeme}

@@ -4,7 +4,6 @@ use Rattle.std.specs.Prelude.{is_some, option_map}
 use Rattle.std.specs.Str.{bytes_eq}
 use Rattle.std.proofs.lemmas.Bool.{cases_Bool}
 use Rattle.std.proofs.lemmas.List.{append-nil}
-use Rattle.std.proofs.lemmas.Slice.Eq.{bytes_eq-Decides}
 use Rattle.tla_model.specs.Entities.{Meaning}
 use Rattle.module_model.specs.Exports.{of_words}
 use Rattle.module_model.specs.Modules.{Reading, brings_clash, clashes, differs, extended, with_entry}

@@ -8,7 +8,7 @@
 mod neighbour;
 mod op_stack;
 
-ghost use Rattle.std.specs.Prelude.{◌≡◌, ◌<◌, ◌↔◌, IsTrue};
+ghost use Rattle.std.specs.Prelude.{◌<◌, ◌↔◌, IsTrue};
 ghost use Rattle.tla_tree.specs.Edges.{Edge, Meets, Joins};
 
 pub use neighbour::{Neighbour, Operator, choose, choose_neighbour, may_hold, range_on};

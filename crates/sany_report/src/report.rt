@@ -1,5 +1,5 @@
 // The report on some modules.
-ghost use Rattle.std.specs.Prelude.{◌≡◌, ◌++◌, ◌∷◌, [], IfOk, string_bytes, true, nat_le, count_by};
+ghost use Rattle.std.specs.Prelude.{◌≡◌, [], IfOk, string_bytes, true, nat_le};
 ghost use Rattle.std.specs.List.{All};
 ghost use Rattle.family_facts.specs.Verdicts.{IsVerdictPlaced};
 ghost use Rattle.sany_report.specs.Report as report;

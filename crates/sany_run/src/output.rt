@@ -4,6 +4,7 @@ ghost use Rattle.tool_io.specs.Causes.{HasCause};
 ghost use Rattle.sany_run.specs.Output.{Writes};
 
 use tool_io::{IoFault, Sink};
+use tool_list::skip;
 
 /// Writes all bytes, in as many calls as it takes.
 pub fn write_all<K: Sink>(output: &mut K, bytes: &[u8]) -> Result<(), IoFault>

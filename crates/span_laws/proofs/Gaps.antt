@@ -1,15 +1,14 @@
 -- A character begins behind blanks and comments, and behind a lexeme.
-use Rattle.std.proofs.Common.{◌≡◌, ℕ, zero, suc, ◌+◌, ◌-◌, ◌<◌, ◌≤◌, Bool, true, false, ◌||◌, eqb, leb, cond, List, [], ◌∷◌, length, get_or, take, drop, slice_index, codes, Option, Some, refl, sym, ap, ◌∙◌, subst, ⊎_elim, ◌⊎◌, arith, length-drop, length-take}
-use Rattle.std.proofs.lemmas.Bool.{cases_lt, or_cases, both_ways, eqb-true, not-false}
-use Rattle.std.proofs.lemmas.List.{get_or-drop, get_or-take}
+use Rattle.std.proofs.Common.{◌≡◌, ℕ, zero, suc, ◌+◌, ◌-◌, ◌<◌, ◌≤◌, true, false, List, [], ◌∷◌, length, get_or, take, drop, slice_index, codes, Some, refl, sym, subst, ⊎_elim, ◌⊎◌, arith, length-drop}
+use Rattle.std.proofs.lemmas.Bool.{cases_lt, both_ways}
+use Rattle.std.proofs.lemmas.List.{get_or-drop}
 use Rattle.std.proofs.lemmas.List.Sums.{prefix_len_stops, prefix_len-le-length}
-use Rattle.std.proofs.lemmas.Slice.Eq.{bytes_eq-Decides}
 use Rattle.std.proofs.lemmas.Str.{IsCharBoundary-after_ascii, IsCharBoundary-before_ascii, IsCharBoundary-end}
 use Rattle.std.specs.Str.{IsUtf8, IsCharBoundary}
 use Rattle.tla_symbols.specs.declared.lexeme.LexKind.{LexKind}
 use Rattle.tla_lexeme.specs.declared.class.Class.TheVariants.{InLine, Blank}
 use Rattle.tla_lexeme.specs.LexemeSets.{is_in, kind_of}
-use Rattle.tla_lexeme.specs.Lexing.{begins, line_len, comment_end, comment_len}
+use Rattle.tla_lexeme.specs.Lexing.{begins, line_len, comment_len}
 use Rattle.tla_lexeme.specs.Longest.{IsGap, Passes, IsTaken}
 use Rattle.tla_lexeme.proofs.LastLemmas.{end-low}
 use Rattle.tla_lexeme.proofs.StepLemmas.{blank-low, comment_low, line-stops}

@@ -1,8 +1,7 @@
 // From bytes to a tree.
-ghost use Rattle.std.specs.Prelude.{◌≡◌, ◌+◌, ◌*◌, ◌<◌, ◌≤◌, ◌^◌, ℕ, List, Some, None, length, take, IfOk, IfErr};
+ghost use Rattle.std.specs.Prelude.{◌≡◌, ◌+◌, ◌*◌, ◌<◌, ◌≤◌, ◌^◌, List, Some, length, take, IfOk, IfErr};
 ghost use Rattle.std.specs.List.{All, AllByRecursion};
 ghost use Rattle.unit_grammar.specs.Units.{ModuleUnits};
-ghost use Rattle.unit_grammar.specs.FirstBad.{EndsOnce};
 ghost use Rattle.unit_grammar.specs.UnitNodes.{module_of};
 ghost use Rattle.unit_heights.specs.FirstHigh.{BeginsFurther};
 ghost use Rattle.unit_heights.specs.TooHigh.{IsRead};

@@ -2,7 +2,7 @@
 use Rattle.std.proofs.Common.{◌≡◌, ℕ, zero, suc, ◌+◌, ◌-◌, ◌<◌, take, drop, get_or, length, List, [], ◌∷◌, ◌++◌, Option, Some, None, Bool, true, false, refl, sym, ap, subst, cond, arith, ◌∙◌, ⊎_elim, add-one}
 use Rattle.std.specs.Prelude.{map, slice_get, flat_map}
 use Rattle.std.proofs.lemmas.Bool.{cases_Bool}
-use Rattle.std.proofs.lemmas.List.{append-nil, append_assoc, map-append, take-append-drop, take-map, drop_more, take_more}
+use Rattle.std.proofs.lemmas.List.{append-nil, append_assoc, map-append, take-append-drop, take-map, take_more}
 use Rattle.std.proofs.lemmas.Grind.{flat_map-append}
 use Rattle.std.specs.Map.{keys_of}
 use Rattle.std.specs.Map as maps
@@ -12,7 +12,7 @@ use Rattle.std.specs.String.{string_eq}
 use Rattle.std.specs.declared.alloc.Global.{Global}
 use Rattle.indexmap.specs.IndexMap.{IndexMap, insert_entry}
 use Rattle.indexmap.proofs.CallerLemmas.{insert_entry-new}
-use Rattle.list_laws.proofs.Lists.{at-map, drop-at, drop-from, drop-next}
+use Rattle.list_laws.proofs.Lists.{at-map, drop-at, drop-from}
 use Rattle.tla_model.specs.Entities.{Meaning}
 use Rattle.tla_model.specs.Stretches.{words_of}
 use Rattle.tla_model.specs.Tables.{AreNew, lookup}

@@ -1,7 +1,7 @@
 -- When a node of a flat module has the form of a written tree, over parts that are what the tree is made of. Of names, and of
 -- symbols that are defined, nothing is said here: these are made by what stands for them. Nor is it of parentheses and of LET,
 -- which are made by what they are round.
-use Rattle.std.specs.Prelude.{◌≡◌, ℕ, List, ◌∷◌, Option, Some, None}
+use Rattle.std.specs.Prelude.{◌≡◌, ℕ, List, Option, Some, None}
 use Rattle.tla_symbols.specs.declared.level.Kind.TheVariants.{Const}
 use Rattle.tla_symbols.specs.declared.level.Rule.{Rule}
 use Rattle.tla_symbols.specs.declared.level.Rule.TheVariants.{Plain}

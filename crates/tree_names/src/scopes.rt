@@ -1,6 +1,5 @@
 // Names that are put into a context.
-ghost use Rattle.std.specs.Prelude.{◌≡◌, ◌++◌, ◌∷◌, [], None, OnOk};
-ghost use Rattle.std.specs.List.{AllByRecursion};
+ghost use Rattle.std.specs.Prelude.{◌≡◌, ◌++◌, None, OnOk};
 ghost use Rattle.tla_model.specs.Contexts as contexts;
 ghost use Rattle.tla_model.specs.Entities as entities;
 ghost use Rattle.tla_model.specs.Lexemes.{LiesIn};

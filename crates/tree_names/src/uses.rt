@@ -1,5 +1,5 @@
 // Uses of names and symbols.
-ghost use Rattle.std.specs.Prelude.{◌≡◌, ◌++◌, ◌∷◌, [], IfOk, OnOk};
+ghost use Rattle.std.specs.Prelude.{◌≡◌, ◌++◌, IfOk, OnOk};
 ghost use Rattle.tla_model.specs.Contexts as contexts;
 ghost use Rattle.tla_model.specs.Entities as entities;
 ghost use Rattle.tla_model.specs.Lexemes.{LiesIn};

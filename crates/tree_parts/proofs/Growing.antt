@@ -2,7 +2,6 @@
 use Rattle.std.proofs.Common.{◌≡◌, ℕ, ◌<◌, ◌≤◌, List, [], ◌∷◌, ◌++◌, length, refl, ap, sym, ◌∙◌, append_assoc, append-nil, length-append, arith}
 use Rattle.std.specs.Prelude.{map}
 use Rattle.tla_symbols.specs.declared.lexeme.Lexeme.{Lexeme}
-use Rattle.std.specs.List.{AllByRecursion}
 use Rattle.tla_tree.specs.Arena.{Node, AreThere, node_at, tree_at, tree_of, grown}
 use Rattle.tla_tree.specs.Lexemes.{built}
 use Rattle.tla_tree.specs.Syntax.{Tree, Nil, trees}

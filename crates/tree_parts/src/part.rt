@@ -1,5 +1,5 @@
 // Parts of a tree that is read, and the spans of their lexemes.
-ghost use Rattle.std.specs.Prelude.{◌≡◌, List, [], ◌∷◌, ◌++◌, IfOk, OnOk, length};
+ghost use Rattle.std.specs.Prelude.{◌≡◌, [], ◌∷◌, ◌++◌, IfOk, OnOk, length};
 ghost use Rattle.tla_tree.specs.Arena.{AreThere};
 ghost use Rattle.tla_tree.specs.Syntax.{Nil};
 ghost use Rattle.tla_tree.specs.Lexemes.{built};

@@ -1,28 +1,23 @@
 -- What the tasks of a walk find when they are done, the next one first.
-use Rattle.std.specs.Prelude.{◌≡◌, ◌<◌, ◌≤◌, ◌+◌, ℕ, Bool, true, false, Option, Some, None, List, [], ◌∷◌, ◌++◌, drop, map, filter, if◌then◌else◌, length, reverse}
+use Rattle.std.specs.Prelude.{◌≡◌, ◌<◌, ◌≤◌, ◌+◌, ℕ, Option, List, [], ◌∷◌, ◌++◌, drop, map, length}
 use Rattle.std.specs.List.{AllByRecursion}
 use Rattle.tla_symbols.specs.declared.lexeme.Lexeme.{Lexeme}
-use Rattle.tla_tree.specs.declared.form.Form.TheVariants as Form
 use Rattle.tla_tree.specs.Arena.{Node, AreThere, node_at, tree_at}
 use Rattle.tla_tree.specs.Syntax as Syntax
 use Rattle.tla_tree.specs.Syntax.{Tree, Trees}
-use Rattle.tla_model.specs.declared.names.Finding.TheVariants.{ReplacedTwice}
-use Rattle.tla_model.specs.Contexts.{Context, bind, bind_all, meaning_of}
+use Rattle.tla_model.specs.Contexts.{Context, bind, bind_all}
 use Rattle.tla_model.specs.Entities.{Meaning, Text, name_of}
 use Rattle.tla_model.specs.Lexemes.{LiesIn, all_lexemes, lexemes}
-use Rattle.tla_model.specs.Scopes.{Finding, all_refused, has_set, itself, symbol_findings}
+use Rattle.tla_model.specs.Scopes.{Finding, all_refused, itself, symbol_findings}
 use Rattle.tla_model.specs.Scopes.{definition}
-use Rattle.tla_model.specs.Tables.{Named, has, put}
 use Rattle.module_model.specs.Exports.{Behind, entry_of}
-use Rattle.module_model.specs.Instances.{called_by, implied, implied_as, left_sides, replaced_as}
+use Rattle.module_model.specs.Instances.{implied, left_sides, replaced_as}
 use Rattle.module_model.specs.TreeFindings.{Surroundings, path, replaceable, walk}
 use Rattle.tree_names.specs.FunctionNames.{function_name}
 use Rattle.tree_tasks.specs.declared.held.Held.{Held}
 use Rattle.tree_tasks.specs.declared.tasks.Task.TheVariants as task
-use Rattle.tree_tasks.specs.declared.tasks.Naming.TheVariants as how
-use Rattle.name_context.specs.declared.context.Mark.{Mark}
 use Rattle.name_context.specs.AsTables.{cut}
-use Rattle.declared_names.specs.Nodes.{IsWhole, binders_at, form_at, parts_at}
+use Rattle.declared_names.specs.Nodes.{binders_at, parts_at}
 use Rattle.tree_tasks.specs.WalkTasks.{Task}
 
 -- what is found, and the context behind it

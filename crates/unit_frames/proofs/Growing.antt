@@ -3,7 +3,7 @@ use Rattle.std.proofs.Common.{◌≡◌, ℕ, List, [], ◌∷◌, refl, ap, ◌
 use Rattle.std.specs.Prelude.{map}
 use Rattle.std.specs.List.{AllByRecursion}
 use Rattle.tla_tree.specs.Arena as Arena
-use Rattle.tla_tree.specs.Arena.{AreThere, tree_at}
+use Rattle.tla_tree.specs.Arena.{AreThere}
 use Rattle.tla_tree.specs.Syntax.{Trees, trees}
 use Rattle.tla_tree.specs.declared.unit.Unit.TheVariants as unit
 use Rattle.tree_parts.specs.Parts.{Grows}

@@ -1,5 +1,5 @@
 // How high modules are.
-ghost use Rattle.std.specs.Prelude.{◌≡◌, ◌≤◌, ◌<◌, ◌^◌, ℕ, List, ◌∷◌, IfOk, OnErr, length, map, max};
+ghost use Rattle.std.specs.Prelude.{◌≡◌, ◌≤◌, ◌<◌, ◌^◌, List, ◌∷◌, IfOk, OnErr, length, map, max};
 ghost use Rattle.std.specs.List.{AllByRecursion};
 ghost use Rattle.tla_tree.specs.Arena.{AreThere, height_at};
 ghost use Rattle.unit_grammar.specs.Units.{UnitTree};

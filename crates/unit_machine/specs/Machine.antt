@@ -3,7 +3,6 @@
 -- While an expression is read, or the bounds in a function's head, the state of the machine for these stands beside the
 -- frames that wait for it. An expression is done before the lexemes that may follow one in a unit, and bounds before `]`.
 use Rattle.std.specs.Prelude.{◌≡◌, ℕ, suc, ◌+◌, take, cond, List, [], ◌∷◌, ◌++◌, length, Option, Some, None}
-use Rattle.tla_symbols.specs.declared.lexeme.LexKind.{LexKind}
 use Rattle.tla_symbols.specs.declared.lexeme.Lexeme.{Lexeme}
 use Rattle.tla_tree.specs.declared.form.Form.{Form}
 use Rattle.tla_tree.specs.Syntax.{Tree, Trees, Nil}

@@ -1,5 +1,5 @@
 // Where in a module the reading stands.
-ghost use Rattle.std.specs.Prelude.{◌≡◌, List, []};
+ghost use Rattle.std.specs.Prelude.{List, []};
 ghost use Rattle.tla_tree.specs.Arena.{Node};
 ghost use Rattle.unit_machine.specs.Machine as machine;
 ghost use Rattle.unit_parse.specs.ReaderMeaning.{IsState};

@@ -1,9 +1,8 @@
 -- How code reads on.
-use Rattle.std.proofs.Common.{◌≡◌, ◌<◌, ◌+◌, ℕ, List, [], ◌∷◌, ◌++◌, Option, Some, None, append_assoc, reverse, length, drop, take, get_or, add-one, drop-cons, refl, ap, sym, ◌∙◌, subst}
+use Rattle.std.proofs.Common.{◌≡◌, ◌<◌, ◌+◌, ℕ, List, [], ◌∷◌, ◌++◌, Option, Some, append_assoc, reverse, length, drop, take, get_or, refl, ap, sym, ◌∙◌, subst}
 use Rattle.std.specs.Prelude.{map}
 use Rattle.std.specs.List.{AllByRecursion}
 use Rattle.std.proofs.lemmas.List.{append-nil, map-append, take_more}
-use mathlib.Core.Path.{fun_ext}
 use Rattle.tla_symbols.specs.declared.lexeme.Lexeme.{Lexeme}
 use Rattle.tla_tree.specs.declared.unit.Unit.TheVariants as unit
 use Rattle.tla_tree.specs.declared.unit.ModuleTree.{ModuleTree}
@@ -17,7 +16,7 @@ use Rattle.tla_model.specs.Entities.{Meaning}
 use Rattle.tla_model.specs.Tables.{Table, added}
 use Rattle.module_scope.specs.Environments.{Environment}
 use Rattle.name_context.specs.AsTables.{context_of}
-use Rattle.module_model.specs.Exports.{Known, ModuleView, and_known, exports_by, exports_of, files_of, none_known}
+use Rattle.module_model.specs.Exports.{Known, ModuleView, and_known, exports_by, exports_of, files_of}
 use Rattle.module_model.specs.Instances.{brought_by, nested_view}
 use Rattle.module_model.specs.Modules.{Reading, behind_nested}
 use Rattle.module_model.specs.NamedModules.{exported_known, known_from_all, module_at, unit_of}

@@ -1,11 +1,9 @@
 // Nested modules. The one that is read has all names of those round it, which stand before its own.
-ghost use Rattle.std.specs.Prelude.{◌≡◌, ◌∷◌, [], IfOk, OnOk};
+ghost use Rattle.std.specs.Prelude.{◌≡◌, IfOk, OnOk};
 ghost use Rattle.instance_scope.specs.Scoped.{IsSound, known_of};
 ghost use Rattle.module_model.specs.Exports.{none_known};
-ghost use Rattle.module_model.specs.Modules as in_modules;
-ghost use Rattle.module_model.specs.Resolution.{ReadState};
 ghost use Rattle.unit_scope.specs.EnclosingReadings.{IsAt, IsSomewhere};
-ghost use Rattle.unit_scope.specs.Readings.{Over, over_of};
+ghost use Rattle.unit_scope.specs.Readings.{over_of};
 ghost use Rattle.unit_scope.specs.Steps.{Leads, ended, entered, unread_state};
 ghost use Rattle.tla_model.specs.Entities.{Text};
 

@@ -1,5 +1,5 @@
 // What a lexeme does to the parts of a unit: frames end before it, and it moves the one that is left.
-ghost use Rattle.std.specs.Prelude.{◌≡◌, ◌+◌, ◌≤◌, ℕ, List, ◌++◌, IfOk, length};
+ghost use Rattle.std.specs.Prelude.{◌+◌, ◌≤◌, ℕ, List, ◌++◌, IfOk, length};
 ghost use Rattle.tla_symbols.specs.declared.lexeme.Lexeme.{Lexeme};
 ghost use Rattle.tla_tree.specs.Syntax as syntax;
 ghost use Rattle.tla_tree.specs.Lexemes as lexemes;

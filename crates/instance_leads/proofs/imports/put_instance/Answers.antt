@@ -1,4 +1,4 @@
-use Rattle.std.proofs.Common.{◌≡◌, List, sym, subst, unwrap_or}
+use Rattle.std.proofs.Common.{◌≡◌, List, [], sym, subst, unwrap_or}
 use Rattle.tla_model.specs.Entities.{same_decl}
 use Rattle.tla_model.specs.Tables.{added}
 use Rattle.module_model.specs.Exports.{and_known, behind_along, face_instances, known_as}
