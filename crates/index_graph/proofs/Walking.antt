@@ -60,9 +60,9 @@ to-last edges loose path todo groups order p o a i x y e f top some = cases (les
     (λ l. o.onward a i x y e f l)
 
 module _ (edges : Edges) (marks : List Mark) (path todo : List ℕ) (groups : List Group) (order cyclic numbers : List ℕ) where
-  -- nothing is loose
-  pub walk-loose : (need : ℕ) → IsWalk edges [] marks path todo groups order cyclic numbers → IsWalk edges (need ∷ []) marks path todo groups order cyclic numbers
-  walk-loose need w = record {
+  -- other needs are loose, and all that were followed are so still
+  walk-over : (loose loose' : List ℕ) → ((group : Group) (i j : ℕ) → Followed loose path todo order group i j → Followed loose' path todo order group i j) → IsWalk edges loose marks path todo groups order cyclic numbers → IsWalk edges loose' marks path todo groups order cyclic numbers
+  walk-over loose loose' again w = record {
     long = w.long;
     marked = w.marked;
     parted = w.parted;
@@ -77,6 +77,10 @@ module _ (edges : Edges) (marks : List Mark) (path todo : List ℕ) (groups : Li
       follows = λ r group i x j h e d. again group i j (o.follows r group i x j h e d);
     };
   }
+
+  -- nothing is loose
+  pub walk-loose : (need : ℕ) → IsWalk edges [] marks path todo groups order cyclic numbers → IsWalk edges (need ∷ []) marks path todo groups order cyclic numbers
+  walk-loose need w = walk-over [] (need ∷ []) again w
     where
       again : (group : Group) (i j : ℕ) → Followed [] path todo order group i j → Followed (need ∷ []) path todo order group i j
       again group i j (left (zero, e)) = cc
@@ -87,21 +91,7 @@ module _ (edges : Edges) (marks : List Mark) (path todo : List ℕ) (groups : Li
 
   -- what was loose is closed
   pub walk-closed : (need : ℕ) → IsWalk edges (need ∷ []) marks path todo groups order cyclic numbers → slice_get marks need ≡ Some Mark.Closed → IsWalk edges [] marks path todo groups order cyclic numbers
-  walk-closed need w m = record {
-    long = w.long;
-    marked = w.marked;
-    parted = w.parted;
-    shut = w.shut;
-    numbered = w.numbered;
-    opened = let o = w.opened in record {
-      onward = o.onward;
-      back = o.back;
-      alone = o.alone;
-      loops = o.loops;
-      owned = o.owned;
-      follows = λ r group i x j h e d. again group i j (o.follows r group i x j h e d);
-    };
-  }
+  walk-closed need w m = walk-over (need ∷ []) [] again w
     where
       again : (group : Group) (i j : ℕ) → Followed (need ∷ []) path todo order group i j → Followed [] path todo order group i j
       again group i j (left (k, e)) = closed (let mk = w.marked in mk.closed_there j (ap (slice_get marks) (sym ((at-one need k j e).1)) ∙ m))
