@@ -20,6 +20,6 @@ modules_of_file file = modules_of_listing (file ∷ [])
 abbrev pub file_of : List ℕ → List ℕ
 file_of name = name ++ codes ".tla"
 
--- the most bytes that are read of a file: one more than a text may have that is read whole
-abbrev pub MOST : ℕ
-MOST = 2 ^ 25 + 1
+-- the most bytes that are read of a file: one more than all files of a folder may have together, so that a longer one is seen to be too long
+abbrev pub MOST_FILE_BYTES : ℕ
+MOST_FILE_BYTES = 2 ^ 25 + 1

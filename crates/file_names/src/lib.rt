@@ -6,4 +6,4 @@
 
 mod names;
 
-pub use names::{MOST, file_of, module_of_file, modules_of};
+pub use names::{MOST_FILE_BYTES, file_of, module_of_file, modules_of};

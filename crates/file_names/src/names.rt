@@ -7,8 +7,9 @@ use std::alloc::Global;
 use tla_lexeme::is_identifier;
 use tool_list::{Chars, List, Memory};
 
-/// The most bytes that are read of a file.
-pub const MOST: u64 = (1 << 25) + 1;
+/// The most bytes that are read of a file: one more than all files of a folder may have together, so
+/// that a longer one is seen to be too long.
+pub const MOST_FILE_BYTES: u64 = (1 << 25) + 1;
 
 /// The module that a file stands for, by its name: an identifier before `.tla`.
 pub fn module_of_file(file: &str) -> Option<&str>
