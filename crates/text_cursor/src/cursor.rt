@@ -6,7 +6,8 @@ ghost use Rattle.tla_text.specs.Places.{place_at};
 
 use tla_text::{Measure, Place, Text};
 
-/// How the columns of a place are counted.
+/// How the columns of a place are counted: as by `Measure`, but for alignment, whose places are known of
+/// low offsets alone.
 #[derive(Clone, Copy, Debug, PartialEq, Eq)]
 pub enum Columns {
     /// Each character is one.
