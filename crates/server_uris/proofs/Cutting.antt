@@ -1,5 +1,5 @@
 -- Texts that are cut behind a front, before the last `/` and before the one at the end.
-use Rattle.std.proofs.Common.{◌≡◌, ◌≢◌, ℕ, suc, ◌+◌, ◌<◌, Bool, true, false, if◌then◌else◌, nat_eq, List, [], ◌∷◌, ◌++◌, length, take, drop, drop-cons, get_or, Option, Some, None, Bor, codes, refl, sym, ap, ◌∙◌, append_assoc, arith}
+use Rattle.std.proofs.Common.{◌≡◌, ◌≢◌, ℕ, suc, ◌+◌, ◌<◌, Bool, true, false, if◌then◌else◌, nat_eq, List, [], ◌∷◌, ◌++◌, length, take, drop, drop-cons, get_or, Option, Some, None, Bor, codes, refl, sym, ap, ◌∙◌, append_assoc, length-append, arith}
 use Rattle.std.specs.Prelude.{option_and_then, MatchOption}
 use Rattle.std.specs.List.{AllByRecursion, starts_with}
 use Rattle.std.specs.Option.{option_copied}
@@ -37,10 +37,10 @@ root-cut root text = by (starts_with nat_eq text root) refl (starts_with nat_eq 
     whole e = then-starts text (root ++ codes "/") e ∙ append_assoc root (codes "/") (drop (length (root ++ codes "/")) text)
 
     by : (a : Bool) → starts_with nat_eq text root ≡ a → (b : Bool) → starts_with nat_eq rest (codes "/") ≡ b → (c : Bool) → starts_with nat_eq text (root ++ codes "/") ≡ c
-        → option_and_then (λ t. if starts_with nat_eq t (codes "/") then Some (drop 1 t) else None) (if a then Some rest else None) ≡ (if c then Some (drop (length root + 1) text) else None)
+        → option_and_then (λ t. if starts_with nat_eq t (codes "/") then Some (drop 1 t) else None) (if a then Some rest else None) ≡ (if c then Some (drop (length (root ++ codes "/")) text) else None)
     by false ea b eb false ec = refl
     by false ea b eb true ec = let no : false ≡ true = sym ea ∙ starts-then text root (codes "/" ++ drop (length (root ++ codes "/")) text) (whole ec) in cc
-    by true ea true eb true ec = ap (λ d. if d then Some (drop 1 rest) else None) eb ∙ ap Some (drop-drop 1 (length root) text)
+    by true ea true eb true ec = ap (λ d. if d then Some (drop 1 rest) else None) eb ∙ ap Some (drop-drop 1 (length root) text ∙ ap (λ n. drop n text) (sym (length-append root (codes "/"))))
     by true ea false eb false ec = ap (λ d. if d then Some (drop 1 rest) else None) eb
     by true ea true eb false ec =
         let written : text ≡ (root ++ codes "/") ++ drop 1 rest = then-starts text root ea ∙ ap (λ t. root ++ t) (then-starts rest (codes "/") eb) ∙ sym (append_assoc root (codes "/") (drop 1 rest)) in

@@ -1,5 +1,5 @@
 -- Which texts behind a root's are those of modules.
-use Rattle.std.proofs.Common.{◌≡◌, ◌↔◌, ℕ, ◌+◌, Bool, true, false, if◌then◌else◌, nat_eq, List, ◌++◌, length, drop, Some, None, codes, refl, sym, ap, ◌∙◌, append_assoc, length-append}
+use Rattle.std.proofs.Common.{◌≡◌, ◌↔◌, ℕ, Bool, true, false, if◌then◌else◌, nat_eq, List, ◌++◌, length, drop, Some, None, codes, refl, sym, ap, ◌∙◌, append_assoc}
 use Rattle.std.specs.Prelude.{option_and_then}
 use Rattle.std.specs.List.{starts_with}
 use Rattle.std.proofs.lemmas.Bool.Decides.{Decides-eqb}
@@ -12,9 +12,6 @@ use Rattle.server_uris.specs.Uris.{module_behind, IsModuleText}
 abbrev base : List ℕ → List ℕ
 base root = root ++ codes "/"
 
-base_long : (root : List ℕ) → length (base root) ≡ length root + 1
-base_long root = length-append root (codes "/")
-
 behind_if : (root text name file : List ℕ) (starts : Bool) → (starts ≡ true → text ≡ base root ++ file) → option_and_then module_of_file (if starts then Some file else None) ≡ Some name → IsModuleText root text name
 behind_if root text name file true h e =
     let f = file_named file name e in
@@ -25,15 +22,14 @@ module_from : (root text name : List ℕ) → module_behind root text ≡ Some n
 module_from root text name e =
     let starts = starts_with nat_eq text (base root) in
     let begun = (starts_is Decides-eqb text (base root) starts refl).0 in
-    behind_if root text name (drop (length root + 1) text) starts (λ t. begun t ∙ ap (λ k. base root ++ drop k text) (base_long root)) e
+    behind_if root text name (drop (length (base root)) text) starts begun e
 
 module_is : (root text name : List ℕ) → IsModuleText root text name → module_behind root text ≡ Some name
 module_is root text name is =
     let written : text ≡ base root ++ file_of name = is.written ∙ sym (append_assoc root (codes "/") (file_of name)) in
     let starts : starts_with nat_eq text (base root) ≡ true = (starts_is Decides-eqb text (base root) (starts_with nat_eq text (base root)) refl).1 (file_of name) written in
-    let behind : drop (length root + 1) text ≡ file_of name =
-    ap (λ t. drop (length root + 1) t) written ∙ ap (λ k. drop k (base root ++ file_of name)) (sym (base_long root)) ∙ drop-append_seam (base root) (file_of name) in
-    ap (λ b. option_and_then module_of_file (if b then Some (drop (length root + 1) text) else None)) starts ∙ ap module_of_file behind ∙ name_is_file name is.identifier
+    let behind : drop (length (base root)) text ≡ file_of name = ap (drop (length (base root))) written ∙ drop-append_seam (base root) (file_of name) in
+    ap (λ b. option_and_then module_of_file (if b then Some (drop (length (base root)) text) else None)) starts ∙ ap module_of_file behind ∙ name_is_file name is.identifier
 
 pub module_text_is : (root text name : List ℕ) → (module_behind root text ≡ Some name) ↔ IsModuleText root text name
 module_text_is root text name = (module_from root text name, module_is root text name)

@@ -1,5 +1,5 @@
 -- URIs: the root of a folder, and the modules that documents are.
-use Rattle.std.specs.Prelude.{◌≡◌, ◌≢◌, ℕ, ◌+◌, ◌-◌, ◌==◌, nat_eq, true, if◌then◌else◌, List, [], ◌∷◌, ◌++◌, length, take, drop, Option, Some, None, option_map, option_and_then, Ok, Err, codes}
+use Rattle.std.specs.Prelude.{◌≡◌, ◌≢◌, ℕ, ◌-◌, ◌==◌, nat_eq, true, if◌then◌else◌, List, [], ◌∷◌, ◌++◌, length, take, drop, Option, Some, None, option_map, option_and_then, Ok, Err, codes}
 use Rattle.std.specs.List.{AllByRecursion, starts_with, ends_with}
 use Rattle.std.specs.Str.{bytes_eq, is_utf8}
 use Rattle.percent_encoding.specs.Percent.{percent_decode}
@@ -76,8 +76,7 @@ behind_front front text = if starts_with nat_eq text front then Some (drop (leng
 
 -- what stands behind a root's text and a `/`, if a text begins so
 abbrev pub behind_root : List ℕ → List ℕ → Option (List ℕ)
-behind_root root text =
-    if starts_with nat_eq text (root ++ codes "/") then Some (drop (length root + 1) text) else None
+behind_root root text = behind_front (root ++ codes "/") text
 
 -- the module of a URL's text behind a root's: the root's, `/`, an identifier, which is the module's name, and `.tla`
 abbrev pub module_behind : List ℕ → List ℕ → Option (List ℕ)
