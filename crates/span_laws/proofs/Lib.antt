@@ -4,3 +4,4 @@ mod CoversUnits
 mod Gaps
 mod Placing
 mod PlacedNodes
+mod LyingWords

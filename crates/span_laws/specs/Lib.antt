@@ -1,1 +1,2 @@
 pub mod NodeSpans
+pub mod UnitWords

@@ -10,6 +10,7 @@ ghost use Rattle.unit_grammar.specs.Units.{ModuleUnits};
 ghost use Rattle.unit_grammar.specs.Derivation.{DerivesModule};
 ghost use Rattle.front_laws.specs.Fronts.{Tree, IsFront};
 ghost use Rattle.span_laws.specs.NodeSpans.{SpansLexemes, SpansText, NodeSpans};
+ghost use Rattle.span_laws.specs.UnitWords.{WordsLie};
 
 /// The span of each node of a module is that of one or more lexemes that stand side by side in those
 /// of the module: it begins where the first does, and ends where the last does.
@@ -23,6 +24,15 @@ pub fn nodes_span_lexemes()
 pub fn front_nodes_placed()
     ensures { (name bytes : List ℕ) → (found : ModuleUnits) → IsFront name bytes (Tree found)
         → NodeSpans (SpansText bytes) found }
+{
+    tla_lexeme::reads_longest();
+}
+
+/// Of a module that is the front of some bytes, the words and dashes that its units hold, the names of
+/// claims and the runs of `=` that end nested modules lie in these bytes.
+pub fn front_words_lie()
+    ensures { (name bytes : List ℕ) → (found : ModuleUnits) → IsFront name bytes (Tree found)
+        → WordsLie bytes found }
 {
     tla_lexeme::reads_longest();
 }
