@@ -83,6 +83,20 @@ impl Checked {
         &self.decls
     }
 
+    /// Its uses and declarations.
+    pub fn into_names(self) -> (List<Use>, List<Decl>)
+        ensures uses { result.0 ≡ self.uses }
+        ensures decls { result.1 ≡ self.decls }
+    {
+        let Checked {
+            faults: _,
+            uses,
+            decls,
+            face: _,
+        } = self;
+        (uses, decls)
+    }
+
     /// What the module is to those that name it: it exports nothing where it is not accepted.
     pub fn face(&self) -> &Arc<Face>
         ensures { arc_value result.now ≡ self.now.face }

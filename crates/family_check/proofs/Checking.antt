@@ -18,7 +18,7 @@ use Rattle.unit_grammar.specs.Units.{ModuleUnits}
 use Rattle.unit_grammar.specs.UnitNodes.{module_of}
 use Rattle.module_facts.proofs.Inserting.{in-order}
 use Rattle.module_facts.specs.Ordered.{in_order}
-use Rattle.module_facts.specs.Checks.{CheckedModule, ImportStatus, all_faults, all_uses, facts_of, facts_told, files_given, given_in, unless_any}
+use Rattle.module_facts.specs.Checks.{CheckedModule, ImportStatus, all_decls, all_faults, all_uses, facts_of, facts_told, files_given, given_in}
 use Rattle.module_facts.proofs.Checked.{facts-checked}
 use Rattle.list_laws.proofs.Lists.{contains-map}
 use Rattle.list_laws.proofs.Texts.{same-text}
@@ -43,13 +43,14 @@ use Rattle.family_tables.proofs.Indices.{at-taken, at-take, named-member}
 use Rattle.family_tables.proofs.Bridging.{own-needs, all-needs, cyclic-map}
 use Rattle.family_tables.proofs.Graphs.{same-entry}
 use Rattle.family_check.proofs.Sums.{sum-map, sum-members}
+use Rattle.family_check.specs.declared.names.Names.{Names}
 use Rattle.family_check.specs.Findings.{IsFound}
 
 -- ---- one module
 
 -- what is found of a module that was checked
 abbrev found-in : (List ℕ → ImportStatus) → List ℕ → ModuleUnits → List Diagnostic → Diagnosed
-found-in given bytes units faults = record { faults = faults; uses = all_uses given bytes units; outside = outside_in (files_given given) bytes units }
+found-in given bytes units faults = record { faults = faults; uses = all_uses given bytes units; decls = all_decls given bytes units; outside = outside_in (files_given given) bytes units }
 
 tree-diagnosed : (family : List Member) (name : List ℕ) (tree : ModuleTree) (needs : List (List ℕ)) (imports : Imports) (ch : CheckedModule) (h : IsMember family name (reading.Tree tree) needs) → AreImports family name needs imports → facts_told ch ≡ facts_of (given_in imports) tree.source (module_of tree) →
     IsDiagnosed family name (found-in (given_in imports) (h.member).bytes (module_of tree) ch.faults)
@@ -66,10 +67,10 @@ tree-diagnosed family name tree needs imports ch h imported told =
     let diagnosed : IsDiagnosed family m.name (found-in given m.bytes units ch.faults) = checked h.there front gives (λ need n. imported.others need (λ c. n (subst (λ x. families.Needs family x need) (sym h.named) (h.own need c)))) order in
     subst (λ x. IsDiagnosed family x (found-in given m.bytes units ch.faults)) h.named diagnosed
 
--- what is said of it, and how many uses are shown
-pub tree-found : (family : List Member) (name : List ℕ) (tree : ModuleTree) (needs : List (List ℕ)) (imports : Imports) (ch : CheckedModule) (o : outcome.the_data) (count : ℕ) → IsMember family name (reading.Tree tree) needs → AreImports family name needs imports → facts_told ch ≡ facts_of (given_in imports) tree.source (module_of tree) →
-    ((outside : ModuleView) → (ch.faults ≡ [] → face_outside ch.face ≡ outside) → Matches ch.faults outside o) → count ≡ length (unless_any ch.faults ch.uses) → IsFound family name o count
-tree-found family name tree needs imports ch o count h imported told says counted =
+-- what is said of it, and its uses and declarations
+pub tree-found : (family : List Member) (name : List ℕ) (tree : ModuleTree) (needs : List (List ℕ)) (imports : Imports) (ch : CheckedModule) (o : outcome.the_data) (names : Names) → IsMember family name (reading.Tree tree) needs → AreImports family name needs imports → facts_told ch ≡ facts_of (given_in imports) tree.source (module_of tree) →
+    ((outside : ModuleView) → (ch.faults ≡ [] → face_outside ch.face ≡ outside) → Matches ch.faults outside o) → names.uses ≡ ch.uses → names.decls ≡ ch.decls → IsFound family name o names
+tree-found family name tree needs imports ch o names h imported told says used declared =
     let k = facts-checked (given_in imports) tree.source (module_of tree) ch told in
     let m : Member = h.member in
     let units : ModuleUnits = module_of tree in
@@ -79,19 +80,24 @@ tree-found family name tree needs imports ch o count h imported told says counte
     let diagnosed : IsDiagnosed family name found = tree-diagnosed family name tree needs imports ch h imported told in
     record {
       outcome_is = record { found = found; diagnosed = diagnosed; says = says outside (λ e. k.outside e ∙ ap (λ s. outside_in (files_given given) s units) h.is.source) };
-      count_is = record { found = found; diagnosed = diagnosed; is = counted ∙ ap (λ uses. length (unless_any ch.faults uses)) (k.uses ∙ ap (λ s. all_uses given s units) h.is.source) };
+      names_are = record {
+        found = found;
+        diagnosed = diagnosed;
+        uses = used ∙ (k.uses ∙ ap (λ s. all_uses given s units) h.is.source);
+        decls = declared ∙ (k.decls ∙ ap (λ s. all_decls given s units) h.is.source);
+      };
     }
 
 -- the same of one with a front fault
-pub fault-found : (family : List Member) (name : List ℕ) (fault : Diagnostic) (needs : List (List ℕ)) (faults : List Diagnostic) → IsMember family name (reading.Fault fault) needs → faults ≡ fault ∷ [] → IsFound family name (outcome.Refused faults) 0
-fault-found family name fault needs faults h e =
+pub fault-found : (family : List Member) (name : List ℕ) (fault : Diagnostic) (needs : List (List ℕ)) (faults : List Diagnostic) (names : Names) → IsMember family name (reading.Fault fault) needs → faults ≡ fault ∷ [] → names.uses ≡ [] → names.decls ≡ [] → IsFound family name (outcome.Refused faults) names
+fault-found family name fault needs faults names h e uses decls =
     let m : Member = h.member in
-    let found : Diagnosed = record { faults = fault ∷ []; uses = []; outside = nothing } in
+    let found : Diagnosed = record { faults = fault ∷ []; uses = []; decls = []; outside = nothing } in
     let first : IsDiagnosed family m.name found = front_fault h.there (subst (λ n. IsFront n m.bytes (Fault fault)) (sym h.named) h.is.0) in
     let diagnosed : IsDiagnosed family name found = subst (λ x. IsDiagnosed family x found) h.named first in
     record {
       outcome_is = record { found = found; diagnosed = diagnosed; says = (e, λ k. cc) };
-      count_is = record { found = found; diagnosed = diagnosed; is = refl };
+      names_are = record { found = found; diagnosed = diagnosed; uses = uses; decls = decls };
     }
 
 -- ---- the modules so far

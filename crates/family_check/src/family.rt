@@ -3,14 +3,17 @@ ghost use Rattle.std.specs.Prelude.{◌≡◌, ◌<◌, ◌^◌, IfOk, sum_by, l
 ghost use Rattle.std.specs.List.{All};
 ghost use Rattle.family_tables.specs.Modules.{AreModules};
 ghost use Rattle.family_facts.specs.Verdicts as facts;
+ghost use Rattle.family_check.specs.Findings.{AreFaultsPlaced, AreNamesPlaced, HaveNames, TellsFiles};
 ghost use Rattle.family_facts.specs.Verdicts.{AreDistinct, IsVerdictPlaced, after_checks, checks_of, family_of};
+ghost use Rattle.family_tables.specs.Outcomes.{AreOutcomes};
 
 use crate::counts::use_count_of;
-use crate::outcomes::check_all;
-use family_facts::{File, Verdict, use_counts_are, verdicts_are};
+use crate::outcomes::{Findings, check_all};
+use family_facts::{File, Verdict, diagnosed_is, names_differ, verdicts_are};
 use family_read::read_family;
 use family_tables::{Module, Table, plan_of, verdicts_of};
 use module_facts::faults_stand_in_text;
+use name_spans::{decls_stand_in_text, modules_are_texts, uses_stand_in_text};
 use span_laws::front_nodes_placed;
 use std::alloc::Global;
 use step_count::Steps;
@@ -34,7 +37,54 @@ impl Drop for FamilyCheck {
     }
 }
 
-// What is found of files whose family has these modules.
+// What is found of the modules of files.
+fn find_modules<L>(
+    alloc: Global,
+    files: &[File],
+    modules: &Table<Module>,
+    steps: &mut Steps<L>,
+) -> Result<Findings, Memory>
+    requires distinct { AreDistinct files.now }
+    requires modules { AreModules (family_of files.now) modules.now }
+    ensures outcomes { IfOk result (λ found. AreOutcomes (family_of files.now) found.outcomes) }
+    ensures names { IfOk result (λ found. HaveNames (family_of files.now) found.names) }
+    ensures steps { IfOk result (λ _. steps.new ≡ after_checks (checks_of files.now) steps.old) }
+{
+    front_laws::one_front();
+    let plan = plan_of(alloc, modules)?;
+    let found = check_all(alloc, modules, &plan, steps)?;
+    Ok(found)
+}
+
+/// What is found of files over the built-in modules, and of these: a file hides the built-in module of
+/// its name. Each module without front fault is checked once, which is one step. `Memory` comes where
+/// there was no room.
+pub fn find_family<L>(
+    alloc: Global,
+    files: &[File],
+    steps: &mut Steps<L>,
+) -> Result<Findings, Memory>
+    requires distinct { AreDistinct files.now }
+    requires small { sum_by (λ file. length file.bytes) files.now < 2 ^ 31 }
+    ensures tells { IfOk result (TellsFiles files.now) }
+    ensures placed { IfOk result (AreFaultsPlaced files.now) }
+    ensures names { IfOk result (AreNamesPlaced files.now) }
+    ensures steps { IfOk result (λ _. steps.new ≡ after_checks (checks_of files.now) steps.old) }
+{
+    front_laws::one_front();
+    faults_stand_in_text();
+    front_nodes_placed();
+    uses_stand_in_text();
+    decls_stand_in_text();
+    modules_are_texts();
+    names_differ();
+    diagnosed_is();
+    let modules = read_family(alloc, files)?;
+    let found = find_modules(alloc, files, &modules, steps)?;
+    Ok(found)
+}
+
+// The verdicts on files whose family has these modules, and how many uses they have.
 fn check_modules<L>(
     alloc: Global,
     files: &[File],
@@ -52,21 +102,21 @@ fn check_modules<L>(
     front_laws::one_front();
     faults_stand_in_text();
     front_nodes_placed();
+    names_differ();
+    diagnosed_is();
     verdicts_are();
-    use_counts_are();
-    let plan = plan_of(alloc, modules)?;
-    let found = check_all(alloc, modules, &plan, steps)?;
+    let found = find_modules(alloc, files, modules, steps)?;
     let verdicts = verdicts_of(alloc, files, &found.outcomes)?;
-    let use_count = use_count_of(files, &found.use_counts)?;
+    let use_count = use_count_of(files, &found)?;
     Ok(FamilyCheck {
         verdicts,
         use_count,
     })
 }
 
-/// What is found of files over the built-in modules: a file hides the built-in module of its name. Each
-/// module without front fault is checked once, which is one step. `Memory` comes where there was no
-/// room.
+/// The verdicts on files over the built-in modules, and how many uses they have: a file hides the
+/// built-in module of its name. Each module without front fault is checked once, which is one step.
+/// `Memory` comes where there was no room.
 pub fn check_family<L>(
     alloc: Global,
     files: &[File],

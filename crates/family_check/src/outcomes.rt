@@ -1,13 +1,13 @@
 // What is found of the modules of a family, one after another.
-ghost use Rattle.std.specs.Prelude.{◌≡◌, ◌∷◌, [], ℕ, List as ListOf, None, IfOk, length};
+ghost use Rattle.std.specs.Prelude.{◌≡◌, ◌∷◌, [], ℕ, List as ListOf, None, IfOk};
 ghost use Rattle.module_model.specs.Exports.{ModuleView, face_outside};
 ghost use Rattle.module_model.specs.Given.{IsFaceOver};
 ghost use Rattle.module_model.specs.Imports.{Imports};
 ghost use Rattle.std.specs.List.{All};
 ghost use Rattle.family_facts.specs.Family.{Member};
 ghost use Rattle.family_facts.specs.Verdicts.{after_checks};
-ghost use Rattle.module_facts.specs.Checks.{unless_any};
-ghost use Rattle.family_check.specs.Findings.{AreUseCounts, IsFound};
+ghost use Rattle.family_check.specs.Findings as findings;
+ghost use Rattle.family_check.specs.Findings.{HaveNames, IsFound};
 ghost use Rattle.family_tables.specs.Agreement.{AreAgreed, AreFrom, IsAgreed};
 ghost use Rattle.family_tables.specs.Modules as modules_of;
 ghost use Rattle.family_tables.specs.Outcomes as outcomes_of;
@@ -16,25 +16,26 @@ ghost use Rattle.family_tables.specs.Plans.{AreOnce, IsPlan};
 ghost use Rattle.family_tables.specs.Tables.{entry_of, names_in};
 ghost use Rattle.family_tables.specs.declared.reading.Reading.TheVariants as reading;
 
+use crate::names::Names;
 use check_core::{Checked, check_module};
 use family_tables::{Module, Outcome, Plan, Reading, Table, imports_of};
 use std::alloc::Global;
 use step_count::Steps;
-use tla_model::Diagnostic;
+use tla_model::{Decl, Diagnostic, Use};
 use tla_tree::ModuleTree;
 use tool_list::{Chars, List, Memory, copied};
 
-// What was found of a module, and how many uses are shown of it.
+// What was found of a module.
 #[derive(Drop)]
 struct Found {
     outcome: Outcome,
-    use_count: usize,
+    names: Names,
 }
 
-/// What was found of modules, and how many uses are shown of them, under their names.
+/// What was found of modules, under their names.
 pub struct Findings {
     pub outcomes: Table<Outcome>,
-    pub use_counts: Table<usize>,
+    pub names: Table<Names>,
 }
 
 // By hand, so that a proof meets one call wherever a value ends.
@@ -42,8 +43,43 @@ impl Drop for Findings {
     fn drop(self) {
         let Findings {
             outcomes: _,
-            use_counts: _,
+            names: _,
         } = self;
+    }
+}
+
+impl Findings {
+    /// The faults of the module of a name: by start, then end, then code. There are none where it is
+    /// accepted, and where it is not there.
+    pub fn faults(&self, name: &str) -> &[Diagnostic]
+        ensures { result.now ≡ findings.faults_in self.now name.now }
+    {
+        match self.outcomes.get(name) {
+            Some(Outcome::Refused(faults)) => faults.as_slice(),
+            _ => &[],
+        }
+    }
+
+    /// The uses in the module of a name that mean a declaration, in the order of the text. There are none
+    /// after a fault of its front or of an import.
+    pub fn uses(&self, name: &str) -> &[Use]
+        ensures { result.now ≡ findings.uses_in self.now name.now }
+    {
+        match self.names.get(name) {
+            Some(names) => names.uses.as_slice(),
+            None => &[],
+        }
+    }
+
+    /// The names that the module of a name declares, in the order of the text. There are none after a
+    /// fault of its front or of an import.
+    pub fn decls(&self, name: &str) -> &[Decl]
+        ensures { result.now ≡ findings.decls_in self.now name.now }
+    {
+        match self.names.get(name) {
+            Some(names) => names.decls.as_slice(),
+            None => &[],
+        }
     }
 }
 
@@ -71,14 +107,23 @@ fn outcome_of(alloc: Global, checked: &Checked) -> Result<Outcome, Memory>
     Ok(Outcome::Refused(copied(alloc, faults.as_slice())?))
 }
 
-// How many uses are shown of a module that was checked.
-fn shown_count(checked: &Checked) -> usize
-    ensures { result ≡ length (unless_any checked.now.faults checked.now.uses) }
+// The names of a module that was checked.
+fn names_of(checked: Checked) -> Names
+    ensures uses { result.uses ≡ checked.uses }
+    ensures decls { result.decls ≡ checked.decls }
 {
-    if checked.faults().is_empty() {
-        checked.uses().len()
-    } else {
-        0
+    let (uses, decls) = checked.into_names();
+    Names { uses, decls }
+}
+
+// The names of a module with a front fault.
+fn no_names(alloc: Global) -> Names
+    ensures uses { result.uses ≡ [] }
+    ensures decls { result.decls ≡ [] }
+{
+    Names {
+        uses: List::new(alloc),
+        decls: List::new(alloc),
     }
 }
 
@@ -97,7 +142,7 @@ fn check_tree<L>(
     requires unfound { entry_of outcomes.now name.now ≡ None }
     ensures found { (family : ListOf Member) → IsReady family plan.now outcomes.now name.now
         → outcomes_of.IsMember family name.now (reading.Tree tree.now) needs.now
-        → IfOk result (λ found. IsFound family name.now found.outcome found.use_count) }
+        → IfOk result (λ found. IsFound family name.now found.outcome found.names) }
     ensures agreed { IfOk result (λ found. IsAgreed outcomes.now name.now found.outcome) }
     ensures steps { IfOk result (λ _. steps.new ≡ after_checks 1 steps.old) }
 {
@@ -106,7 +151,7 @@ fn check_tree<L>(
     let outcome = outcome_of(alloc, &checked)?;
     Ok(Found {
         outcome,
-        use_count: shown_count(&checked),
+        names: names_of(checked),
     })
 }
 
@@ -124,7 +169,7 @@ fn check_one<L>(
     requires unfound { entry_of outcomes.now name.now ≡ None }
     ensures found { (family : ListOf Member) → IsReady family plan.now outcomes.now name.now
         → outcomes_of.IsMember family name.now module.now.reading module.now.needs
-        → IfOk result (λ found. IsFound family name.now found.outcome found.use_count) }
+        → IfOk result (λ found. IsFound family name.now found.outcome found.names) }
     ensures agreed { IfOk result (λ found. IsAgreed outcomes.now name.now found.outcome) }
     ensures steps { IfOk result (λ _. steps.new
         ≡ after_checks (modules_of.tree_count module.now.reading) steps.old) }
@@ -139,7 +184,7 @@ fn check_one<L>(
         }
         Reading::Fault(fault) => Ok(Found {
             outcome: Outcome::Refused(lone_fault(alloc, *fault)?),
-            use_count: 0,
+            names: no_names(alloc),
         }),
     }
 }
@@ -157,8 +202,8 @@ pub fn check_all<L>(
     requires plan { IsPlan modules.now plan.now }
     ensures outcomes { (family : ListOf Member) → modules_of.AreModules family modules.now
         → IfOk result (λ found. outcomes_of.AreOutcomes family found.outcomes) }
-    ensures use_counts { (family : ListOf Member) → modules_of.AreModules family modules.now
-        → IfOk result (λ found. AreUseCounts family found.use_counts) }
+    ensures names { (family : ListOf Member) → modules_of.AreModules family modules.now
+        → IfOk result (λ found. HaveNames family found.names) }
     ensures steps { IfOk result (λ _. steps.new
         ≡ after_checks (outcomes_of.trees_in modules.now) steps.old) }
 {
@@ -166,7 +211,7 @@ pub fn check_all<L>(
     // The proof needs that a count is below 2^64.
     let _count = steps.count();
     let mut outcomes = Table::new(alloc);
-    let mut use_counts = Table::new(alloc);
+    let mut names = Table::new(alloc);
     for name in plan.order.as_slice() {
         let name = name.as_str();
         let Some(module) = modules.get(name) else {
@@ -174,10 +219,7 @@ pub fn check_all<L>(
         };
         let found = check_one(alloc, plan, &outcomes, name, module, steps)?;
         outcomes.add(alloc, name, found.outcome)?;
-        use_counts.add(alloc, name, found.use_count)?;
+        names.add(alloc, name, found.names)?;
     }
-    Ok(Findings {
-        outcomes,
-        use_counts,
-    })
+    Ok(Findings { outcomes, names })
 }

@@ -9,7 +9,7 @@ use Rattle.module_model.specs.Resolution.{outside_in}
 use Rattle.module_graph.specs.Imports.{imports_of}
 use Rattle.front_laws.specs.Fronts.{Front, IsFront, Tree, Fault}
 use Rattle.unit_grammar.specs.Units.{ModuleUnits}
-use Rattle.module_facts.specs.Checks.{ImportStatus, Unknown, Accepted, all_faults, all_uses, files_given}
+use Rattle.module_facts.specs.Checks.{ImportStatus, Unknown, Accepted, all_decls, all_faults, all_uses, files_given}
 use Rattle.family_facts.specs.Family.{Member, Needs, Diagnosed, IsGiven, unknown, cyclic, refused, accepted, IsDiagnosed, front_fault, checked}
 use Rattle.family_facts.proofs.Members.{AreOneEach}
 use Rattle.family_facts.proofs.Lists.{among-or-not}
@@ -65,11 +65,11 @@ pub record IsCheckedOf (family : List Member) (member : Member) (units : ModuleU
   pub gives : (need : List ℕ) → Needs family member.name need → IsGiven family member.name need (given need)
   pub others : (need : List ℕ) → (Needs family member.name need → ⊥) → given need ≡ Unknown
   pub ordered : AreInOrder (all_faults given member.bytes units) list
-  pub is : d ≡ record { faults = list; uses = all_uses given member.bytes units; outside = outside_in (files_given given) member.bytes units }
+  pub is : d ≡ record { faults = list; uses = all_uses given member.bytes units; decls = all_decls given member.bytes units; outside = outside_in (files_given given) member.bytes units }
 
 -- what is found of a name, by the front of its member
 pub data Found (family : List Member) (name : List ℕ) (d : Diagnosed) : Type 0 where
-  of_fault : (m : Member) (fault : Diagnostic) → Contains family m → m.name ≡ name → IsFront m.name m.bytes (Fault fault) → d ≡ record { faults = fault ∷ []; uses = []; outside = nothing } → Found family name d
+  of_fault : (m : Member) (fault : Diagnostic) → Contains family m → m.name ≡ name → IsFront m.name m.bytes (Fault fault) → d ≡ record { faults = fault ∷ []; uses = []; decls = []; outside = nothing } → Found family name d
   of_tree : (m : Member) (units : ModuleUnits) → Contains family m → m.name ≡ name → IsFront m.name m.bytes (Tree units) → IsCheckedOf family m units d → Found family name d
 
 pub found-of : {family : List Member} {name : List ℕ} {d : Diagnosed} → IsDiagnosed family name d → Found family name d
@@ -79,20 +79,20 @@ found-of (checked {member = m} {found = units} {given = given} {faults = list} t
 
 -- modules that are given the same have the same faults, and are the same to others
 checked-same : OneOrder → (family : List Member) (bytes : List ℕ) (units : ModuleUnits) (given given' : List ℕ → ImportStatus) (list list' : List Diagnostic) → given ≡ given' → AreInOrder (all_faults given bytes units) list → AreInOrder (all_faults given' bytes units) list' →
-    ◌≡◌ {A = Diagnosed} (record { faults = list; uses = all_uses given bytes units; outside = outside_in (files_given given) bytes units }) (record { faults = list'; uses = all_uses given' bytes units; outside = outside_in (files_given given') bytes units })
+    ◌≡◌ {A = Diagnosed} (record { faults = list; uses = all_uses given bytes units; decls = all_decls given bytes units; outside = outside_in (files_given given) bytes units }) (record { faults = list'; uses = all_uses given' bytes units; decls = all_decls given' bytes units; outside = outside_in (files_given given') bytes units })
 checked-same order family bytes units given given' list list' e o o' =
     let same : list ≡ list' = order (all_faults given bytes units) list list' o (subst (λ g. AreInOrder (all_faults g bytes units) list') (sym e) o') in
-    λ i. record { faults = same i; uses = all_uses (e i) bytes units; outside = outside_in (files_given (e i)) bytes units }
+    λ i. record { faults = same i; uses = all_uses (e i) bytes units; decls = all_decls (e i) bytes units; outside = outside_in (files_given (e i)) bytes units }
 
 pub not-there : {b : Bool} → b ≡ false → b ≡ true → ⊥
 not-there f t = let k : true ≡ false = sym t ∙ f in cc
 
 module _ (one : HasNoOther) (order : OneOrder) (family : List Member) (distinct : AreOneEach family) where
-  second-fault : (m : Member) (fault : Diagnostic) (other : Diagnosed) → Contains family m → IsFront m.name m.bytes (Fault fault) → Found family m.name other → ◌≡◌ {A = Diagnosed} (record { faults = fault ∷ []; uses = []; outside = nothing }) other
+  second-fault : (m : Member) (fault : Diagnostic) (other : Diagnosed) → Contains family m → IsFront m.name m.bytes (Fault fault) → Found family m.name other → ◌≡◌ {A = Diagnosed} (record { faults = fault ∷ []; uses = []; decls = []; outside = nothing }) other
   second-fault m fault other there front (of_fault m' fault' there' named' front' is) =
       let same : m' ≡ m = distinct m' m there' there named' in
       let f : fault ≡ fault' = fault-same (one m.name m.bytes (Fault fault) (Fault fault') front (subst (λ (x : Member). IsFront x.name x.bytes (Fault fault')) same front')) in
-      (λ i. record { faults = f i ∷ []; uses = []; outside = nothing }) ∙ sym is
+      (λ i. record { faults = f i ∷ []; uses = []; decls = []; outside = nothing }) ∙ sym is
   second-fault m fault other there front (of_tree m' units there' named' front' is) =
       let same : m' ≡ m = distinct m' m there' there named' in
       absurd (tree-no-fault (one m.name m.bytes (Tree units) (Fault fault) (subst (λ (x : Member). IsFront x.name x.bytes (Tree units)) same front') front))

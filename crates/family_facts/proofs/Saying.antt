@@ -10,7 +10,7 @@ use Rattle.module_facts.specs.Ordered.{in_order}
 use Rattle.family_facts.specs.Family.{Member, Diagnosed, IsDiagnosed, is_there}
 use Rattle.family_facts.specs.Fronts.{front_of}
 use Rattle.family_facts.specs.Facts.{diagnosed, texts_of}
-use Rattle.family_facts.specs.Verdicts.{AreDistinct, AreVerdicts, IsUseCount, IsVerdict, built_in_members, family_of, member_of, shown_uses, text_of, use_count_on, verdict_on, verdicts_on}
+use Rattle.family_facts.specs.Verdicts.{AreDistinct, AreVerdicts, IsVerdict, built_in_members, family_of, member_of, text_of, verdict_on, verdicts_on}
 use Rattle.family_facts.specs.declared.verdict.File.{File}
 use Rattle.family_facts.specs.declared.verdict.Verdict.{Verdict}
 use Rattle.family_facts.proofs.FrontLaws.{front-is}
@@ -66,7 +66,3 @@ module _ (one : HasNoOther) (order : (all found : List Diagnostic) → AreInOrde
   -- and there are no others
   pub no-other-verdicts : (files : List File) → AreDistinct files → (verdicts : List Verdict) → AreVerdicts files verdicts → verdicts ≡ verdicts_on files
   no-other-verdicts files distinct verdicts are = verdicts-meet files (members-differ files distinct) files verdicts are
-
-  -- and so are the uses that are shown
-  pub use-count : (files : List File) → AreDistinct files → (file : File) → (count : ℕ) → IsUseCount (family_of files) file.name count → count ≡ use_count_on (texts_of (family_of files)) file
-  use-count files distinct file count is = is.is ∙ ap (λ found. length (shown_uses found)) (found-meets one order (family_of files) (members-differ files distinct) is.diagnosed)

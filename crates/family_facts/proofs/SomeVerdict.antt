@@ -11,7 +11,7 @@ use Rattle.index_graph.specs.Leading.{Leads, last, more}
 use Rattle.front_laws.specs.Fronts.{Front, IsFront, Tree, Fault}
 use Rattle.module_facts.proofs.Inserting.{in-order}
 use Rattle.module_facts.specs.Ordered.{in_order}
-use Rattle.module_facts.specs.Checks.{ImportStatus, Unknown, Cyclic, Refused, Accepted, all_faults, all_uses, files_given}
+use Rattle.module_facts.specs.Checks.{ImportStatus, Unknown, Cyclic, Refused, Accepted, all_decls, all_faults, all_uses, files_given}
 use Rattle.family_facts.specs.Family.{Member, Needs, IsCyclic, Diagnosed, IsGiven, unknown, cyclic, refused, accepted, IsDiagnosed, front_fault, checked, is_there}
 use Rattle.family_facts.proofs.Members.{AreOneEach, member-there, there-member}
 use Rattle.family_facts.proofs.OneVerdict.{HasNoOther, fault-needs, needs-or-not, not-there}
@@ -89,11 +89,11 @@ module _ (one : HasNoOther) (front : HasSome) (family : List Member) (distinct :
   ]
 
   by-front : (m : Member) → Contains family m → (f : Front) → IsFront m.name m.bytes f → ((need : List ℕ) → HasGiven m.name need) → HasFinding m.name
-  by-front m there (Fault fault) is each = (record { faults = fault ∷ []; uses = []; outside = nothing }, front_fault there is)
+  by-front m there (Fault fault) is each = (record { faults = fault ∷ []; uses = []; decls = []; outside = nothing }, front_fault there is)
   by-front m there (Tree units) is each =
       let given : List ℕ → ImportStatus = λ need. (each need).given in
       let all = all_faults given m.bytes units in
-      (record { faults = in_order all; uses = all_uses given m.bytes units; outside = outside_in (files_given given) m.bytes units }, checked there is (λ need. (each need).is) (λ need. (each need).others) (in-order all))
+      (record { faults = in_order all; uses = all_uses given m.bytes units; decls = all_decls given m.bytes units; outside = outside_in (files_given given) m.bytes units }, checked there is (λ need. (each need).is) (λ need. (each need).others) (in-order all))
 
   by-name : (name : List ℕ) → is_there family name ≡ true → ((need : List ℕ) → HasGiven name need) → HasFinding name
   by-name name t each =

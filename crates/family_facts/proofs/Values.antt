@@ -16,7 +16,7 @@ use Rattle.unit_grammar.specs.Units.{ModuleUnits}
 use Rattle.index_graph.specs.Leading.{Leads, last, more}
 use Rattle.module_graph.specs.Imports.{imports_of}
 use Rattle.front_laws.specs.Fronts.{Front, IsFront, Tree, Fault}
-use Rattle.module_facts.specs.Checks.{ImportStatus, Unknown, Refused, Accepted, all_faults, all_uses, files_given}
+use Rattle.module_facts.specs.Checks.{ImportStatus, Unknown, Refused, Accepted, all_decls, all_faults, all_uses, files_given}
 use Rattle.module_facts.specs.Ordered.{in_order}
 use Rattle.fact_values.specs.Names.{Texts, has, name_cmp, name_eq}
 use Rattle.fact_values.specs.Reach.{IsPath}
@@ -221,7 +221,7 @@ module _ (one : HasNoOther) (order : (all found : List Diagnostic) → AreInOrde
   unfolding needs gives state
   given-of-tree m found h e = ap (λ ns. values.all_given own_of needs_of fact_of texts (state_of texts) m.name ns) (needs-of-member m h ∙ ap (λ f. unwrap_or (needs_by m.bytes f) []) e)
 
-  no-faults : (fault : Diagnostic) (d : Diagnosed) → d ≡ record { faults = fault ∷ []; uses = []; outside = nothing } → d.faults ≢ []
+  no-faults : (fault : Diagnostic) (d : Diagnosed) → d ≡ record { faults = fault ∷ []; uses = []; decls = []; outside = nothing } → d.faults ≢ []
   no-faults fault d e none = let k : fault ∷ [] ≡ [] = sym (ap (λ (x : Diagnosed). x.faults) e) ∙ none in cc
 
   by-front : (m : Member) → Contains family m → (f : Front) → front_of m.name m.bytes ≡ f → HasState m.name
@@ -265,16 +265,16 @@ module _ (one : HasNoOther) (order : (all found : List Diagnostic) → AreInOrde
 
   -- ---- what is found
 
-  fault-meets : (m : Member) (fault : Diagnostic) → Contains family m → IsFront m.name m.bytes (Fault fault) → ◌≡◌ {A = Diagnosed} (record { faults = fault ∷ []; uses = []; outside = nothing }) (diagnosed texts m.name)
+  fault-meets : (m : Member) (fault : Diagnostic) → Contains family m → IsFront m.name m.bytes (Fault fault) → ◌≡◌ {A = Diagnosed} (record { faults = fault ∷ []; uses = []; decls = []; outside = nothing }) (diagnosed texts m.name)
   fault-meets m fault h is = sym (diagnosed-of-member m h ∙ ap (λ f. diagnosed_by m.bytes f (given_by_states (values.given_in own_of needs_of fact_of texts m.name))) (front-one m (Fault fault) is))
 
   tree-meets : (m : Member) (found : ModuleUnits) (given : List ℕ → ImportStatus) (faults : List Diagnostic) → Contains family m → IsFront m.name m.bytes (Tree found) → AreInOrder (all_faults given m.bytes found) faults →
       given ≡ given_by_states (map (λ need. (need, gives m.name need)) (map (spelled m.bytes) (imports_of m.bytes found))) →
-      ◌≡◌ {A = Diagnosed} (record { faults = faults; uses = all_uses given m.bytes found; outside = outside_in (files_given given) m.bytes found }) (diagnosed texts m.name)
+      ◌≡◌ {A = Diagnosed} (record { faults = faults; uses = all_uses given m.bytes found; decls = all_decls given m.bytes found; outside = outside_in (files_given given) m.bytes found }) (diagnosed texts m.name)
   tree-meets m found given faults h is ordered same =
       let front = front-one m (Tree found) is in
       let listed : faults ≡ in_order (all_faults given m.bytes found) = order (all_faults given m.bytes found) faults ordered in
-      (λ i. record { faults = listed i; uses = all_uses given m.bytes found; outside = outside_in (files_given given) m.bytes found })
+      (λ i. record { faults = listed i; uses = all_uses given m.bytes found; decls = all_decls given m.bytes found; outside = outside_in (files_given given) m.bytes found })
       ∙ ap (λ g. diagnosed_by m.bytes (Tree found) g) (same ∙ ap given_by_states (sym (given-of-tree m found h front)))
       ∙ ap (λ f. diagnosed_by m.bytes f (given_by_states (values.given_in own_of needs_of fact_of texts m.name))) (sym front)
       ∙ sym (diagnosed-of-member m h)

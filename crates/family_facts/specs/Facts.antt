@@ -8,7 +8,7 @@ use Rattle.tla_model.specs.Lexemes.{spelled}
 use Rattle.module_model.specs.Resolution.{outside_in}
 use Rattle.module_graph.specs.Imports.{imports_of}
 use Rattle.front_laws.specs.Fronts.{Front, Tree, Fault}
-use Rattle.module_facts.specs.Checks.{ImportStatus, Unknown, Cyclic, Refused, Accepted, all_faults, all_uses, files_given}
+use Rattle.module_facts.specs.Checks.{ImportStatus, Unknown, Cyclic, Refused, Accepted, all_decls, all_faults, all_uses, files_given}
 use Rattle.module_facts.specs.Ordered.{in_order}
 use Rattle.fact_values.specs.Names.{Texts}
 use Rattle.fact_values.specs.States.{State, no_text, cyclic, broken, fact}
@@ -53,8 +53,8 @@ given_by_states (need ∷ needs) name = if bytes_eq name need.0 then given_by_st
 
 -- the one front fault, or what is found of the names by what the needs are
 abbrev pub diagnosed_by : List ℕ → Front → (List ℕ → ImportStatus) → Diagnosed
-diagnosed_by bytes (Tree found) given = record { faults = in_order (all_faults given bytes found); uses = all_uses given bytes found; outside = outside_in (files_given given) bytes found }
-diagnosed_by bytes (Fault fault) given = record { faults = fault ∷ []; uses = []; outside = nothing }
+diagnosed_by bytes (Tree found) given = record { faults = in_order (all_faults given bytes found); uses = all_uses given bytes found; decls = all_decls given bytes found; outside = outside_in (files_given given) bytes found }
+diagnosed_by bytes (Fault fault) given = record { faults = fault ∷ []; uses = []; decls = []; outside = nothing }
 
 -- what is found of a text, by the states of its needs
 abbrev pub fact_of : List ℕ → Own → List (List ℕ × State Diagnosed) → Diagnosed
@@ -66,7 +66,7 @@ state_of texts = values.value own_of needs_of fact_of texts
 
 -- what is found of a text with a name; without one nothing is found, and the module is nothing to others
 abbrev pub diagnosed_text : Texts → List ℕ → Option (List ℕ) → Diagnosed
-diagnosed_text texts name None = record { faults = []; uses = []; outside = nothing }
+diagnosed_text texts name None = record { faults = []; uses = []; decls = []; outside = nothing }
 diagnosed_text texts name (Some bytes) = fact_of name (own_of name bytes) (values.given_in own_of needs_of fact_of texts name)
 
 -- what is found of the text of a name

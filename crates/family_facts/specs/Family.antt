@@ -3,6 +3,7 @@ use Rattle.std.specs.Prelude.{◌≡◌, ◌≢◌, ℕ, Bool, true, false, List
 use Rattle.std.specs.List.{list_any}
 use Rattle.std.specs.Str.{bytes_eq}
 use Rattle.tla_model.specs.declared.Diagnostic.{Diagnostic}
+use Rattle.tla_model.specs.declared.entity.Decl.{Decl}
 use Rattle.tla_model.specs.declared.entity.Use.{Use}
 use Rattle.module_model.specs.Bindings.{AreInOrder}
 use Rattle.module_model.specs.Exports.{ModuleView, nothing}
@@ -12,7 +13,7 @@ use Rattle.index_graph.specs.Leading.{LeadsBack}
 use Rattle.module_graph.specs.Imports.{imports_of}
 use Rattle.front_laws.specs.Fronts.{IsFront, Tree, Fault}
 use Rattle.unit_grammar.specs.Units.{ModuleUnits}
-use Rattle.module_facts.specs.Checks.{ImportStatus, Unknown, Cyclic, Refused, Accepted, all_faults, all_uses, files_given}
+use Rattle.module_facts.specs.Checks.{ImportStatus, Unknown, Cyclic, Refused, Accepted, all_decls, all_faults, all_uses, files_given}
 use Rattle.list_laws.specs.Distinct.{AreNamedApart}
 
 -- a module's text under its name
@@ -34,10 +35,11 @@ over files built_in = files ++ filter (λ m. not (is_there files m.name)) built_
 abbrev pub AreMembersDistinct : List Member → Type 0
 AreMembersDistinct family = AreNamedApart (λ (member : Member). member.name) family
 
--- all that is found of a module: its faults, the uses of its names, and what it is to others where it has no faults
+-- all that is found of a module: its faults, the uses of its names, the names that it declares, and what it is to others where it has no faults
 pub record Diagnosed : Type 0 where
   pub faults : List Diagnostic
   pub uses : List Use
+  pub decls : List Decl
   pub outside : ModuleView
 
 module _ (family : List Member) where
@@ -66,10 +68,10 @@ module _ (family : List Member) where
     pub data IsDiagnosed : List ℕ → Diagnosed → Type 0 where
       front_fault : {member : Member} {fault : Diagnostic}
           → Contains family member → IsFront member.name member.bytes (Fault fault)
-          → IsDiagnosed member.name (record { faults = fault ∷ []; uses = []; outside = nothing })
+          → IsDiagnosed member.name (record { faults = fault ∷ []; uses = []; decls = []; outside = nothing })
       checked : {member : Member} {found : ModuleUnits} {given : List ℕ → ImportStatus} {faults : List Diagnostic}
           → Contains family member → IsFront member.name member.bytes (Tree found)
           → ((need : List ℕ) → Needs member.name need → IsGiven member.name need (given need))
           → ((need : List ℕ) → (Needs member.name need → ⊥) → given need ≡ Unknown)
           → AreInOrder (all_faults given member.bytes found) faults
-          → IsDiagnosed member.name (record { faults = faults; uses = all_uses given member.bytes found; outside = outside_in (files_given given) member.bytes found })
+          → IsDiagnosed member.name (record { faults = faults; uses = all_uses given member.bytes found; decls = all_decls given member.bytes found; outside = outside_in (files_given given) member.bytes found })

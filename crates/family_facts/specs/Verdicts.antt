@@ -94,9 +94,3 @@ use_count_on texts file = length (shown_uses (diagnosed texts file.name))
 -- how many uses are shown of all files, over the built-in modules
 abbrev pub uses_on : List File → ℕ
 uses_on files = sum_by (use_count_on (texts_of (family_of files))) files
-
--- so many uses are shown of the module of a name
-pub record IsUseCount (family : List Member) (name : List ℕ) (count : ℕ) : Type 0 where
-  pub found : Diagnosed
-  pub diagnosed : IsDiagnosed family name found
-  pub is : count ≡ length (shown_uses found)

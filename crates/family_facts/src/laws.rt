@@ -4,8 +4,7 @@ ghost use Rattle.front_laws.specs.Fronts.{Front, IsFront};
 ghost use Rattle.family_facts.specs.Facts.{diagnosed, texts_of};
 ghost use Rattle.family_facts.specs.Family.{Member, Diagnosed, IsDiagnosed, AreMembersDistinct, is_there};
 ghost use Rattle.family_facts.specs.Fronts.{front_of};
-ghost use Rattle.family_facts.specs.Verdicts.{AreDistinct, AreVerdicts, IsUseCount, family_of};
-ghost use Rattle.family_facts.specs.Verdicts.{use_count_on, verdicts_on};
+ghost use Rattle.family_facts.specs.Verdicts.{AreDistinct, AreVerdicts, family_of, verdicts_on};
 ghost use Rattle.family_facts.specs.declared.verdict.File.{File};
 ghost use Rattle.family_facts.specs.declared.verdict.Verdict.{Verdict};
 
@@ -52,16 +51,6 @@ pub fn verdicts_are()
     ensures are { (files : List File) → AreDistinct files → AreVerdicts files (verdicts_on files) }
     ensures no_other { (files : List File) → AreDistinct files → (verdicts : List Verdict)
         → AreVerdicts files verdicts → verdicts ≡ verdicts_on files }
-{
-    front_laws::one_front();
-    in_order();
-}
-
-/// How many uses are shown of each file is what the function gives, and nothing else.
-pub fn use_counts_are()
-    ensures { (files : List File) → AreDistinct files → (file : File) → (count : ℕ)
-        → IsUseCount (family_of files) file.name count
-        → count ≡ use_count_on (texts_of (family_of files)) file }
 {
     front_laws::one_front();
     in_order();

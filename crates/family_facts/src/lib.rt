@@ -9,7 +9,5 @@
 mod laws;
 mod verdict;
 
-pub use laws::{
-    diagnosed_is, names_differ, one_front_of, one_verdict, use_counts_are, verdicts_are,
-};
+pub use laws::{diagnosed_is, names_differ, one_front_of, one_verdict, verdicts_are};
 pub use verdict::{File, Verdict};

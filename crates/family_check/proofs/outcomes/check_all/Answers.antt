@@ -2,9 +2,9 @@ use Rattle.std.proofs.Common.{◌<◌, ◌≤◌, ◌∙◌, List, ap, subst, sy
 use Rattle.std.proofs.lemmas.List.{take_all}
 use Rattle.family_tables.specs.Outcomes.{IsOutcome, trees_of}
 use Rattle.family_facts.specs.Family.{Member}
-use Rattle.family_facts.specs.Verdicts.{IsUseCount, after_checks}
+use Rattle.family_facts.specs.Verdicts.{after_checks}
 use Rattle.family_tables.specs.Modules.{AreModules}
-use Rattle.family_check.specs.Findings.{IsFound}
+use Rattle.family_check.specs.Findings.{AreNames, IsFound}
 use Rattle.family_check.proofs.Checking.{found-more, member-here, module-here, ordered-fresh, ordered-names, ordered-there, entries-all, ready-here, steps-more, trees-all}
 use Rattle.family_tables.specs.Tables.{entry_of}
 use Rattle.family_tables.proofs.Agreeing.{agreed-more}
@@ -44,7 +44,7 @@ add-requires-in-loop-name g c =
     let order = c.args.plan.now.order in
     let within : i < length order = subst (λ ns. i < length ns) c.as_slice-name-items.ensures c.loop-name-test.true in
     let is = c.as_str-name.ensures ∙ (c.name-item.is ∙ ap (λ ns. get_or ns i c.name-item.result) c.as_slice-name-items.ensures) in
-    ordered-fresh c.args.modules.now c.args.plan.now c.requires.plan i c.name-item.result c.as_str-name.result.now within is c.loop-name.use_counts c.loop-name.invariant.counted
+    ordered-fresh c.args.modules.now c.args.plan.now c.requires.plan i c.name-item.result c.as_str-name.result.now within is c.loop-name.names c.loop-name.invariant.listed
 
 pub loop-name-preserved : goal.loop-name-preserved
 loop-name-preserved g c =
@@ -59,16 +59,16 @@ loop-name-preserved g c =
     let found = c.in-Some.«module».now in
     let there = sym c.in-Some.ensures in
     let fresh = ordered-fresh modules plan c.requires.plan i d name within is c.loop-name.outcomes inv.names in
-    let new : (family : List Member) → AreModules family modules → IsFound family name c.in_ok-found.found.outcome c.in_ok-found.found.use_count =
+    let new : (family : List Member) → AreModules family modules → IsFound family name c.in_ok-found.found.outcome c.in_ok-found.found.names =
     (λ family are. c.in_ok-found.ensures.found family
     (ready-here modules plan c.requires.plan i d name within is c.one_front.ensures.same family are c.loop-name.outcomes inv.names (inv.found family are))
     (member-here c.one_front.ensures.same family modules name found c.requires.once are there)) in
     record {
       names = ordered-names modules plan c.requires.plan i d name within is c.loop-name.outcomes c.add.new.self c.in_ok-found.found.outcome inv.names c.in_ok-add.ensures;
-      counted = ordered-names modules plan c.requires.plan i d name within is c.loop-name.use_counts c.add-in-loop-name.new.self c.in_ok-found.found.use_count inv.counted c.in_ok-add-2.ensures;
+      listed = ordered-names modules plan c.requires.plan i d name within is c.loop-name.names c.add-in-loop-name.new.self c.in_ok-found.found.names inv.listed c.in_ok-add-2.ensures;
       found = λ family are. found-more (IsOutcome family) c.loop-name.outcomes c.add.new.self name c.in_ok-found.found.outcome fresh c.in_ok-add.ensures (new family are).outcome_is (inv.found family are);
-      counts = λ family are. found-more (IsUseCount family) c.loop-name.use_counts c.add-in-loop-name.new.self name c.in_ok-found.found.use_count
-          (ordered-fresh modules plan c.requires.plan i d name within is c.loop-name.use_counts inv.counted) c.in_ok-add-2.ensures (new family are).count_is (inv.counts family are);
+      named = λ family are. found-more (λ n ns. AreNames family n ns) c.loop-name.names c.add-in-loop-name.new.self name c.in_ok-found.found.names
+          (ordered-fresh modules plan c.requires.plan i d name within is c.loop-name.names inv.listed) c.in_ok-add-2.ensures (new family are).names_are (inv.named family are);
       agreed = agreed-more c.loop-name.outcomes name inv.agreed fresh c.add.new.self c.in_ok-found.found.outcome c.in_ok-add.ensures c.in_ok-found.ensures.agreed;
       steps = steps-more modules plan.order i d name found c.args.steps.now c.loop-name.steps c.check_one.new.steps within is there inv.steps c.in_ok-found.ensures.steps;
     }
@@ -79,11 +79,11 @@ returns-clause-outcomes g c family are =
     let whole = take_all c.loop-name.name-index order (subst (λ ns. length ns ≤ c.loop-name.name-index) c.as_slice-name-items.ensures c.loop-name-test.false) in
     entries-all (IsOutcome family) family c.args.modules.now c.args.plan.now c.loop-name.outcomes are c.requires.plan (c.loop-name.invariant.names ∙ whole) (c.loop-name.invariant.found family are)
 
-pub returns-clause-use_counts : goal.returns-clause-use_counts
-returns-clause-use_counts g c family are =
+pub returns-clause-names : goal.returns-clause-names
+returns-clause-names g c family are =
     let order = c.args.plan.now.order in
     let whole = take_all c.loop-name.name-index order (subst (λ ns. length ns ≤ c.loop-name.name-index) c.as_slice-name-items.ensures c.loop-name-test.false) in
-    entries-all (IsUseCount family) family c.args.modules.now c.args.plan.now c.loop-name.use_counts are c.requires.plan (c.loop-name.invariant.counted ∙ whole) (c.loop-name.invariant.counts family are)
+    entries-all (λ n ns. AreNames family n ns) family c.args.modules.now c.args.plan.now c.loop-name.names are c.requires.plan (c.loop-name.invariant.listed ∙ whole) (c.loop-name.invariant.named family are)
 
 pub returns-clause-steps : goal.returns-clause-steps
 returns-clause-steps g c =
