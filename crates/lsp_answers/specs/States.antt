@@ -98,13 +98,13 @@ unless_limit None s after = after
 unless_limit (Some said) s after = record { state = s; limit = Some said }
 
 -- the files of modules are read; a limit is judged before the first read and after each
-abbrev pub judged_reads : Meaning → State → List (List ℕ) → After
-judged_reads m s [] = judged s
-judged_reads m s (name ∷ names) = unless_limit (limit_of s) s (judged_reads m (m.after_read s name) names)
+abbrev pub judged_reads : (State → List ℕ → State) → State → List (List ℕ) → After
+judged_reads after_read s [] = judged s
+judged_reads after_read s (name ∷ names) = unless_limit (limit_of s) s (judged_reads after_read (after_read s name) names)
 
 -- the client's root is taken, and its folder read
 abbrev pub judged_root : Meaning → State → Option (List ℕ) → After
-judged_root m s root = judged_reads m (m.after_root s root) (m.root_modules s root)
+judged_root m s root = judged_reads m.after_read (m.after_root s root) (m.root_modules s root)
 
 -- the length of the first of some texts that alone has too many bytes
 abbrev pub first_too_long : List (List ℕ) → Option ℕ

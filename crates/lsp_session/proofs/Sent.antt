@@ -51,11 +51,11 @@ limit_keeps s t None after now later = later
 limit_keeps s t (Some said) after now later = now
 
 -- files that are read keep the documents
-reads_keep : (m : Meaning) → LooksAtTexts m → (s t : State) (names : List (List ℕ)) → Keeps s t → Keeps s (judged_reads m t names).state
+reads_keep : (m : Meaning) → LooksAtTexts m → (s t : State) (names : List (List ℕ)) → Keeps s t → Keeps s (judged_reads m.after_read t names).state
 reads_keep m looks s t [] now = now
 reads_keep m looks s t (name ∷ names) now =
     let next : Keeps s (m.after_read t name) = (looks.read_opened t name ∙ now.0, looks.read_due t name ∙ now.1) in
-    limit_keeps s t (limit_of t) (judged_reads m (m.after_read t name) names) now (reads_keep m looks s (m.after_read t name) names next)
+    limit_keeps s t (limit_of t) (judged_reads m.after_read (m.after_read t name) names) now (reads_keep m looks s (m.after_read t name) names next)
 
 root_sent : (m : Meaning) → LooksAtTexts m → (s : State) (root : Option (List ℕ)) → HasOpenedNone s → AreSent m (judged_root m s root).state
 root_sent m looks s root none =
