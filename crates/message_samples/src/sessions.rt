@@ -1,7 +1,7 @@
 //! Sessions over a stand-in.
 
 mod messages;
-mod silent;
+pub mod silent;
 
 use lsp_session::{Session, SessionFault, Turn};
 use messages::Row;

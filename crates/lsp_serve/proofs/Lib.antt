@@ -1,0 +1,9 @@
+pub mod Ended
+pub mod Gone
+pub mod Inputs
+pub mod OneMessage
+pub mod Sessions
+pub mod Statuses
+pub mod Telling
+pub mod Timely
+pub mod Waiting

@@ -1,0 +1,4 @@
+pub mod Ends
+pub mod InTime
+pub mod Serving
+pub mod Walk
