@@ -6,4 +6,4 @@
 
 mod notes;
 
-pub use notes::{area_of, notes_on};
+pub use notes::{area_from, area_of, notes_on};

@@ -23,8 +23,9 @@ fn position_of(place: Place) -> Position
     }
 }
 
-// The area of a span, by the cursor at its start.
-fn area_from(text: &Text, start: Cursor, span: Span) -> Area
+/// The area of a span of a text, by the cursor at its start: spans in the order of the text cost one
+/// walk.
+pub fn area_from(text: &Text, start: Cursor, span: Span) -> Area
     requires placed { IsPlaced text.now span }
     requires cursor { IsCursor Utf16 text.now start }
     requires start { start ≡ cursor_at Utf16 text.now span.start }
