@@ -1,6 +1,6 @@
 -- What changes make of the text of an open document.
 use Rattle.std.proofs.Common.{◌≡◌, ◌<◌, ◌^◌, ℕ, Bool, true, false, cond, ltb, List, [], ◌∷◌, length, Option, Some, None, refl, sym, ap, ◌∙◌, arith}
-use Rattle.std.specs.Prelude.{map, option_map}
+use Rattle.std.specs.Prelude.{is_some, map, option_map}
 use Rattle.std.specs.Map.{lookup}
 use Rattle.std.specs.Str.{bytes_eq}
 use Rattle.std.proofs.lemmas.Bool.{ltb-false}
@@ -8,14 +8,14 @@ use Rattle.lsp_wire.specs.declared.types.Change.{Change}
 use Rattle.lsp_answers.specs.States.{Named, Root, State, first_too_long}
 use Rattle.doc_edit.specs.Edits.{after_change as one_changed, after_changes, first_backward, first_excess, most_bytes}
 use Rattle.server_uris.specs.Uris.{module_of}
-use Rattle.server_documents.specs.Documents.{after_change, changed_texts, edited_at, edited_if, edited_texts, opened_at, put, texts_after, with_changes, with_its_text}
+use Rattle.server_documents.specs.Documents.{after_change, changed_texts, edited_at, edited_if, edited_texts, named, opened_at, put, texts_after, with_changes, with_its_text}
 use Rattle.server_documents.specs.declared.held.Held.{Held}
 use Rattle.server_documents.specs.declared.held.Held.TheVariants.{Document}
-use Rattle.server_documents.specs.declared.documents.Open.{Open}
-use Rattle.server_documents.specs.declared.documents.ChangeFault.{ChangeFault}
-use Rattle.server_documents.specs.declared.documents.ChangeFault.TheVariants.{TooLarge, Memory}
-use Rattle.server_documents.specs.Held.{HasDocument, IsChangeFault, IsEditFault, bytes_of, document_in, opened_entry, text_after, text_as}
-use Rattle.server_documents.proofs.Entries.{held-named}
+use Rattle.server_documents.specs.declared.opened.Open.{Open}
+use Rattle.lsp_answers.specs.declared.AnswerFault.{AnswerFault}
+use Rattle.lsp_answers.specs.declared.AnswerFault.TheVariants.{Folder, Limit, Memory}
+use Rattle.server_documents.specs.Held.{HasDocument, HaveDocuments, IsChangeFault, IsEditFault, bytes_of, document_in, held_as, opened_entry, text_after, text_as}
+use Rattle.server_documents.proofs.Entries.{document-of, held-named, open-named}
 use Rattle.server_documents.proofs.Closing.{before, found-at}
 
 -- the first text that is too long is the same, however it is found
@@ -88,6 +88,15 @@ module _ (root : Option Root) (ts : List (List ℕ × Held)) (es : List (List �
         ∙ ap (λ (t : List ℕ). record { root = root; texts = put (λ t. t.name) (text_as (name, Document t)) (map text_as ts); opened = map opened_entry es; due = Some (record { name = name; uri = document.uri }); folder = None }) is
         ∙ sym (ap (with_changes held changes) edited)
 
-pub edit-fault : (backward excess too : Option ℕ) (fault : ChangeFault) → IsEditFault backward excess fault → (backward ≡ None → too ≡ excess) → IsChangeFault too fault
-edit-fault backward excess too (TooLarge bytes) is same = same is.0 ∙ is.1
+pub edit-fault : (backward excess too : Option ℕ) (fault : AnswerFault) → IsEditFault backward excess fault → (backward ≡ None → too ≡ excess) → IsChangeFault too fault
+edit-fault backward excess too (Limit said) is same = same is.0 ∙ is.1
+edit-fault backward excess too Folder is same = is
 edit-fault backward excess too Memory is same = tt
+
+-- the text of an open document is its module's
+pub document-text : (ts : List (List ℕ × Held)) (es : List (List ℕ × Open)) (name : List ℕ) → HaveDocuments ts es → is_some (named (λ o. o.name) name (map opened_entry es)) ≡ true → document_in (held_as ts name) ≡ option_map (λ t. t.bytes) (named (λ t. t.name) name (map text_as ts))
+document-text ts es name have some = by (lookup (λ key. bytes_eq name key) es) refl (open-named name es ∙ some)
+  where
+    by : (found : Option Open) → lookup (λ key. bytes_eq name key) es ≡ found → is_some found ≡ true → document_in (held_as ts name) ≡ option_map (λ t. t.bytes) (named (λ t. t.name) name (map text_as ts))
+    by None is there = cc
+    by (Some document) is there = let has = document-of ts name es document have is in ap document_in has.1 ∙ sym (sym (held-named name ts) ∙ ap (option_map bytes_of) has.1)

@@ -6,7 +6,7 @@ use Rattle.std.specs.Str.{bytes_eq}
 use Rattle.lsp_answers.specs.States.{ModuleText, Named, Opened, Root, State}
 use Rattle.server_uris.specs.Uris.{module_of}
 use Rattle.server_documents.specs.Documents.{opened_as, opened_at, without}
-use Rattle.server_documents.specs.declared.documents.Open.{Open}
+use Rattle.server_documents.specs.declared.opened.Open.{Open}
 use Rattle.server_documents.specs.Held.{opened_entry, unopened_as}
 use Rattle.server_documents.proofs.Entries.{open-entry}
 

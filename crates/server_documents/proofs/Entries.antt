@@ -17,7 +17,7 @@ use Rattle.lsp_answers.specs.States.{Opened}
 use Rattle.server_documents.specs.Documents.{named, put, without}
 use Rattle.server_documents.specs.declared.held.Held.{Held}
 use Rattle.server_documents.specs.declared.held.Held.TheVariants.{Document}
-use Rattle.server_documents.specs.declared.documents.Open.{Open}
+use Rattle.server_documents.specs.declared.opened.Open.{Open}
 use Rattle.server_documents.specs.Held.{AreShort, HasDocument, HaveDocuments, bytes_of, held_as, opened_entry, text_as}
 
 -- ---- looked up
@@ -209,3 +209,9 @@ document-of texts name (e ∷ es) document all found = by (bytes_eq name e.0) re
     by : (b : Bool) → bytes_eq name e.0 ≡ b → cond b (Some e.1) (lookup (λ key. bytes_eq name key) es) ≡ Some document → (lookup (λ key. bytes_eq name key) es ≡ Some document → HasDocument texts name) → HasDocument texts name
     by true same found rest = subst (HasDocument texts) (sym (same-text name e.0 same)) all.0
     by false apart found rest = rest found
+
+-- ---- names
+
+pub text-names : (es : List (List ℕ × Held)) → map (λ t. t.name) (map text_as es) ≡ keys_of es
+text-names [] = refl
+text-names (e ∷ es) = ap (λ names. e.0 ∷ names) (text-names es)

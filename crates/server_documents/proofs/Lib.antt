@@ -2,3 +2,4 @@ mod Changing
 mod Closing
 mod Entries
 mod Limits
+mod Sending

@@ -11,7 +11,7 @@ use Rattle.lsp_wire.specs.declared.types.FileEvent.{FileEvent}
 use Rattle.doc_edit.specs.Edits.{after_changes, first_backward}
 use Rattle.doc_edit.specs.Edits as edits
 use Rattle.lsp_answers.specs.States.{State, Root, Opened}
-use Rattle.file_names.specs.Files.{MOST, file_of, modules_of_listing}
+use Rattle.file_names.specs.Files.{MOST_FILE_BYTES, file_of, modules_of_listing}
 use Rattle.server_uris.specs.Uris.{client_root_of, document_root, module_of}
 
 -- ---- by name
@@ -61,7 +61,7 @@ names_in (Some told) path = modules_of_listing (names_at told path)
 -- what a read of a module's file tells, if it is there
 abbrev pub file_in : Option Told → List ℕ → List ℕ → Option (List ℕ)
 file_in None path name = None
-file_in (Some told) path name = read_at told path (file_of name) MOST
+file_in (Some told) path name = read_at told path (file_of name) MOST_FILE_BYTES
 
 -- a module's file is read once, and the module has its text, or none where it is not there
 abbrev pub after_read : State → List ℕ → List ℕ → State
@@ -76,9 +76,9 @@ from_folder s name (Some path) = after_read s path name
 abbrev pub path_of : State → Option (List ℕ)
 path_of s = option_and_then (λ r. r.path) s.root
 
--- a module has its file's text, by the folder that was read
+-- a module whose document is not open has its file's text, by the folder that was read
 abbrev pub with_file : State → List ℕ → State
-with_file s name = from_folder s name (path_of s)
+with_file s name = if is_some (opened_as s name) then s else from_folder s name (path_of s)
 
 -- ---- the root
 

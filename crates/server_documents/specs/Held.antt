@@ -9,9 +9,9 @@ use Rattle.doc_edit.specs.Edits.{after_changes}
 use Rattle.server_documents.specs.Documents.{with_due, without}
 use Rattle.server_documents.specs.declared.held.Held.{Held}
 use Rattle.server_documents.specs.declared.held.Held.TheVariants.{File, Document}
-use Rattle.server_documents.specs.declared.documents.Open.{Open}
-use Rattle.server_documents.specs.declared.documents.ChangeFault.{ChangeFault}
-use Rattle.server_documents.specs.declared.documents.ChangeFault.TheVariants.{TooLarge, Memory}
+use Rattle.server_documents.specs.declared.opened.Open.{Open}
+use Rattle.lsp_answers.specs.declared.AnswerFault.{AnswerFault}
+use Rattle.lsp_answers.specs.declared.AnswerFault.TheVariants.{Folder, Limit, Memory}
 
 -- the bytes of a module's text
 abbrev pub bytes_of : Held → List ℕ
@@ -79,12 +79,14 @@ abbrev pub text_after : Option ℕ → List ℕ → List Change → Option (List
 text_after None text changes = Some (after_changes text changes)
 text_after (Some index) text changes = None
 
--- what a fault of a change says of the first text that is too long
-abbrev pub IsChangeFault : Option ℕ → ChangeFault → Type 0
-IsChangeFault excess (TooLarge bytes) = excess ≡ Some bytes
+-- what a fault of a change says of the first text that is too long; no folder is called
+abbrev pub IsChangeFault : Option ℕ → AnswerFault → Type 0
+IsChangeFault excess (Limit said) = excess ≡ Some said
+IsChangeFault excess Folder = ⊥
 IsChangeFault excess Memory = Unit {0}
 
 -- the same, where no change is backward
-abbrev pub IsEditFault : Option ℕ → Option ℕ → ChangeFault → Type 0
-IsEditFault backward excess (TooLarge bytes) = (backward ≡ None) × (excess ≡ Some bytes)
+abbrev pub IsEditFault : Option ℕ → Option ℕ → AnswerFault → Type 0
+IsEditFault backward excess (Limit said) = (backward ≡ None) × (excess ≡ Some said)
+IsEditFault backward excess Folder = ⊥
 IsEditFault backward excess Memory = Unit {0}

@@ -1,8 +1,11 @@
 // The texts of a root's modules and the open documents.
-ghost use Rattle.std.specs.Prelude.{◌≡◌, ℕ, IfErr, IfNone, IfOk, IfSome, List as ListOf, None, OnErr, OnOk, Some, ◌<◌, ◌^◌, cond, false, is_some, length, map, option_map};
+ghost use Rattle.std.specs.Prelude.{◌≡◌, ℕ, IfErr, IfNone, IfOk, IfSome, IsTrue, List as ListOf, None, OnErr, OnOk, Some, ◌<◌, ◌^◌, cond, false, is_some, length, map, option_map};
 ghost use Rattle.std.specs.BTreeMap.{values};
+ghost use Rattle.std.specs.Cmp.Lexicographic.{slice_cmp};
 ghost use Rattle.std.specs.List.{sum_by};
+ghost use Rattle.std.specs.List.Sorted.{IsStrictlySortedBy};
 ghost use Rattle.std.specs.Map.{lookup};
+ghost use Rattle.std.specs.Ordering.{nat_cmp};
 ghost use Rattle.std.specs.Str.{bytes_eq};
 ghost use Rattle.doc_edit.specs.Edits.{first_backward, first_excess};
 ghost use Rattle.std.specs.Option.{option_copied};
@@ -11,15 +14,22 @@ ghost use Rattle.server_documents.specs.Documents as in_documents;
 ghost use Rattle.server_documents.specs.Documents.{put, without};
 ghost use Rattle.server_documents.specs.Held as in_held;
 ghost use Rattle.server_documents.specs.Held.{AreHeld, AreShort, HasDocument, HaveDocuments, held_as, held_len, opened_entry, text_as};
+ghost use Rattle.lsp_answers.specs.States.{notices};
+ghost use Rattle.lsp_wire.specs.declared.types.Note.{Note as NoteValue};
+ghost use Rattle.server_documents.specs.Notices as in_notices;
 ghost use Rattle.server_documents.specs.declared.held.Held.{Held as HeldValue};
 
-use crate::held::Held;
+use crate::held::{Held, ModuleText, texts_of};
+use crate::notices::{dues_of, names_of, with_sent};
+use crate::opened::{Named, Open};
 use doc_edit::{EditError, apply};
+use lsp_answers::{AnswerFault, Due};
 use lsp_wire::{Change, Note};
 use server_uris::{Root, document_root, module_of};
 use std::alloc::Global;
 use std::collections::BTreeMap;
 use std::marker::Model;
+use std::mem;
 use tla_text::{Text, TextError};
 use tool_list::{Chars, List, Memory};
 
@@ -27,60 +37,6 @@ use tool_list::{Chars, List, Memory};
 const MOST_MODULES: u64 = 1024;
 
 const MOST_BYTES: u64 = 1 << 25;
-
-/// Why a document was not changed.
-#[derive(Clone, Copy, Debug, PartialEq, Eq)]
-pub enum ChangeFault {
-    /// The text would have more than 2^25 bytes after a change: so many after the first such.
-    TooLarge { bytes: u64 },
-    /// There was no room.
-    Memory,
-}
-
-impl From<Memory> for ChangeFault {
-    ghost use Rattle.server_documents.specs.declared.documents.ChangeFault.{ChangeFault};
-    ghost use Rattle.std.specs.Prelude.{◌≡◌};
-
-    ghost from_gives = { λ _ e. e ≡ ChangeFault.Memory };
-
-    fn from(_: Memory) -> Self {
-        ChangeFault::Memory
-    }
-}
-
-// An open document: its URI as it was spelled, and the notes last sent for it.
-struct Open {
-    uri: Chars,
-    sent: Option<List<Note>>,
-}
-
-// By hand, so that a proof meets one call wherever a value ends.
-impl Drop for Open {
-    fn drop(self) {
-        let Open { uri: _, sent: _ } = self;
-    }
-}
-
-// A document whose notice is due.
-struct Named {
-    name: Chars,
-    uri: Chars,
-}
-
-// By hand, so that a proof meets one call wherever a value ends.
-impl Drop for Named {
-    fn drop(self) {
-        let Named { name: _, uri: _ } = self;
-    }
-}
-
-impl Model for Named {
-    ghost use Rattle.lsp_answers.specs.States as states;
-
-    ghost Value = { states.Named };
-
-    ghost view = { λ named. record { name = named.name; uri = named.uri } };
-}
 
 /// The texts of a root's modules and the open documents. Contracts see them as a state that holds no
 /// folder.
@@ -220,7 +176,7 @@ fn document_text<'a>(texts: &'a BTreeMap<Chars, Held>, name: &Chars) -> Option<&
 }
 
 // A text after changes, unless one of these is backward.
-fn changed(alloc: Global, text: &Text, changes: &List<Change>) -> Result<Option<Text>, ChangeFault>
+fn changed(alloc: Global, text: &Text, changes: &List<Change>) -> Result<Option<Text>, AnswerFault>
     requires { length text.now < 2 ^ 31 }
     ensures text { IfOk result (λ changed. changed
         ≡ in_held.text_after (first_backward changes.now) text.now changes.now) }
@@ -233,8 +189,8 @@ fn changed(alloc: Global, text: &Text, changes: &List<Change>) -> Result<Option<
     match apply(alloc, &mut changed, changes) {
         Ok(()) => Ok(Some(changed)),
         Err(EditError::BackwardRange { .. }) => Ok(None),
-        Err(EditError::TooLarge { bytes }) => Err(ChangeFault::TooLarge { bytes }),
-        Err(EditError::Memory) => Err(ChangeFault::Memory),
+        Err(EditError::TooLarge { bytes }) => Err(AnswerFault::Limit { said: bytes }),
+        Err(EditError::Memory) => Err(AnswerFault::Memory),
     }
 }
 
@@ -258,6 +214,16 @@ impl Documents {
         self.root.as_ref()
     }
 
+    /// The path of the folder that was read, if one was.
+    pub fn path(&self) -> Option<&str>
+        ensures { option_copied result ≡ in_documents.path_of self.now }
+    {
+        match &self.root {
+            Some(root) => root.path(),
+            None => None,
+        }
+    }
+
     /// Takes the client's root, in the place of what is there. No text and no document changes.
     pub fn set_root(&mut self, root: Root)
         ensures { self.new ≡ in_held.with_root self.old root }
@@ -275,11 +241,41 @@ impl Documents {
         }
     }
 
+    /// All texts, in byte order of their names.
+    pub fn texts(&self, alloc: Global) -> Result<List<ModuleText<'_>>, Memory>
+        ensures texts { IfOk result (λ texts. texts ≡ self.now.texts) }
+        ensures order { IfOk result (λ _. IsStrictlySortedBy (slice_cmp nat_cmp)
+            (map (λ t. t.name) self.now.texts)) }
+    {
+        // The proof needs that the names are in order.
+        let _len = self.texts.len();
+        texts_of(alloc, &self.texts)
+    }
+
+    /// The text of a module's document, if it is open.
+    pub fn document(&self, name: &Chars) -> Option<&Text>
+        ensures { IsTrue (is_some (in_documents.opened_as self.now name.now))
+            → option_copied result ≡ in_documents.text_of self.now name.now }
+    {
+        document_text(&self.texts, name)
+    }
+
     /// Whether the document of a module is open.
     pub fn is_open(&self, name: &Chars) -> bool
         ensures { result ≡ is_some (in_documents.opened_as self.now name.now) }
     {
         self.opened.contains_key(name)
+    }
+
+    /// The URI of a module's document as it was spelled, if it is open.
+    pub fn opened_uri(&self, name: &Chars) -> Option<&Chars>
+        ensures { option_copied result
+            ≡ option_map (λ o. o.uri) (in_documents.opened_as self.now name.now) }
+    {
+        match self.opened.get(name) {
+            Some(document) => Some(&document.uri),
+            None => None,
+        }
     }
 
     /// The limit that the texts pass, if one: the number of the modules where these are more than 1,024,
@@ -385,14 +381,15 @@ impl Documents {
     }
 
     /// Makes all changes of an open document, or none where one of these is backward, and its notice is
-    /// due. A document that is not open is ignored. `TooLarge` comes exactly where none is backward and
-    /// the text would have more than 2^25 bytes after some change. After a fault all is as before.
+    /// due. A document that is not open is ignored. `Limit` comes exactly where none is backward and the
+    /// text would have more than 2^25 bytes after some change, and says how many after the first such.
+    /// After a fault all is as before.
     pub fn change(
         &mut self,
         alloc: Global,
         uri: &str,
         changes: &List<Change>,
-    ) -> Result<(), ChangeFault>
+    ) -> Result<(), AnswerFault>
         ensures changed { OnOk result (self.new
             ≡ in_documents.after_change self.old uri.now changes.now) }
         ensures short { OnOk result (first_too_long
@@ -417,5 +414,28 @@ impl Documents {
         put_text(&mut self.texts, &name, Held::Document(changed))?;
         self.due = Some(Named { name, uri });
         Ok(())
+    }
+    /// The modules of the open documents, in byte order.
+    pub fn opened(&self, alloc: Global) -> Result<List<Chars>, Memory>
+        ensures { IfOk result (λ names. names ≡ map (λ o. o.name) self.now.opened) }
+    {
+        names_of(alloc, &self.opened)
+    }
+
+    /// The notices to send, by the notes of the open documents' modules in byte order of these. They then
+    /// count as sent.
+    pub fn send(&mut self, alloc: Global, notes: &[List<Note>]) -> Result<List<Due>, Memory>
+        ensures dues { IfOk result (λ dues. (notes_of : ListOf ℕ → ListOf NoteValue)
+            → notes.now ≡ map (λ o. notes_of o.name) self.old.opened
+            → dues ≡ notices notes_of self.old.due self.old.opened) }
+        ensures sent { OnOk result ((notes_of : ListOf ℕ → ListOf NoteValue)
+            → notes.now ≡ map (λ o. notes_of o.name) self.old.opened
+            → self.new ≡ in_notices.after_notices notes_of self.old) }
+    {
+        let opened = mem::replace(&mut self.opened, BTreeMap::new(alloc));
+        let due = mem::replace(&mut self.due, None);
+        let dues = dues_of(alloc, &opened, due, notes)?;
+        self.opened = with_sent(alloc, opened, notes)?;
+        Ok(dues)
     }
 }

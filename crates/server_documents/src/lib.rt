@@ -7,5 +7,8 @@
 mod documents;
 mod held;
 pub mod laws;
+mod notices;
+mod opened;
 
-pub use documents::{ChangeFault, Documents};
+pub use documents::Documents;
+pub use held::ModuleText;
