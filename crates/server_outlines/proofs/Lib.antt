@@ -1,0 +1,4 @@
+pub mod Leading
+pub mod Listing
+pub mod Nodes
+pub mod Showing
