@@ -1,1 +1,2 @@
-mod Closed
+pub mod Closed
+pub mod RootReads
