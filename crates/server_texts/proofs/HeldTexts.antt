@@ -16,7 +16,7 @@ use Rattle.server_texts.specs.Notes.{notes_of}
 use Rattle.server_texts.specs.Server.{server_meaning}
 use Rattle.server_uris.specs.Uris.{module_of}
 use Rattle.server_texts.proofs.ByName.{absent, all-put, all-without, found-only, put-found, put-others, without-apart, without-none, without-others}
-use Rattle.server_texts.proofs.Stepping.{kept-by, opened_name, root-opened, text_name}
+use Rattle.server_texts.proofs.Stepping.{file-keeps, kept-by, opened_name, root-opened, text_name, told-keeps}
 
 -- ---- the text of a name
 
@@ -80,8 +80,8 @@ from-texts : (s : State) (name : List ℕ) (path : Option (List ℕ)) → AreOth
 from-texts s name None others h = text-texts s name None others h
 from-texts s name (Some path) others h = text-texts (called s) name (file_in (called s).folder path name) others h
 
-file-texts : (s : State) (name : List ℕ) → AreOthers name s.opened → HasTexts s → HasTexts (with_file s name)
-file-texts s name others h = from-texts s name (path_of s) others h
+file-texts : (s : State) (name : List ℕ) → HasTexts s → HasTexts (with_file s name)
+file-texts = file-keeps HasTexts (λ s name path apart h. from-texts s name path (absent opened_name name s.opened apart) h)
 
 opened-texts : (s : State) (uri text : List ℕ) (name : Option (List ℕ)) → HasTexts s → HasTexts (with_opened s uri text name)
 opened-texts s uri text None h = h
@@ -102,22 +102,13 @@ closed-texts : (s : State) (o : Option Opened) → HasTexts s → HasTexts (clos
 closed-texts s None h = h
 closed-texts s (Some o) h =
     let left : State = record s { opened = without (λ d. d.name) o.name s.opened } in
-    file-texts left o.name (without-apart opened_name o.name s.opened) (all-without opened_name (λ d. IsSome (text_of s d.name)) o.name s.opened h)
+    file-texts left o.name (all-without opened_name (λ d. IsSome (text_of s d.name)) o.name s.opened h)
 
 close-texts : (s : State) (uri : List ℕ) → HasTexts s → HasTexts (after_close s uri)
 close-texts s uri h = closed-texts s (opened_at s uri) h
 
-changed-texts : (s : State) (gone : Bool) (name : List ℕ) → AreOthers name s.opened → HasTexts s → HasTexts (file_changed s gone name)
-changed-texts s true name others h = text-texts s name None others h
-changed-texts s false name others h = file-texts s name others h
-
-counted-texts : (s : State) (gone there : Bool) (name : List ℕ) → is_some (opened_as s name) ≡ there → HasTexts s → HasTexts (cond there s (file_changed s gone name))
-counted-texts s gone true name is h = h
-counted-texts s gone false name is h = changed-texts s gone name (absent opened_name name s.opened is) h
-
 told-texts : (s : State) (gone : Bool) (name : Option (List ℕ)) → HasTexts s → HasTexts (file_told s gone name)
-told-texts s gone None h = h
-told-texts s gone (Some name) h = counted-texts s gone (is_some (opened_as s name)) name refl h
+told-texts = told-keeps HasTexts (λ s name apart h. text-texts s name None (absent opened_name name s.opened apart) h) file-texts
 
 texts-stay : (s : State) (notes : List ℕ → List Note) (os : List Opened) → Have s os → Have s (map (λ (o : Opened). record { name = o.name; uri = o.uri; sent = Some (notes o.name) }) os)
 texts-stay s notes [] h = tt

@@ -1,19 +1,19 @@
 -- Open documents stay the modules that their URIs are.
-use Rattle.std.proofs.Common.{◌≡◌, ℕ, Bool, true, false, cond, List, [], ◌∷◌, map, Option, Some, None, refl, sym, ap, ◌∙◌, subst}
-use Rattle.std.specs.Prelude.{is_some, option_and_then, option_map}
+use Rattle.std.proofs.Common.{◌≡◌, ℕ, Bool, List, [], ◌∷◌, map, Option, Some, None, refl, sym, ap, ◌∙◌, subst}
+use Rattle.std.specs.Prelude.{option_and_then, option_map}
 use Rattle.std.specs.List.{AllByRecursion}
 use Rattle.std.specs.Option.{IfSome, option_or}
 use Rattle.lsp_wire.specs.declared.types.Change.{Change}
 use Rattle.lsp_wire.specs.declared.types.Note.{Note}
 use Rattle.lsp_answers.specs.States.{State, Root, Opened, Named, after_dues, judged_root}
 use Rattle.doc_edit.specs.Edits.{first_backward}
-use Rattle.server_documents.specs.Documents.{after_change, after_close, after_open, called, closed_as, edited_at, edited_if, file_changed, file_in, file_told, from_folder, opened_as, opened_at, path_of, rooted, text_of, with_changes, with_file, with_its_text, with_opened, with_text, without, Edited}
+use Rattle.server_documents.specs.Documents.{after_change, after_close, after_open, called, closed_as, edited_at, edited_if, file_in, file_told, from_folder, opened_as, opened_at, rooted, text_of, with_changes, with_file, with_its_text, with_opened, with_text, without, Edited}
 use Rattle.server_texts.specs.Kept.{HasMembers, IsKept}
 use Rattle.server_texts.specs.Notes.{notes_of}
 use Rattle.server_texts.specs.Server.{server_meaning}
 use Rattle.server_uris.specs.Uris.{document_root, module_of}
 use Rattle.server_texts.proofs.ByName.{all-put, all-without, found-holds}
-use Rattle.server_texts.proofs.Stepping.{kept-by, opened_name, root-due, root-opened}
+use Rattle.server_texts.proofs.Stepping.{file-keeps, kept-by, opened_name, root-due, root-opened, told-keeps}
 
 -- a document is the module that its URI is
 abbrev IsMember : Option Root → Opened → Type 0
@@ -42,7 +42,7 @@ from-members s name (Some path) h =
     text-members (called s) name (file_in (called s).folder path name) (record { opened = h.opened; due = h.due })
 
 file-members : (s : State) (name : List ℕ) → HasMembers s → HasMembers (with_file s name)
-file-members s name h = from-members s name (path_of s) h
+file-members = file-keeps (λ s. HasMembers s) (λ s name path apart h. from-members s name path h)
 
 -- the root stays
 text-root : (s : State) (name : List ℕ) (bytes : Option (List ℕ)) → (with_text s name bytes).root ≡ s.root
@@ -52,6 +52,9 @@ text-root s name (Some bytes) = refl
 from-root : (s : State) (name : List ℕ) (path : Option (List ℕ)) → (from_folder s name path).root ≡ s.root
 from-root s name None = text-root s name None
 from-root s name (Some path) = text-root (called s) name (file_in (called s).folder path name)
+
+file-root : (s : State) (name : List ℕ) → (with_file s name).root ≡ s.root
+file-root s name = file-keeps (λ t. t.root ≡ s.root) (λ t name path apart e. from-root t name path ∙ e) s name refl
 
 -- ---- documents
 
@@ -114,7 +117,7 @@ closed-members s (Some o) is h =
     let read : HasMembers (with_file left o.name) = file-members left o.name (record { opened = all-without opened_name (IsMember s.root) o.name s.opened h.opened; due = h.due }) in
     record {
       opened = read.opened;
-      due = ap (λ r. module_of r o.uri) (from-root left o.name (path_of left)) ∙ is;
+      due = ap (λ r. module_of r o.uri) (file-root left o.name) ∙ is;
     }
 
 close-members : (s : State) (uri : List ℕ) → HasMembers s → HasMembers (after_close s uri)
@@ -123,17 +126,8 @@ close-members s uri h =
 
 -- ---- files
 
-changed-members : (s : State) (gone : Bool) (name : List ℕ) → HasMembers s → HasMembers (file_changed s gone name)
-changed-members s true name h = text-members s name None h
-changed-members s false name h = file-members s name h
-
-counted-members : (s : State) (gone there : Bool) (name : List ℕ) → HasMembers s → HasMembers (cond there s (file_changed s gone name))
-counted-members s gone true name h = h
-counted-members s gone false name h = changed-members s gone name h
-
 told-members : (s : State) (gone : Bool) (name : Option (List ℕ)) → HasMembers s → HasMembers (file_told s gone name)
-told-members s gone None h = h
-told-members s gone (Some name) h = counted-members s gone (is_some (opened_as s name)) name h
+told-members = told-keeps (λ s. HasMembers s) (λ s name apart h. text-members s name None h) file-members
 
 -- ---- notices
 

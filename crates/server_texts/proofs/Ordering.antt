@@ -1,17 +1,17 @@
 -- Each step keeps texts and open documents in byte order of names.
-use Rattle.std.proofs.Common.{◌≡◌, ℕ, Bool, true, false, cond, List, [], ◌∷◌, map, Option, Some, None, refl, sym, ap, subst}
-use Rattle.std.specs.Prelude.{is_some, option_and_then}
+use Rattle.std.proofs.Common.{◌≡◌, ℕ, Bool, List, [], ◌∷◌, map, Option, Some, None, refl, sym, ap, subst}
+use Rattle.std.specs.Prelude.{option_and_then}
 use Rattle.lsp_wire.specs.declared.types.Change.{Change}
 use Rattle.lsp_wire.specs.declared.types.Note.{Note}
 use Rattle.lsp_answers.specs.States.{State, Root, Opened, after_dues, judged_root}
 use Rattle.doc_edit.specs.Edits.{after_changes}
-use Rattle.server_documents.specs.Documents.{after_change, after_close, after_open, after_root, called, closed_as, edited_at, file_changed, file_in, file_told, from_folder, listed, opened_as, opened_at, path_of, rooted, with_changes, with_client_root, with_file, with_opened, with_text, without, Edited}
+use Rattle.server_documents.specs.Documents.{after_change, after_close, after_open, after_root, called, closed_as, edited_at, file_in, file_told, from_folder, listed, opened_at, rooted, with_changes, with_client_root, with_file, with_opened, with_text, without, Edited}
 use Rattle.server_texts.specs.Kept.{AreInByteOrder, HasNamesInOrder, IsKept}
 use Rattle.server_texts.specs.Notes.{notes_of}
 use Rattle.server_texts.specs.Server.{server_meaning}
 use Rattle.server_uris.specs.Uris.{client_root_of, module_of}
 use Rattle.server_texts.proofs.ByteOrder.{ordered-none, put-ordered, without-ordered}
-use Rattle.server_texts.proofs.Stepping.{kept-by, opened_name, root-keeps, text_name}
+use Rattle.server_texts.proofs.Stepping.{file-keeps, kept-by, opened_name, root-keeps, text_name, told-keeps}
 
 pub none-ordered : (s : State) → s.texts ≡ [] → s.opened ≡ [] → HasNamesInOrder s
 none-ordered s texts opened =
@@ -36,7 +36,7 @@ from-ordered s name (Some path) h =
     text-ordered (called s) name (file_in (called s).folder path name) (called-ordered s h)
 
 pub file-ordered : (s : State) (name : List ℕ) → HasNamesInOrder s → HasNamesInOrder (with_file s name)
-file-ordered s name h = from-ordered s name (path_of s) h
+file-ordered = file-keeps (λ s. HasNamesInOrder s) (λ s name path apart h. from-ordered s name path h)
 
 -- ---- the root
 
@@ -90,17 +90,8 @@ close-ordered s uri h = closed-ordered s (opened_at s uri) h
 
 -- ---- files
 
-changed-ordered : (s : State) (gone : Bool) (name : List ℕ) → HasNamesInOrder s → HasNamesInOrder (file_changed s gone name)
-changed-ordered s true name h = text-ordered s name None h
-changed-ordered s false name h = file-ordered s name h
-
-counted-ordered : (s : State) (gone there : Bool) (name : List ℕ) → HasNamesInOrder s → HasNamesInOrder (cond there s (file_changed s gone name))
-counted-ordered s gone true name h = h
-counted-ordered s gone false name h = changed-ordered s gone name h
-
 told-ordered : (s : State) (gone : Bool) (name : Option (List ℕ)) → HasNamesInOrder s → HasNamesInOrder (file_told s gone name)
-told-ordered s gone None h = h
-told-ordered s gone (Some name) h = counted-ordered s gone (is_some (opened_as s name)) name h
+told-ordered = told-keeps (λ s. HasNamesInOrder s) (λ s name apart h. text-ordered s name None h) file-ordered
 
 -- ---- notices
 
