@@ -1,0 +1,70 @@
+// What is found of the modules of a root.
+ghost use Rattle.std.specs.Prelude.{◌≡◌, ◌≤◌, IfOk, map};
+ghost use Rattle.std.specs.Cmp.Lexicographic.{slice_cmp};
+ghost use Rattle.std.specs.List.Sorted.{IsStrictlySortedBy};
+ghost use Rattle.std.specs.Ordering.{nat_cmp};
+ghost use Rattle.lsp_answers.specs.States.{bytes_of, most_bytes};
+ghost use Rattle.server_texts.specs.Notes as in_notes;
+ghost use Rattle.workspace.specs.Found.{AreFound, found_of};
+
+use family_check::{Findings, find_family};
+use family_facts::File;
+use server_documents::{Documents, ModuleText};
+use server_locations::FoundModule;
+use std::alloc::Global;
+use step_count::Steps;
+use tool_list::{List, Memory};
+
+// The file that a text is.
+fn file_of(alloc: Global, text: &ModuleText<'_>) -> Result<File, Memory>
+    ensures { IfOk result (λ file. file ≡ in_notes.file_of_text text.now) }
+{
+    Ok(File {
+        name: text.name().copied()?,
+        bytes: List::from_vec(text.bytes().iter().copied().collect(alloc)?),
+    })
+}
+
+// The files that texts are.
+fn files_of(alloc: Global, texts: &[ModuleText<'_>]) -> Result<List<File>, Memory>
+    ensures { IfOk result (λ files. files ≡ in_notes.files_of texts.now) }
+{
+    let mut files = List::new(alloc);
+    for text in texts {
+        files.push(file_of(alloc, text)?)?;
+    }
+    Ok(files)
+}
+
+/// What is found of texts, over the built-in modules.
+pub fn find_texts<L>(
+    alloc: Global,
+    texts: &[ModuleText<'_>],
+    steps: &mut Steps<L>,
+) -> Result<Findings, Memory>
+    requires order { IsStrictlySortedBy (slice_cmp nat_cmp) (map (λ t. t.name) texts.now) }
+    requires few { bytes_of texts.now ≤ most_bytes }
+    ensures { IfOk result (AreFound texts.now) }
+{
+    let files = files_of(alloc, texts)?;
+    let found = find_family(alloc, files.as_slice(), steps)?;
+    Ok(found)
+}
+
+/// What is found of the modules of texts, in their order.
+pub fn found_modules<'a>(
+    alloc: Global,
+    texts: &[ModuleText<'a>],
+    found: &'a Findings,
+) -> Result<List<FoundModule<'a>>, Memory>
+    ensures { IfOk result (λ modules. modules ≡ map (found_of found.now) texts.now) }
+{
+    let mut modules = List::new(alloc);
+    for text in texts {
+        let name = text.name();
+        let uses = found.uses(name.as_str());
+        let decls = found.decls(name.as_str());
+        modules.push(FoundModule::new(name, text.bytes(), uses, decls))?;
+    }
+    Ok(modules)
+}
