@@ -7,6 +7,7 @@ mod instances;
 mod modules;
 mod nested;
 mod scopes;
+mod sessions;
 
 use sany_run::run;
 use std::alloc::Global;
@@ -69,7 +70,16 @@ fn modules_of(alloc: Global, modules: &[(&str, &str)]) -> Result<List<FileBytes>
 
 // The folder `w` with these files, which fails at the call of this number.
 fn folder_of(alloc: Global, files: List<FileBytes>, fails: u32) -> Result<MemoryFolder, Memory> {
-    let path = Chars::from_str(alloc, "w")?;
+    folder_at(alloc, "w", files, fails)
+}
+
+fn folder_at(
+    alloc: Global,
+    path: &str,
+    files: List<FileBytes>,
+    fails: u32,
+) -> Result<MemoryFolder, Memory> {
+    let path = Chars::from_str(alloc, path)?;
     let mut map = List::new(alloc);
     map.push(FolderFiles { path, files })?;
     Ok(MemoryFolder::new(map, only(alloc, fails)?))
@@ -93,10 +103,21 @@ fn run_over(
     alloc: Global,
     words: &[&str],
     folder: MemoryFolder,
+    output: MemorySink,
+) -> Result<Ran, Memory> {
+    run_with(alloc, words, folder, Vec::new(alloc), output)
+}
+
+// The same with an input of these bytes.
+fn run_with(
+    alloc: Global,
+    words: &[&str],
+    folder: MemoryFolder,
+    input: Vec<u8>,
     mut output: MemorySink,
 ) -> Result<Ran, Memory> {
     let words = words_of(alloc, words)?;
-    let mut input = QuietSource::new(List::new(alloc));
+    let mut input = QuietSource::new(List::from_vec(input));
     let mut steps = Steps::new(());
     let (status, _) = run(alloc, &words, folder, &mut input, &mut output, &mut steps);
     Ok(Ran {
@@ -315,4 +336,30 @@ fn numbered(alloc: Global, count: u32) -> Result<List<FileBytes>, Memory> {
         files.push(numbered_file(alloc, number)?)?;
     }
     Ok(files)
+}
+
+// The frames of these contents, one behind the other.
+fn frames_of(alloc: Global, contents: &[&str]) -> Result<Vec<u8>, Memory> {
+    let mut bytes = Vec::new(alloc);
+    for content in contents {
+        let length = content.len();
+        let frame = format!(in alloc; "Content-Length: {length}\r\n\r\n{content}")?;
+        bytes.extend_from_slice(frame.as_bytes())?;
+    }
+    Ok(bytes)
+}
+
+#[test]
+fn answers_its_client(rt: HostRuntime) -> Result<(), Fail> {
+    let alloc = rt.alloc();
+    for (contents, answers, status) in &sessions::SESSIONS {
+        let folder = folder_at(alloc, "/w", modules_of(alloc, &sessions::FILES)?, 0)?;
+        let input = frames_of(alloc, *contents)?;
+        let output = MemorySink::new(alloc, 4096, 7, List::new(alloc))?;
+        let ran = run_with(alloc, &["serve"], folder, input, output)?;
+        let written = frames_of(alloc, *answers)?;
+        assert_eq!(rt; ran.output.bytes(), written.as_slice());
+        assert_eq!(rt; ran.status, *status);
+    }
+    Ok(())
 }

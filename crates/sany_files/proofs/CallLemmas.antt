@@ -6,7 +6,7 @@ use Rattle.std.proofs.lemmas.List.Sums.{sum_by-append}
 use Rattle.std.proofs.lemmas.Bool.{le-ltb, lt-ltb}
 use Rattle.tool_io.specs.Folder.{Told, after_call, names_at, read_at}
 use Rattle.family_facts.specs.declared.verdict.File.{File}
-use Rattle.file_names.specs.Files.{MOST, file_of, modules_of_listing}
+use Rattle.file_names.specs.Files.{MOST_FILE_BYTES, file_of, modules_of_listing}
 use Rattle.sany_files.specs.Calls.{IsLeftAfter}
 use Rattle.sany_files.specs.Calls.{after_calls, calls_made, calls_of_folder, calls_of_request, next_len, read_len, reads_made, reads_of_listing}
 use Rattle.sany_files.specs.Files.{byte_count, module_names, reads, with_read, MOST_BYTES, MOST_MODULES}
@@ -43,7 +43,7 @@ module _ (bytes : ℕ) (t : Told) (path name : List ℕ) (names : List (List ℕ
   made-next small = rw (le-ltb MOST_BYTES (bytes + next_len t path name) small) refl
 
   counted : (some : List (List ℕ)) → byte_count (reads t path (name ∷ some)) ≡ next_len t path name + byte_count (reads (after_call t) path some)
-  counted some = count-cons name (read_at (after_call t) path (file_of name) MOST) (reads (after_call t) path some)
+  counted some = count-cons name (read_at (after_call t) path (file_of name) MOST_FILE_BYTES) (reads (after_call t) path some)
 
 -- all are read where the limit is not passed
 made-all : (bytes : ℕ) (t : Told) (path : List ℕ) (names : List (List ℕ)) → bytes + byte_count (reads t path names) ≤ MOST_BYTES → reads_made bytes t path names ≡ length names
@@ -102,7 +102,7 @@ part-read (Some t) between after path names i files total lt isbetween part inv 
 -- too many bytes
 pub told-over : (before between after : Option Told) (path : List ℕ) (names : List (List ℕ)) (i : ℕ) (d name : List ℕ) (bytes : Option (List ℕ)) (files : List File) (total total' : ℕ) →
     i < length names → name ≡ get_or names i d → between ≡ option_map (λ t. after_calls i t) before → after ≡ option_map after_call between →
-    IfSome before (λ t. files ≡ reads t path (take i names)) → IfSome after (λ t. bytes ≡ read_at t path (file_of name) MOST) → total ≡ byte_count files → total ≤ MOST_BYTES →
+    IfSome before (λ t. files ≡ reads t path (take i names)) → IfSome after (λ t. bytes ≡ read_at t path (file_of name) MOST_FILE_BYTES) → total ≡ byte_count files → total ≤ MOST_BYTES →
     total' ≡ min (total + read_len bytes) (2 ^ 64 - 1) → MOST_BYTES < total' → after ≡ option_map (after_reads path names) before
 told-over None between after path names i d name bytes files total total' lt isname isbetween isafter inv isbytes istotal small istotal' over = isafter ∙ ap (λ o. option_map after_call o) isbetween
 told-over (Some t) between after path names i d name bytes files total total' lt isname isbetween isafter inv isbytes istotal small istotal' over =

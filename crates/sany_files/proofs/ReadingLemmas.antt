@@ -7,7 +7,7 @@ use Rattle.std.proofs.lemmas.List.Sums.{sum_by-append}
 use Rattle.std.proofs.lemmas.Bool.{lt-ltb}
 use Rattle.tool_io.specs.Folder.{Told, after_call, read_at}
 use Rattle.family_facts.specs.declared.verdict.File.{File}
-use Rattle.file_names.specs.Files.{MOST, file_of, module_of_file, modules_of_file, modules_of_listing}
+use Rattle.file_names.specs.Files.{MOST_FILE_BYTES, file_of, module_of_file, modules_of_file, modules_of_listing}
 use Rattle.sany_files.specs.Calls.{after_calls, read_len}
 use Rattle.sany_files.specs.Files.{byte_count, reads, with_read, MOST_BYTES}
 use Rattle.sany_files.specs.Reading.{within}
@@ -29,30 +29,30 @@ with_read-append name (Some bytes) fs gs = refl
 reads-append : (t : Told) (path : List ℕ) (xs ys : List (List ℕ)) → reads t path (xs ++ ys) ≡ reads t path xs ++ reads (after_calls (length xs) t) path ys
 reads-append t path [] ys = refl
 reads-append t path (x ∷ xs) ys =
-    ap (λ fs. with_read x (read_at (after_call t) path (file_of x) MOST) fs) (reads-append (after_call t) path xs ys)
-    ∙ with_read-append x (read_at (after_call t) path (file_of x) MOST) (reads (after_call t) path xs) (reads (after_calls (length xs) (after_call t)) path ys)
+    ap (λ fs. with_read x (read_at (after_call t) path (file_of x) MOST_FILE_BYTES) fs) (reads-append (after_call t) path xs ys)
+    ∙ with_read-append x (read_at (after_call t) path (file_of x) MOST_FILE_BYTES) (reads (after_call t) path xs) (reads (after_calls (length xs) (after_call t)) path ys)
 
 reads-one : (t : Told) (path : List ℕ) (names : List (List ℕ)) (i : ℕ) (d : List ℕ) → i < length names →
-    reads t path (take (i + 1) names) ≡ reads t path (take i names) ++ with_read (get_or names i d) (read_at (after_call (after_calls i t)) path (file_of (get_or names i d)) MOST) []
+    reads t path (take (i + 1) names) ≡ reads t path (take i names) ++ with_read (get_or names i d) (read_at (after_call (after_calls i t)) path (file_of (get_or names i d)) MOST_FILE_BYTES) []
 reads-one t path names i d lt =
     let count : length (take i names) ≡ i = length-take-le i names (omega arith) in
     ap (λ ns. reads t path ns) (take_more names i d lt)
     ∙ (reads-append t path (take i names) (get_or names i d ∷ [])
-    ∙ ap (λ n. reads t path (take i names) ++ with_read (get_or names i d) (read_at (after_call (after_calls n t)) path (file_of (get_or names i d)) MOST) []) count)
+    ∙ ap (λ n. reads t path (take i names) ++ with_read (get_or names i d) (read_at (after_call (after_calls n t)) path (file_of (get_or names i d)) MOST_FILE_BYTES) []) count)
 
 -- one more read
 pub reads-more : (before between after : Option Told) (path : List ℕ) (names : List (List ℕ)) (i : ℕ) (d name : List ℕ) (bytes : Option (List ℕ)) (files files' : List File) →
     i < length names → name ≡ get_or names i d → between ≡ option_map (λ t. after_calls i t) before → after ≡ option_map after_call between →
-    IfSome before (λ t. files ≡ reads t path (take i names)) → IfSome after (λ t. bytes ≡ read_at t path (file_of name) MOST) → files' ≡ files ++ with_read name bytes [] →
+    IfSome before (λ t. files ≡ reads t path (take i names)) → IfSome after (λ t. bytes ≡ read_at t path (file_of name) MOST_FILE_BYTES) → files' ≡ files ++ with_read name bytes [] →
     IfSome before (λ t. files' ≡ reads t path (take (i + 1) names))
 reads-more None between after path names i d name bytes files files' lt isname isbetween isafter inv isbytes isfiles = tt
 reads-more (Some t) between after path names i d name bytes files files' lt isname isbetween isafter inv isbytes isfiles =
     let now : after ≡ Some (after_call (after_calls i t)) = isafter ∙ ap (λ o. option_map after_call o) isbetween in
-    let read : bytes ≡ read_at (after_call (after_calls i t)) path (file_of name) MOST = subst (λ o. IfSome o (λ u. bytes ≡ read_at u path (file_of name) MOST)) now isbytes in
+    let read : bytes ≡ read_at (after_call (after_calls i t)) path (file_of name) MOST_FILE_BYTES = subst (λ o. IfSome o (λ u. bytes ≡ read_at u path (file_of name) MOST_FILE_BYTES)) now isbytes in
     isfiles
     ∙ (ap (λ f. f ++ with_read name bytes []) inv
     ∙ (ap (λ b. reads t path (take i names) ++ with_read name b []) read
-    ∙ (ap (λ n. reads t path (take i names) ++ with_read n (read_at (after_call (after_calls i t)) path (file_of n) MOST) []) isname ∙ sym (reads-one t path names i d lt))))
+    ∙ (ap (λ n. reads t path (take i names) ++ with_read n (read_at (after_call (after_calls i t)) path (file_of n) MOST_FILE_BYTES) []) isname ∙ sym (reads-one t path names i d lt))))
 
 -- the bytes of one more file
 pub count-read : (name : List ℕ) (bytes : Option (List ℕ)) → byte_count (with_read name bytes []) ≡ read_len bytes
@@ -74,7 +74,7 @@ within-none files over = rw (lt-ltb MOST_BYTES (byte_count files) over) refl
 -- too many bytes
 pub reads-over : (before between after : Option Told) (path : List ℕ) (names : List (List ℕ)) (i : ℕ) (d name : List ℕ) (bytes : Option (List ℕ)) (files : List File) (total total' : ℕ) →
     i < length names → name ≡ get_or names i d → between ≡ option_map (λ t. after_calls i t) before → after ≡ option_map after_call between →
-    IfSome before (λ t. files ≡ reads t path (take i names)) → IfSome after (λ t. bytes ≡ read_at t path (file_of name) MOST) → total ≡ byte_count files →
+    IfSome before (λ t. files ≡ reads t path (take i names)) → IfSome after (λ t. bytes ≡ read_at t path (file_of name) MOST_FILE_BYTES) → total ≡ byte_count files →
     total' ≡ min (total + read_len bytes) (2 ^ 64 - 1) → MOST_BYTES < total' → IfSome before (λ t. None ≡ within (reads t path names))
 reads-over None between after path names i d name bytes files total total' lt isname isbetween isafter inv isbytes istotal istotal' over = tt
 reads-over (Some t) between after path names i d name bytes files total total' lt isname isbetween isafter inv isbytes istotal istotal' over =

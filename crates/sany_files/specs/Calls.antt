@@ -3,7 +3,7 @@ use Rattle.std.specs.Prelude.{◌≡◌, ◌≤◌, ℕ, zero, suc, ◌+◌, Lis
 use Rattle.tool_io.specs.Folder.{Told, after_call, read_at}
 use Rattle.sany_words.specs.Words.{request_of}
 use Rattle.sany_words.specs.declared.request.Request.{Request}
-use Rattle.file_names.specs.Files.{MOST, file_of}
+use Rattle.file_names.specs.Files.{MOST_FILE_BYTES, file_of}
 use Rattle.sany_files.specs.Files.{module_names, MOST_BYTES, MOST_MODULES}
 
 -- what a folder holds after so many calls
@@ -18,7 +18,7 @@ read_len (Some bytes) = length bytes
 
 -- how many bytes of a module's file the next call reads
 abbrev pub next_len : Told → List ℕ → List ℕ → ℕ
-next_len t folder name = read_len (read_at (after_call t) folder (file_of name) MOST)
+next_len t folder name = read_len (read_at (after_call t) folder (file_of name) MOST_FILE_BYTES)
 
 -- how many of the modules are read after so many bytes: the least number with which the bytes pass the limit, or all
 abbrev pub reads_made : ℕ → Told → List ℕ → List (List ℕ) → ℕ

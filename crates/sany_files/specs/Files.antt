@@ -6,7 +6,7 @@ use Rattle.family_facts.specs.declared.verdict.File.{File}
 use Rattle.gen_texts.specs.Generated.{generated}
 use Rattle.sany_words.specs.Words.{request_of}
 use Rattle.sany_words.specs.declared.request.Request.{Request}
-use Rattle.file_names.specs.Files.{MOST, file_of, modules_of_listing}
+use Rattle.file_names.specs.Files.{MOST_FILE_BYTES, file_of, modules_of_listing}
 
 -- the modules of a folder, by one listing of it
 abbrev pub module_names : Told → List ℕ → List (List ℕ)
@@ -20,7 +20,7 @@ with_read name (Some bytes) files = record { name = name; bytes = bytes } ∷ fi
 -- the files that one read of each module gives, in order
 abbrev pub reads : Told → List ℕ → List (List ℕ) → List File
 reads t folder [] = []
-reads t folder (name ∷ names) = with_read name (read_at (after_call t) folder (file_of name) MOST) (reads (after_call t) folder names)
+reads t folder (name ∷ names) = with_read name (read_at (after_call t) folder (file_of name) MOST_FILE_BYTES) (reads (after_call t) folder names)
 
 -- the files of a folder: one listing, and one read of each module
 abbrev pub files_of : Told → List ℕ → List File
@@ -28,9 +28,9 @@ files_of t folder = reads (after_call t) folder (module_names (after_call t) fol
 
 -- the files that are asked for: those of a folder, those that are made, or none
 abbrev pub files_of_request : Told → Option Request → List File
-files_of_request t None = []
 files_of_request t (Some (Request.Check folder)) = files_of t folder
 files_of_request t (Some (Request.Generate count)) = generated count
+files_of_request t _ = []
 
 -- the files that the words ask to check
 abbrev pub files_in : List (List ℕ) → Told → List File

@@ -12,7 +12,7 @@ ghost use Rattle.name_graph.specs.Family.{AreOnce};
 ghost use Rattle.sany_files.specs.Reading as reading;
 
 use family_facts::File;
-use file_names::{MOST, file_of};
+use file_names::{MOST_FILE_BYTES, file_of};
 use std::alloc::Global;
 use tool_io::{Folder, IoFault};
 use tool_list::{Chars, List, Memory};
@@ -31,13 +31,13 @@ fn read_module<F: Folder>(
     ensures part { OnErr result
         (IfSome (F.told folder.old) (λ t. IsLeftAfter 0 1 t (F.told folder.new))) }
     ensures bytes { IfOk result (λ bytes. IfSome (F.told folder.new) (λ t. bytes
-        ≡ read_at t path.now (file_names_in.file_of name.now) file_names_in.MOST)) }
+        ≡ read_at t path.now (file_names_in.file_of name.now) file_names_in.MOST_FILE_BYTES)) }
     ensures cause { HasCause (F.fault_count folder.old) (F.fault_count folder.new) result }
 {
     let Ok(file) = file_of(alloc, name) else {
         return Err(IoFault::Memory);
     };
-    folder.read(alloc, path, file.as_str(), MOST)
+    folder.read(alloc, path, file.as_str(), MOST_FILE_BYTES)
 }
 
 fn read_len(bytes: &Option<List<u8>>) -> u64

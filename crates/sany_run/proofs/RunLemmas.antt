@@ -1,14 +1,16 @@
 -- How a run answers.
-use Rattle.std.proofs.Common.{◌≡◌, ℕ, List, [], ◌∷◌, ◌++◌, Option, Some, None, Result, Ok, Err, Bool, true, false, IfOk, IfSome, ap, refl, sym, ◌∙◌, subst, if◌then◌else◌}
+use Rattle.std.proofs.Common.{arith, ◌≡◌, ℕ, List, [], ◌∷◌, ◌++◌, Option, Some, None, Result, Ok, Err, Bool, true, false, IfOk, IfSome, ap, refl, sym, ◌∙◌, subst, if◌then◌else◌}
 use Rattle.std.specs.Bool.{OnFalse, OnTrue}
 use Rattle.std.specs.Io.KnownBytes.{Appends}
 use Rattle.tool_io.specs.Folder.{Told}
+use Rattle.sany_files.specs.Calls.{IsLeftAfter}
 use Rattle.sany_files.specs.Files.{files_of, is_over_folder}
 use Rattle.sany_run.specs.declared.check.Outcome.{Outcome}
-use Rattle.sany_run.specs.Answers.{Answers, AppendsFront, is_fault}
+use Rattle.tool_output.specs.Output.{AppendsFront}
+use Rattle.sany_run.specs.Answers.{Answers, is_fault}
 use Rattle.sany_run.specs.Program.{LIMIT, outcome_of_files, outcome_of_folder}
 
-on_false : (b : Bool) (P : Type 0) → P → OnFalse b P
+pub on_false : (b : Bool) (P : Type 0) → P → OnFalse b P
 on_false true P p = tt
 on_false false P p = p
 
@@ -24,7 +26,7 @@ no_more : (bytes : List ℕ) → bytes ≡ bytes ++ []
 no_more [] = refl
 no_more (b ∷ bytes) = ap (λ x. b ∷ x) (no_more bytes)
 
-appends-nothing : (old : Option (List ℕ)) → Appends old old []
+pub appends-nothing : (old : Option (List ℕ)) → Appends old old []
 appends-nothing None = tt
 appends-nothing (Some x) = no_more x
 
@@ -68,6 +70,16 @@ module _ (path : List ℕ) where
   pub answers-nothing : (holds : Option Told) (status : ℕ) (old : Option (List ℕ)) → is_fault status ≡ true → IfSome holds (λ t. Answers (outcome_of_folder t path) status old old)
   answers-nothing None status old fault = tt
   answers-nothing (Some t) status old fault = wrote-nothing (outcome_of_folder t path) status old fault
+
+-- what holds of each content holds of a folder that tells
+pub told-all : (holds : Option Told) (P : Told → Type 0) → ((t : Told) → P t) → IfSome holds P
+told-all None P is = tt
+told-all (Some t) P is = is t
+
+-- a folder that no call was made of is left as it was
+pub left-alone : (holds : Option Told) (most : Told → ℕ) → IfSome holds (λ t. IsLeftAfter 0 (most t) t holds)
+left-alone None most = tt
+left-alone (Some t) most = record { calls = 0; many = omega arith; few = omega arith; left = refl }
 
 -- what holds in any case holds of what a folder tells
 pub of-told : {P : Type 0} (holds : Option Told) → P → IfSome holds (λ t. P)

@@ -1,8 +1,8 @@
 -- How a run answers.
-use Rattle.std.specs.Prelude.{◌≡◌, ◌≢◌, ℕ, List, ◌++◌, Bool, ◌||◌, ◌==◌, Option, if◌then◌else◌}
+use Rattle.std.specs.Prelude.{◌≡◌, ℕ, List, Bool, ◌||◌, ◌==◌, Option, if◌then◌else◌}
 use Rattle.std.specs.Bool.{OnFalse}
 use Rattle.std.specs.Io.KnownBytes.{Appends}
-use Rattle.tool_io.specs.Causes.{Rose}
+use Rattle.tool_output.specs.Output.{AppendsFront}
 use Rattle.sany_run.specs.declared.check.Outcome.{Outcome}
 
 -- a fault of the folder, a fault of the output, or want of memory
@@ -33,16 +33,7 @@ is_status status = is_answer status || status == 2
 abbrev pub least_calls : ℕ → ℕ
 least_calls status = if status == 3 then 1 else 0
 
--- known bytes grow by some bytes from the front
-abbrev pub AppendsFront : Option (List ℕ) → Option (List ℕ) → List ℕ → Type 0
-AppendsFront old new bytes = (front : List ℕ) × (rest : List ℕ) × (bytes ≡ front ++ rest) × Appends old new front
-
 -- The bytes written are from the front of the outcome's. A run without fault has its status and has written all its bytes.
 pub record Answers (outcome : Outcome) (status : ℕ) (old new : Option (List ℕ)) : Type 0 where
   pub front : AppendsFront old new outcome.bytes
   pub whole : OnFalse (is_fault status) ((status ≡ outcome.status) × Appends old new outcome.bytes)
-
--- this status comes only where the count rose by one, and otherwise the count stays
-pub record TellsFault (fault status before now : ℕ) : Type 0 where
-  pub rose : status ≡ fault → Rose before now
-  pub stays : status ≢ fault → now ≡ before

@@ -1,3 +1,3 @@
 pub mod Answers
-pub mod Output
 pub mod Program
+pub mod Serving

@@ -1,6 +1,6 @@
 -- What the program writes and answers: for the folder that the words ask to check, the report on its module files, unless a limit is
 -- passed; for modules that the words ask to make, the counts of their report and of their uses.
-use Rattle.std.specs.Prelude.{ℕ, List, [], Option, Some, None, if◌then◌else◌}
+use Rattle.std.specs.Prelude.{ℕ, List, [], Bool, true, false, Option, Some, if◌then◌else◌}
 use Rattle.tool_io.specs.Folder.{Told}
 use Rattle.family_facts.specs.Verdicts.{uses_on, verdicts_on}
 use Rattle.family_facts.specs.declared.verdict.File.{File}
@@ -44,12 +44,17 @@ counted verdicts use_count = record { status = report_status verdicts; bytes = c
 abbrev pub outcome_of_generated : ℕ → Outcome
 outcome_of_generated count = counted (verdicts_on (generated count)) (uses_on (generated count))
 
--- the outcome for what is asked for
+-- the words ask for the server
+abbrev pub is_serve : Option Request → Bool
+is_serve (Some Request.Serve) = true
+is_serve _ = false
+
+-- the outcome for what is asked for, if that is no server
 abbrev pub outcome_of_request : Told → Option Request → Outcome
-outcome_of_request t None = USAGE
 outcome_of_request t (Some (Request.Check folder)) = outcome_of_folder t folder
 outcome_of_request t (Some (Request.Generate count)) = outcome_of_generated count
+outcome_of_request t _ = USAGE
 
--- What the program writes and answers for these words and a folder that tells this.
+-- What the program writes and answers for these words and a folder that tells this, where it is not to serve.
 abbrev pub program : List (List ℕ) → Told → Outcome
 program words t = outcome_of_request t (request_of words)

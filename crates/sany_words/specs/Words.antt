@@ -60,10 +60,15 @@ request_with command argument =
     if bytes_eq command (codes "check") then Some (Request.Check argument)
     else (if bytes_eq command (codes "gen") then generate_if (count_in argument) else None)
 
--- each command needs an argument
+-- what a command without an argument asks for
+abbrev pub request_without : List ℕ → Option Request
+request_without command = if bytes_eq command (codes "serve") then Some Request.Serve else None
+
+-- what a command asks for
 abbrev pub request_by : Option (List ℕ) → Option (List ℕ) → Option Request
 request_by (Some command) (Some argument) = request_with command argument
-request_by _ _ = None
+request_by (Some command) None = request_without command
+request_by None argument = None
 
 -- a flag is set
 abbrev pub is_set : Option (List ℕ) → Bool

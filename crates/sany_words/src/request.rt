@@ -17,6 +17,8 @@ pub enum Request {
     Check(Chars),
     /// To make so many modules and check them.
     Generate(u16),
+    /// To answer the messages of a client (LSP).
+    Serve,
 }
 
 // The most modules that are made.
@@ -61,7 +63,17 @@ fn request_with(alloc: Global, command: &str, argument: &str) -> Result<Option<R
     }
 }
 
-// What a command asks for, which needs an argument.
+// What a command without an argument asks for.
+fn request_without(command: &str) -> Option<Request>
+    ensures { result ≡ words_of.request_without command.now }
+{
+    if command == "serve" {
+        return Some(Request::Serve);
+    }
+    None
+}
+
+// What a command asks for.
 fn request_by(
     alloc: Global,
     command: Option<&str>,
@@ -71,10 +83,13 @@ fn request_by(
         ≡ words_of.request_by (option_map (λ s. s.now) command.entry)
         (option_map (λ s. s.now) argument.entry)) }
 {
-    let (Some(command), Some(argument)) = (command, argument) else {
+    let Some(command) = command else {
         return Ok(None);
     };
-    request_with(alloc, command, argument)
+    match argument {
+        Some(argument) => request_with(alloc, command, argument),
+        None => Ok(request_without(command)),
+    }
 }
 
 // Whether a flag with this value is set.

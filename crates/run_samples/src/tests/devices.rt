@@ -14,7 +14,7 @@ pub const TEXT: &str = "---- MODULE A ----\nCONSTANT N, N\n====\n";
 const REPORT: &str = "A refused\n  2:13-2:14 E402\nmodules=1 refused=1\n";
 
 /// Runs over a folder with that file, and an output that takes ten bytes a call.
-pub static TRIALS: [Trial; 44] = [
+pub static TRIALS: [Trial; 46] = [
     (&[], 0, 0, 100, 2, ""),
     (&["check"], 0, 0, 100, 2, ""),
     (&["check", "w", "w"], 0, 0, 100, 2, ""),
@@ -22,8 +22,11 @@ pub static TRIALS: [Trial; 44] = [
     (&["check", "--help"], 0, 0, 100, 2, ""),
     (&["check", "w", "--facts"], 0, 0, 100, 2, ""),
     (&["--facts", "check", "w"], 0, 0, 100, 2, ""),
-    (&["serve"], 0, 0, 100, 2, ""),
     (&["serve", "w"], 0, 0, 100, 2, ""),
+    (&["serve", "--facts"], 0, 0, 100, 2, ""),
+    // The input ends without a shutdown.
+    (&["serve"], 0, 0, 100, 1, ""),
+    (&["--", "serve"], 0, 0, 100, 1, ""),
     (&["checks", "w"], 0, 0, 100, 2, ""),
     (&["gen"], 0, 0, 100, 2, ""),
     (&["gen", ""], 0, 0, 100, 2, ""),
