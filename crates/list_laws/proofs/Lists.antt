@@ -1,5 +1,5 @@
 -- What holds of the items of lists.
-use Rattle.std.proofs.Common.{◌≡◌, ℕ, zero, suc, ◌+◌, ◌<◌, ◌⊎◌, List, [], ◌∷◌, ◌++◌, Some, refl, sym, ap, ◌∙◌, inl, inr, length, drop, drop-cons, get_or, reverse, add-one, arith}
+use Rattle.std.proofs.Common.{◌≡◌, ℕ, zero, suc, ◌+◌, ◌<◌, ◌⊎◌, List, [], ◌∷◌, ◌++◌, Some, Bool, true, false, if◌then◌else◌, refl, sym, ap, ◌∙◌, inl, inr, length, drop, drop-cons, get_or, reverse, add-one, arith}
 use Rattle.std.specs.Prelude.{Contains, map, option_map, slice_get}
 use Rattle.std.specs.List.{AllByRecursion}
 use Rattle.std.proofs.lemmas.List.{reverse-append}
@@ -18,11 +18,21 @@ pub all-both : {A : Type 0} (P : A → Type 0) (a b : List A) → AllByRecursion
 all-both P [] b all more = more
 all-both P (x ∷ a) b all more = (all.0, all-both P a b all.1 more)
 
--- each place of a list has an item
+-- the same of three lists in a row
+pub all-three : {A : Type 0} (P : A → Type 0) (a b c : List A) → AllByRecursion P a → AllByRecursion P b → AllByRecursion P c → AllByRecursion P (a ++ b ++ c)
+all-three P a b c all more last = all-both P (a ++ b) c (all-both P a b all more) last
+
+-- and of one of two lists
+pub all-either : {A : Type 0} (P : A → Type 0) (b : Bool) (xs ys : List A) → AllByRecursion P xs → AllByRecursion P ys → AllByRecursion P (if b then xs else ys)
+all-either P true xs ys all more = all
+all-either P false xs ys all more = more
+
+-- what holds of all items holds of them where it is less
 pub all-weaker : {A : Type 0} (P Q : A → Type 0) → ((x : A) → P x → Q x) → (xs : List A) → AllByRecursion P xs → AllByRecursion Q xs
 all-weaker P Q weaker [] all = tt
 all-weaker P Q weaker (x ∷ xs) all = (weaker x all.0, all-weaker P Q weaker xs all.1)
 
+-- each place of a list has an item
 pub item-at : {A : Type 0} (xs : List A) (i : ℕ) → i < length xs → (x : A) × (slice_get xs i ≡ Some x)
 item-at [] i l = absurd (omega arith)
 item-at (x ∷ xs) zero l = (x, refl)

@@ -1,5 +1,5 @@
 -- What is found at names is found at lexemes that the module holds.
-use Rattle.std.proofs.Common.{ℕ, zero, suc, List, [], ◌∷◌, ◌++◌, Option, Some, None, Bool, true, false, is_some, map, if◌then◌else◌, arith}
+use Rattle.std.proofs.Common.{ℕ, zero, suc, List, [], ◌∷◌, ◌++◌, Option, Some, None, Bool, is_some, map, if◌then◌else◌, arith}
 use Rattle.std.specs.Prelude.{Contains}
 use Rattle.std.specs.List.{All, AllByRecursion}
 use Rattle.std.proofs.lemmas.List.Elements.{All-contains_itself}
@@ -10,14 +10,14 @@ use Rattle.tla_symbols.specs.declared.op.Op.TheVariants as Op
 use Rattle.tla_tree.specs.declared.form.Form.TheVariants as Form
 use Rattle.tla_tree.specs.Syntax.{Tree, Trees, Node, Nil, Cons}
 use Rattle.unit_grammar.specs.Units.{UnitTree, Variables, Constants, OperatorDefinition, FunctionDefinition, ModuleDefinition, Instance, Assumption, Theorem, ModuleBegin, ModuleUnits}
-use Rattle.list_laws.proofs.Lists.{all-both, all-left, all-right}
+use Rattle.list_laws.proofs.Lists.{all-both, all-either, all-left, all-right, all-three}
 use Rattle.tla_model.specs.declared.names.Finding.TheVariants.{Means, Unknown, Taken, Clashes, InstanceClashes, NotReplaceable, ReplacedTwice, Unreplaced, Implied}
 use Rattle.tla_model.specs.declared.names.Binder.{Binder}
 use Rattle.tla_model.specs.declared.Diagnostic.{Diagnostic}
 use Rattle.module_model.specs.Bindings.{faults}
 use Rattle.tla_model.specs.Contexts.{Context, bind, bind_all, meaning_of}
 use Rattle.tla_model.specs.declared.names.Binding.TheVariants as as_binding
-use Rattle.tla_model.specs.Entities.{Meaning, Binding, Text, binding_in, binding_of, bound_as, all_placed, placed, defined, follows_first, is_group, name_of, declared_in, declared_round, declared_among, variables}
+use Rattle.tla_model.specs.Entities.{Meaning, Text, all_placed, defined, name_of, variables}
 use Rattle.module_model.specs.Exports.{Behind, Exports, ModuleView, behind_meaning, entry_of, exports_by, onward}
 use Rattle.module_model.specs.Instances as i
 use Rattle.tla_model.specs.Lexemes.{form_lexemes, lexemes, all_lexemes, unit_lexemes, units_lexemes, module_lexemes}
@@ -27,16 +27,10 @@ use Rattle.module_model.specs.Resolution as r
 use Rattle.module_model.specs.Resolution.{ReadState, findings}
 use Rattle.module_model.specs.TreeFindings as t
 use Rattle.module_model.specs.TreeFindings.{Surroundings}
+use Rattle.tla_model.proofs.Holding.{Binds, all-placed-at, binders-at, bound-at, defined-at, variables-at}
 use Rattle.tla_model.specs.Scopes as s
 use Rattle.tla_model.specs.Scopes.{Finding}
 use Rattle.tla_model.specs.Tables.{Named, Symbol, has, is_among}
-
-all-three : {A : Type 0} (P : A → Type 0) (a b c : List A) → AllByRecursion P a → AllByRecursion P b → AllByRecursion P c → AllByRecursion P (a ++ b ++ c)
-all-three P a b c all more last = all-both P (a ++ b) c (all-both P a b all more) last
-
-all-either : {A : Type 0} (P : A → Type 0) (b : Bool) (xs ys : List A) → AllByRecursion P xs → AllByRecursion P ys → AllByRecursion P (if b then xs else ys)
-all-either P true xs ys all more = all
-all-either P false xs ys all more = more
 
 module _ (P : Lexeme → Type 0) where
   abbrev pub Stands : Finding → Type 0
@@ -50,90 +44,13 @@ module _ (P : Lexeme → Type 0) where
   Stands (Unreplaced l) = P l
   Stands (Implied l parameter meaning) = P l
 
-  abbrev Binds : Binder → Type 0
-  Binds binder = P binder.name
-
-  abbrev Places : Lexeme × ℕ → Type 0
-  Places name = P name.0
-
-  -- ---- what forms declare and bind
-
-  placed-at : (form : Form.the_data) → AllByRecursion P (form_lexemes form) → AllByRecursion Places (placed form)
-  placed-at (Form.Name l) all = all
-  placed-at (Form.OperatorParameter l places) all = all
-  placed-at (Form.PrefixParameter l) all = all
-  placed-at (Form.InfixParameter l) all = all
-  placed-at (Form.PostfixParameter l) all = all
-  placed-at _ all = tt
-
-  defined-at : (form : Form.the_data) (parts : Trees) → AllByRecursion P (form_lexemes form) → AllByRecursion Binds (defined form parts)
-  defined-at (Form.OperatorDefinition l) parts all = all
-  defined-at (Form.PrefixDefinition l) parts all = all
-  defined-at (Form.InfixDefinition l) parts all = all
-  defined-at (Form.PostfixDefinition l) parts all = all
-  defined-at (Form.FunctionDefinition l) parts all = all
-  defined-at (Form.ModuleDefinition l) parts all = all
-  defined-at _ parts all = tt
-
-  bound-at : (binding : Binding) (names : List (Lexeme × ℕ)) → AllByRecursion Places names → AllByRecursion Binds (bound_as binding names)
-  bound-at binding [] all = tt
-  bound-at binding (name ∷ names) all = (all.0, bound-at binding names all.1)
-
-  all-placed-at : (parts : Trees) → AllByRecursion P (all_lexemes parts) → AllByRecursion Places (all_placed parts)
-  all-placed-at Nil all = tt
-  all-placed-at (Cons (Node form span parts) rest) all =
-      let here : AllByRecursion P (form_lexemes form ++ all_lexemes parts) = all-left P (form_lexemes form ++ all_lexemes parts) (all_lexemes rest) all in
-      all-both Places (placed form) (all_placed rest) (placed-at form (all-left P (form_lexemes form) (all_lexemes parts) here)) (all-placed-at rest (all-right P (form_lexemes form ++ all_lexemes parts) (all_lexemes rest) all))
-
-  names-at : (group : Bool) (parts : Trees) → AllByRecursion P (all_lexemes parts) → AllByRecursion Places (s.names_in group parts)
-  names-at true parts all = all-placed-at parts all
-  names-at false parts all = tt
-
-  grouped-at : (parts : Trees) → AllByRecursion P (all_lexemes parts) → AllByRecursion Places (s.all_grouped parts)
-  grouped-at Nil all = tt
-  grouped-at (Cons (Node form span parts) rest) all =
-      let here : AllByRecursion P (form_lexemes form ++ all_lexemes parts) = all-left P (form_lexemes form ++ all_lexemes parts) (all_lexemes rest) all in
-      all-both Places (s.names_in (is_group form) parts) (s.all_grouped rest) (names-at (is_group form) parts (all-right P (form_lexemes form) (all_lexemes parts) here))
-      (grouped-at rest (all-right P (form_lexemes form ++ all_lexemes parts) (all_lexemes rest) all))
-
-  binders-at : (form : Form.the_data) (parts : Trees) → AllByRecursion P (all_lexemes parts) → AllByRecursion Binds (s.binders form parts)
-  binders-at form parts all =
-      all-either Binds (is_group form) [] (bound_as (binding_of form) (all_placed parts ++ s.all_grouped parts)) tt
-      (bound-at (binding_of form) (all_placed parts ++ s.all_grouped parts) (all-both Places (all_placed parts) (s.all_grouped parts) (all-placed-at parts all) (grouped-at parts all)))
-
-  -- the names that a part declares
-  mutual
-    declared-at : (binding : Binding) (x : Tree) → AllByRecursion P (lexemes x) → AllByRecursion Binds (declared_in binding x)
-    declared-at binding (Node form span parts) all =
-        let own : AllByRecursion P (form_lexemes form) = all-left P (form_lexemes form) (all_lexemes parts) all in
-        let inner : AllByRecursion P (all_lexemes parts) = all-right P (form_lexemes form) (all_lexemes parts) all in
-        all-both Binds (bound_as binding (placed form)) (if follows_first form then declared_round form parts else defined form parts ++ declared_among (binding_in binding form) parts)
-        (bound-at binding (placed form) (placed-at form own))
-        (all-either Binds (follows_first form) (declared_round form parts) (defined form parts ++ declared_among (binding_in binding form) parts) (round-at form parts own inner)
-        (all-both Binds (defined form parts) (declared_among (binding_in binding form) parts) (defined-at form parts own) (among-at (binding_in binding form) parts inner)))
-
-    round-at : (form : Form.the_data) (parts : Trees) → AllByRecursion P (form_lexemes form) → AllByRecursion P (all_lexemes parts) → AllByRecursion Binds (declared_round form parts)
-    round-at form Nil own all = defined-at form Nil own
-    round-at form (Cons x rest) own all =
-        all-three Binds (declared_in (binding_of form) x) (defined form (Cons x rest)) (declared_among (binding_of form) rest) (declared-at (binding_of form) x (all-left P (lexemes x) (all_lexemes rest) all)) (defined-at form (Cons x rest) own)
-        (among-at (binding_of form) rest (all-right P (lexemes x) (all_lexemes rest) all))
-
-    among-at : (binding : Binding) (parts : Trees) → AllByRecursion P (all_lexemes parts) → AllByRecursion Binds (declared_among binding parts)
-    among-at binding Nil all = tt
-    among-at binding (Cons x rest) all =
-        all-both Binds (declared_in binding x) (declared_among binding rest) (declared-at binding x (all-left P (lexemes x) (all_lexemes rest) all)) (among-at binding rest (all-right P (lexemes x) (all_lexemes rest) all))
-
-  variables-at : (names : List Lexeme) → AllByRecursion P names → AllByRecursion Binds (variables names)
-  variables-at [] all = tt
-  variables-at (name ∷ names) all = (all.0, variables-at names all.1)
-
   -- ---- what is found in trees
 
   module _ (text : Text) (around : Surroundings) where
     refused-at : (context : Context) (l : Lexeme) → P l → AllByRecursion Stands (s.taken_findings text context l)
     refused-at context l p = all-either Stands (has context (name_of text.source l)) (Taken l ∷ []) [] (p, tt) tt
 
-    all-refused-at : (context : Context) (binders : List Binder) → AllByRecursion Binds binders → AllByRecursion Stands (s.all_refused text context binders)
+    all-refused-at : (context : Context) (binders : List Binder) → AllByRecursion (Binds P) binders → AllByRecursion Stands (s.all_refused text context binders)
     all-refused-at context [] all = tt
     all-refused-at context (binder ∷ rest) all =
         all-both Stands (s.taken_findings text context binder.name) (s.all_refused text (bind text context binder) rest) (refused-at context binder.name all.0) (all-refused-at (bind text context binder) rest all.1)
@@ -172,8 +89,8 @@ module _ (P : Lexeme → Type 0) where
         let among : List Finding = t.walk_sets text around (s.reserved text context form parts) parts in
         let bound : List Finding = s.all_refused text (s.inside text context form parts) (s.binders form parts) in
         all-three Stands (names ++ among) bound (t.walk_rest text around (s.scope text context form parts) parts)
-        (all-both Stands names among (all-refused-at context (defined form parts) (defined-at form parts (all-left P (form_lexemes form) (all_lexemes parts) all))) sets)
-        (all-refused-at (s.inside text context form parts) (s.binders form parts) (binders-at form parts (all-right P (form_lexemes form) (all_lexemes parts) all))) rest
+        (all-both Stands names among (all-refused-at context (defined form parts) (defined-at P form parts (all-left P (form_lexemes form) (all_lexemes parts) all))) sets)
+        (all-refused-at (s.inside text context form parts) (s.binders form parts) (binders-at P form parts (all-right P (form_lexemes form) (all_lexemes parts) all))) rest
 
     mutual
       walk-at : (context : Context) (x : Tree) → AllByRecursion P (lexemes x) → AllByRecursion Stands (t.walk text around context x)
@@ -190,7 +107,7 @@ module _ (P : Lexeme → Type 0) where
           (replacements-at context (t.replaceable text around l) [] parts all.1) (implied-at context l (i.left_sides text.source parts) (t.replaceable text around l) all.0)
       walk-at context (Node Form.SetImage span parts) all =
           all-three Stands (s.all_refused text context (s.binders Form.SetImage parts)) (t.walk_rest text around (bind_all text context (s.binders Form.SetImage parts)) parts) (t.walk_sets text around context parts)
-          (all-refused-at context (s.binders Form.SetImage parts) (binders-at Form.SetImage parts all)) (rest-at (bind_all text context (s.binders Form.SetImage parts)) parts all) (sets-at context parts all)
+          (all-refused-at context (s.binders Form.SetImage parts) (binders-at P Form.SetImage parts all)) (rest-at (bind_all text context (s.binders Form.SetImage parts)) parts all) (sets-at context parts all)
       walk-at context (Node form span parts) all =
           with-names context form parts all (sets-at (s.reserved text context form parts) parts (all-right P (form_lexemes form) (all_lexemes parts) all)) (rest-at (s.scope text context form parts) parts (all-right P (form_lexemes form) (all_lexemes parts) all))
 
@@ -275,8 +192,8 @@ module _ (P : Lexeme → Type 0) where
       clash-at state (Node form span parts) all = tt
 
       unit-at : (state : ReadState) (unit : UnitTree) → AllByRecursion P (unit_lexemes unit) → AllByRecursion Stands (r.found_in text files words paths state unit)
-      unit-at state (Variables names) all = all-refused-at text (round state (Variables names)) state.place.here.context (variables names) (variables-at names all)
-      unit-at state (Constants declarations) all = all-refused-at text (round state (Constants declarations)) state.place.here.context (m.constants declarations) (bound-at as_binding.Constant (all_placed declarations) (all-placed-at declarations all))
+      unit-at state (Variables names) all = all-refused-at text (round state (Variables names)) state.place.here.context (variables names) (variables-at P names all)
+      unit-at state (Constants declarations) all = all-refused-at text (round state (Constants declarations)) state.place.here.context (m.constants declarations) (bound-at P as_binding.Constant (all_placed declarations) (all-placed-at P declarations all))
       unit-at state (OperatorDefinition local x) all = walk-at text (round state (OperatorDefinition local x)) state.place.here.context x all
       unit-at state (FunctionDefinition local x) all = walk-at text (round state (FunctionDefinition local x)) state.place.here.context x all
       unit-at state (ModuleDefinition local x) all = walk-at text (round state (ModuleDefinition local x)) state.place.here.context x all

@@ -14,6 +14,7 @@ use Rattle.tla_model.specs.declared.names.Meaning.TheVariants.{BuiltIn, Declared
 use Rattle.tla_model.specs.Entities.{Meaning, Text, declaring}
 use Rattle.tla_model.specs.Lexemes.{LexemesLie, LiesIn, module_lexemes, units_lexemes}
 use Rattle.tla_model.specs.Scopes.{Finding}
+use Rattle.tla_model.proofs.Holding.{Binds, declaring-at}
 use Rattle.module_model.specs.Bindings.{Resolved, decls, meant_by, resolved}
 use Rattle.module_model.specs.Modules.{text_of}
 use Rattle.module_model.specs.Resolution.{findings}
@@ -21,7 +22,6 @@ use Rattle.list_laws.proofs.Lists.{all-both, all-right}
 use Rattle.model_laws.proofs.FaultPlaces.{Stands as Places, findings-at}
 use Rattle.span_laws.specs.NodeSpans.{SpansText}
 use Rattle.module_facts.specs.Checks.{ImportStatus, all_decls, all_uses, files_given, import_faults, unless_any}
-use Rattle.name_spans.proofs.Declaring.{Names, declaring-at}
 
 abbrev At : (Span → Type 0) → Lexeme → Type 0
 At P l = P l.span
@@ -51,7 +51,7 @@ module _ (P : Span → Type 0) where
   uses-stand [] all = tt
   uses-stand (r ∷ rest) all = (all.0, uses-stand rest all.1)
 
-  decls-stand : (text : Text) (names : List Binder) → AllByRecursion (Names (At P)) names → AllByRecursion (λ (d : Decl). P d.name) (decls text names)
+  decls-stand : (text : Text) (names : List Binder) → AllByRecursion (Binds (At P)) names → AllByRecursion (λ (d : Decl). P d.name) (decls text names)
   decls-stand text [] all = tt
   decls-stand text (name ∷ names) all = (all.0, decls-stand text names all.1)
 

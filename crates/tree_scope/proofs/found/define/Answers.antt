@@ -5,9 +5,11 @@ use Rattle.tla_model.specs.Scopes.{definition}
 use Rattle.name_context.specs.AsTables.{context_of}
 use Rattle.declared_names.proofs.Nodewise.{tree-at}
 use Rattle.declared_names.specs.Listed.{listed}
+use Rattle.tla_model.specs.Lexemes.{LiesIn}
+use Rattle.tla_model.proofs.Holding.{defined-at}
 use Rattle.tree_names.specs.BindersInText.{BindersLie}
 use Rattle.declared_names.specs.Nodes.{form_at, parts_at}
-use Rattle.tree_scope.proofs.NamesInText.{defined-lies, held-lies}
+use Rattle.tree_scope.proofs.NamesInText.{held-lies}
 use Rattle.tree_scope.proofs.found.define.Goals as goal
 
 pub bind-requires : goal.bind-requires
@@ -15,7 +17,7 @@ bind-requires c =
     let source = c.args.text.now.source in
     let nodes = c.args.tree.now in
     let node = c.args.node in
-    (subst (BindersLie source) (sym c.in_ok-binder.ensures ∙ ap listed c.in-Some.is) (defined-lies source (form_at nodes node) (parts_at nodes node) (held-lies source nodes node c.requires.there c.requires.lie))).0
+    (subst (BindersLie source) (sym c.in_ok-binder.ensures ∙ ap listed c.in-Some.is) (defined-at (LiesIn source) (form_at nodes node) (parts_at nodes node) (held-lies source nodes node c.requires.there c.requires.lie))).0
 
 pub returns-in_ok-bind : goal.returns-in_ok-bind
 returns-in_ok-bind c =
