@@ -1,6 +1,6 @@
 //! One change of a text.
 ghost use Rattle.std.specs.Prelude.{◌≡◌, ◌<◌, ◌≤◌, ◌^◌, ◌∷◌, [], false, length, IfErr, IfOk, MatchOption, OnOk};
-ghost use Rattle.std.specs.Str.{IsCharBoundary, IsUtf8};
+ghost use Rattle.std.specs.Str.{IsCharBoundary};
 ghost use Rattle.std.specs.declared.option.Option.TheVariants.{None};
 ghost use Rattle.tla_text.specs.Places.{spliced};
 ghost use Rattle.doc_edit.specs.Edits.{is_after, is_backward, first_backward, start_of, end_of};
@@ -9,7 +9,7 @@ ghost use Rattle.doc_edit.specs.Edits.{after_change, first_excess, IsRefused};
 use crate::EditError;
 use lsp_wire::{Area, Change, Position};
 use std::alloc::Global;
-use tla_text::{Text, TextError};
+use tla_text::Text;
 use tool_list::Memory;
 
 // The most bytes that a text may have after a change.
@@ -73,19 +73,6 @@ fn replaced(text: &Text, area: Option<Area>) -> (usize, usize)
     }
 }
 
-// The text that these bytes are.
-fn text_of(alloc: Global, bytes: &[u8]) -> Result<Text, Memory>
-    requires fits { length bytes.now < 2 ^ 31 }
-    requires utf8 { IsUtf8 bytes.now }
-    ensures { IfOk result (λ text. text ≡ bytes.now) }
-{
-    match Text::read(alloc, bytes) {
-        Ok(text) => Ok(text),
-        Err(TextError::Memory) => Err(Memory),
-        Err(TextError::NotUtf8 { at: _ }) => unreachable!(),
-    }
-}
-
 // A text with a piece in place of the bytes from `start` to `end`.
 fn spliced(
     alloc: Global,
@@ -104,7 +91,7 @@ fn spliced(
     made.extend_from_slice(&bytes[..start])?;
     made.extend_from_slice(piece.as_bytes())?;
     made.extend_from_slice(&bytes[end..])?;
-    text_of(alloc, made.as_slice())
+    Text::from_utf8(alloc, made.as_slice())
 }
 
 /// A text after one change, whose area is not backward. `TooLarge` comes exactly where it would

@@ -22,11 +22,7 @@ fn front_text(alloc: Global, bytes: &[u8], at: usize) -> Result<Text, Memory>
     requires utf8 { IsUtf8 (take at bytes.now) }
     ensures { IfOk result (λ text. text ≡ take at bytes.now) }
 {
-    match Text::read(alloc, &bytes[..at]) {
-        Ok(text) => Ok(text),
-        Err(TextError::Memory) => Err(Memory),
-        Err(TextError::NotUtf8 { at: _ }) => unreachable!(),
-    }
+    Text::from_utf8(alloc, &bytes[..at])
 }
 
 // The longest front of some bytes that is a text.

@@ -152,17 +152,6 @@ fn take_open(opened: &mut BTreeMap<Chars, Open>, name: &Chars) -> Option<Open>
     opened.remove(name)
 }
 
-// The text of a document.
-fn document(alloc: Global, text: &[u8]) -> Result<Text, Memory>
-    requires { length text.now < 2 ^ 31 }
-    ensures { IfOk result (λ document. document ≡ text.now) }
-{
-    match Text::read(alloc, text) {
-        Ok(text) => Ok(text),
-        Err(_) => Err(Memory),
-    }
-}
-
 // The text of the open document of a module.
 fn document_text<'a>(texts: &'a BTreeMap<Chars, Held>, name: &Chars) -> Option<&'a Text>
     ensures { option_copied result
@@ -185,7 +174,7 @@ fn changed(alloc: Global, text: &Text, changes: &List<Change>) -> Result<Option<
     ensures long { IfErr result (in_held.IsEditFault (first_backward changes.now)
         (first_excess text.now changes.now)) }
 {
-    let mut changed = document(alloc, text.bytes())?;
+    let mut changed = Text::from_utf8(alloc, text.bytes())?;
     match apply(alloc, &mut changed, changes) {
         Ok(()) => Ok(Some(changed)),
         Err(EditError::BackwardRange { .. }) => Ok(None),
@@ -354,7 +343,7 @@ impl Documents {
         let Some(name) = module_of(alloc, self.root.as_ref(), uri)? else {
             return Ok(());
         };
-        let text = document(alloc, text.as_str().as_bytes())?;
+        let text = Text::from_utf8(alloc, text.as_str().as_bytes())?;
         self.hold(name, Chars::from_str(alloc, uri)?, text)
     }
 

@@ -2,7 +2,6 @@
 ghost use Rattle.std.specs.Prelude.{◌≡◌, [], ◌++◌, ◌<◌, ◌^◌, IfOk, OnOk, length, map};
 ghost use Rattle.std.specs.List.{All};
 ghost use Rattle.std.specs.Option.{option_copied};
-ghost use Rattle.std.specs.Str.{IsUtf8};
 ghost use Rattle.text_cursor.specs.Cursors.{IsCursor};
 ghost use Rattle.server_locations.specs.Locations as in_locations;
 ghost use Rattle.server_locations.specs.Standing.{HasNamesPlaced, Stands};
@@ -17,7 +16,7 @@ use std::alloc::Global;
 use text_cursor::{Columns, Cursor};
 use tla_model::DeclId;
 use tla_symbols::Span;
-use tla_text::{Text, TextError};
+use tla_text::Text;
 use tool_list::{Chars, List, Memory};
 
 // The text of a root.
@@ -46,19 +45,6 @@ fn shown_uri(alloc: Global, documents: &Documents, name: &Chars) -> Result<Chars
     }
 }
 
-// The text that these bytes are.
-fn text_of(alloc: Global, bytes: &[u8]) -> Result<Text, Memory>
-    requires short { length bytes.now < 2 ^ 31 }
-    requires utf8 { IsUtf8 bytes.now }
-    ensures { IfOk result (λ text. text ≡ bytes.now) }
-{
-    match Text::read(alloc, bytes) {
-        Ok(text) => Ok(text),
-        Err(TextError::Memory) => Err(Memory),
-        Err(TextError::NotUtf8 { at: _ }) => unreachable!(),
-    }
-}
-
 // The location of a span of a module's text.
 fn location_in(
     alloc: Global,
@@ -70,7 +56,7 @@ fn location_in(
     requires stands { Stands module.now.bytes span }
     ensures { IfOk result (λ at. at ≡ in_locations.location_in documents.now module.now span) }
 {
-    let text = text_of(alloc, module.bytes())?;
+    let text = Text::from_utf8(alloc, module.bytes())?;
     let uri = shown_uri(alloc, documents, module.name())?;
     Ok(Location {
         uri,
@@ -152,7 +138,7 @@ fn push_located(
     if spans.is_empty() {
         return Ok(());
     }
-    let text = text_of(alloc, module.bytes())?;
+    let text = Text::from_utf8(alloc, module.bytes())?;
     let uri = shown_uri(alloc, documents, module.name())?;
     push_spans(places, &uri, &text, spans)?;
     Ok(())

@@ -21,7 +21,7 @@ use std::alloc::Global;
 use tla_lexeme::{LexError, lex};
 use tla_model::Diagnostic;
 use tla_symbols::Lexeme;
-use tla_text::{Text, TextError};
+use tla_text::Text;
 use tla_tree::ModuleTree;
 use tool_list::{Chars, List, Memory};
 use unit_heights::{MOST_HEIGHT, first_high};
@@ -73,18 +73,6 @@ pub fn front(alloc: Global, name: &str, bytes: &[u8]) -> Result<ModuleTree, Fron
     }
 }
 
-// The text that a source is.
-fn text_of(alloc: Global, source: &str) -> Result<Text, Memory>
-    requires { length source.now < 2 ^ 31 }
-    ensures { IfOk result (λ text. text ≡ source.now) }
-{
-    match Text::read(alloc, source.as_bytes()) {
-        Ok(text) => Ok(text),
-        Err(TextError::Memory) => Err(Memory),
-        Err(TextError::NotUtf8 { at: _ }) => unreachable!(),
-    }
-}
-
 fn front_of_text(alloc: Global, name: &str, source: &str) -> Result<ModuleTree, FrontError>
     requires { length source.now < 2 ^ 31 }
     ensures tree { IfOk result (λ tree. (found : ModuleUnits)
@@ -98,7 +86,7 @@ fn front_of_text(alloc: Global, name: &str, source: &str) -> Result<ModuleTree, 
     if source.len() > MOST_TEXT {
         return Err(FrontError::Fault(fault_at(TOO_LARGE, 0)));
     }
-    let text = text_of(alloc, source)?;
+    let text = Text::from_utf8(alloc, source.as_bytes())?;
     match lex(alloc, &text) {
         Ok(lexemes) => front_of_lexemes(alloc, name, source, &lexemes),
         Err(LexError::NoHeader) => Err(FrontError::Fault(fault_at(NO_HEADER, 0))),

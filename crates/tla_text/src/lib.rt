@@ -103,6 +103,19 @@ impl Text {
         }
     }
 
+    /// The text that bytes of UTF-8 are.
+    pub fn from_utf8(alloc: Global, bytes: &[u8]) -> Result<Text, Memory>
+        requires short { length bytes.now < 2 ^ 31 }
+        requires utf8 { IsUtf8 bytes.now }
+        ensures { IfOk result (λ text. text ≡ bytes.now) }
+    {
+        match Text::read(alloc, bytes) {
+            Ok(text) => Ok(text),
+            Err(TextError::Memory) => Err(Memory),
+            Err(TextError::NotUtf8 { at: _ }) => unreachable!(),
+        }
+    }
+
     fn from_str(alloc: Global, text: &str) -> Result<Text, AllocError>
         requires { length text.now < 2 ^ 31 }
         ensures { IfOk result (λ made. made ≡ text.now) }

@@ -2,7 +2,6 @@ use Rattle.std.proofs.Common.{◌≡◌, ◌++◌, ◌∷◌, [], ℕ, List, map
 use Rattle.std.specs.Map.{keys_of}
 use Rattle.std.proofs.lemmas.List.{append-nil}
 use Rattle.std.proofs.lemmas.Map.Iter.{rest_all, rest_more}
-use Rattle.lsp_wire.specs.declared.types.Note.{Note}
 use Rattle.server_documents.specs.Held.{opened_entry}
 use Rattle.server_documents.specs.Notices.{as_sent}
 use Rattle.server_documents.specs.declared.opened.Open.{Open}
