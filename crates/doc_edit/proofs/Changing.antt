@@ -1,20 +1,12 @@
 -- What is known of a change whose area is not backward.
-use Rattle.std.proofs.Common.{◌≡◌, ℕ, ◌+◌, ◌-◌, Bool, true, false, cond, ltb, List, [], ◌∷◌, ◌++◌, length, take, drop, refl, sym, ap, ◌∙◌, subst, append_assoc}
-use Rattle.std.proofs.lemmas.List.{take_rest}
+use Rattle.std.proofs.Common.{◌≡◌, ℕ, ◌+◌, Bool, true, false, cond, ltb, List, [], ◌∷◌, length, refl, sym, subst}
 use Rattle.std.proofs.lemmas.Option.{none-some}
-use Rattle.std.proofs.lemmas.Str.{IsUtf8-take, IsUtf8-drop, IsUtf8-append}
-use Rattle.std.specs.Str.{IsUtf8, IsCharBoundary}
 use Rattle.std.specs.Prelude.{Option, Some, None, Result, Ok, Err}
 use Rattle.std.specs.Result.{IsErrAnd, IfErr}
-use Rattle.tla_text.specs.Places.{spliced}
 use Rattle.lsp_wire.specs.declared.types.Change.{Change}
 use Rattle.doc_edit.specs.declared.EditError.{EditError}
 use Rattle.doc_edit.specs.declared.EditError.TheVariants.{BackwardRange, TooLarge, Memory}
 use Rattle.doc_edit.specs.Edits.{most_bytes, after_change, first_excess, IsRefused, is_backward, backward_from, first_backward}
-
-pub IsUtf8-spliced : (text piece : List ℕ) (start end : ℕ) → IsUtf8 text → IsUtf8 piece → IsCharBoundary text start → IsCharBoundary text end → IsUtf8 (spliced text start end piece)
-IsUtf8-spliced text piece start end u v b e =
-    IsUtf8-append (take start text) (piece ++ drop end text) (IsUtf8-take text start u b) (IsUtf8-append piece (drop end text) v (IsUtf8-drop text end u e))
 
 none_turn : (backward : Bool) (at from : ℕ) (x y : Option ℕ) → cond backward (Some at) x ≡ None → (x ≡ None → y ≡ None) → cond backward (Some from) y ≡ None
 none_turn true at from x y h more = absurd (none-some at (sym h))
@@ -34,15 +26,6 @@ pub forward_more : (c : Change) (cs : List Change) → first_backward (c ∷ cs)
 forward_more c cs h =
     let parts = first_forward (is_backward c.area) (backward_from 1 cs) h in
     (parts.0, none_from 1 0 cs parts.1)
-
--- a text that was put together from three pieces
-pub spliced-from : (text bytes piece given empty first second third made : List ℕ) (start end : ℕ) → bytes ≡ text → given ≡ piece → empty ≡ [] → first ≡ empty ++ take start bytes → second ≡ first ++ given → third ≡ second ++ take (length bytes - end) (drop end bytes) → made ≡ third → made ≡ spliced text start end piece
-spliced-from text bytes piece given empty first second third made start end b g e f s t m =
-    let front : first ≡ take start bytes = f ∙ ap (λ l. l ++ take start bytes) e in
-    let both : second ≡ take start bytes ++ given = s ∙ ap (λ l. l ++ given) front in
-    let back : take (length bytes - end) (drop end bytes) ≡ drop end bytes = take_rest bytes end in
-    let all : made ≡ spliced bytes start end given = m ∙ t ∙ ap (λ l. l ++ take (length bytes - end) (drop end bytes)) both ∙ append_assoc (take start bytes) given (take (length bytes - end) (drop end bytes)) ∙ ap (λ l. take start bytes ++ (given ++ l)) back in
-    all ∙ ap (λ l. spliced l start end given) b ∙ ap (λ l. spliced text start end l) g
 
 -- ---- refusals
 

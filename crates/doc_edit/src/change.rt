@@ -2,7 +2,6 @@
 ghost use Rattle.std.specs.Prelude.{◌≡◌, ◌<◌, ◌≤◌, ◌^◌, ◌∷◌, [], false, length, IfErr, IfOk, MatchOption, OnOk};
 ghost use Rattle.std.specs.Str.{IsCharBoundary};
 ghost use Rattle.std.specs.declared.option.Option.TheVariants.{None};
-ghost use Rattle.tla_text.specs.Places.{spliced};
 ghost use Rattle.doc_edit.specs.Edits.{is_after, is_backward, first_backward, start_of, end_of};
 ghost use Rattle.doc_edit.specs.Edits.{after_change, first_excess, IsRefused};
 
@@ -56,7 +55,7 @@ pub fn first_backward(changes: &[Change]) -> Option<u64>
 }
 
 // The offsets at which what is replaced starts and ends.
-fn replaced(text: &Text, area: Option<Area>) -> (usize, usize)
+fn replaced(text: &Text, area: Option<Area>) -> (u32, u32)
     requires { is_backward area ≡ false }
     ensures start { result.0 ≡ start_of text.now area }
     ensures end { result.1 ≡ end_of text.now area }
@@ -64,34 +63,15 @@ fn replaced(text: &Text, area: Option<Area>) -> (usize, usize)
     ensures end_at_char { IsCharBoundary text.now result.1 }
     ensures in_order { result.0 ≤ result.1 }
 {
+    // The proof needs that a text is UTF-8.
+    let _bytes = text.bytes();
     match area {
         Some(area) => (
-            text.offset_utf16(area.start.line, area.start.unit) as usize,
-            text.offset_utf16(area.end.line, area.end.unit) as usize,
+            text.offset_utf16(area.start.line, area.start.unit),
+            text.offset_utf16(area.end.line, area.end.unit),
         ),
-        None => (0, text.bytes().len()),
+        None => (0, text.end()),
     }
-}
-
-// A text with a piece in place of the bytes from `start` to `end`.
-fn spliced(
-    alloc: Global,
-    text: &Text,
-    start: usize,
-    end: usize,
-    piece: &str,
-) -> Result<Text, Memory>
-    requires start_at_char { IsCharBoundary text.now start }
-    requires end_at_char { IsCharBoundary text.now end }
-    requires fits { length (spliced text.now start end piece.now) < 2 ^ 31 }
-    ensures { IfOk result (λ made. made ≡ spliced text.now start end piece.now) }
-{
-    let bytes = text.bytes();
-    let mut made = Vec::new(alloc);
-    made.extend_from_slice(&bytes[..start])?;
-    made.extend_from_slice(piece.as_bytes())?;
-    made.extend_from_slice(&bytes[end..])?;
-    Text::from_utf8(alloc, made.as_slice())
 }
 
 /// A text after one change, whose area is not backward. `TooLarge` comes exactly where it would
@@ -104,11 +84,11 @@ pub fn edited(alloc: Global, text: &Text, change: &Change) -> Result<Text, EditE
 {
     let (start, end) = replaced(text, change.area);
     let piece = change.text.as_str();
-    let bytes = text.bytes().len() - (end - start) + piece.len();
+    let bytes = text.bytes().len() - (end - start) as usize + piece.len();
     if bytes > MOST_BYTES {
         return Err(EditError::TooLarge {
             bytes: bytes as u64,
         });
     }
-    Ok(spliced(alloc, text, start, end, piece)?)
+    Ok(text.spliced(alloc, start, end, piece)?)
 }

@@ -74,14 +74,14 @@ fn finds_places(rt: HostRuntime) {
 }
 
 // Puts a piece in the place of what stands from one character to another.
-fn splice(rt: &impl Abort, alloc: Global, text: &mut Text, start: u32, end: u32, piece: &str) {
+fn spliced(rt: &impl Abort, alloc: Global, text: &Text, start: u32, end: u32, piece: &str) -> Text {
     let Ok(spelled) = std::str::from_utf8(text.bytes()) else {
         panic!(rt; "a text is UTF-8");
     };
     assert!(rt; spelled.is_char_boundary(start as usize));
     assert!(rt; spelled.is_char_boundary(end as usize));
     assert!(rt; start <= end && text.bytes().len() < 1000 && piece.len() < 1000);
-    text.splice(alloc, start, end, piece).expect(rt, piece);
+    text.spliced(alloc, start, end, piece).expect(rt, piece)
 }
 
 fn is_spliced(rt: &impl Abort, text: &Text) {
@@ -91,9 +91,8 @@ fn is_spliced(rt: &impl Abort, text: &Text) {
 
 #[test]
 fn splices(rt: HostRuntime) {
-    let mut text = read(&rt, rt.alloc(), "one\ntwo");
-    splice(&rt, rt.alloc(), &mut text, 3, 4, "\r\n\r");
-    is_spliced(&rt, &text);
+    let text = read(&rt, rt.alloc(), "one\ntwo");
+    is_spliced(&rt, &spliced(&rt, rt.alloc(), &text, 3, 4, "\r\n\r"));
 }
 
 #[test]

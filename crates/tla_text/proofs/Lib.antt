@@ -1,4 +1,5 @@
 mod LineLemmas
+mod SpliceLemmas
 mod PlaceLemmas
 mod ColumnLemmas
 mod FurtherLemmas

@@ -36,7 +36,7 @@ none_passed at zero bs h = refl
 none_passed at (suc line) bs h =
     absurd (let above = starts_after-above at bs 0 (omega (arith, h.bound)) in omega (arith, h.below 0 (omega arith), above))
 
-line_of_fewer : (line offset s : ℕ) (ss : List ℕ) → IsLineOf (suc line) offset (s ∷ ss) → IsLineOf line offset ss
+pub line_of_fewer : (line offset s : ℕ) (ss : List ℕ) → IsLineOf (suc line) offset (s ∷ ss) → IsLineOf line offset ss
 line_of_fewer line offset s ss h = record {
   bound = omega (arith, h.bound);
   below = λ i l. h.below (suc i) (omega arith);

@@ -10,7 +10,7 @@
 mod columns;
 mod lines;
 
-ghost use Rattle.std.specs.Prelude.{◌≡◌, ◌+◌, ◌-◌, ◌<◌, ◌≤◌, ◌^◌, ◌∷◌, ℕ, length, slice_index, IfOk, MatchResult, OnOk, OnErr};
+ghost use Rattle.std.specs.Prelude.{◌≡◌, ◌<◌, ◌≤◌, ◌^◌, ◌∷◌, drop, length, slice_index, take, IfOk, MatchResult};
 ghost use Rattle.std.specs.Str.{IsCharBoundary, IsUtf8, chars};
 ghost use Rattle.tla_text.specs.Places.{place_at, offset_of_unit, spliced, IsTextError};
 ghost use Rattle.tla_text.specs.LineStarts as lines;
@@ -19,7 +19,7 @@ ghost use Rattle.tla_text.specs.declared.Measure.{Measure};
 ghost use Rattle.tla_text.specs.declared.Measure.TheVariants.{Alignment, Characters, Utf16};
 
 use columns::{bytes_of_units, column_after, place_behind};
-use lines::line_starts;
+use lines::{line_starts, push_moved, push_starts};
 use std::alloc::{AllocError, Global};
 use std::marker::Model;
 use tool_list::Memory;
@@ -133,6 +133,13 @@ impl Text {
         self.text.as_bytes()
     }
 
+    /// The offset of the text's end: how many bytes it has.
+    pub fn end(&self) -> u32
+        ensures { result ≡ length self.now }
+    {
+        self.text.len() as u32
+    }
+
     /// The line of an offset, and the number of characters before it in the line, both from 0. A tab
     /// is one character. The offset is at most the length and stands at a character.
     pub fn line_col(&self, offset: u32) -> (u32, u32)
@@ -244,21 +251,52 @@ impl Text {
         start + bytes_of_units(unit, rest) as u32
     }
 
-    /// Puts a piece in place of the bytes from `start` to `end`, which stand at characters. The text
-    /// that this makes has fewer than 2^31 bytes. After `Memory` the text is as before.
-    pub fn splice(&mut self, alloc: Global, start: u32, end: u32, piece: &str) -> Result<(), Memory>
-        requires start_at_char { IsCharBoundary self.old start }
-        requires end_at_char { IsCharBoundary self.old end }
+    /// A text with a piece in place of the bytes from `start` to `end`, which stand at characters. It has
+    /// fewer than 2^31 bytes. Lines are looked for in the piece alone: those before it and behind it are
+    /// known.
+    pub fn spliced(&self, alloc: Global, start: u32, end: u32, piece: &str) -> Result<Text, Memory>
+        requires start_at_char { IsCharBoundary self.now start }
+        requires end_at_char { IsCharBoundary self.now end }
         requires in_order { start ≤ end }
-        requires room { length self.old - (end - start) + length piece.now < 2 ^ 31 }
-        ensures ok { OnOk result (self.new ≡ spliced self.old start end piece.now) }
-        ensures err { OnErr result (self.new ≡ self.old) }
+        requires room { length (spliced self.now start end piece.now) < 2 ^ 31 }
+        ensures { IfOk result (λ made. made ≡ spliced self.now start end piece.now) }
     {
-        let mut text = String::from_str(alloc, &self.text.as_str()[..start as usize])?;
+        let old = self.text.as_str();
+        let mut text = String::from_str(alloc, &old[..start as usize])?;
         text.push_str(piece)?;
-        text.push_str(&self.text.as_str()[end as usize..])?;
-        *self = Text::from_str(alloc, text.as_str())?;
-        Ok(())
+        text.push_str(&old[end as usize..])?;
+        let behind = start + piece.len() as u32;
+        let starts = self.moved_starts(alloc, text.as_bytes(), start, end, behind)?;
+        Ok(Text { text, starts })
+    }
+
+    // Where the lines start of a text that is this one up to an offset, and behind another one what
+    // follows `end` here.
+    fn moved_starts(
+        &self,
+        alloc: Global,
+        text: &[u8],
+        start: u32,
+        end: u32,
+        behind: u32,
+    ) -> Result<Vec<u32>, AllocError>
+        requires short { length text.now < 2 ^ 31 }
+        requires before { take start text.now ≡ take start self.now }
+        requires after { drop behind text.now ≡ drop end self.now }
+        requires in_order { start ≤ behind }
+        requires start_within { start ≤ length self.now }
+        requires end_within { end ≤ length self.now }
+        requires within { behind ≤ length text.now }
+        ensures { IfOk result (λ starts. starts.items ≡ starts_after 0 text.now) }
+    {
+        // Whether the last byte before the piece ends a line may hang on the piece.
+        let first = start.saturating_sub(1);
+        let old = self.starts.as_slice();
+        let mut starts = Vec::new(alloc);
+        starts.extend_from_slice(&old[..self.line_of(first) as usize])?;
+        push_starts(&mut starts, text, first as usize, behind as usize)?;
+        push_moved(&mut starts, &old[self.line_of(end) as usize..], end, behind)?;
+        Ok(starts)
     }
 
     // How many lines start behind the text's start and up to an offset.

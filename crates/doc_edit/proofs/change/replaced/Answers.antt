@@ -12,4 +12,4 @@ returns-in-Some-clause-in_order c =
     omega (arith, order, c.offset_utf16.ensures.value, c.offset_utf16-in-Some.ensures.value)
 
 pub returns-in-None-clause-start_at_char : goal.returns-in-None-clause-start_at_char
-returns-in-None-clause-start_at_char c = IsCharBoundary-start c.args.text.now c.bytes.ensures.utf8
+returns-in-None-clause-start_at_char c = IsCharBoundary-start c.args.text.now c.bytes-bytes.ensures.utf8
