@@ -1,3 +1,4 @@
 pub mod RunLemmas
 pub mod FolderLemmas
 pub mod ServeLemmas
+mod TellingLemmas

@@ -1,13 +1,13 @@
 -- What the program does as a server: a session over the texts of a folder.
 use Rattle.std.specs.Prelude.{◌≡◌, ℕ, List, Option, IfSome}
 use Rattle.std.specs.Bool.{OnFalse, OnTrue}
-use Rattle.std.specs.Io.KnownBytes.{Appends}
+use Rattle.std.specs.Io.KnownBytes.{Appends, Consumes}
 use Rattle.tool_io.specs.Folder.{Told}
 use Rattle.tool_output.specs.Output.{AppendsFront}
 use Rattle.lsp_answers.specs.States.{State}
 use Rattle.lsp_serve.specs.Ends.{is_done, is_fault}
-use Rattle.lsp_serve.specs.InTime.{ReadsInTime}
-use Rattle.lsp_serve.specs.Serving.{FolderTells, IsSession, Served}
+use Rattle.lsp_serve.specs.InTime.{IsInTime}
+use Rattle.lsp_serve.specs.Serving.{IsSession, Served}
 use Rattle.server_documents.specs.Held.{nothing}
 use Rattle.server_folder.specs.Folders.{with_told}
 use Rattle.server_texts.specs.Server.{server_meaning}
@@ -23,12 +23,12 @@ pub record HasServed (all : Served) (status : ℕ) (told : Option Told) (old new
   pub whole : OnFalse (is_fault status) ((status ≡ all.status) × Appends old new all.bytes)
   pub left : OnTrue (is_done status) (told ≡ all.state.folder)
 
--- so it is of an input that tells, where the folder tells what it is asked
+-- so it is over a folder and an input that tell
 abbrev pub ServesFolder : Option Told → Option (List ℕ) → ℕ → Option Told → Option (List ℕ) → Option (List ℕ) → Type 0
 ServesFolder told input status told_after old new =
-    IfSome input (λ stream. (all : Served) → IsSession server_meaning (started told) stream all → FolderTells server_meaning (started told) stream → HasServed all status told_after old new)
+    IfSome told (λ _. IfSome input (λ stream. (all : Served) → IsSession server_meaning (started told) stream all → HasServed all status told_after old new))
 
 -- and each message is answered before the input is read further
 abbrev pub ServesInTime : Option Told → Option (List ℕ) → Option (List ℕ) → ℕ → ℕ → Option (List ℕ) → Option (List ℕ) → Type 0
 ServesInTime told input input_after last status old new =
-    ReadsInTime server_meaning (started told) input input_after last status old new
+    (read : List ℕ) × Consumes input input_after read × IfSome told (λ _. IfSome input_after (λ _. IsInTime server_meaning (started told) read last status old new))

@@ -4,6 +4,7 @@ ghost use Rattle.lsp_serve.specs.Ends.{is_status};
 ghost use Rattle.sany_run.specs.Serving.{ServesFolder, ServesInTime};
 ghost use Rattle.tool_output.specs.Output.{TellsFault};
 
+use lsp_serve::laws::folder_goes_on_telling;
 use lsp_serve::serve;
 use std::alloc::Global;
 use step_count::Steps;
@@ -29,6 +30,7 @@ pub fn serve_folder<F: Folder, S: Source, K: Sink, L>(
     ensures output_fault { TellsFault 5 result.0 (K.fault_count output.old)
         (K.fault_count output.new) }
 {
+    folder_goes_on_telling();
     let workspace = Workspace::new(alloc, folder);
     let (status, workspace) = serve(alloc, workspace, input, output, steps);
     (status, workspace.into_folder())
