@@ -1,5 +1,5 @@
 -- What is answered on the files of a family.
-use Rattle.std.proofs.Common.{◌≡◌, ◌-◌, ℕ, zero, suc, ◌+◌, List, [], ◌∷◌, length, Some, refl, sym, ap, ◌∙◌, true, take, get_or, arith, subst}
+use Rattle.std.proofs.Common.{◌≡◌, ℕ, zero, suc, ◌+◌, List, [], ◌∷◌, length, Some, refl, sym, ap, ◌∙◌, true, take, get_or, arith, subst}
 use Rattle.std.specs.Prelude.{Contains, sum_by}
 use Rattle.std.specs.List.{All, AllZip}
 use Rattle.std.proofs.Math.Seq.{take-length}
@@ -21,12 +21,12 @@ use Rattle.module_model.specs.Resolution.{outside_in}
 use Rattle.family_facts.specs.Family.{Member, Diagnosed, IsDiagnosed, is_there}
 use Rattle.family_facts.specs.Facts.{diagnosed, texts_of}
 use Rattle.fact_values.specs.Names.{Texts}
-use Rattle.family_check.specs.declared.outcomes.Findings.{Findings}
+use Rattle.family_check.specs.declared.findings.Findings.{Findings}
 use Rattle.family_check.specs.Findings.{AreFaultsPlaced, AreNamesPlaced, HaveNames, StandsIn, TellsFiles, count_in, decls_in, decls_of, faults_in, shown_count, use_count_of, uses_in, uses_of}
 use Rattle.family_tables.specs.Modules.{Entry, IsEntry, IsReading, AreModules, tree_count}
 use Rattle.family_tables.specs.Outcomes.{AreOutcomes, IsSaid, IsSomeModule, Matches, faults_of, trees_in}
 use Rattle.family_facts.specs.Fronts.{front_of}
-use Rattle.family_facts.specs.Verdicts.{AreVerdicts, IsVerdict, IsVerdictPlaced, after_checks, check_count, checks_of, family_of, member_of, text_of, use_count_on, uses_on, verdicts_on}
+use Rattle.family_facts.specs.Verdicts.{AreVerdicts, IsVerdict, IsVerdictPlaced, check_count, checks_of, family_of, member_of, text_of, use_count_on, uses_on, verdicts_on}
 use Rattle.family_tables.specs.declared.outcome.Outcome.{Outcome}
 use Rattle.family_tables.specs.declared.outcome.Outcome.TheVariants as outcome
 use Rattle.family_tables.specs.declared.reading.Reading.TheVariants as reading
@@ -158,8 +158,8 @@ trees-same one (m ∷ family) (e ∷ entries) h =
     let rest = trees-same one family entries h.1 in
     sum_by-cons (λ (x : Entry). tree_count x.1.reading) e entries ∙ ((λ i. first i + rest i) ∙ sym (sum_by-cons (λ (x : Member). check_count (front_of x.name x.bytes)) m family))
 
-pub steps-are : HasNoOther → (files : List File) (entries : List Entry) (old new : ℕ) → AreModules (family_of files) entries → new ≡ after_checks (trees_in entries) old → new ≡ after_checks (checks_of files) old
-steps-are one files entries old new are checks = checks ∙ ap (λ n. after_checks n old) (trees-same one (family_of files) entries are)
+pub checks-are : HasNoOther → (files : List File) (entries : List Entry) → AreModules (family_of files) entries → trees_in entries ≡ checks_of files
+checks-are one files entries are = trees-same one (family_of files) entries are
 
 -- ---- answers
 

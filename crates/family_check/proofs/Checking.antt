@@ -1,5 +1,5 @@
 -- What is found of modules, one after another.
-use Rattle.std.proofs.Common.{◌≡◌, ◌<◌, ℕ, ◌+◌, ◌-◌, List, [], ◌∷◌, ◌++◌, Option, Some, None, refl, sym, ap, ◌∙◌, cond, take, length, get_or, arith, true, false, ⊎_elim, subst}
+use Rattle.std.proofs.Common.{◌≡◌, ◌≤◌, ◌<◌, ℕ, ◌+◌, List, [], ◌∷◌, ◌++◌, Option, Some, None, refl, sym, ap, ◌∙◌, cond, take, length, get_or, arith, true, false, ⊎_elim, subst}
 use Rattle.std.specs.Prelude.{Contains, IsSome, is_some, slice_get, sum_by}
 use Rattle.std.specs.List.{All}
 use Rattle.std.specs.Str.{bytes_eq}
@@ -45,6 +45,11 @@ use Rattle.family_tables.proofs.Graphs.{same-entry}
 use Rattle.family_check.proofs.Sums.{sum-map, sum-members}
 use Rattle.family_check.specs.declared.names.Names.{Names}
 use Rattle.family_check.specs.Findings.{IsFound}
+use Rattle.family_check.specs.Keeping.{IsChecked, IsOutcomeOf}
+use Rattle.module_model.specs.Given.{IsFaceOver}
+use Rattle.family_tables.specs.Agreement.{AreFrom, IsAgreed}
+use Rattle.family_tables.proofs.Agreeing.{agreed-over}
+use Rattle.std.specs.Arc.{arc_value}
 
 -- ---- one module
 
@@ -67,26 +72,38 @@ tree-diagnosed family name tree needs imports ch h imported told =
     let diagnosed : IsDiagnosed family m.name (found-in given m.bytes units ch.faults) = checked h.there front gives (λ need n. imported.others need (λ c. n (subst (λ x. families.Needs family x need) (sym h.named) (h.own need c)))) order in
     subst (λ x. IsDiagnosed family x (found-in given m.bytes units ch.faults)) h.named diagnosed
 
--- what is said of it, and its uses and declarations
-pub tree-found : (family : List Member) (name : List ℕ) (tree : ModuleTree) (needs : List (List ℕ)) (imports : Imports) (ch : CheckedModule) (o : outcome.the_data) (names : Names) → IsMember family name (reading.Tree tree) needs → AreImports family name needs imports → facts_told ch ≡ facts_of (given_in imports) tree.source (module_of tree) →
-    ((outside : ModuleView) → (ch.faults ≡ [] → face_outside ch.face ≡ outside) → Matches ch.faults outside o) → names.uses ≡ ch.uses → names.decls ≡ ch.decls → IsFound family name o names
-tree-found family name tree needs imports ch o names h imported told says used declared =
-    let k = facts-checked (given_in imports) tree.source (module_of tree) ch told in
+outcome-says : (ch : CheckedModule) (outside : ModuleView) (o : outcome.the_data) → IsOutcomeOf ch o → (ch.faults ≡ [] → face_outside ch.face ≡ outside) → Matches ch.faults outside o
+outcome-says ch outside (outcome.Refused faults) is says = (is.0, λ none. is.1 (is.0 ∙ none))
+outcome-says ch outside (outcome.Accepted face) is says = (is.0, ap face_outside is.1 ∙ says is.0)
+
+-- what a check finds over its imports is found of the member
+pub tree-found : (family : List Member) (name : List ℕ) (tree : ModuleTree) (needs : List (List ℕ)) (imports : Imports) (o : outcome.the_data) (names : Names) → IsMember family name (reading.Tree tree) needs → AreImports family name needs imports → IsChecked name tree imports o names → IsFound family name o names
+tree-found family name tree needs imports o names h imported is =
+    let ch : CheckedModule = is.checked in
+    let k = facts-checked (given_in imports) tree.source (module_of tree) ch is.facts in
     let m : Member = h.member in
     let units : ModuleUnits = module_of tree in
     let given : List ℕ → ImportStatus = given_in imports in
     let outside : ModuleView = outside_in (files_given given) m.bytes units in
     let found : Diagnosed = found-in given m.bytes units ch.faults in
-    let diagnosed : IsDiagnosed family name found = tree-diagnosed family name tree needs imports ch h imported told in
+    let diagnosed : IsDiagnosed family name found = tree-diagnosed family name tree needs imports ch h imported is.facts in
     record {
-      outcome_is = record { found = found; diagnosed = diagnosed; says = says outside (λ e. k.outside e ∙ ap (λ s. outside_in (files_given given) s units) h.is.source) };
+      outcome_is = record { found = found; diagnosed = diagnosed; says = outcome-says ch outside o is.outcome_is (λ e. k.outside e ∙ ap (λ s. outside_in (files_given given) s units) h.is.source) };
       names_are = record {
         found = found;
         diagnosed = diagnosed;
-        uses = used ∙ (k.uses ∙ ap (λ s. all_uses given s units) h.is.source);
-        decls = declared ∙ (k.decls ∙ ap (λ s. all_decls given s units) h.is.source);
+        uses = is.uses ∙ (k.uses ∙ ap (λ s. all_uses given s units) h.is.source);
+        decls = is.decls ∙ (k.decls ∙ ap (λ s. all_decls given s units) h.is.source);
       };
     }
+
+-- and its face goes with those that were found
+pub tree-agreed : (outcomes : List (List ℕ × Outcome)) (name : List ℕ) (tree : ModuleTree) (imports : Imports) (o : outcome.the_data) (names : Names) → AreFrom outcomes imports → IsChecked name tree imports o names → IsAgreed outcomes name o
+tree-agreed outcomes name tree imports o names from is = by o is.outcome_is
+  where
+    by : (o : outcome.the_data) → IsOutcomeOf is.checked o → IsAgreed outcomes name o
+    by (outcome.Refused faults) so = tt
+    by (outcome.Accepted face) so = agreed-over outcomes imports name (arc_value face) from (subst (IsFaceOver imports name) (sym so.1) is.face)
 
 -- the same of one with a front fault
 pub fault-found : (family : List Member) (name : List ℕ) (fault : Diagnostic) (needs : List (List ℕ)) (faults : List Diagnostic) (names : Names) → IsMember family name (reading.Fault fault) needs → faults ≡ fault ∷ [] → names.uses ≡ [] → names.decls ≡ [] → IsFound family name (outcome.Refused faults) names
@@ -188,6 +205,9 @@ entries-all P family modules plan entries are planned names found name there =
 pub checks-more : (n m before old new : ℕ) → old ≡ after_checks n before → new ≡ after_checks m old → new ≡ after_checks (n + m) before
 checks-more n m before old new is more = omega (arith, is, more)
 
+checks-most : (n m before old new : ℕ) → old ≤ after_checks n before → new ≤ after_checks m old → new ≤ after_checks (n + m) before
+checks-most n m before old new is more = omega (arith, is, more)
+
 -- the modules that a plan orders are all modules
 pub trees-all : (modules : List Entry) (plan : Plan) → AreOnce (names_in modules) → IsPlan modules plan → sum_by (λ name. trees_of (entry_of modules name)) plan.order ≡ trees_in modules
 trees-all modules plan once planned =
@@ -198,10 +218,20 @@ trees-all modules plan once planned =
     let same : (e.0, s.0) ≡ e = same-entry modules (e.0, s.0) e once (entry-found modules e.0 s.0 s.1) c refl in
     ap trees_of s.1 ∙ ap (λ (x : Entry). tree_count x.1.reading) same)
 
-pub steps-more : (modules : List Entry) (order : List (List ℕ)) (i : ℕ) (d name : List ℕ) (m : Module) (before old new : ℕ) → i < length order → name ≡ get_or order i d → entry_of modules name ≡ Some m → old ≡ after_checks (sum_by (λ n. trees_of (entry_of modules n)) (take i order)) before → new ≡ after_checks (tree_count m.reading) old →
-    new ≡ after_checks (sum_by (λ n. trees_of (entry_of modules n)) (take (i + 1) order)) before
-steps-more modules order i d name m before old new l is e h tick =
-    let count : List ℕ → ℕ = λ n. trees_of (entry_of modules n) in
-    let here : count (get_or order i d) ≡ tree_count m.reading = ap count (sym is) ∙ ap trees_of e in
-    let whole : sum_by count (take (i + 1) order) ≡ sum_by count (take i order) + tree_count m.reading = sum_by_more count order i d l ∙ ap (λ k. sum_by count (take i order) + k) here in
-    checks-more (sum_by count (take i order)) (tree_count m.reading) before old new h tick ∙ ap (λ k. after_checks k before) (sym whole)
+module _ (modules : List Entry) (order : List (List ℕ)) (i : ℕ) (d name : List ℕ) (m : Module) (before old new : ℕ) (l : i < length order) (is : name ≡ get_or order i d) (there : entry_of modules name ≡ Some m) where
+  count : List ℕ → ℕ
+  count n = trees_of (entry_of modules n)
+
+  one-more : sum_by count (take (i + 1) order) ≡ sum_by count (take i order) + tree_count m.reading
+  unfolding count
+  one-more =
+      let here : count (get_or order i d) ≡ tree_count m.reading = ap count (sym is) ∙ ap trees_of there in
+      sum_by_more count order i d l ∙ ap (λ k. sum_by count (take i order) + k) here
+
+  pub steps-more : old ≡ after_checks (sum_by (λ n. trees_of (entry_of modules n)) (take i order)) before → new ≡ after_checks (tree_count m.reading) old → new ≡ after_checks (sum_by (λ n. trees_of (entry_of modules n)) (take (i + 1) order)) before
+  unfolding count
+  steps-more h tick = checks-more (sum_by count (take i order)) (tree_count m.reading) before old new h tick ∙ ap (λ k. after_checks k before) (sym one-more)
+
+  pub steps-most : old ≤ after_checks (sum_by (λ n. trees_of (entry_of modules n)) (take i order)) before → new ≤ after_checks (tree_count m.reading) old → new ≤ after_checks (sum_by (λ n. trees_of (entry_of modules n)) (take (i + 1) order)) before
+  unfolding count
+  steps-most h tick = subst (λ k. new ≤ after_checks k before) (sym one-more) (checks-most (sum_by count (take i order)) (tree_count m.reading) before old new h tick)

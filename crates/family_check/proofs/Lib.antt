@@ -1,4 +1,5 @@
 mod Sums
 mod Checking
+mod Kept
 mod Once
 mod Answering

@@ -16,7 +16,7 @@ use Rattle.family_tables.specs.Tables.{entry_of}
 use Rattle.family_tables.specs.declared.outcome.Outcome.{Outcome}
 use Rattle.family_tables.specs.declared.outcome.Outcome.TheVariants as outcome
 use Rattle.family_check.specs.declared.names.Names.{Names}
-use Rattle.family_check.specs.declared.outcomes.Findings.{Findings}
+use Rattle.family_check.specs.declared.findings.Findings.{Findings}
 
 -- ---- one module
 

@@ -2,7 +2,7 @@
 ghost use Rattle.std.specs.Prelude.{◌≡◌, IfOk};
 ghost use Rattle.family_check.specs.Findings as findings;
 
-use crate::outcomes::Findings;
+use crate::findings::Findings;
 use family_facts::File;
 use family_tables::Outcome;
 use tool_list::Memory;

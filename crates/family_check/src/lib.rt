@@ -5,11 +5,13 @@
 //! nothing of folders, and of how a report looks.
 #![tactic(auto)]
 
+mod again;
 mod counts;
 mod family;
+mod findings;
 mod names;
 mod outcomes;
 
-pub use family::{FamilyCheck, check_family, find_family};
+pub use family::{Family, FamilyCheck, check_family};
+pub use findings::Findings;
 pub use names::Names;
-pub use outcomes::Findings;

@@ -1,5 +1,5 @@
 // The modules of a family with what they need.
-ghost use Rattle.std.specs.Prelude.{◌≡◌, ◌<◌, ◌^◌, ℕ, List as ListOf, IfOk, IfErr, OnOk, length, map, sum_by, take, unwrap_or, []};
+ghost use Rattle.std.specs.Prelude.{◌≡◌, ◌<◌, ◌^◌, ℕ, List as ListOf, IfOk, IfErr, IfSome, OnOk, length, map, sum_by, take, unwrap_or, []};
 ghost use Rattle.std.specs.List.{AllByRecursion, fold};
 ghost use Rattle.unit_grammar.specs.Units.{ModuleUnits};
 ghost use Rattle.unit_grammar.specs.UnitNodes.{module_of};
@@ -13,11 +13,12 @@ ghost use Rattle.tla_model.specs.Lexemes as lexemes_of;
 ghost use Rattle.std_modules.specs.StdTexts.{std_text};
 ghost use Rattle.family_facts.specs.Family.{Member};
 ghost use Rattle.family_facts.specs.Verdicts.{AreDistinct, built_in, family_of, member_of};
+ghost use Rattle.family_tables.specs.Keeping.{AreRead};
 ghost use Rattle.family_tables.specs.Modules as modules_of;
 ghost use Rattle.family_tables.specs.Modules.{IsTreeOf, IsModule, AreModules, added};
 
 use family_facts::File;
-use family_tables::{Module, Reading, Table};
+use family_tables::{Kept, Module, Reading, SharedTree, Table};
 use module_graph::{imports_are_lexemes, lexemes_lie_names, named_modules};
 use std::alloc::Global;
 use std_modules::{STD_NAMES, std_text};
@@ -64,25 +65,51 @@ fn needs_of(alloc: Global, tree: &ModuleTree) -> Result<List<Chars>, Memory>
     spellings(alloc, tree.source.as_str(), named.needed.as_slice())
 }
 
-fn module_of_tree(alloc: Global, tree: ModuleTree) -> Result<Module, Memory>
+// The module that a tree is.
+fn module_of_tree(alloc: Global, tree: SharedTree) -> Result<Module, Memory>
     requires { (name bytes : ListOf ℕ) × IsTreeOf name bytes tree }
     ensures { (name bytes : ListOf ℕ) → IsTreeOf name bytes tree
         → IfOk result (IsModule name bytes) }
 {
-    let needs = needs_of(alloc, &tree)?;
+    let needs = needs_of(alloc, tree.tree())?;
     Ok(Module {
         reading: Reading::Tree(tree),
         needs,
     })
 }
 
-// The module of a name with these bytes.
-fn read_module(alloc: Global, name: &str, bytes: &[u8]) -> Result<Module, Memory>
-    requires { length bytes.now < 2 ^ 31 }
+// The tree that was kept of a module of this name, if it has these bytes.
+fn kept_tree(kept: &Table<Kept>, name: &str, bytes: &[u8]) -> Result<Option<SharedTree>, Memory>
+    requires { AreRead kept.now }
+    ensures { IfOk result (λ tree. IfSome tree (IsTreeOf name.now bytes.now)) }
+{
+    let Some(kept) = kept.get(name) else {
+        return Ok(None);
+    };
+    if kept.tree.tree().source.as_str().as_bytes() != bytes {
+        return Ok(None);
+    }
+    Ok(Some(kept.tree.copied()?))
+}
+
+// The module of a name with these bytes. It is read unless its tree was kept.
+fn read_module(
+    alloc: Global,
+    kept: &Table<Kept>,
+    name: &str,
+    bytes: &[u8],
+) -> Result<Module, Memory>
+    requires small { length bytes.now < 2 ^ 31 }
+    requires read { AreRead kept.now }
     ensures { IfOk result (IsModule name.now bytes.now) }
 {
+    if let Some(tree) = kept_tree(kept, name, bytes)? {
+        let module = module_of_tree(alloc, tree)?;
+        return Ok(module);
+    }
     match read_front(alloc, name, bytes) {
         Ok(tree) => {
+            let tree = SharedTree::new(alloc, tree)?;
             let module = module_of_tree(alloc, tree)?;
             Ok(module)
         }
@@ -95,7 +122,8 @@ fn read_module(alloc: Global, name: &str, bytes: &[u8]) -> Result<Module, Memory
 }
 
 // The modules of files.
-fn read_files(alloc: Global, files: &[File]) -> Result<Table<Module>, Memory>
+fn read_files(alloc: Global, kept: &Table<Kept>, files: &[File]) -> Result<Table<Module>, Memory>
+    requires read { AreRead kept.now }
     requires distinct { AreDistinct files.now }
     requires small { sum_by (λ file. length file.bytes) files.now < 2 ^ 31 }
     ensures { IfOk result (λ modules. AreModules (map member_of files.now) modules) }
@@ -103,15 +131,21 @@ fn read_files(alloc: Global, files: &[File]) -> Result<Table<Module>, Memory>
     let mut modules = Table::new(alloc);
     for file in files {
         let name = file.name.as_str();
-        let module = read_module(alloc, name, file.bytes.as_slice())?;
+        let module = read_module(alloc, kept, name, file.bytes.as_slice())?;
         modules.add(alloc, name, module)?;
     }
     Ok(modules)
 }
 
 // Adds the built-in module of a name, unless a module has this name.
-fn add_built_in(alloc: Global, modules: &mut Table<Module>, name: &str) -> Result<(), Memory>
-    requires { length (unwrap_or (std_text name.now) []) < 2 ^ 31 }
+fn add_built_in(
+    alloc: Global,
+    kept: &Table<Kept>,
+    modules: &mut Table<Module>,
+    name: &str,
+) -> Result<(), Memory>
+    requires read { AreRead kept.now }
+    requires small { length (unwrap_or (std_text name.now) []) < 2 ^ 31 }
     ensures { (members : ListOf Member) → AreModules members modules.old
         → OnOk result (AreModules (added members (built_in name.now)) modules.new) }
 {
@@ -119,14 +153,20 @@ fn add_built_in(alloc: Global, modules: &mut Table<Module>, name: &str) -> Resul
         return Ok(());
     }
     let text = std_text(name).unwrap_or("");
-    let module = read_module(alloc, name, text.as_bytes())?;
+    let module = read_module(alloc, kept, name, text.as_bytes())?;
     modules.add(alloc, name, module)?;
     Ok(())
 }
 
 // Adds the built-in modules of these names, but for those whose name a module has.
-fn add_all(alloc: Global, modules: &mut Table<Module>, names: &[&'static str]) -> Result<(), Memory>
-    requires { AllByRecursion (λ name. length (unwrap_or (std_text name.now) [])
+fn add_all(
+    alloc: Global,
+    kept: &Table<Kept>,
+    modules: &mut Table<Module>,
+    names: &[&'static str],
+) -> Result<(), Memory>
+    requires read { AreRead kept.now }
+    requires small { AllByRecursion (λ name. length (unwrap_or (std_text name.now) [])
         < 2 ^ 31) names.now }
     ensures { (members : ListOf Member) → AreModules members modules.old
         → OnOk result
@@ -134,19 +174,24 @@ fn add_all(alloc: Global, modules: &mut Table<Module>, names: &[&'static str]) -
         modules.new) }
 {
     for name in names {
-        add_built_in(alloc, modules, *name)?;
+        add_built_in(alloc, kept, modules, *name)?;
     }
     Ok(())
 }
 
 /// The modules of a family with what they need: the files, then those built-in modules that no file
-/// hides.
-pub fn read_family(alloc: Global, files: &[File]) -> Result<Table<Module>, Memory>
+/// hides. A module whose tree was kept is not read again where it has the same text.
+pub fn read_family(
+    alloc: Global,
+    kept: &Table<Kept>,
+    files: &[File],
+) -> Result<Table<Module>, Memory>
+    requires read { AreRead kept.now }
     requires distinct { AreDistinct files.now }
     requires small { sum_by (λ file. length file.bytes) files.now < 2 ^ 31 }
     ensures { IfOk result (λ modules. AreModules (family_of files.now) modules) }
 {
-    let mut modules = read_files(alloc, files)?;
-    add_all(alloc, &mut modules, &STD_NAMES)?;
+    let mut modules = read_files(alloc, kept, files)?;
+    add_all(alloc, kept, &mut modules, &STD_NAMES)?;
     Ok(modules)
 }

@@ -21,7 +21,7 @@ use Rattle.family_tables.specs.Plans as plans
 use Rattle.family_tables.specs.Plans.{IsPlan}
 use Rattle.family_tables.specs.Tables.{entry_of}
 use Rattle.family_tables.specs.Agreement.{AreFrom, IsFrom, found_face}
-use Rattle.family_tables.specs.Outcomes.{IsImport, IsOutcome, IsReady}
+use Rattle.family_tables.specs.Outcomes.{ImportsOnly, IsImport, IsOutcome, IsReady}
 use Rattle.family_tables.specs.declared.order.Plan.{Plan}
 use Rattle.family_tables.specs.declared.outcome.Outcome.{Outcome}
 use Rattle.family_tables.specs.declared.outcome.Outcome.TheVariants as outcome
@@ -103,10 +103,6 @@ some-from (Some y) b x e f s = ap is_none (sym s)
 abbrev pub AreGiven : List Member → List ℕ → List (List ℕ) → Imports → Type 0
 AreGiven family name needs imports = (need : List ℕ) → Contains needs need → IsGiven family name need (given_in imports need)
 
--- nothing else is imported
-abbrev pub AreOthers : List (List ℕ) → Imports → Type 0
-AreOthers needs imports = (need : List ℕ) → (Contains needs need → ⊥) → import_of imports need ≡ None
-
 module _ (needs : List (List ℕ)) (i : ℕ) (d item : List ℕ) (l : i < length needs) (is : item ≡ get_or needs i d) (imports : Imports) where
   taken : take i needs ++ item ∷ [] ≡ take (i + 1) needs
   taken = ap (λ x. take i needs ++ x ∷ []) is ∙ sym (take_more needs i d l)
@@ -131,7 +127,7 @@ module _ (needs : List (List ℕ)) (i : ℕ) (d item : List ℕ) (l : i < length
       subst (λ g. IsGiven family name need g) (ap given_by (sym v)) (given need before))
       (cases_Bool (bytes_eq need item))
 
-  pub others-more : (import : Import) (imports' : Imports) → import_of imports item ≡ None → imports' ≡ imports ++ (item, import) ∷ [] → AreOthers (take i needs) imports → AreOthers (take (i + 1) needs) imports'
+  pub others-more : (import : Import) (imports' : Imports) → import_of imports item ≡ None → imports' ≡ imports ++ (item, import) ∷ [] → ImportsOnly (take i needs) imports → ImportsOnly (take (i + 1) needs) imports'
   others-more import imports' none e others need n =
       let value : import_of imports' need ≡ cond (bytes_eq need item) (Some import) (import_of imports need) = ap (λ z. import_of z need) e ∙ import-append imports need item import none in
       ⊎_elim
@@ -142,7 +138,7 @@ module _ (needs : List (List ℕ)) (i : ℕ) (d item : List ℕ) (l : i < length
       (cases_Bool (bytes_eq need item))
 
   -- one that is there already
-  pub given-again : (family : List Member) (name : List ℕ) → is_none (import_of imports item) ≡ false → AreOthers (take i needs) imports → AreGiven family name (take i needs) imports → AreGiven family name (take (i + 1) needs) imports
+  pub given-again : (family : List Member) (name : List ℕ) → is_none (import_of imports item) ≡ false → ImportsOnly (take i needs) imports → AreGiven family name (take i needs) imports → AreGiven family name (take (i + 1) needs) imports
   given-again family name some others given need c = elim (contains-pushed (take i needs) item need (subst (λ ns. Contains ns need) (sym taken) c)) as (λ _. IsGiven family name need (given_in imports need)) [
     | inl b ↦ given need b
     | inr s ↦ elim (among-or-not (take i needs) need) as (λ _. IsGiven family name need (given_in imports need)) [
@@ -151,5 +147,5 @@ module _ (needs : List (List ℕ)) (i : ℕ) (d item : List ℕ) (l : i < length
     ]
   ]
 
-  pub others-again : AreOthers (take i needs) imports → AreOthers (take (i + 1) needs) imports
+  pub others-again : ImportsOnly (take i needs) imports → ImportsOnly (take (i + 1) needs) imports
   others-again others need n = others need (λ c. n (subst (λ ns. Contains ns need) taken (Contains-append_left (take i needs) (item ∷ []) need c)))

@@ -3,3 +3,4 @@ pub mod Modules
 pub mod Plans
 pub mod Outcomes
 pub mod Agreement
+pub mod Keeping

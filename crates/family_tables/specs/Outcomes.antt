@@ -4,7 +4,7 @@ use Rattle.std.specs.Arc.{arc_value}
 use Rattle.tla_model.specs.declared.Diagnostic.{Diagnostic}
 use Rattle.module_model.specs.declared.imported.Import.{Import}
 use Rattle.module_model.specs.Exports.{ModuleView, face_outside}
-use Rattle.module_model.specs.Imports.{Imports}
+use Rattle.module_model.specs.Imports.{Imports, import_of}
 use Rattle.module_facts.specs.Checks.{Unknown, given_by, given_in}
 use Rattle.family_facts.specs.Family as families
 use Rattle.family_facts.specs.Family.{Member, Diagnosed, IsDiagnosed, IsGiven, is_there}
@@ -50,6 +50,10 @@ IsImport family name need import = IsGiven family name need (given_by (Some impo
 pub record AreImports (family : List Member) (name : List ℕ) (needs : List (List ℕ)) (imports : Imports) : Type 0 where
   pub given : (need : List ℕ) → Contains needs need → IsGiven family name need (given_in imports need)
   pub others : (need : List ℕ) → (Contains needs need → ⊥) → given_in imports need ≡ Unknown
+
+-- nothing else is imported
+abbrev pub ImportsOnly : List (List ℕ) → Imports → Type 0
+ImportsOnly needs imports = (need : List ℕ) → (Contains needs need → ⊥) → import_of imports need ≡ None
 
 -- ---- outcomes
 

@@ -3,7 +3,7 @@ ghost use Rattle.std.specs.Prelude.{◌≡◌, ℕ, List as ListOf, None, IfOk, 
 ghost use Rattle.family_facts.specs.Family as families;
 ghost use Rattle.family_facts.specs.Family.{Member};
 ghost use Rattle.family_tables.specs.Agreement.{AreAgreed, AreFrom, IsFrom};
-ghost use Rattle.family_tables.specs.Outcomes.{IsReady, IsImport, AreImports};
+ghost use Rattle.family_tables.specs.Outcomes.{IsReady, IsImport, AreImports, ImportsOnly};
 ghost use Rattle.family_tables.specs.Tables.{entry_of};
 ghost use Rattle.module_model.specs.Given.{AreFaces};
 
@@ -52,6 +52,7 @@ pub fn imports_of(
         → ((need : ListOf ℕ) → Contains needs.now need → families.Needs family name.now need)
         → IfOk result (AreImports family name.now needs.now) }
     ensures from { IfOk result (AreFrom outcomes.now) }
+    ensures only { IfOk result (ImportsOnly needs.now) }
     ensures faces { IfOk result (λ imported. AreFaces imported name.now) }
 {
     let mut imported = Imported::new(alloc);

@@ -6,6 +6,7 @@
 #![tactic(auto)]
 
 mod imports;
+mod kept;
 mod order;
 mod outcome;
 mod reading;
@@ -13,8 +14,9 @@ mod table;
 mod verdict;
 
 pub use imports::imports_of;
+pub use kept::Kept;
 pub use order::{Plan, plan_of};
 pub use outcome::Outcome;
-pub use reading::{Module, Reading};
+pub use reading::{Module, Reading, SharedTree};
 pub use table::Table;
 pub use verdict::verdicts_of;

@@ -1,11 +1,64 @@
 // What was read of a module.
+ghost use Rattle.std.specs.Prelude.{◌≡◌, IfOk};
+
+use std::alloc::Global;
+use std::marker::Model;
+use std::sync::Arc;
 use tla_model::Diagnostic;
 use tla_tree::ModuleTree;
-use tool_list::{Chars, List};
+use tool_list::{Chars, List, Memory};
+
+/// The tree of a module. Copies share it.
+pub struct SharedTree {
+    tree: Arc<ModuleTree>,
+}
+
+// By hand, so that a proof meets one call wherever a value ends.
+impl Drop for SharedTree {
+    fn drop(self) {
+        let SharedTree { tree: _ } = self;
+    }
+}
+
+impl Model for SharedTree {
+    ghost use Rattle.std.specs.Arc.{arc_value};
+    ghost use Rattle.tla_tree.specs.declared.unit.ModuleTree.{ModuleTree};
+
+    ghost Value = { ModuleTree };
+
+    ghost view = { λ t. arc_value t.tree };
+}
+
+impl SharedTree {
+    /// The tree, to be shared.
+    pub fn new(alloc: Global, tree: ModuleTree) -> Result<SharedTree, Memory>
+        ensures { IfOk result (λ shared. shared ≡ tree) }
+    {
+        Ok(SharedTree {
+            tree: Arc::new(alloc, tree)?,
+        })
+    }
+
+    /// The tree.
+    pub fn tree(&self) -> &ModuleTree
+        ensures { result.now ≡ self.now }
+    {
+        &self.tree
+    }
+
+    /// The same tree. `Memory` comes where so many copies can't be counted.
+    pub fn copied(&self) -> Result<SharedTree, Memory>
+        ensures { IfOk result (λ shared. shared ≡ self.now) }
+    {
+        Ok(SharedTree {
+            tree: self.tree.clone()?,
+        })
+    }
+}
 
 /// The tree of a module, or its one front fault.
 pub enum Reading {
-    Tree(ModuleTree),
+    Tree(SharedTree),
     Fault(Diagnostic),
 }
 

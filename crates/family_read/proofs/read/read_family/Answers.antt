@@ -7,8 +7,8 @@ use Rattle.family_facts.proofs.Once.{built-in-apart}
 use Rattle.family_read.proofs.ModulesRead.{added-all}
 use Rattle.family_read.proofs.read.read_family.Goals as goal
 
-pub add_all-requires : goal.add_all-requires
-add_all-requires c = built-in-small
+pub add_all-requires-clause-small : goal.add_all-requires-clause-small
+add_all-requires-clause-small c = built-in-small
 
 pub returns : goal.returns
 returns c =

@@ -1,12 +1,16 @@
+use Rattle.std.proofs.Common.{subst, sym}
+use Rattle.family_tables.specs.Modules.{IsTreeOf}
 use Rattle.family_read.proofs.ModulesRead.{tree-of}
 use Rattle.family_read.proofs.read.read_module.Goals as goal
 
-pub module_of_tree-requires : goal.module_of_tree-requires
-module_of_tree-requires c =
+pub module_of_tree-requires-in-Ok : goal.module_of_tree-requires-in-Ok
+module_of_tree-requires-in-Ok c =
     let read = c.in-Ok.ensures.tree in
-    (c.args.name.now, c.args.bytes.now, tree-of c.args.name.now c.args.bytes.now c.in-Ok.tree read.0 read.1 read.2 c.in-Ok.ensures.lexemes c.in-Ok.ensures.few)
+    let is = tree-of c.args.name.now c.args.bytes.now c.in-Ok.tree read.0 read.1 read.2 c.in-Ok.ensures.lexemes c.in-Ok.ensures.few in
+    (c.args.name.now, c.args.bytes.now, subst (IsTreeOf c.args.name.now c.args.bytes.now) (sym c.in_ok-tree-in-Ok.ensures) is)
 
 pub returns-in_ok-module-in-Ok : goal.returns-in_ok-module-in-Ok
 returns-in_ok-module-in-Ok c =
     let read = c.in-Ok.ensures.tree in
-    c.in_ok-module-in-Ok.ensures c.args.name.now c.args.bytes.now (tree-of c.args.name.now c.args.bytes.now c.in-Ok.tree read.0 read.1 read.2 c.in-Ok.ensures.lexemes c.in-Ok.ensures.few)
+    let is = tree-of c.args.name.now c.args.bytes.now c.in-Ok.tree read.0 read.1 read.2 c.in-Ok.ensures.lexemes c.in-Ok.ensures.few in
+    c.in_ok-module-in-Ok.ensures c.args.name.now c.args.bytes.now (subst (IsTreeOf c.args.name.now c.args.bytes.now) (sym c.in_ok-tree-in-Ok.ensures) is)

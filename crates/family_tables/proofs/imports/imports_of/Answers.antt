@@ -4,7 +4,8 @@ use Rattle.module_facts.specs.Checks.{given_by}
 use Rattle.family_tables.specs.Agreement.{AreFrom}
 use Rattle.module_model.specs.Imports.{import_of}
 use Rattle.family_tables.proofs.Agreeing.{faces-from}
-use Rattle.family_tables.proofs.Importing.{AreGiven, AreOthers, from-more, given-again, given-more, item-needed, none-from, others-again, others-more, some-from}
+use Rattle.family_tables.specs.Outcomes.{ImportsOnly}
+use Rattle.family_tables.proofs.Importing.{AreGiven, from-more, given-again, given-more, item-needed, none-from, others-again, others-more, some-from}
 use Rattle.family_tables.proofs.imports.imports_of.Goals.{then-is_none+in_ok-import_of+in_ok-add, else-is_none}
 use Rattle.family_tables.proofs.imports.imports_of.Goals as goal
 
@@ -33,7 +34,7 @@ loop-need-preserved c =
                 subst (λ z. AreGiven family c.args.name.now (take (i + 1) needs) z) (sym w.imported-is)
                 (given-again needs i c.need-item.result item c.loop-need-test.true is imports family c.args.name.now some c.loop-need.invariant.others (c.loop-need.invariant.given family ready all));
             from = subst (AreFrom c.args.outcomes.now) (sym w.imported-is) c.loop-need.invariant.from;
-            others = subst (λ z. AreOthers (take (i + 1) needs) z) (sym w.imported-is) (others-again needs i c.need-item.result item c.loop-need-test.true is imports c.loop-need.invariant.others);
+            others = subst (λ z. ImportsOnly (take (i + 1) needs) z) (sym w.imported-is) (others-again needs i c.need-item.result item c.loop-need-test.true is imports c.loop-need.invariant.others);
           }
     ]
 
@@ -43,8 +44,11 @@ returns-clause-given c family ready all =
     let whole = take_all c.loop-need.need-index needs c.loop-need-test.false in
     record {
       given = subst (λ ns. AreGiven family c.args.name.now ns c.loop-need.imported) whole (c.loop-need.invariant.given family ready all);
-      others = λ need n. ap given_by (subst (λ ns. AreOthers ns c.loop-need.imported) whole c.loop-need.invariant.others need n);
+      others = λ need n. ap given_by (subst (λ ns. ImportsOnly ns c.loop-need.imported) whole c.loop-need.invariant.others need n);
     }
+
+pub returns-clause-only : goal.returns-clause-only
+returns-clause-only c = subst (λ ns. ImportsOnly ns c.loop-need.imported) (take_all c.loop-need.need-index c.args.needs.now c.loop-need-test.false) c.loop-need.invariant.others
 
 pub returns-clause-faces : goal.returns-clause-faces
 returns-clause-faces c = faces-from c.args.outcomes.now c.loop-need.imported c.args.name.now c.requires.agreed c.requires.unfound c.loop-need.invariant.from

@@ -1,16 +1,15 @@
-use Rattle.std.proofs.Common.{◌≡◌, ℕ, List, None, take}
+use Rattle.std.proofs.Common.{ℕ, List, take}
 use Rattle.std.specs.Prelude.{Contains}
 use Rattle.module_facts.specs.Checks.{given_in}
-use Rattle.module_model.specs.Imports.{import_of}
 use Rattle.family_facts.specs.Family as families
 use Rattle.family_facts.specs.Family.{Member, IsGiven}
 use Rattle.family_tables.specs.Agreement.{AreFrom}
-use Rattle.family_tables.specs.Outcomes.{IsReady}
+use Rattle.family_tables.specs.Outcomes.{ImportsOnly, IsReady}
 use Rattle.family_tables.proofs.imports.imports_of.Given as goal
 
 abbrev pub invariant-loop-need : goal.invariant-loop-need
 invariant-loop-need l = record {
   given : (family : List Member) → IsReady family l.plan l.outcomes l.name → ((need : List ℕ) → Contains l.needs need → families.Needs family l.name need) → (need : List ℕ) → Contains (take l.need-index l.needs) need → IsGiven family l.name need (given_in l.imported need);
   from : AreFrom l.outcomes l.imported;
-  others : (need : List ℕ) → (Contains (take l.need-index l.needs) need → ⊥) → import_of l.imported need ≡ None;
+  others : ImportsOnly (take l.need-index l.needs) l.imported;
 }
