@@ -1,11 +1,11 @@
 -- What is found of texts.
-use Rattle.std.specs.Prelude.{ℕ, List, Contains}
+use Rattle.std.specs.Prelude.{List, Contains}
 use Rattle.std.specs.List.{All}
 use Rattle.tla_lexeme.specs.Spans.{IsPlaced}
 use Rattle.family_facts.specs.Facts.{diagnosed}
 use Rattle.family_facts.specs.Verdicts.{text_of}
 use Rattle.family_check.specs.Findings.{StandsIn, Tells, decls_in, faults_in, uses_in}
-use Rattle.family_check.specs.declared.outcomes.Findings.{Findings}
+use Rattle.family_check.specs.declared.findings.Findings.{Findings}
 use Rattle.lsp_answers.specs.States.{ModuleText}
 use Rattle.server_locations.specs.Locations.{Found}
 use Rattle.server_texts.specs.Notes.{all_texts}

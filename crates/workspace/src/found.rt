@@ -1,5 +1,5 @@
 // What is found of the modules of a root.
-ghost use Rattle.std.specs.Prelude.{◌≡◌, ◌≤◌, IfOk, map};
+ghost use Rattle.std.specs.Prelude.{◌≡◌, ◌≤◌, IfOk, OnOk, map};
 ghost use Rattle.std.specs.Cmp.Lexicographic.{slice_cmp};
 ghost use Rattle.std.specs.List.Sorted.{IsStrictlySortedBy};
 ghost use Rattle.std.specs.Ordering.{nat_cmp};
@@ -7,7 +7,7 @@ ghost use Rattle.lsp_answers.specs.States.{bytes_of, most_bytes};
 ghost use Rattle.server_texts.specs.Notes as in_notes;
 ghost use Rattle.workspace.specs.Found.{AreFound, found_of};
 
-use family_check::{Findings, find_family};
+use family_check::{Family, Findings};
 use family_facts::File;
 use server_documents::{Documents, ModuleText};
 use server_locations::FoundModule;
@@ -36,19 +36,21 @@ fn files_of(alloc: Global, texts: &[ModuleText<'_>]) -> Result<List<File>, Memor
     Ok(files)
 }
 
-/// What is found of texts, over the built-in modules.
+/// Finds what there is to find of texts, over the built-in modules. What was found before is kept where
+/// it still holds.
 pub fn find_texts<L>(
     alloc: Global,
     texts: &[ModuleText<'_>],
+    family: &mut Family,
     steps: &mut Steps<L>,
-) -> Result<Findings, Memory>
+) -> Result<(), Memory>
     requires order { IsStrictlySortedBy (slice_cmp nat_cmp) (map (λ t. t.name) texts.now) }
     requires few { bytes_of texts.now ≤ most_bytes }
-    ensures { IfOk result (AreFound texts.now) }
+    ensures { OnOk result (AreFound texts.now family.new) }
 {
     let files = files_of(alloc, texts)?;
-    let found = find_family(alloc, files.as_slice(), steps)?;
-    Ok(found)
+    family.find(alloc, files.as_slice(), steps)?;
+    Ok(())
 }
 
 /// What is found of the modules of texts, in their order.

@@ -11,6 +11,7 @@ ghost use Rattle.server_texts.specs.Server.{server_meaning};
 use crate::found::find_texts;
 use crate::notes::all_notes;
 use crate::replies::reply_to;
+use family_check::Family;
 use lsp_answers::{AnswerFault, Answers, Due};
 use lsp_wire::{Call, Change, FileEvent, Note, Reply, Uri};
 use server_documents::Documents;
@@ -20,11 +21,12 @@ use step_count::Steps;
 use tool_io::Folder;
 use tool_list::{Chars, List, Memory};
 
-/// The texts of a root's modules over a folder. Each answer is derived from the texts as they
-/// stand.
+/// The texts of a root's modules over a folder. Each answer is derived from the texts as they stand:
+/// what was found of a module is kept where it still holds.
 pub struct Workspace<F> {
     folder: F,
     documents: Documents,
+    family: Family,
 }
 
 impl<F: Folder> Workspace<F> {
@@ -36,6 +38,7 @@ impl<F: Folder> Workspace<F> {
         Workspace {
             folder,
             documents: Documents::new(alloc),
+            family: Family::new(alloc),
         }
     }
 
@@ -46,6 +49,7 @@ impl<F: Folder> Workspace<F> {
         let Workspace {
             folder,
             documents: _,
+            family: _,
         } = self;
         folder
     }
@@ -55,6 +59,7 @@ impl<F: Folder> Workspace<F> {
 fn notes_in<L>(
     alloc: Global,
     documents: &Documents,
+    family: &mut Family,
     steps: &mut Steps<L>,
 ) -> Result<List<List<Note>>, Memory>
     ensures { IfOk result (λ notes. notes
@@ -68,8 +73,8 @@ fn notes_in<L>(
         return Err(Memory);
     }
     let texts = documents.texts(alloc)?;
-    let found = find_texts(alloc, texts.as_slice(), steps)?;
-    let notes = all_notes(alloc, documents, &found, names.as_slice())?;
+    find_texts(alloc, texts.as_slice(), family, steps)?;
+    let notes = all_notes(alloc, documents, family.found(), names.as_slice())?;
     Ok(notes)
 }
 
@@ -173,7 +178,7 @@ impl<F: Folder> Answers for Workspace<F> {
     }
 
     fn due<L>(&mut self, alloc: Global, steps: &mut Steps<L>) -> Result<List<Due>, Memory> {
-        let notes = notes_in(alloc, &self.documents, steps)?;
+        let notes = notes_in(alloc, &self.documents, &mut self.family, steps)?;
         self.documents.send(alloc, notes.as_slice())
     }
 
@@ -183,7 +188,7 @@ impl<F: Folder> Answers for Workspace<F> {
         call: &Call,
         steps: &mut Steps<L>,
     ) -> Result<Reply, Memory> {
-        reply_to(alloc, &self.documents, call, steps)
+        reply_to(alloc, &self.documents, &mut self.family, call, steps)
     }
 
     fn faults(&self) -> u64 {

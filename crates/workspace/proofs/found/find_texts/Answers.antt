@@ -7,12 +7,12 @@ use Rattle.server_texts.specs.Notes.{files_of}
 use Rattle.workspace.proofs.Finding.{files-apart, files-bytes, texts-found}
 use Rattle.workspace.proofs.found.find_texts.Goals as goal
 
-pub find_family-requires-clause-distinct : goal.find_family-requires-clause-distinct
-find_family-requires-clause-distinct g c =
+pub find-requires-clause-distinct : goal.find-requires-clause-distinct
+find-requires-clause-distinct g c =
     subst AreDistinct (sym (c.as_slice.ensures ∙ c.in_ok-files.ensures)) (files-apart c.args.texts.now c.requires.order)
 
-pub find_family-requires-clause-small : goal.find_family-requires-clause-small
-find_family-requires-clause-small g c =
+pub find-requires-clause-small : goal.find-requires-clause-small
+find-requires-clause-small g c =
     let count : sum_by (λ (file : File). length file.bytes) c.as_slice.result.now ≡ sum_by (λ (file : File). length file.bytes) (files_of c.args.texts.now) =
     ap (λ (files : List File). sum_by (λ (file : File). length file.bytes) files) (c.as_slice.ensures ∙ c.in_ok-files.ensures) in
     let bytes = files-bytes c.args.texts.now in
@@ -21,6 +21,6 @@ find_family-requires-clause-small g c =
 pub returns : goal.returns
 returns g c =
     let same = c.as_slice.ensures ∙ c.in_ok-files.ensures in
-    texts-found c.args.texts.now c.in_ok-found.found (subst (λ files. TellsFiles files c.in_ok-found.found) same c.in_ok-found.ensures.tells)
-    (subst (λ files. AreFaultsPlaced files c.in_ok-found.found) same c.in_ok-found.ensures.placed)
-    (subst (λ files. AreNamesPlaced files c.in_ok-found.found) same c.in_ok-found.ensures.names)
+    texts-found c.args.texts.now c.find.new.self (subst (λ files. TellsFiles files c.find.new.self) same c.in_ok-find.ensures.tells)
+    (subst (λ files. AreFaultsPlaced files c.find.new.self) same c.in_ok-find.ensures.placed)
+    (subst (λ files. AreNamesPlaced files c.find.new.self) same c.in_ok-find.ensures.names)

@@ -8,7 +8,8 @@ use Rattle.workspace.proofs.Finding.{all-open, notes-by-names}
 use Rattle.workspace.proofs.workspace.notes_in.Goals as goal
 
 pub all_notes-requires-clause-found : goal.all_notes-requires-clause-found
-all_notes-requires-clause-found g c = subst (λ texts. AreFound texts c.in_ok-found.found) (c.as_slice.ensures ∙ c.in_ok-texts.ensures.texts) c.in_ok-found.ensures
+all_notes-requires-clause-found g c =
+    subst (λ found. AreFound c.args.documents.now.texts found) (sym c.found.ensures) (subst (λ texts. AreFound texts c.find_texts.new.family) (c.as_slice.ensures ∙ c.in_ok-texts.ensures.texts) c.in_ok-find_texts.ensures)
 
 pub all_notes-requires-clause-opened : goal.all_notes-requires-clause-opened
 all_notes-requires-clause-opened g c =
