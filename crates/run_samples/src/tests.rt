@@ -9,6 +9,7 @@ mod nested;
 mod scopes;
 mod sessions;
 
+use crate::tests::sessions::Session;
 use sany_run::run;
 use std::alloc::Global;
 use std::process::Abort;
@@ -349,10 +350,9 @@ fn frames_of(alloc: Global, contents: &[&str]) -> Result<Vec<u8>, Memory> {
     Ok(bytes)
 }
 
-#[test]
-fn answers_its_client(rt: HostRuntime) -> Result<(), Fail> {
-    let alloc = rt.alloc();
-    for (contents, answers, status) in &sessions::SESSIONS {
+// Whether sessions over the folder `/w` answer what they should.
+fn answer(rt: &impl Abort, alloc: Global, rows: &[Session]) -> Result<(), Memory> {
+    for (contents, answers, status) in rows {
         let folder = folder_at(alloc, "/w", modules_of(alloc, &sessions::FILES)?, 0)?;
         let input = frames_of(alloc, *contents)?;
         let output = MemorySink::new(alloc, 4096, 7, List::new(alloc))?;
@@ -361,5 +361,39 @@ fn answers_its_client(rt: HostRuntime) -> Result<(), Fail> {
         assert_eq!(rt; ran.output.bytes(), written.as_slice());
         assert_eq!(rt; ran.status, *status);
     }
+    Ok(())
+}
+
+#[test]
+fn answers_its_client(rt: HostRuntime) -> Result<(), Fail> {
+    answer(&rt, rt.alloc(), &sessions::SESSIONS)?;
+    answer(&rt, rt.alloc(), &sessions::phases::PHASES)?;
+    Ok(())
+}
+
+#[test]
+fn knows_documents_by_any_spelling(rt: HostRuntime) -> Result<(), Fail> {
+    answer(&rt, rt.alloc(), &sessions::spellings::SPELLINGS)?;
+    answer(&rt, rt.alloc(), &sessions::roots::ROOTS)?;
+    Ok(())
+}
+
+#[test]
+fn takes_files_and_changes(rt: HostRuntime) -> Result<(), Fail> {
+    answer(&rt, rt.alloc(), &sessions::files::FILES)?;
+    answer(&rt, rt.alloc(), &sessions::changes::CHANGES)?;
+    Ok(())
+}
+
+#[test]
+fn tells_names(rt: HostRuntime) -> Result<(), Fail> {
+    answer(&rt, rt.alloc(), &sessions::outlines::OUTLINES)?;
+    answer(&rt, rt.alloc(), &sessions::names::NAMES)?;
+    Ok(())
+}
+
+#[test]
+fn tells_others_of_an_edit(rt: HostRuntime) -> Result<(), Fail> {
+    answer(&rt, rt.alloc(), &sessions::edits::EDITS)?;
     Ok(())
 }

@@ -1,14 +1,23 @@
 // Sessions of a client, message by message.
+pub mod changes;
+pub mod edits;
+pub mod files;
+pub mod names;
+pub mod outlines;
+pub mod phases;
+pub mod roots;
+pub mod spellings;
 
 /// The contents of the input's frames; those of the output's; and the status.
 pub type Session = (&'static [&'static str], &'static [&'static str], u8);
 
-const NO_ROOT: &str = r#"{"jsonrpc":"2.0","id":1,"method":"initialize","params":{"rootUri":null}}"#;
+pub const NO_ROOT: &str =
+    r#"{"jsonrpc":"2.0","id":1,"method":"initialize","params":{"rootUri":null}}"#;
 
-const ROOT: &str =
+pub const ROOT: &str =
     r#"{"jsonrpc":"2.0","id":1,"method":"initialize","params":{"rootUri":"file:///w/"}}"#;
 
-const INITIALIZED: &str =
+pub const INITIALIZED: &str =
     r#"{"id":1,"jsonrpc":"2.0","result":{"capabilities":{"definitionProvider":true,"documentSymbolProvider":true,"referencesProvider":true,"textDocumentSync":{"change":2,"openClose":true}},"serverInfo":{"name":"sany_tool"}}}"#;
 
 const OPEN_A: &str =
@@ -20,11 +29,11 @@ const PRIME_X: &str =
 const CLEAN_A: &str =
     r#"{"jsonrpc":"2.0","method":"textDocument/publishDiagnostics","params":{"diagnostics":[],"uri":"file:///w/A.tla"}}"#;
 
-const SHUTDOWN: &str = r#"{"id":9,"method":"shutdown"}"#;
+pub const SHUTDOWN: &str = r#"{"id":9,"method":"shutdown"}"#;
 
-const SHUT: &str = r#"{"id":9,"jsonrpc":"2.0","result":null}"#;
+pub const SHUT: &str = r#"{"id":9,"jsonrpc":"2.0","result":null}"#;
 
-const EXIT: &str = r#"{"method":"exit"}"#;
+pub const EXIT: &str = r#"{"method":"exit"}"#;
 
 /// The files of the folder `/w`.
 pub const FILES: [(&str, &str); 2] = [("B", "CONSTANT N\nF == N"), ("C", "EXTENDS B\nG == F")];
