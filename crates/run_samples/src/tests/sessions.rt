@@ -26,8 +26,35 @@ const OPEN_A: &str =
 const PRIME_X: &str =
     r#"{"method":"textDocument/didChange","params":{"textDocument":{"uri":"file:///w/A.tla"},"contentChanges":[{"range":{"start":{"line":2,"character":13},"end":{"line":2,"character":14}},"text":"x'"}]}}"#;
 
-const CLEAN_A: &str =
+pub const CLEAN_A: &str =
     r#"{"jsonrpc":"2.0","method":"textDocument/publishDiagnostics","params":{"diagnostics":[],"uri":"file:///w/A.tla"}}"#;
+
+pub const OPEN_B: &str =
+    r#"{"method":"textDocument/didOpen","params":{"textDocument":{"uri":"file:///w/B.tla","text":"---- MODULE B ----\nCONSTANT N\nF == N\n====\n"}}}"#;
+
+pub const OPEN_C: &str =
+    r#"{"method":"textDocument/didOpen","params":{"textDocument":{"uri":"file:///w/C.tla","text":"---- MODULE C ----\nEXTENDS B\nG == F\n====\n"}}}"#;
+
+pub const CLEAN_B: &str =
+    r#"{"jsonrpc":"2.0","method":"textDocument/publishDiagnostics","params":{"diagnostics":[],"uri":"file:///w/B.tla"}}"#;
+
+pub const CLEAN_C: &str =
+    r#"{"jsonrpc":"2.0","method":"textDocument/publishDiagnostics","params":{"diagnostics":[],"uri":"file:///w/C.tla"}}"#;
+
+pub const CLEAN_D: &str =
+    r#"{"jsonrpc":"2.0","method":"textDocument/publishDiagnostics","params":{"diagnostics":[],"uri":"file:///w/D.tla"}}"#;
+
+pub const UNKNOWN_IN_C: &str =
+    r#"{"jsonrpc":"2.0","method":"textDocument/publishDiagnostics","params":{"diagnostics":[{"code":"E401","message":"unknown symbol","range":{"end":{"character":6,"line":2},"start":{"character":5,"line":2}},"severity":1,"source":"sany"}],"uri":"file:///w/C.tla"}}"#;
+
+pub const NO_MODULE_IN_C: &str =
+    r#"{"jsonrpc":"2.0","method":"textDocument/publishDiagnostics","params":{"diagnostics":[{"code":"E301","message":"unknown module","range":{"end":{"character":9,"line":1},"start":{"character":8,"line":1}},"severity":1,"source":"sany"}],"uri":"file:///w/C.tla"}}"#;
+
+pub const ASK_F: &str =
+    r#"{"id":2,"method":"textDocument/definition","params":{"textDocument":{"uri":"file:///w/C.tla"},"position":{"line":2,"character":5}}}"#;
+
+pub const AT_F: &str =
+    r#"{"id":2,"jsonrpc":"2.0","result":{"range":{"end":{"character":1,"line":2},"start":{"character":0,"line":2}},"uri":"file:///w/B.tla"}}"#;
 
 pub const SHUTDOWN: &str = r#"{"id":9,"method":"shutdown"}"#;
 
@@ -96,21 +123,21 @@ pub static SESSIONS: [Session; 7] = [
     (
         &[
             ROOT,
-            r#"{"method":"textDocument/didOpen","params":{"textDocument":{"uri":"file:///w/C.tla","text":"---- MODULE C ----\nEXTENDS B\nG == F\n====\n"}}}"#,
+            OPEN_C,
             r#"{"method":"textDocument/didOpen","params":{"textDocument":{"uri":"file:///w/B.tla","text":"---- MODULE B ----\n====\n"}}}"#,
             r#"{"method":"textDocument/didClose","params":{"textDocument":{"uri":"file:///w/B.tla"}}}"#,
-            r#"{"id":2,"method":"textDocument/definition","params":{"textDocument":{"uri":"file:///w/C.tla"},"position":{"line":2,"character":5}}}"#,
+            ASK_F,
             SHUTDOWN,
             EXIT,
         ],
         &[
             INITIALIZED,
-            r#"{"jsonrpc":"2.0","method":"textDocument/publishDiagnostics","params":{"diagnostics":[],"uri":"file:///w/C.tla"}}"#,
-            r#"{"jsonrpc":"2.0","method":"textDocument/publishDiagnostics","params":{"diagnostics":[],"uri":"file:///w/B.tla"}}"#,
-            r#"{"jsonrpc":"2.0","method":"textDocument/publishDiagnostics","params":{"diagnostics":[{"code":"E401","message":"unknown symbol","range":{"end":{"character":6,"line":2},"start":{"character":5,"line":2}},"severity":1,"source":"sany"}],"uri":"file:///w/C.tla"}}"#,
-            r#"{"jsonrpc":"2.0","method":"textDocument/publishDiagnostics","params":{"diagnostics":[],"uri":"file:///w/B.tla"}}"#,
-            r#"{"jsonrpc":"2.0","method":"textDocument/publishDiagnostics","params":{"diagnostics":[],"uri":"file:///w/C.tla"}}"#,
-            r#"{"id":2,"jsonrpc":"2.0","result":{"range":{"end":{"character":1,"line":2},"start":{"character":0,"line":2}},"uri":"file:///w/B.tla"}}"#,
+            CLEAN_C,
+            CLEAN_B,
+            UNKNOWN_IN_C,
+            CLEAN_B,
+            CLEAN_C,
+            AT_F,
             SHUT,
         ],
         0,
@@ -128,9 +155,9 @@ pub static SESSIONS: [Session; 7] = [
         ],
         &[
             INITIALIZED,
-            r#"{"jsonrpc":"2.0","method":"textDocument/publishDiagnostics","params":{"diagnostics":[],"uri":"file:///w/C.tla"}}"#,
-            r#"{"jsonrpc":"2.0","method":"textDocument/publishDiagnostics","params":{"diagnostics":[{"code":"E301","message":"unknown module","range":{"end":{"character":9,"line":1},"start":{"character":8,"line":1}},"severity":1,"source":"sany"}],"uri":"file:///w/C.tla"}}"#,
-            r#"{"jsonrpc":"2.0","method":"textDocument/publishDiagnostics","params":{"diagnostics":[],"uri":"file:///w/C.tla"}}"#,
+            CLEAN_C,
+            NO_MODULE_IN_C,
+            CLEAN_C,
             r#"{"id":2,"jsonrpc":"2.0","result":null}"#,
             SHUT,
         ],

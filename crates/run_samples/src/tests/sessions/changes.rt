@@ -1,5 +1,8 @@
 // Places of changes, and what they are changes of.
-use crate::tests::sessions::{EXIT, INITIALIZED, NO_ROOT, ROOT, SHUT, SHUTDOWN, Session};
+use crate::tests::sessions::{
+    ASK_F, AT_F, CLEAN_A, CLEAN_C, EXIT, INITIALIZED, NO_ROOT, OPEN_C, ROOT, SHUT, SHUTDOWN,
+    Session, UNKNOWN_IN_C,
+};
 
 /// Sessions over the folder.
 pub static CHANGES: [Session; 12] = [
@@ -7,68 +10,49 @@ pub static CHANGES: [Session; 12] = [
     (
         &[
             ROOT,
-            r#"{"method":"textDocument/didOpen","params":{"textDocument":{"uri":"file:///w/C.tla","text":"---- MODULE C ----\nEXTENDS B\nG == F\n====\n"}}}"#,
+            OPEN_C,
             r#"{"method":"textDocument/didChange","params":{"textDocument":{"uri":"file:///w/C.tla"},"contentChanges":[{"range":{"start":{"line":2,"character":0},"end":{"line":1,"character":9}},"text":"x"}]}}"#,
             SHUTDOWN,
             EXIT,
         ],
-        &[
-            INITIALIZED,
-            r#"{"jsonrpc":"2.0","method":"textDocument/publishDiagnostics","params":{"diagnostics":[],"uri":"file:///w/C.tla"}}"#,
-            SHUT,
-        ],
+        &[INITIALIZED, CLEAN_C, SHUT],
         0,
     ),
     // None of several changes where one is backward.
     (
         &[
             ROOT,
-            r#"{"method":"textDocument/didOpen","params":{"textDocument":{"uri":"file:///w/C.tla","text":"---- MODULE C ----\nEXTENDS B\nG == F\n====\n"}}}"#,
+            OPEN_C,
             r#"{"method":"textDocument/didChange","params":{"textDocument":{"uri":"file:///w/C.tla"},"contentChanges":[{"range":{"start":{"line":2,"character":5},"end":{"line":2,"character":6}},"text":"H"},{"range":{"start":{"line":2,"character":6},"end":{"line":2,"character":5}},"text":"x"}]}}"#,
-            r#"{"id":2,"method":"textDocument/definition","params":{"textDocument":{"uri":"file:///w/C.tla"},"position":{"line":2,"character":5}}}"#,
+            ASK_F,
             SHUTDOWN,
             EXIT,
         ],
-        &[
-            INITIALIZED,
-            r#"{"jsonrpc":"2.0","method":"textDocument/publishDiagnostics","params":{"diagnostics":[],"uri":"file:///w/C.tla"}}"#,
-            r#"{"id":2,"jsonrpc":"2.0","result":{"range":{"end":{"character":1,"line":2},"start":{"character":0,"line":2}},"uri":"file:///w/B.tla"}}"#,
-            SHUT,
-        ],
+        &[INITIALIZED, CLEAN_C, AT_F, SHUT],
         0,
     ),
     // Units beyond a line mean its end.
     (
         &[
             ROOT,
-            r#"{"method":"textDocument/didOpen","params":{"textDocument":{"uri":"file:///w/C.tla","text":"---- MODULE C ----\nEXTENDS B\nG == F\n====\n"}}}"#,
+            OPEN_C,
             r#"{"method":"textDocument/didChange","params":{"textDocument":{"uri":"file:///w/C.tla"},"contentChanges":[{"range":{"start":{"line":2,"character":5},"end":{"line":2,"character":99}},"text":"H"}]}}"#,
             SHUTDOWN,
             EXIT,
         ],
-        &[
-            INITIALIZED,
-            r#"{"jsonrpc":"2.0","method":"textDocument/publishDiagnostics","params":{"diagnostics":[],"uri":"file:///w/C.tla"}}"#,
-            r#"{"jsonrpc":"2.0","method":"textDocument/publishDiagnostics","params":{"diagnostics":[{"code":"E401","message":"unknown symbol","range":{"end":{"character":6,"line":2},"start":{"character":5,"line":2}},"severity":1,"source":"sany"}],"uri":"file:///w/C.tla"}}"#,
-            SHUT,
-        ],
+        &[INITIALIZED, CLEAN_C, UNKNOWN_IN_C, SHUT],
         0,
     ),
     // Lines beyond the last mean the text's end.
     (
         &[
             ROOT,
-            r#"{"method":"textDocument/didOpen","params":{"textDocument":{"uri":"file:///w/C.tla","text":"---- MODULE C ----\nEXTENDS B\nG == F\n====\n"}}}"#,
+            OPEN_C,
             r#"{"method":"textDocument/didChange","params":{"textDocument":{"uri":"file:///w/C.tla"},"contentChanges":[{"range":{"start":{"line":9,"character":0},"end":{"line":99,"character":0}},"text":"G == F"}]}}"#,
             SHUTDOWN,
             EXIT,
         ],
-        &[
-            INITIALIZED,
-            r#"{"jsonrpc":"2.0","method":"textDocument/publishDiagnostics","params":{"diagnostics":[],"uri":"file:///w/C.tla"}}"#,
-            r#"{"jsonrpc":"2.0","method":"textDocument/publishDiagnostics","params":{"diagnostics":[],"uri":"file:///w/C.tla"}}"#,
-            SHUT,
-        ],
+        &[INITIALIZED, CLEAN_C, CLEAN_C, SHUT],
         0,
     ),
     // A place within a pair means its start.
@@ -83,8 +67,8 @@ pub static CHANGES: [Session; 12] = [
         ],
         &[
             INITIALIZED,
-            r#"{"jsonrpc":"2.0","method":"textDocument/publishDiagnostics","params":{"diagnostics":[],"uri":"file:///w/A.tla"}}"#,
-            r#"{"jsonrpc":"2.0","method":"textDocument/publishDiagnostics","params":{"diagnostics":[],"uri":"file:///w/A.tla"}}"#,
+            CLEAN_A,
+            CLEAN_A,
             r#"{"id":2,"jsonrpc":"2.0","result":{"range":{"end":{"character":10,"line":1},"start":{"character":9,"line":1}},"uri":"file:///w/A.tla"}}"#,
             SHUT,
         ],
@@ -102,8 +86,8 @@ pub static CHANGES: [Session; 12] = [
         ],
         &[
             INITIALIZED,
-            r#"{"jsonrpc":"2.0","method":"textDocument/publishDiagnostics","params":{"diagnostics":[],"uri":"file:///w/A.tla"}}"#,
-            r#"{"jsonrpc":"2.0","method":"textDocument/publishDiagnostics","params":{"diagnostics":[],"uri":"file:///w/A.tla"}}"#,
+            CLEAN_A,
+            CLEAN_A,
             r#"{"id":2,"jsonrpc":"2.0","result":[{"kind":13,"name":"x","range":{"end":{"character":10,"line":1},"start":{"character":9,"line":1}},"selectionRange":{"end":{"character":10,"line":1},"start":{"character":9,"line":1}}},{"kind":13,"name":"y","range":{"end":{"character":13,"line":1},"start":{"character":12,"line":1}},"selectionRange":{"end":{"character":13,"line":1},"start":{"character":12,"line":1}}},{"kind":12,"name":"U","range":{"end":{"character":6,"line":2},"start":{"character":0,"line":2}},"selectionRange":{"end":{"character":1,"line":2},"start":{"character":0,"line":2}}}]}"#,
             SHUT,
         ],
@@ -120,7 +104,7 @@ pub static CHANGES: [Session; 12] = [
         ],
         &[
             INITIALIZED,
-            r#"{"jsonrpc":"2.0","method":"textDocument/publishDiagnostics","params":{"diagnostics":[],"uri":"file:///w/A.tla"}}"#,
+            CLEAN_A,
             r#"{"id":2,"jsonrpc":"2.0","result":{"range":{"end":{"character":10,"line":1},"start":{"character":9,"line":1}},"uri":"file:///w/A.tla"}}"#,
             SHUT,
         ],
@@ -140,10 +124,10 @@ pub static CHANGES: [Session; 12] = [
         ],
         &[
             INITIALIZED,
-            r#"{"jsonrpc":"2.0","method":"textDocument/publishDiagnostics","params":{"diagnostics":[],"uri":"file:///w/A.tla"}}"#,
-            r#"{"jsonrpc":"2.0","method":"textDocument/publishDiagnostics","params":{"diagnostics":[],"uri":"file:///w/A.tla"}}"#,
+            CLEAN_A,
+            CLEAN_A,
             r#"{"id":2,"jsonrpc":"2.0","result":{"range":{"end":{"character":10,"line":1},"start":{"character":9,"line":1}},"uri":"file:///w/A.tla"}}"#,
-            r#"{"jsonrpc":"2.0","method":"textDocument/publishDiagnostics","params":{"diagnostics":[],"uri":"file:///w/A.tla"}}"#,
+            CLEAN_A,
             r#"{"id":3,"jsonrpc":"2.0","result":{"range":{"end":{"character":10,"line":2},"start":{"character":9,"line":2}},"uri":"file:///w/A.tla"}}"#,
             SHUT,
         ],
@@ -153,14 +137,14 @@ pub static CHANGES: [Session; 12] = [
     (
         &[
             ROOT,
-            r#"{"method":"textDocument/didOpen","params":{"textDocument":{"uri":"file:///w/C.tla","text":"---- MODULE C ----\nEXTENDS B\nG == F\n====\n"}}}"#,
+            OPEN_C,
             r#"{"method":"textDocument/didChange","params":{"textDocument":{"uri":"file:///w/C.tla"},"contentChanges":[{"range":{"start":{"line":2,"character":0},"end":{"line":2,"character":0}},"text":"Long"},{"range":{"start":{"line":2,"character":9},"end":{"line":2,"character":10}},"text":"H"}]}}"#,
             SHUTDOWN,
             EXIT,
         ],
         &[
             INITIALIZED,
-            r#"{"jsonrpc":"2.0","method":"textDocument/publishDiagnostics","params":{"diagnostics":[],"uri":"file:///w/C.tla"}}"#,
+            CLEAN_C,
             r#"{"jsonrpc":"2.0","method":"textDocument/publishDiagnostics","params":{"diagnostics":[{"code":"E401","message":"unknown symbol","range":{"end":{"character":10,"line":2},"start":{"character":9,"line":2}},"severity":1,"source":"sany"}],"uri":"file:///w/C.tla"}}"#,
             SHUT,
         ],
@@ -170,53 +154,37 @@ pub static CHANGES: [Session; 12] = [
     (
         &[
             ROOT,
-            r#"{"method":"textDocument/didOpen","params":{"textDocument":{"uri":"file:///w/C.tla","text":"---- MODULE C ----\nEXTENDS B\nG == F\n====\n"}}}"#,
+            OPEN_C,
             r#"{"method":"textDocument/didChange","params":{"textDocument":{"uri":"file:///w/C.tla"},"contentChanges":[{"text":"---- MODULE C ----\nEXTENDS B\nG == H\n====\n"}]}}"#,
             SHUTDOWN,
             EXIT,
         ],
-        &[
-            INITIALIZED,
-            r#"{"jsonrpc":"2.0","method":"textDocument/publishDiagnostics","params":{"diagnostics":[],"uri":"file:///w/C.tla"}}"#,
-            r#"{"jsonrpc":"2.0","method":"textDocument/publishDiagnostics","params":{"diagnostics":[{"code":"E401","message":"unknown symbol","range":{"end":{"character":6,"line":2},"start":{"character":5,"line":2}},"severity":1,"source":"sany"}],"uri":"file:///w/C.tla"}}"#,
-            SHUT,
-        ],
+        &[INITIALIZED, CLEAN_C, UNKNOWN_IN_C, SHUT],
         0,
     ),
     // A line more moves the others.
     (
         &[
             ROOT,
-            r#"{"method":"textDocument/didOpen","params":{"textDocument":{"uri":"file:///w/C.tla","text":"---- MODULE C ----\nEXTENDS B\nG == F\n====\n"}}}"#,
+            OPEN_C,
             r#"{"method":"textDocument/didChange","params":{"textDocument":{"uri":"file:///w/C.tla"},"contentChanges":[{"range":{"start":{"line":1,"character":0},"end":{"line":1,"character":0}},"text":"\\* a line\n"}]}}"#,
             r#"{"id":2,"method":"textDocument/definition","params":{"textDocument":{"uri":"file:///w/C.tla"},"position":{"line":3,"character":5}}}"#,
             SHUTDOWN,
             EXIT,
         ],
-        &[
-            INITIALIZED,
-            r#"{"jsonrpc":"2.0","method":"textDocument/publishDiagnostics","params":{"diagnostics":[],"uri":"file:///w/C.tla"}}"#,
-            r#"{"jsonrpc":"2.0","method":"textDocument/publishDiagnostics","params":{"diagnostics":[],"uri":"file:///w/C.tla"}}"#,
-            r#"{"id":2,"jsonrpc":"2.0","result":{"range":{"end":{"character":1,"line":2},"start":{"character":0,"line":2}},"uri":"file:///w/B.tla"}}"#,
-            SHUT,
-        ],
+        &[INITIALIZED, CLEAN_C, CLEAN_C, AT_F, SHUT],
         0,
     ),
     // No changes.
     (
         &[
             ROOT,
-            r#"{"method":"textDocument/didOpen","params":{"textDocument":{"uri":"file:///w/C.tla","text":"---- MODULE C ----\nEXTENDS B\nG == F\n====\n"}}}"#,
+            OPEN_C,
             r#"{"method":"textDocument/didChange","params":{"textDocument":{"uri":"file:///w/C.tla"},"contentChanges":[]}}"#,
             SHUTDOWN,
             EXIT,
         ],
-        &[
-            INITIALIZED,
-            r#"{"jsonrpc":"2.0","method":"textDocument/publishDiagnostics","params":{"diagnostics":[],"uri":"file:///w/C.tla"}}"#,
-            r#"{"jsonrpc":"2.0","method":"textDocument/publishDiagnostics","params":{"diagnostics":[],"uri":"file:///w/C.tla"}}"#,
-            SHUT,
-        ],
+        &[INITIALIZED, CLEAN_C, CLEAN_C, SHUT],
         0,
     ),
 ];

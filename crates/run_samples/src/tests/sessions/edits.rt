@@ -1,5 +1,8 @@
 // What an edit of one module does to another.
-use crate::tests::sessions::{EXIT, INITIALIZED, ROOT, SHUT, SHUTDOWN, Session};
+use crate::tests::sessions::{
+    ASK_F, CLEAN_A, CLEAN_B, CLEAN_C, CLEAN_D, EXIT, INITIALIZED, OPEN_B, OPEN_C, ROOT, SHUT,
+    SHUTDOWN, Session,
+};
 
 /// Sessions over the folder.
 pub static EDITS: [Session; 6] = [
@@ -7,7 +10,7 @@ pub static EDITS: [Session; 6] = [
     (
         &[
             ROOT,
-            r#"{"method":"textDocument/didOpen","params":{"textDocument":{"uri":"file:///w/C.tla","text":"---- MODULE C ----\nEXTENDS B\nG == F\n====\n"}}}"#,
+            OPEN_C,
             r#"{"method":"textDocument/didOpen","params":{"textDocument":{"uri":"file:///w/B.tla","text":"---- MODULE B ----\nEXTENDS C\nF == 1\n====\n"}}}"#,
             r#"{"method":"textDocument/didChange","params":{"textDocument":{"uri":"file:///w/B.tla"},"contentChanges":[{"text":"---- MODULE B ----\nCONSTANT N\nF == N\n====\n"}]}}"#,
             SHUTDOWN,
@@ -15,11 +18,11 @@ pub static EDITS: [Session; 6] = [
         ],
         &[
             INITIALIZED,
-            r#"{"jsonrpc":"2.0","method":"textDocument/publishDiagnostics","params":{"diagnostics":[],"uri":"file:///w/C.tla"}}"#,
+            CLEAN_C,
             r#"{"jsonrpc":"2.0","method":"textDocument/publishDiagnostics","params":{"diagnostics":[{"code":"E302","message":"cyclic import","range":{"end":{"character":9,"line":1},"start":{"character":8,"line":1}},"severity":1,"source":"sany"}],"uri":"file:///w/B.tla"}}"#,
             r#"{"jsonrpc":"2.0","method":"textDocument/publishDiagnostics","params":{"diagnostics":[{"code":"E302","message":"cyclic import","range":{"end":{"character":9,"line":1},"start":{"character":8,"line":1}},"severity":1,"source":"sany"}],"uri":"file:///w/C.tla"}}"#,
-            r#"{"jsonrpc":"2.0","method":"textDocument/publishDiagnostics","params":{"diagnostics":[],"uri":"file:///w/B.tla"}}"#,
-            r#"{"jsonrpc":"2.0","method":"textDocument/publishDiagnostics","params":{"diagnostics":[],"uri":"file:///w/C.tla"}}"#,
+            CLEAN_B,
+            CLEAN_C,
             SHUT,
         ],
         0,
@@ -28,7 +31,7 @@ pub static EDITS: [Session; 6] = [
     (
         &[
             ROOT,
-            r#"{"method":"textDocument/didOpen","params":{"textDocument":{"uri":"file:///w/C.tla","text":"---- MODULE C ----\nEXTENDS B\nG == F\n====\n"}}}"#,
+            OPEN_C,
             r#"{"method":"textDocument/didOpen","params":{"textDocument":{"uri":"file:///w/B.tla","text":"---- MODULE B ----\nF == \n====\n"}}}"#,
             r#"{"method":"textDocument/didClose","params":{"textDocument":{"uri":"file:///w/B.tla"}}}"#,
             SHUTDOWN,
@@ -36,11 +39,11 @@ pub static EDITS: [Session; 6] = [
         ],
         &[
             INITIALIZED,
-            r#"{"jsonrpc":"2.0","method":"textDocument/publishDiagnostics","params":{"diagnostics":[],"uri":"file:///w/C.tla"}}"#,
+            CLEAN_C,
             r#"{"jsonrpc":"2.0","method":"textDocument/publishDiagnostics","params":{"diagnostics":[{"code":"E202","message":"syntax","range":{"end":{"character":4,"line":2},"start":{"character":0,"line":2}},"severity":1,"source":"sany"}],"uri":"file:///w/B.tla"}}"#,
             r#"{"jsonrpc":"2.0","method":"textDocument/publishDiagnostics","params":{"diagnostics":[{"code":"E303","message":"imported module refused","range":{"end":{"character":9,"line":1},"start":{"character":8,"line":1}},"severity":1,"source":"sany"}],"uri":"file:///w/C.tla"}}"#,
-            r#"{"jsonrpc":"2.0","method":"textDocument/publishDiagnostics","params":{"diagnostics":[],"uri":"file:///w/B.tla"}}"#,
-            r#"{"jsonrpc":"2.0","method":"textDocument/publishDiagnostics","params":{"diagnostics":[],"uri":"file:///w/C.tla"}}"#,
+            CLEAN_B,
+            CLEAN_C,
             SHUT,
         ],
         0,
@@ -49,18 +52,18 @@ pub static EDITS: [Session; 6] = [
     (
         &[
             ROOT,
-            r#"{"method":"textDocument/didOpen","params":{"textDocument":{"uri":"file:///w/C.tla","text":"---- MODULE C ----\nEXTENDS B\nG == F\n====\n"}}}"#,
-            r#"{"method":"textDocument/didOpen","params":{"textDocument":{"uri":"file:///w/B.tla","text":"---- MODULE B ----\nCONSTANT N\nF == N\n====\n"}}}"#,
+            OPEN_C,
+            OPEN_B,
             r#"{"method":"textDocument/didChange","params":{"textDocument":{"uri":"file:///w/B.tla"},"contentChanges":[{"range":{"start":{"line":1,"character":0},"end":{"line":1,"character":0}},"text":"\\* more\n"}]}}"#,
-            r#"{"id":2,"method":"textDocument/definition","params":{"textDocument":{"uri":"file:///w/C.tla"},"position":{"line":2,"character":5}}}"#,
+            ASK_F,
             SHUTDOWN,
             EXIT,
         ],
         &[
             INITIALIZED,
-            r#"{"jsonrpc":"2.0","method":"textDocument/publishDiagnostics","params":{"diagnostics":[],"uri":"file:///w/C.tla"}}"#,
-            r#"{"jsonrpc":"2.0","method":"textDocument/publishDiagnostics","params":{"diagnostics":[],"uri":"file:///w/B.tla"}}"#,
-            r#"{"jsonrpc":"2.0","method":"textDocument/publishDiagnostics","params":{"diagnostics":[],"uri":"file:///w/B.tla"}}"#,
+            CLEAN_C,
+            CLEAN_B,
+            CLEAN_B,
             r#"{"id":2,"jsonrpc":"2.0","result":{"range":{"end":{"character":1,"line":3},"start":{"character":0,"line":3}},"uri":"file:///w/B.tla"}}"#,
             SHUT,
         ],
@@ -79,11 +82,11 @@ pub static EDITS: [Session; 6] = [
         ],
         &[
             INITIALIZED,
-            r#"{"jsonrpc":"2.0","method":"textDocument/publishDiagnostics","params":{"diagnostics":[],"uri":"file:///w/D.tla"}}"#,
-            r#"{"jsonrpc":"2.0","method":"textDocument/publishDiagnostics","params":{"diagnostics":[],"uri":"file:///w/B.tla"}}"#,
+            CLEAN_D,
+            CLEAN_B,
             r#"{"jsonrpc":"2.0","method":"textDocument/publishDiagnostics","params":{"diagnostics":[{"code":"E303","message":"imported module refused","range":{"end":{"character":9,"line":1},"start":{"character":8,"line":1}},"severity":1,"source":"sany"}],"uri":"file:///w/D.tla"}}"#,
-            r#"{"jsonrpc":"2.0","method":"textDocument/publishDiagnostics","params":{"diagnostics":[],"uri":"file:///w/B.tla"}}"#,
-            r#"{"jsonrpc":"2.0","method":"textDocument/publishDiagnostics","params":{"diagnostics":[],"uri":"file:///w/D.tla"}}"#,
+            CLEAN_B,
+            CLEAN_D,
             r#"{"id":2,"jsonrpc":"2.0","result":[{"range":{"end":{"character":6,"line":2},"start":{"character":5,"line":2}},"uri":"file:///w/D.tla"}]}"#,
             SHUT,
         ],
@@ -93,19 +96,19 @@ pub static EDITS: [Session; 6] = [
     (
         &[
             ROOT,
-            r#"{"method":"textDocument/didOpen","params":{"textDocument":{"uri":"file:///w/C.tla","text":"---- MODULE C ----\nEXTENDS B\nG == F\n====\n"}}}"#,
+            OPEN_C,
             r#"{"method":"textDocument/didOpen","params":{"textDocument":{"uri":"file:///w/B.tla","text":"---- MODULE B ----\nF == 1\n====\n"}}}"#,
-            r#"{"id":2,"method":"textDocument/definition","params":{"textDocument":{"uri":"file:///w/C.tla"},"position":{"line":2,"character":5}}}"#,
+            ASK_F,
             r#"{"method":"textDocument/didChange","params":{"textDocument":{"uri":"file:///w/B.tla"},"contentChanges":[{"text":"---- MODULE B ----\nG == 1\nF == 1\n====\n"}]}}"#,
             SHUTDOWN,
             EXIT,
         ],
         &[
             INITIALIZED,
-            r#"{"jsonrpc":"2.0","method":"textDocument/publishDiagnostics","params":{"diagnostics":[],"uri":"file:///w/C.tla"}}"#,
-            r#"{"jsonrpc":"2.0","method":"textDocument/publishDiagnostics","params":{"diagnostics":[],"uri":"file:///w/B.tla"}}"#,
+            CLEAN_C,
+            CLEAN_B,
             r#"{"id":2,"jsonrpc":"2.0","result":{"range":{"end":{"character":1,"line":1},"start":{"character":0,"line":1}},"uri":"file:///w/B.tla"}}"#,
-            r#"{"jsonrpc":"2.0","method":"textDocument/publishDiagnostics","params":{"diagnostics":[],"uri":"file:///w/B.tla"}}"#,
+            CLEAN_B,
             r#"{"jsonrpc":"2.0","method":"textDocument/publishDiagnostics","params":{"diagnostics":[{"code":"E402","message":"symbol already there","range":{"end":{"character":1,"line":2},"start":{"character":0,"line":2}},"severity":1,"source":"sany"}],"uri":"file:///w/C.tla"}}"#,
             SHUT,
         ],
@@ -123,10 +126,10 @@ pub static EDITS: [Session; 6] = [
         ],
         &[
             INITIALIZED,
-            r#"{"jsonrpc":"2.0","method":"textDocument/publishDiagnostics","params":{"diagnostics":[],"uri":"file:///w/A.tla"}}"#,
+            CLEAN_A,
             r#"{"jsonrpc":"2.0","method":"textDocument/publishDiagnostics","params":{"diagnostics":[{"code":"E401","message":"unknown symbol","range":{"end":{"character":8,"line":2},"start":{"character":7,"line":2}},"severity":1,"source":"sany"}],"uri":"file:///w/A.tla"}}"#,
             r#"{"jsonrpc":"2.0","method":"textDocument/publishDiagnostics","params":{"diagnostics":[],"uri":"file:///w/Naturals.tla"}}"#,
-            r#"{"jsonrpc":"2.0","method":"textDocument/publishDiagnostics","params":{"diagnostics":[],"uri":"file:///w/A.tla"}}"#,
+            CLEAN_A,
             r#"{"jsonrpc":"2.0","method":"textDocument/publishDiagnostics","params":{"diagnostics":[],"uri":"file:///w/Naturals.tla"}}"#,
             SHUT,
         ],

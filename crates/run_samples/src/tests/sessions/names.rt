@@ -1,5 +1,8 @@
 // Definitions and references.
-use crate::tests::sessions::{EXIT, INITIALIZED, NO_ROOT, ROOT, SHUT, SHUTDOWN, Session};
+use crate::tests::sessions::{
+    ASK_F, AT_F, CLEAN_A, CLEAN_B, CLEAN_C, EXIT, INITIALIZED, NO_ROOT, OPEN_B, OPEN_C, ROOT, SHUT,
+    SHUTDOWN, Session,
+};
 
 /// Sessions over the folder.
 pub static NAMES: [Session; 11] = [
@@ -7,14 +10,14 @@ pub static NAMES: [Session; 11] = [
     (
         &[
             ROOT,
-            r#"{"method":"textDocument/didOpen","params":{"textDocument":{"uri":"file:///w/B.tla","text":"---- MODULE B ----\nCONSTANT N\nF == N\n====\n"}}}"#,
+            OPEN_B,
             r#"{"id":2,"method":"textDocument/definition","params":{"textDocument":{"uri":"file:///w/B.tla"},"position":{"line":2,"character":0}}}"#,
             SHUTDOWN,
             EXIT,
         ],
         &[
             INITIALIZED,
-            r#"{"jsonrpc":"2.0","method":"textDocument/publishDiagnostics","params":{"diagnostics":[],"uri":"file:///w/B.tla"}}"#,
+            CLEAN_B,
             r#"{"id":2,"jsonrpc":"2.0","result":null}"#,
             SHUT,
         ],
@@ -24,14 +27,14 @@ pub static NAMES: [Session; 11] = [
     (
         &[
             ROOT,
-            r#"{"method":"textDocument/didOpen","params":{"textDocument":{"uri":"file:///w/C.tla","text":"---- MODULE C ----\nEXTENDS B\nG == F\n====\n"}}}"#,
+            OPEN_C,
             r#"{"id":2,"method":"textDocument/definition","params":{"textDocument":{"uri":"file:///w/C.tla"},"position":{"line":1,"character":2}}}"#,
             SHUTDOWN,
             EXIT,
         ],
         &[
             INITIALIZED,
-            r#"{"jsonrpc":"2.0","method":"textDocument/publishDiagnostics","params":{"diagnostics":[],"uri":"file:///w/C.tla"}}"#,
+            CLEAN_C,
             r#"{"id":2,"jsonrpc":"2.0","result":null}"#,
             SHUT,
         ],
@@ -41,14 +44,14 @@ pub static NAMES: [Session; 11] = [
     (
         &[
             ROOT,
-            r#"{"method":"textDocument/didOpen","params":{"textDocument":{"uri":"file:///w/C.tla","text":"---- MODULE C ----\nEXTENDS B\nG == F\n====\n"}}}"#,
+            OPEN_C,
             r#"{"id":2,"method":"textDocument/definition","params":{"textDocument":{"uri":"file:///w/C.tla"},"position":{"line":2,"character":6}}}"#,
             SHUTDOWN,
             EXIT,
         ],
         &[
             INITIALIZED,
-            r#"{"jsonrpc":"2.0","method":"textDocument/publishDiagnostics","params":{"diagnostics":[],"uri":"file:///w/C.tla"}}"#,
+            CLEAN_C,
             r#"{"id":2,"jsonrpc":"2.0","result":null}"#,
             SHUT,
         ],
@@ -90,17 +93,8 @@ pub static NAMES: [Session; 11] = [
     ),
     // A module that is not open has no text of its own in the answer.
     (
-        &[
-            ROOT,
-            r#"{"id":2,"method":"textDocument/definition","params":{"textDocument":{"uri":"file:///w/C.tla"},"position":{"line":2,"character":5}}}"#,
-            SHUTDOWN,
-            EXIT,
-        ],
-        &[
-            INITIALIZED,
-            r#"{"id":2,"jsonrpc":"2.0","result":{"range":{"end":{"character":1,"line":2},"start":{"character":0,"line":2}},"uri":"file:///w/B.tla"}}"#,
-            SHUT,
-        ],
+        &[ROOT, ASK_F, SHUTDOWN, EXIT],
+        &[INITIALIZED, AT_F, SHUT],
         0,
     ),
     // References from a use, the declaration first.
@@ -165,7 +159,7 @@ pub static NAMES: [Session; 11] = [
         ],
         &[
             INITIALIZED,
-            r#"{"jsonrpc":"2.0","method":"textDocument/publishDiagnostics","params":{"diagnostics":[],"uri":"file:///w/A.tla"}}"#,
+            CLEAN_A,
             r#"{"id":2,"jsonrpc":"2.0","result":{"range":{"end":{"character":13,"line":1},"start":{"character":12,"line":1}},"uri":"file:///w/A.tla"}}"#,
             r#"{"id":3,"jsonrpc":"2.0","result":{"range":{"end":{"character":3,"line":1},"start":{"character":2,"line":1}},"uri":"file:///w/A.tla"}}"#,
             r#"{"id":4,"jsonrpc":"2.0","result":[{"range":{"end":{"character":3,"line":1},"start":{"character":2,"line":1}},"uri":"file:///w/A.tla"},{"range":{"end":{"character":18,"line":1},"start":{"character":17,"line":1}},"uri":"file:///w/A.tla"}]}"#,
@@ -185,7 +179,7 @@ pub static NAMES: [Session; 11] = [
         ],
         &[
             INITIALIZED,
-            r#"{"jsonrpc":"2.0","method":"textDocument/publishDiagnostics","params":{"diagnostics":[],"uri":"file:///w/A.tla"}}"#,
+            CLEAN_A,
             r#"{"id":2,"jsonrpc":"2.0","result":{"range":{"end":{"character":10,"line":1},"start":{"character":9,"line":1}},"uri":"file:///w/B.tla"}}"#,
             r#"{"id":3,"jsonrpc":"2.0","result":{"range":{"end":{"character":1,"line":2},"start":{"character":0,"line":2}},"uri":"file:///w/B.tla"}}"#,
             SHUT,

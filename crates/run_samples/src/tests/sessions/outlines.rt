@@ -1,5 +1,5 @@
 // Outlines.
-use crate::tests::sessions::{EXIT, INITIALIZED, NO_ROOT, ROOT, SHUT, SHUTDOWN, Session};
+use crate::tests::sessions::{CLEAN_A, EXIT, INITIALIZED, NO_ROOT, ROOT, SHUT, SHUTDOWN, Session};
 
 /// Sessions over the folder.
 pub static OUTLINES: [Session; 7] = [
@@ -114,7 +114,7 @@ pub static OUTLINES: [Session; 7] = [
         ],
         &[
             INITIALIZED,
-            r#"{"jsonrpc":"2.0","method":"textDocument/publishDiagnostics","params":{"diagnostics":[],"uri":"file:///w/A.tla"}}"#,
+            CLEAN_A,
             r#"{"id":2,"jsonrpc":"2.0","result":[{"children":[],"kind":2,"name":"I","range":{"end":{"character":4,"line":2},"start":{"character":0,"line":1}},"selectionRange":{"end":{"character":13,"line":1},"start":{"character":12,"line":1}}}]}"#,
             SHUT,
         ],

@@ -1,5 +1,7 @@
 // Roots of every kind.
-use crate::tests::sessions::{EXIT, INITIALIZED, NO_ROOT, SHUT, SHUTDOWN, Session};
+use crate::tests::sessions::{
+    CLEAN_C, EXIT, INITIALIZED, NO_MODULE_IN_C, NO_ROOT, OPEN_C, SHUT, SHUTDOWN, Session,
+};
 
 /// Sessions over the folder.
 pub static ROOTS: [Session; 8] = [
@@ -59,30 +61,22 @@ pub static ROOTS: [Session; 8] = [
     (
         &[
             r#"{"id":1,"method":"initialize","params":{"rootUri":"file:///v","workspaceFolders":[{"uri":"file:///w","name":"w"},{"uri":"file:///v","name":"v"}]}}"#,
-            r#"{"method":"textDocument/didOpen","params":{"textDocument":{"uri":"file:///w/C.tla","text":"---- MODULE C ----\nEXTENDS B\nG == F\n====\n"}}}"#,
+            OPEN_C,
             SHUTDOWN,
             EXIT,
         ],
-        &[
-            INITIALIZED,
-            r#"{"jsonrpc":"2.0","method":"textDocument/publishDiagnostics","params":{"diagnostics":[],"uri":"file:///w/C.tla"}}"#,
-            SHUT,
-        ],
+        &[INITIALIZED, CLEAN_C, SHUT],
         0,
     ),
     // No folders of the workspace.
     (
         &[
             r#"{"id":1,"method":"initialize","params":{"rootUri":"file:///w","workspaceFolders":[]}}"#,
-            r#"{"method":"textDocument/didOpen","params":{"textDocument":{"uri":"file:///w/C.tla","text":"---- MODULE C ----\nEXTENDS B\nG == F\n====\n"}}}"#,
+            OPEN_C,
             SHUTDOWN,
             EXIT,
         ],
-        &[
-            INITIALIZED,
-            r#"{"jsonrpc":"2.0","method":"textDocument/publishDiagnostics","params":{"diagnostics":[],"uri":"file:///w/C.tla"}}"#,
-            SHUT,
-        ],
+        &[INITIALIZED, CLEAN_C, SHUT],
         0,
     ),
     // A root that is spelled by a letter's number.
@@ -121,15 +115,11 @@ pub static ROOTS: [Session; 8] = [
     (
         &[
             r#"{"id":1,"method":"initialize","params":{"rootUri":"w"}}"#,
-            r#"{"method":"textDocument/didOpen","params":{"textDocument":{"uri":"file:///w/C.tla","text":"---- MODULE C ----\nEXTENDS B\nG == F\n====\n"}}}"#,
+            OPEN_C,
             SHUTDOWN,
             EXIT,
         ],
-        &[
-            INITIALIZED,
-            r#"{"jsonrpc":"2.0","method":"textDocument/publishDiagnostics","params":{"diagnostics":[{"code":"E301","message":"unknown module","range":{"end":{"character":9,"line":1},"start":{"character":8,"line":1}},"severity":1,"source":"sany"}],"uri":"file:///w/C.tla"}}"#,
-            SHUT,
-        ],
+        &[INITIALIZED, NO_MODULE_IN_C, SHUT],
         0,
     ),
 ];

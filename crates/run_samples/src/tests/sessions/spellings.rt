@@ -1,5 +1,5 @@
 // How clients spell the URIs of documents.
-use crate::tests::sessions::{EXIT, INITIALIZED, ROOT, SHUT, SHUTDOWN, Session};
+use crate::tests::sessions::{CLEAN_C, EXIT, INITIALIZED, OPEN_C, ROOT, SHUT, SHUTDOWN, Session};
 
 /// Sessions over the folder.
 pub static SPELLINGS: [Session; 7] = [
@@ -66,14 +66,14 @@ pub static SPELLINGS: [Session; 7] = [
     (
         &[
             ROOT,
-            r#"{"method":"textDocument/didOpen","params":{"textDocument":{"uri":"file:///w/C.tla","text":"---- MODULE C ----\nEXTENDS B\nG == F\n====\n"}}}"#,
+            OPEN_C,
             r#"{"method":"textDocument/didOpen","params":{"textDocument":{"uri":"FILE:///w/C.tla","text":"---- MODULE C ----\nEXTENDS B\nG == H\n====\n"}}}"#,
             SHUTDOWN,
             EXIT,
         ],
         &[
             INITIALIZED,
-            r#"{"jsonrpc":"2.0","method":"textDocument/publishDiagnostics","params":{"diagnostics":[],"uri":"file:///w/C.tla"}}"#,
+            CLEAN_C,
             r#"{"jsonrpc":"2.0","method":"textDocument/publishDiagnostics","params":{"diagnostics":[{"code":"E401","message":"unknown symbol","range":{"end":{"character":6,"line":2},"start":{"character":5,"line":2}},"severity":1,"source":"sany"}],"uri":"FILE:///w/C.tla"}}"#,
             SHUT,
         ],
