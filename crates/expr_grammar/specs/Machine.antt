@@ -192,11 +192,15 @@ abbrev pub whole : Wait → Tree → Option Tree
 whole Wait.Whole e = cond (is_expression (shape e)) (Some e) None
 whole _ e = None
 
--- the frames round a finished part end with it, the innermost first, and leave the answer
+-- the frames round a finished part end with it, the innermost first, but the outermost one, of which this is what is left
+abbrev pub closed : {A : Type 0} → (Frame → Tree → List Lexeme → Option A) → List Frame → Tree → List Lexeme → Option A
+closed leaves [] e b = None
+closed leaves (f ∷ []) e b = leaves f e b
+closed leaves (f ∷ g ∷ fs) e b = option_and_then (λ form. closed leaves (g ∷ fs) (node_with form f e b) (f.read ++ b)) (finishes f.wait (shape e))
+
+-- the same where the answer is left
 abbrev pub close_all : List Frame → Tree → List Lexeme → Option Tree
-close_all [] e b = None
-close_all (f ∷ []) e b = whole f.wait e
-close_all (f ∷ g ∷ fs) e b = option_and_then (λ form. close_all (g ∷ fs) (node_with form f e b) (f.read ++ b)) (finishes f.wait (shape e))
+close_all fs e b = closed (λ f last read. whole f.wait last) fs e b
 
 -- the answer where no part is finished: the innermost frame must end without one
 abbrev pub finish_due : List Frame → Option Tree
@@ -222,11 +226,9 @@ abbrev pub whole_bounds : Wait → Shape → Trees → Option Trees
 whole_bounds Wait.WholeBounds Shape.Bound bounds = Some bounds
 whole_bounds _ _ bounds = None
 
--- the frames round a finished part end with it, the innermost first, and leave bounds
+-- the frames round a finished part end with it, and leave bounds
 abbrev pub close_bounds : List Frame → Tree → List Lexeme → Option Trees
-close_bounds [] e b = None
-close_bounds (f ∷ []) e b = whole_bounds f.wait (shape e) (trees (f.parts ++ e ∷ []))
-close_bounds (f ∷ g ∷ fs) e b = option_and_then (λ form. close_bounds (g ∷ fs) (node_with form f e b) (f.read ++ b)) (finishes f.wait (shape e))
+close_bounds fs e b = closed (λ f last read. whole_bounds f.wait (shape last) (trees (f.parts ++ last ∷ []))) fs e b
 
 -- the bounds where no part is finished: the innermost frame must end without one
 abbrev pub finish_due_bounds : List Frame → Option Trees

@@ -11,7 +11,7 @@ use Rattle.expr_grammar.specs.declared.wait.Shape.{Shape}
 use Rattle.expr_grammar.specs.declared.wait.Wait.{Wait}
 use Rattle.expr_grammar.specs.Tables.{shape, shape_by, is_expression, finishes, endable}
 use Rattle.expr_grammar.specs.Machine as Machine
-use Rattle.expr_grammar.specs.Machine.{State, At, Have, node, node_with}
+use Rattle.expr_grammar.specs.Machine.{State, At, Have, closed, node}
 use Rattle.expr_parse.specs.declared.goal.Goal.{Goal}
 use Rattle.expr_stack.specs.declared.stack.Frame.{Frame}
 use Rattle.tree_parts.specs.declared.part.Part.{Part}
@@ -26,9 +26,7 @@ pub record Outermost : Type 0 where
 
 -- what is left when all frames but the outermost have ended, if they may
 abbrev pub closing : List Machine.Frame → Tree → List Lexeme → Option Outermost
-closing [] e b = None
-closing (f ∷ []) e b = Some (record { frame = f; tree = e; spelled = b })
-closing (f ∷ g ∷ fs) e b = option_and_then (λ form. closing (g ∷ fs) (node_with form f e b) (f.read ++ b)) (finishes f.wait (shape e))
+closing fs e b = closed (λ f last read. Some (record { frame = f; tree = last; spelled = read })) fs e b
 
 -- the same of a state, whose innermost frame must end by itself where no part is finished
 abbrev pub ending : State → Option Outermost
