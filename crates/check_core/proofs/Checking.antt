@@ -16,7 +16,7 @@ use Rattle.module_model.specs.Resolution.{findings, outside_in}
 use Rattle.unit_grammar.specs.Units.{ModuleUnits}
 use Rattle.module_facts.proofs.Inserting.{in-order}
 use Rattle.module_facts.specs.Ordered.{in_order}
-use Rattle.module_facts.specs.Checks.{CheckedModule, all_faults, facts_of, facts_told, files_given, given_by, given_in, import_faults, name_faults, or_else, outside_by, unless_any}
+use Rattle.module_facts.specs.Checks.{CheckedModule, all_faults, facts_of, facts_told, files_given, given_by, given_in, import_faults, name_faults, or_others, outside_by, unless_any}
 use Rattle.module_facts.proofs.Checked.{checked-facts}
 use Rattle.module_faces.specs.Faces.{IsOwnOrRefused}
 use Rattle.module_faces.proofs.Refused.{refused-over}
@@ -100,7 +100,7 @@ face-with imports source units title (fault ∷ rest) None face named shown is =
   over = subst (λ z. IsFaceOver imports z face) (sym named) (refused-over title face is imports);
 }
 
-or-these : (all others : List Diagnostic) → (all ≡ [] → ⊥) → or_else all others ≡ all
+or-these : (all others : List Diagnostic) → (all ≡ [] → ⊥) → or_others all others ≡ all
 or-these [] others some = absurd (some refl)
 or-these (fault ∷ all) others some = refl
 
@@ -129,7 +129,7 @@ resolved-checked imports source units checked none names face =
     let files = files-given imports in
     checked-facts (given_in imports) source units checked (record {
       faults = in-one-order (all_faults (given_in imports) source units) checked.faults
-          (subst (λ z. AreInOrder (or_else z (name_faults (findings (files_given (given_in imports)) source units) units)) checked.faults) none (subst (λ f. AreInOrder (name_faults (findings f source units) units) checked.faults) files names.faults));
+          (subst (λ z. AreInOrder (or_others z (name_faults (findings (files_given (given_in imports)) source units) units)) checked.faults) none (subst (λ f. AreInOrder (name_faults (findings f source units) units) checked.faults) files names.faults));
       uses = names.uses ∙ ap (λ f. map (λ r. r.«use») (resolved (findings f source units))) files ∙ ap (λ z. unless_any z (map (λ r. r.«use») (resolved (findings (files_given (given_in imports)) source units)))) none;
       decls = names.decls ∙ ap (λ z. unless_any z (decls (text_of source units) (declaring units.units))) none;
       outside = λ accepted. face.outside accepted ∙ ap (λ f. outside_in f source units) files;

@@ -20,7 +20,7 @@ use Rattle.model_laws.proofs.FaultPlaces.{Stands as Places, faults-at, findings-
 use Rattle.span_laws.specs.NodeSpans.{NodeSpans, SpansText}
 use Rattle.arity_rules.specs.Arities.{arity_faults}
 use Rattle.arity_rules.proofs.FaultPlaces.{faults-stand}
-use Rattle.module_facts.specs.Checks.{ImportStatus, Unknown, Cyclic, Refused, Accepted, all_faults, cyclic_at, faults_of_imports, files_given, import_fault, import_faults, name_faults, or_else}
+use Rattle.module_facts.specs.Checks.{ImportStatus, Unknown, Cyclic, Refused, Accepted, all_faults, cyclic_at, faults_of_imports, files_given, import_fault, import_faults, name_faults, or_others}
 
 abbrev At : (Span → Type 0) → Lexeme → Type 0
 At P l = P l.span
@@ -48,7 +48,7 @@ module _ (P : Span → Type 0) where
   cyclic-stand [] all = All-nil Stands
   cyclic-stand (l ∷ names) all = All-append Stands (fault_at 302 l) (cyclic_at names) (at-name 302 l (All-head (At P) l names all)) (cyclic-stand names (All-tail (At P) l names all))
 
-  either-stands : (all others : List Diagnostic) → All Stands all → All Stands others → All Stands (or_else all others)
+  either-stands : (all others : List Diagnostic) → All Stands all → All Stands others → All Stands (or_others all others)
   either-stands [] others first second = second
   either-stands (fault ∷ all) others first second = first
 

@@ -74,9 +74,9 @@ abbrev pub files_given : (List ℕ → ImportStatus) → List ℕ → ModuleView
 files_given given name = outside_by (given name)
 
 -- all faults of imports, or else all others
-abbrev pub or_else : List Diagnostic → List Diagnostic → List Diagnostic
-or_else [] others = others
-or_else (fault ∷ rest) others = fault ∷ rest
+abbrev pub or_others : List Diagnostic → List Diagnostic → List Diagnostic
+or_others [] others = others
+or_others (fault ∷ rest) others = fault ∷ rest
 
 -- the faults of names, by what is found at them, and those of arities
 abbrev pub name_faults : List Finding → ModuleUnits → List Diagnostic
@@ -84,7 +84,7 @@ name_faults found units = faults found ++ arity_faults found units.units
 
 -- what is at fault in a module, by what the modules are that it names
 abbrev pub all_faults : (List ℕ → ImportStatus) → List ℕ → ModuleUnits → List Diagnostic
-all_faults given source units = or_else (import_faults given source units) (name_faults (findings (files_given given) source units) units)
+all_faults given source units = or_others (import_faults given source units) (name_faults (findings (files_given given) source units) units)
 
 -- uses and declarations, but for a module with faults of imports
 abbrev pub unless_any : {A : Type 0} → List Diagnostic → List A → List A
