@@ -26,8 +26,8 @@ use instance_scope::Scope;
 use module_model::{Face, Part, Parts};
 use std::alloc::Global;
 use std::sync::Arc;
-use tla_model::{Meaning, NameTable};
-use tool_list::{List, Memory};
+use tla_model::{Meaning, NameTable, copied_symbols};
+use tool_list::Memory;
 use tree_tasks::Held;
 
 /// The instances that are gathered: those of the text, and those of other texts; and which nested modules
@@ -48,10 +48,7 @@ fn copied(alloc: Global, table: &NameTable) -> Result<NameTable, Memory>
 {
     // The proof needs that no name of the table is there twice.
     let _len = table.len();
-    let mut symbols = List::new(alloc);
-    for (op, meaning) in table.symbols() {
-        symbols.push((*op, meaning.copied()?))?;
-    }
+    let symbols = copied_symbols(alloc, table.symbols())?;
     table.extended(alloc, IndexMap::new(alloc), symbols)
 }
 

@@ -13,7 +13,7 @@ use indexmap::IndexMap;
 use name_context::{Named, symbol_in};
 use std::alloc::Global;
 use std::marker::Model;
-use tla_model::{Meaning, NameTable, Words};
+use tla_model::{Meaning, NameTable, Words, copied_symbols};
 use tla_symbols::Op;
 use tool_list::{List, Memory};
 
@@ -224,17 +224,6 @@ fn owned(alloc: Global, words: &IndexMap<&str, Meaning>) -> Result<Words, Memory
     Ok(copies)
 }
 
-// The same symbols.
-fn copied(alloc: Global, symbols: &[(Op, Meaning)]) -> Result<List<(Op, Meaning)>, Memory>
-    ensures { IfOk result (λ copies. copies ≡ symbols.now) }
-{
-    let mut copies = List::new(alloc);
-    for (op, meaning) in symbols {
-        copies.push((*op, meaning.copied()?))?;
-    }
-    Ok(copies)
-}
-
 impl<'a> Exported<'a> {
     /// No names.
     pub fn new(alloc: Global) -> Exported<'a>
@@ -379,7 +368,7 @@ impl<'a> Exported<'a> {
         ensures { IfOk result (λ table. table ≡ self.now) }
     {
         let words = owned(alloc, &self.words)?;
-        let symbols = copied(alloc, self.symbols.as_slice())?;
+        let symbols = copied_symbols(alloc, self.symbols.as_slice())?;
         match self.taken {
             Some(table) => table.extended(alloc, words, symbols),
             None => NameTable::new(alloc).extended(alloc, words, symbols),

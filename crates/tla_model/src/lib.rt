@@ -19,7 +19,7 @@ pub use names::{Binder, Binding, Finding, Meaning};
 pub use spelling::spelled;
 pub use starts::Starts;
 pub use stretch::{Stretch, Words};
-pub use table::NameTable;
+pub use table::{NameTable, copied_symbols};
 
 /// A fault of a module: its code, and where it stands in the module's text, in bytes.
 #[derive(Clone, Copy, Debug, PartialEq, Eq)]

@@ -55,6 +55,20 @@ impl Model for NameTable {
         × (t.len ≡ length (all_words t.stretches)) × AreNew same_symbol [] t.symbols };
 }
 
+/// The same symbols. `Memory` comes where there was no room.
+pub fn copied_symbols(
+    alloc: Global,
+    symbols: &[(Op, Meaning)],
+) -> Result<List<(Op, Meaning)>, Memory>
+    ensures { IfOk result (λ copies. copies ≡ symbols.now) }
+{
+    let mut copies = List::new(alloc);
+    for (op, meaning) in symbols {
+        copies.push((*op, meaning.copied()?))?;
+    }
+    Ok(copies)
+}
+
 // The same stretches.
 fn shared(alloc: Global, stretches: &[Arc<Stretch>]) -> Result<Vec<Arc<Stretch>>, Memory>
     ensures { IfOk result (λ copies. all_words copies.items ≡ all_words stretches.now) }
