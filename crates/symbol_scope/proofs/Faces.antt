@@ -14,9 +14,9 @@ use Rattle.unit_scope.specs.EnclosingReadings.{IsAt}
 use Rattle.symbol_scope.specs.Exporting.{IsFaceOf}
 use Rattle.unit_scope.specs.Readings.{Over}
 use Rattle.unit_scope.specs.Steps.{outside_at}
-use Rattle.unit_scope.specs.declared.nesting.Nesting.{Nesting}
+use Rattle.unit_scope.specs.declared.reader.ModuleReader.{ModuleReader}
 
-pub is-face : (text : Text) (over : Over) (read : Nesting) (state : ReadState) → IsAt text over read state → (face : Face) → face.«module» ≡ text.file → (table : Table Meaning) → arc_value face.exports ≡ table → table ≡ read.here.names.exports
+pub is-face : (text : Text) (over : Over) (read : ModuleReader) (state : ReadState) → IsAt text over read state → (face : Face) → face.«module» ≡ text.file → (table : Table Meaning) → arc_value face.exports ≡ table → table ≡ read.here.names.exports
     → AreParts read.scope (exports_of table) face.parts → IsFaceOf over.imports text.file (outside_at state) face
 is-face text over read state at face named table shares lists parts =
     let shown = lists ∙ ap (λ (r : Reading). r.exports) at.here in

@@ -29,7 +29,7 @@ use tla_model::{Binder, Decl, Diagnostic, Finding, spelled};
 use tla_tree::ModuleTree;
 use tool_list::{Chars, List, Memory};
 use tree_names::ModuleText;
-use unit_scope::Nesting;
+use unit_scope::ModuleReader;
 
 // The text of a module, by the names that it declares.
 fn text_of<'a>(
@@ -72,14 +72,14 @@ fn unread<'a>(
     text: &ModuleText<'a>,
     tree: &'a ModuleTree,
     imported: &'a Imported,
-) -> Result<Nesting<'a>, Memory>
+) -> Result<ModuleReader<'a>, Memory>
     requires nodes { HasNodes tree.now }
     requires faces { AreFaces imported.now text.now.file }
     ensures { IfOk result
-        (λ nesting. IsUnread text.now imported.now (module_of tree.now) nesting) }
+        (λ reader. IsUnread text.now imported.now (module_of tree.now) reader) }
 {
     let scope = scope_of(alloc, text, tree, imported)?;
-    Nesting::new(alloc, text, scope)
+    ModuleReader::new(alloc, text, scope)
 }
 
 // Reads a module, and answers what is found in it.
@@ -87,22 +87,22 @@ fn found_in<'a>(
     alloc: Global,
     text: &ModuleText<'a>,
     tree: &'a ModuleTree,
-    nesting: &mut Nesting<'a>,
+    reader: &mut ModuleReader<'a>,
 ) -> Result<List<Finding>, Memory>
     requires nodes { HasNodes tree.now }
     requires lie { LexemesLie text.now.source (module_of tree.now) }
     requires text { text.now ≡ in_modules.text_of tree.now.source (module_of tree.now) }
-    requires unread { IsUnread text.now nesting.old.scope.imported.now (module_of tree.now)
-        nesting.old }
+    requires unread { IsUnread text.now reader.old.scope.imported.now (module_of tree.now)
+        reader.old }
     ensures state { OnOk result
-        (IsLast text.now nesting.old.scope.imported.now tree.now.source (module_of tree.now)
-        nesting.new) }
+        (IsLast text.now reader.old.scope.imported.now tree.now.source (module_of tree.now)
+        reader.new) }
     ensures findings { IfOk result (λ findings. findings
-        ≡ in_resolution.findings (files_of nesting.old.scope.imported.now) tree.now.source
+        ≡ in_resolution.findings (files_of reader.old.scope.imported.now) tree.now.source
         (module_of tree.now)) }
 {
     let mut findings = List::new(alloc);
-    nesting.read_module(alloc, text, tree, &mut findings)?;
+    reader.read_module(alloc, text, tree, &mut findings)?;
     Ok(findings)
 }
 
@@ -111,38 +111,42 @@ fn bind_uses<'a>(
     alloc: Global,
     text: &ModuleText<'a>,
     tree: &'a ModuleTree,
-    nesting: &mut Nesting<'a>,
+    reader: &mut ModuleReader<'a>,
     bound: &mut Bound,
 ) -> Result<(), Memory>
     requires nodes { HasNodes tree.now }
     requires lie { LexemesLie text.now.source (module_of tree.now) }
     requires text { text.now ≡ in_modules.text_of tree.now.source (module_of tree.now) }
-    requires unread { IsUnread text.now nesting.old.scope.imported.now (module_of tree.now)
-        nesting.old }
+    requires unread { IsUnread text.now reader.old.scope.imported.now (module_of tree.now)
+        reader.old }
     requires nothing { IsNothing bound.old }
     ensures state { OnOk result
-        (IsLast text.now nesting.old.scope.imported.now tree.now.source (module_of tree.now)
-        nesting.new) }
+        (IsLast text.now reader.old.scope.imported.now tree.now.source (module_of tree.now)
+        reader.new) }
     ensures sorted { OnOk result
         (IsSorted
-        (in_resolution.findings (files_of nesting.old.scope.imported.now) tree.now.source
+        (in_resolution.findings (files_of reader.old.scope.imported.now) tree.now.source
         (module_of tree.now)) bound.new) }
 {
-    let findings = found_in(alloc, text, tree, nesting)?;
+    let findings = found_in(alloc, text, tree, reader)?;
     sort_out(findings, bound)?;
     order(alloc, &mut bound.faults);
     Ok(())
 }
 
 // The face of a module that was read.
-fn face_of<'a>(alloc: Global, text: &ModuleText<'a>, nesting: &Nesting<'a>) -> Result<Face, Memory>
-    requires { IsSomewhere text.now nesting.now }
+fn face_of<'a>(
+    alloc: Global,
+    text: &ModuleText<'a>,
+    reader: &ModuleReader<'a>,
+) -> Result<Face, Memory>
+    requires { IsSomewhere text.now reader.now }
     ensures { IfOk result (λ face. (over : Over) → (state : ReadState)
-        → IsAt text.now over nesting.now state
+        → IsAt text.now over reader.now state
         → IsFaceOf over.imports text.now.file (outside_at state) face) }
 {
-    let exports = nesting.here.names.exports.listed(alloc)?;
-    let parts = reached_from(alloc, &nesting.scope, &exports)?;
+    let exports = reader.here.names.exports.listed(alloc)?;
+    let parts = reached_from(alloc, &reader.scope, &exports)?;
     Ok(Face {
         module: Chars::from_str(alloc, text.file())?,
         exports: Arc::new(alloc, exports)?,
@@ -154,18 +158,18 @@ fn face_of<'a>(alloc: Global, text: &ModuleText<'a>, nesting: &Nesting<'a>) -> R
 fn face_unless<'a>(
     alloc: Global,
     text: &ModuleText<'a>,
-    nesting: &Nesting<'a>,
+    reader: &ModuleReader<'a>,
     faults: &[Diagnostic],
 ) -> Result<Option<Face>, Memory>
-    requires { IsSomewhere text.now nesting.now }
+    requires { IsSomewhere text.now reader.now }
     ensures { IfOk result (λ face. (over : Over) → (state : ReadState)
-        → IsAt text.now over nesting.now state
+        → IsAt text.now over reader.now state
         → IsFaceUnless faults.now over.imports text.now.file (outside_at state) face) }
 {
     if !faults.is_empty() {
         return Ok(None);
     }
-    let face = face_of(alloc, text, nesting)?;
+    let face = face_of(alloc, text, reader)?;
     Ok(Some(face))
 }
 
@@ -175,25 +179,25 @@ fn bind_module<'a>(
     alloc: Global,
     text: &ModuleText<'a>,
     tree: &'a ModuleTree,
-    nesting: &mut Nesting<'a>,
+    reader: &mut ModuleReader<'a>,
     bound: &mut Bound,
 ) -> Result<Option<Face>, Memory>
     requires nodes { HasNodes tree.now }
     requires lie { LexemesLie text.now.source (module_of tree.now) }
     requires text { text.now ≡ in_modules.text_of tree.now.source (module_of tree.now) }
-    requires unread { IsUnread text.now nesting.old.scope.imported.now (module_of tree.now)
-        nesting.old }
+    requires unread { IsUnread text.now reader.old.scope.imported.now (module_of tree.now)
+        reader.old }
     requires nothing { IsNothing bound.old }
     ensures sorted { OnOk result
         (IsSorted
-        (in_resolution.findings (files_of nesting.old.scope.imported.now) tree.now.source
+        (in_resolution.findings (files_of reader.old.scope.imported.now) tree.now.source
         (module_of tree.now)) bound.new) }
     ensures face { IfOk result
-        (IsShown nesting.old.scope.imported.now tree.now.source (module_of tree.now)
+        (IsShown reader.old.scope.imported.now tree.now.source (module_of tree.now)
         bound.new.faults) }
 {
-    bind_uses(alloc, text, tree, nesting, bound)?;
-    let face = face_unless(alloc, text, nesting, bound.faults.as_slice())?;
+    bind_uses(alloc, text, tree, reader, bound)?;
+    let face = face_unless(alloc, text, reader, bound.faults.as_slice())?;
     Ok(face)
 }
 
@@ -218,8 +222,8 @@ fn bind_text<'a>(
     ensures face { IfOk result
         (IsShown imported.now tree.now.source (module_of tree.now) bound.new.faults) }
 {
-    let mut nesting = unread(alloc, text, tree, imported)?;
-    bind_module(alloc, text, tree, &mut nesting, bound)
+    let mut reader = unread(alloc, text, tree, imported)?;
+    bind_module(alloc, text, tree, &mut reader, bound)
 }
 
 // Appends the declaration of a name.

@@ -11,5 +11,5 @@ mod Completing
 pub mod FirstBad
 mod Lasting
 pub mod Ending
-mod Nesting
+mod NestedHeights
 mod Holding

@@ -12,7 +12,7 @@ use Rattle.module_model.specs.Instances.{nested_view}
 use Rattle.module_model.specs.Modules.{Reading, begun_in, behind_nested, brings, clashes, declare, declare_all, extended, extends_all, joined, left, with_entry}
 use Rattle.tla_model.specs.Tables.{Named, Word, Symbol, added, has, lookup, same_symbol}
 use Rattle.name_context.specs.declared.context.Mark.{Mark}
-use Rattle.unit_scope.specs.declared.nesting.Outer.{Outer}
+use Rattle.unit_scope.specs.declared.reader.Outer.{Outer}
 use Rattle.name_context.specs.AsTables.{cut, mark_of}
 use Rattle.unit_scope.specs.Readings.{Files}
 use Rattle.name_exports.specs.Brought.{ModuleNames}

@@ -29,7 +29,7 @@ use Rattle.instance_scope.specs.Scoped.{IsSame, IsSound, known_of, module_in}
 use Rattle.instance_scope.specs.declared.scope.Scope.{Scope}
 use Rattle.list_laws.proofs.Lists.{all-left, all-right, rest-at}
 use Rattle.model_laws.proofs.Settling.{settled-all}
-use Rattle.unit_scope.specs.declared.nesting.Nesting.{Nesting}
+use Rattle.unit_scope.specs.declared.reader.ModuleReader.{ModuleReader}
 use Rattle.unit_scope.specs.declared.reading.Reading.{Reading as Read}
 use Rattle.unit_scope.specs.EnclosingReadings.{AreEnded, AreRound, IsAt, IsPlaced, IsSomewhere}
 use Rattle.unit_scope.specs.Modules.{reading_in, reading_of}
@@ -65,7 +65,7 @@ same-module-in a b modules same = λ i. module_at (files_of (same.imported i)) (
 
 module _ (text : Text) (over : Over) where
   -- the module that is read, and what is known, go on
-  pub moves : (read next : Nesting) (state : ReadState) (now : Reading) (known : Known) → IsAt text over read state → next.round.items ≡ read.round.items → IsSame read.scope next.scope → IsSound next.scope → known_of next.scope ≡ known
+  pub moves : (read next : ModuleReader) (state : ReadState) (now : Reading) (known : Known) → IsAt text over read state → next.round.items ≡ read.round.items → IsSame read.scope next.scope → IsSound next.scope → known_of next.scope ≡ known
       → next.here.modules ≡ read.here.modules → reading_of next.scope next.here ≡ now → Went state.place.here now → IsAt text over next (record { place = record { here = now; round = state.place.round }; known = known })
   moves read next state now known at round same sound knows modules is went = record {
     here = is;
@@ -78,25 +78,25 @@ module _ (text : Text) (over : Over) where
   }
 
   -- the module alone
-  pub reads-on : (read next : Nesting) (state : ReadState) (now : Reading) → IsAt text over read state → next.round.items ≡ read.round.items → next.scope ≡ read.scope
+  pub reads-on : (read next : ModuleReader) (state : ReadState) (now : Reading) → IsAt text over read state → next.round.items ≡ read.round.items → next.scope ≡ read.scope
       → next.here.modules ≡ read.here.modules → reading_of read.scope next.here ≡ now → Went state.place.here now → IsAt text over next (record { place = record { here = now; round = state.place.round }; known = state.known })
   reads-on read next state now at round scope modules is went =
       moves read next state now state.known at round (subst (IsSame read.scope) (sym scope) (same-itself read.scope)) (subst IsSound (sym scope) at.sound) (ap known_of scope ∙ at.known) modules
       (ap (λ s. reading_of s next.here) scope ∙ is) went
 
   -- what is known alone
-  pub knows-on : (read next : Nesting) (state : ReadState) (known : Known) → IsAt text over read state → next.round.items ≡ read.round.items → IsSame read.scope next.scope → IsSound next.scope → known_of next.scope ≡ known
+  pub knows-on : (read next : ModuleReader) (state : ReadState) (known : Known) → IsAt text over read state → next.round.items ≡ read.round.items → IsSame read.scope next.scope → IsSound next.scope → known_of next.scope ≡ known
       → next.here ≡ read.here → IsAt text over next (record { place = record { here = state.place.here; round = state.place.round }; known = known })
   knows-on read next state known at round same sound knows here =
       moves read next state state.place.here known at round same sound knows (ap (λ (r : Read). r.modules) here)
       ((λ i. reading_in (same.nested i) (here i)) ∙ at.here) (waits state.place.here)
 
   -- what modules are at a place
-  pub named-here : (read : Nesting) (state : ReadState) → IsAt text over read state → module_in read.scope read.here.modules ≡ module_at (files_over over) state.place.here.modules
+  pub named-here : (read : ModuleReader) (state : ReadState) → IsAt text over read state → module_in read.scope read.here.modules ≡ module_at (files_over over) state.place.here.modules
   named-here read state at = λ i. module_at (files_over (at.kept i)) ((at.here i).modules)
 
   -- what an INSTANCE without a name brings at a place
-  pub brings-at : (read : Nesting) (state : ReadState) → IsAt text over read state → (l : Lexeme) → instance_at text read.scope read.here.modules l ≡ brought_in text l over state
+  pub brings-at : (read : ModuleReader) (state : ReadState) → IsAt text over read state → (l : Lexeme) → instance_at text read.scope read.here.modules l ≡ brought_in text l over state
   brings-at read state at l = λ i. brought_by (unit_of text ((at.kept i).words) l) (named-here read state at i (spelled text.source l))
 
 -- a nested module has ended, and the one round it is read
@@ -132,7 +132,7 @@ module _ (text : Text) (over : Over) where
       ∙ sym (append_assoc (found_at text u over state) (found_along text units over (behind_unit text u over state)) (found_at text x over (behind_units text units over (behind_unit text u over state))))
 
 -- one more unit
-module _ (text : Text) (old mid new : Nesting) (units more : List UnitTree) (x : UnitTree) (is : more ≡ units ++ x ∷ []) (first : Leads text (behind_units text units) old mid) (found now then : List Finding) (read : IsRead text x mid new now then) where
+module _ (text : Text) (old mid new : ModuleReader) (units more : List UnitTree) (x : UnitTree) (is : more ≡ units ++ x ∷ []) (first : Leads text (behind_units text units) old mid) (found now then : List Finding) (read : IsRead text x mid new now then) where
   pub leads-more : Leads text (behind_units text more) old new
   leads-more over state at =
       subst (IsAt text over new) (sym (ap (λ us. behind_units text us over state) is ∙ read-more text over state units x)) (read.state over (behind_units text units over state) (first over state at))
@@ -145,7 +145,7 @@ module _ (text : Text) (old mid new : Nesting) (units more : List UnitTree) (x :
       ∙ ap (λ z. found ++ z) (sym (ap (λ us. found_along text us over state) is ∙ found-more text over state units x))
 
 -- wherever code read, it is known still what is exported
-pub somewhere-on : (text : Text) (old new : Nesting) (units : List UnitTree) → IsSomewhere text old → Leads text (behind_units text units) old new → IsSomewhere text new
+pub somewhere-on : (text : Text) (old new : ModuleReader) (units : List UnitTree) → IsSomewhere text old → Leads text (behind_units text units) old new → IsSomewhere text new
 somewhere-on text old new units before leads = record {
   over = before.over;
   state = behind_units text units before.over before.state;
@@ -153,7 +153,7 @@ somewhere-on text old new units before leads = record {
   settled = settled-all text (files_over before.over) before.over.words before.state units before.settled;
 }
 
-pub placed-on : (text : Text) (old new : Nesting) (step : Over → ReadState → ReadState) → IsPlaced text old → Leads text step old new → IsPlaced text new
+pub placed-on : (text : Text) (old new : ModuleReader) (step : Over → ReadState → ReadState) → IsPlaced text old → Leads text step old new → IsPlaced text new
 placed-on text old new step before leads = record { over = before.over; state = step before.over before.state; at = leads before.over before.state before.at }
 
 -- what is known behind modules that are extended

@@ -23,7 +23,7 @@ use Rattle.instance_leads.proofs.Knowing.{and-none}
 use Rattle.unit_scope.specs.EnclosingReadings.{IsAt}
 use Rattle.unit_scope.specs.Readings.{Over, files_over}
 use Rattle.unit_scope.specs.Steps.{IsRead, Leads, Tells, brought_with, clashes_at, declared, declaring, found_below, found_instanced, instanced, noted, refused}
-use Rattle.unit_scope.specs.declared.nesting.Nesting.{Nesting}
+use Rattle.unit_scope.specs.declared.reader.ModuleReader.{ModuleReader}
 use Rattle.unit_scope.proofs.Onward.{Unit}
 
 -- ---- declarations
@@ -35,7 +35,7 @@ at-place place known = record { place = place; known = known }
 still : (place : Place) (known more : Known) → more ≡ known → at-place place known ≡ at-place place more
 still place known more same = λ i. at-place place (sym same i)
 
-module _ (text : Text) (old new : Nesting) (found now : List Finding) (binders : List Binder) (leads : Leads text (declaring text binders) old new) (tells : Tells text (refused text binders) old found now) where
+module _ (text : Text) (old new : ModuleReader) (found now : List Finding) (binders : List Binder) (leads : Leads text (declaring text binders) old new) (tells : Tells text (refused text binders) old found now) where
   pub variables-read : (names : List Lexeme) → binders ≡ variables names → IsRead text (Variables names) old new found now
   variables-read names is = record {
     state = λ over state at.
@@ -60,7 +60,7 @@ pub instance-lies : (P : Lexeme → Type 0) (nodes : List ArenaNode) (node : ℕ
 instance-lies P nodes node l there is all = (subst (λ x. AllByRecursion P (lexemes x)) (tree-of nodes node (Form.Instance l) there is).1 all).0
 
 module _ (text : Text) (unit : UnitTree) (local : Bool) (nodes : List ArenaNode) (node : ℕ) (there : node < length nodes) where
-  module _ (l : Lexeme) (is : Form.Instance l ≡ (node_at nodes node).form) (old mid new : Nesting) (first : Leads text (noted text unit) old mid) where
+  module _ (l : Lexeme) (is : Form.Instance l ≡ (node_at nodes node).form) (old mid new : ModuleReader) (first : Leads text (noted text unit) old mid) where
     pub instance-leads : Leads text (brought_with text local l) mid new → Leads text (instanced text unit local (tree_at nodes node)) old new
     instance-leads second over state at =
         subst (λ x. IsAt text over new (instanced text unit local x over state)) (sym (tree-of nodes node (Form.Instance l) there is).1) (second over (noted text unit over state) (first over state at))
@@ -95,7 +95,7 @@ module _ (text : Text) (unit : UnitTree) (local : Bool) (nodes : List ArenaNode)
       by (Form.Instance l) isnt = absurd (isnt l refl)
       by _ isnt = refl
 
-  module _ (form : Form.the_data) (is : form ≡ (node_at nodes node).form) (other : (l : Lexeme) → form ≡ Form.Instance l → ⊥) (old new : Nesting) where
+  module _ (form : Form.the_data) (is : form ≡ (node_at nodes node).form) (other : (l : Lexeme) → form ≡ Form.Instance l → ⊥) (old new : ModuleReader) where
     pub no-instance-leads : Leads text (noted text unit) old new → Leads text (instanced text unit local (tree_at nodes node)) old new
     no-instance-leads first over state at =
         let whole = tree-of nodes node form there is in
@@ -113,7 +113,7 @@ pub on-both : {A E : Type 0} (result : Result A E) (P Q R : Type 0) → (P → Q
 on-both (Ok x) P Q R f p q = f p q
 on-both (Err e) P Q R f p q = p
 
-module _ (text : Text) (nodes : List ArenaNode) (old new : Nesting) (found now : List Finding) (read : Unit) where
+module _ (text : Text) (nodes : List ArenaNode) (old new : ModuleReader) (found now : List Finding) (read : Unit) where
   abbrev Done : Unit → Type 0
   Done one = IsRead text (unit_at nodes one) old new found now
 

@@ -11,8 +11,8 @@ use Rattle.name_context.specs.AsTables.{cut}
 use Rattle.name_exports.specs.Brought.{ModuleNames}
 use Rattle.unit_scope.specs.Modules.{reading_in, reading_of}
 use Rattle.unit_scope.specs.Readings.{Over, over_of}
-use Rattle.unit_scope.specs.declared.nesting.Nesting.{Nesting}
-use Rattle.unit_scope.specs.declared.nesting.Outer.{Outer}
+use Rattle.unit_scope.specs.declared.reader.ModuleReader.{ModuleReader}
+use Rattle.unit_scope.specs.declared.reader.Outer.{Outer}
 use Rattle.unit_scope.specs.declared.reading.Reading.{Reading as Read}
 use Rattle.instance_leads.specs.declared.ended.Ended.{Ended}
 use Rattle.tla_model.specs.Contexts.{Context}
@@ -59,7 +59,7 @@ pub record IsLeft (outer : Outer) (old new : Read) : Type 0 where
 -- ---- places
 
 -- code reads a text at this place, over these imports
-pub record IsAt (text : Text) (over : Over) (read : Nesting) (state : ReadState) : Type 0 where
+pub record IsAt (text : Text) (over : Over) (read : ModuleReader) (state : ReadState) : Type 0 where
   pub here : reading_of read.scope read.here ≡ state.place.here
   pub round : AreRound state.place.here.context state.place.here.modules (reverse read.round.items) state.place.round
   pub known : known_of read.scope ≡ state.known
@@ -69,13 +69,13 @@ pub record IsAt (text : Text) (over : Over) (read : Nesting) (state : ReadState)
   pub kept : over_of read.scope ≡ over
 
 -- code reads at some place
-pub record IsPlaced (text : Text) (read : Nesting) : Type 0 where
+pub record IsPlaced (text : Text) (read : ModuleReader) : Type 0 where
   pub over : Over
   pub state : ReadState
   pub at : IsAt text over read state
 
 -- code reads at some place, where it is known what stands behind each instance that is exported
-pub record IsSomewhere (text : Text) (read : Nesting) : Type 0 where
+pub record IsSomewhere (text : Text) (read : ModuleReader) : Type 0 where
   pub over : Over
   pub state : ReadState
   pub at : IsAt text over read state

@@ -16,7 +16,7 @@ use Rattle.module_model.specs.Resolution as resolution
 use Rattle.module_model.specs.Resolution.{ReadState, clash_by, found_from, found_in, found_of, instance_brings, known_brought, last, module_named, read_on, with_known, words_of}
 use Rattle.unit_scope.specs.EnclosingReadings.{IsAt}
 use Rattle.unit_scope.specs.Readings.{Over, files_over}
-use Rattle.unit_scope.specs.declared.nesting.Nesting.{Nesting}
+use Rattle.unit_scope.specs.declared.reader.ModuleReader.{ModuleReader}
 
 -- from one place to another, by what the text is read over
 abbrev pub Step : Type 0
@@ -27,11 +27,11 @@ abbrev pub Finds : Type 0
 Finds = Over → ReadState → List Finding
 
 -- wherever code read, it reads behind the step then
-abbrev pub Leads : Text → Step → Nesting → Nesting → Type 0
+abbrev pub Leads : Text → Step → ModuleReader → ModuleReader → Type 0
 Leads text step old new = (over : Over) → (state : ReadState) → IsAt text over old state → IsAt text over new (step over state)
 
 -- wherever code read, what is found there was appended
-abbrev pub Tells : Text → Finds → Nesting → List Finding → List Finding → Type 0
+abbrev pub Tells : Text → Finds → ModuleReader → List Finding → List Finding → Type 0
 Tells text finds old found now = (over : Over) → (state : ReadState) → IsAt text over old state → now ≡ found ++ finds over state
 
 -- ---- units
@@ -53,7 +53,7 @@ abbrev pub found_along : Text → List UnitTree → Finds
 found_along text units over state = found_from text (files_over over) over.words over.paths state units
 
 -- a unit is read
-pub record IsRead (text : Text) (unit : UnitTree) (old new : Nesting) (found now : List Finding) : Type 0 where
+pub record IsRead (text : Text) (unit : UnitTree) (old new : ModuleReader) (found now : List Finding) : Type 0 where
   pub state : Leads text (behind_unit text unit) old new
   pub findings : Tells text (found_at text unit) old found now
 
@@ -145,11 +145,11 @@ abbrev pub over_for : Imports → ModuleUnits → Over
 over_for imports units = record { imports = imports; words = words_of units; paths = paths_in units.units }
 
 -- code reads a module before what it extends
-abbrev pub IsUnread : Text → Imports → ModuleUnits → Nesting → Type 0
+abbrev pub IsUnread : Text → Imports → ModuleUnits → ModuleReader → Type 0
 IsUnread text imports units read = IsAt text (over_for imports units) read (unread_state text)
 
 -- code has read a module
-abbrev pub IsLast : Text → Imports → List ℕ → ModuleUnits → Nesting → Type 0
+abbrev pub IsLast : Text → Imports → List ℕ → ModuleUnits → ModuleReader → Type 0
 IsLast text imports source units read = IsAt text (over_for imports units) read (last (files_of imports) source units)
 
 -- what a module is to others, by what it is read as

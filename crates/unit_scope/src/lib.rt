@@ -5,8 +5,8 @@
 #![tactic(auto)]
 
 mod declaring;
-mod nesting;
+mod reader;
 mod reading;
 mod units;
 
-pub use nesting::Nesting;
+pub use reader::ModuleReader;

@@ -26,7 +26,7 @@ pub struct Outer<'a> {
 }
 
 /// The module that is read, those round it, and what is known of modules and instances.
-pub struct Nesting<'a> {
+pub struct ModuleReader<'a> {
     pub here: Reading<'a>,
     // The innermost one is the last.
     pub round: Vec<Outer<'a>>,
@@ -34,9 +34,9 @@ pub struct Nesting<'a> {
 }
 
 // By hand, so that a proof meets one call wherever a value ends.
-impl<'a> Drop for Nesting<'a> {
+impl<'a> Drop for ModuleReader<'a> {
     fn drop(self) {
-        let Nesting {
+        let ModuleReader {
             here: _,
             round: _,
             scope: _,
@@ -44,20 +44,20 @@ impl<'a> Drop for Nesting<'a> {
     }
 }
 
-impl<'a> Nesting<'a> {
+impl<'a> ModuleReader<'a> {
     /// The module of a text, which is in no other one, before what it extends.
     pub fn new(
         alloc: Global,
         text: &ModuleText<'a>,
         scope: Scope<'a>,
-    ) -> Result<Nesting<'a>, Memory>
+    ) -> Result<ModuleReader<'a>, Memory>
         requires sound { IsSound scope }
         requires title { scope.title.now ≡ text.now.file }
         requires known { known_of scope ≡ none_known }
         ensures { IfOk result
-            (λ nesting. IsAt text.now (over_of scope.entry) nesting (unread_state text.now)) }
+            (λ reader. IsAt text.now (over_of scope.entry) reader (unread_state text.now)) }
     {
-        Ok(Nesting {
+        Ok(ModuleReader {
             here: Reading::new(alloc, text)?,
             round: Vec::new(alloc),
             scope,

@@ -18,7 +18,7 @@ ghost use Rattle.tla_model.specs.declared.names.Finding.TheVariants.{Taken};
 ghost use Rattle.tla_tree.specs.Arena.{tree_at};
 
 use crate::declaring::put_built_in;
-use crate::nesting::Outer;
+use crate::reader::Outer;
 use instance_leads::Numbers;
 use instance_scope::Scope;
 use module_scope::Modules;

@@ -16,7 +16,7 @@ ghost use Rattle.unit_grammar.specs.Units.{Constants, ModuleBegin, Variables};
 ghost use Rattle.unit_grammar.specs.UnitNodes.{HasNodes, module_of, nodes_in, unit_at};
 
 use crate::declaring::{declare_all, declared_constants, declared_variables, define};
-use crate::nesting::Nesting;
+use crate::reader::ModuleReader;
 use crate::reading::note_all;
 use instance_names::named_instances;
 use std::alloc::Global;
@@ -26,7 +26,7 @@ use tla_tree::{Form, ModuleTree, Tree, Unit};
 use tool_list::{List, Memory};
 use tree_names::ModuleText;
 
-impl<'a> Nesting<'a> {
+impl<'a> ModuleReader<'a> {
     // Notes where the instances lead that a unit names.
     fn note_named(
         &mut self,

@@ -1,4 +1,4 @@
-use Rattle.unit_laws.proofs.Nesting.{nested-height, beside-height}
+use Rattle.unit_laws.proofs.NestedHeights.{nested-height, beside-height}
 use Rattle.unit_laws.proofs.heights_nest.Goals as goal
 
 pub returns : goal.returns

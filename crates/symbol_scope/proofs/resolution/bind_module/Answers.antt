@@ -10,7 +10,7 @@ use Rattle.symbol_scope.proofs.resolution.bind_module.Goals as goal
 
 pub face_unless-requires : goal.face_unless-requires
 face_unless-requires c =
-    let imports = c.args.nesting.now.scope.imported.now in
+    let imports = c.args.reader.now.scope.imported.now in
     let units = module_of c.args.tree.now in
     record {
       over = over_for imports units;
@@ -21,7 +21,7 @@ face_unless-requires c =
 
 pub returns-clause-face : goal.returns-clause-face
 returns-clause-face c =
-    let imports = c.args.nesting.now.scope.imported.now in
+    let imports = c.args.reader.now.scope.imported.now in
     let units = module_of c.args.tree.now in
     let state = last (files_of imports) c.args.tree.now.source units in
     subst (λ title. IsFaceUnless c.bind_uses.new.bound.faults imports title (outside_at state) c.in_ok-face.face) (ap (λ (t : Text). t.file) c.requires.text)

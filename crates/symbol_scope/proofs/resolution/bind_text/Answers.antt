@@ -11,13 +11,13 @@ use Rattle.symbol_scope.proofs.resolution.bind_text.Goals as goal
 
 pub bind_module-requires-clause-unread : goal.bind_module-requires-clause-unread
 bind_module-requires-clause-unread c =
-    let at = c.in_ok-nesting.ensures in
-    subst (λ imports. IsUnread c.args.text.now imports (module_of c.args.tree.now) c.in_ok-nesting.nesting) (sym (ap (λ (over : Over). over.imports) at.kept)) at
+    let at = c.in_ok-reader.ensures in
+    subst (λ imports. IsUnread c.args.text.now imports (module_of c.args.tree.now) c.in_ok-reader.reader) (sym (ap (λ (over : Over). over.imports) at.kept)) at
 
 pub returns-clause-sorted : goal.returns-clause-sorted
 returns-clause-sorted c =
-    subst (λ imports. OnOk c.bind_module.result (IsSorted (findings (files_of imports) c.args.tree.now.source (module_of c.args.tree.now)) c.bind_module.new.bound)) (ap (λ (over : Over). over.imports) c.in_ok-nesting.ensures.kept) c.bind_module.ensures.sorted
+    subst (λ imports. OnOk c.bind_module.result (IsSorted (findings (files_of imports) c.args.tree.now.source (module_of c.args.tree.now)) c.bind_module.new.bound)) (ap (λ (over : Over). over.imports) c.in_ok-reader.ensures.kept) c.bind_module.ensures.sorted
 
 pub returns-clause-face : goal.returns-clause-face
 returns-clause-face c =
-    subst (λ imports. IfOk c.bind_module.result (IsShown imports c.args.tree.now.source (module_of c.args.tree.now) c.bind_module.new.bound.faults)) (ap (λ (over : Over). over.imports) c.in_ok-nesting.ensures.kept) c.bind_module.ensures.face
+    subst (λ imports. IfOk c.bind_module.result (IsShown imports c.args.tree.now.source (module_of c.args.tree.now) c.bind_module.new.bound.faults)) (ap (λ (over : Over). over.imports) c.in_ok-reader.ensures.kept) c.bind_module.ensures.face

@@ -14,5 +14,5 @@ reached_from-requires-clause-reached c =
 
 pub returns : goal.returns
 returns c = λ over state at.
-    is-face c.args.text.now over c.args.nesting.now state at (record { «module» = c.in_ok-from_str.field-0; exports = c.in_ok-new.field-0; parts = c.in_ok-parts.parts })
+    is-face c.args.text.now over c.args.reader.now state at (record { «module» = c.in_ok-from_str.field-0; exports = c.in_ok-new.field-0; parts = c.in_ok-parts.parts })
     (c.in_ok-from_str.ensures ∙ c.file.ensures) c.in_ok-exports.exports c.in_ok-new.ensures.ok c.in_ok-exports.ensures c.in_ok-parts.ensures

@@ -2,7 +2,7 @@ use Rattle.std.proofs.Common.{◌∙◌, ◌∷◌, ap, length, sym, subst}
 use Rattle.module_model.specs.Modules.{begun_in}
 use Rattle.unit_scope.specs.EnclosingReadings.{AreRound, IsOuter}
 use Rattle.unit_scope.proofs.Growing.{last-first}
-use Rattle.unit_scope.proofs.nesting.Nesting.begin.Goals as goal
+use Rattle.unit_scope.proofs.reader.ModuleReader.begin.Goals as goal
 
 pub returns : goal.returns
 returns c = λ text over state at.

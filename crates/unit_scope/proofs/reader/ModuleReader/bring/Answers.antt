@@ -6,11 +6,11 @@ use Rattle.module_model.specs.NamedModules.{exported_known}
 use Rattle.unit_scope.specs.EnclosingReadings.{AreEnded}
 use Rattle.unit_scope.specs.Readings.{instance_clash}
 use Rattle.unit_scope.specs.Steps.{brought_in, joined_with, named_view}
-use Rattle.unit_scope.specs.declared.nesting.Nesting.{Nesting}
+use Rattle.unit_scope.specs.declared.reader.ModuleReader.{ModuleReader}
 use Rattle.unit_scope.proofs.Growing.{went-joined}
 use Rattle.unit_scope.proofs.Onward.{brings-at, knows-on, named-here, reads-on}
 use Rattle.unit_scope.proofs.Taking.{ended-numbered}
-use Rattle.unit_scope.proofs.nesting.Nesting.bring.Goals as goal
+use Rattle.unit_scope.proofs.reader.ModuleReader.bring.Goals as goal
 
 pub note_exported-requires-clause-sound : goal.note_exported-requires-clause-sound
 note_exported-requires-clause-sound c = c.requires.placed.at.sound
@@ -23,8 +23,8 @@ returns-clause-state c = λ over state at.
     let text = c.args.text.now in
     let l = c.args.«module» in
     let read = c.args.self.now in
-    let mid : Nesting = record { here = c.join.new.self; round = read.round; scope = read.scope } in
-    let next : Nesting = record { here = c.join.new.self; round = read.round; scope = c.note_exported.new.self } in
+    let mid : ModuleReader = record { here = c.join.new.self; round = read.round; scope = read.scope } in
+    let next : ModuleReader = record { here = c.join.new.self; round = read.round; scope = c.note_exported.new.self } in
     let entries = brings-at text over read state at l in
     let brought = brought_in text l over state in
     let between = reads-on text over read mid state (joined c.args.local state.place.here brought) at refl refl c.in_ok-join.ensures.modules

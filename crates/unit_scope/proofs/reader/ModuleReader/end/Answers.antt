@@ -11,7 +11,7 @@ use Rattle.unit_scope.specs.declared.reading.Reading.{Reading as Read}
 use Rattle.unit_scope.proofs.Growing.{last-first, outside-some}
 use Rattle.unit_scope.proofs.Onward.{ended-here}
 use Rattle.unit_scope.proofs.Taking.{ended-added, ended-more, views-stay}
-use Rattle.unit_scope.proofs.nesting.Nesting.end.Goals as goal
+use Rattle.unit_scope.proofs.reader.ModuleReader.end.Goals as goal
 
 pub end-requires-clause-reached : goal.end-requires-clause-reached
 end-requires-clause-reached c =

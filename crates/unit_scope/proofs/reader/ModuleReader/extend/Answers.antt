@@ -7,11 +7,11 @@ use Rattle.module_model.specs.Resolution.{module_named}
 use Rattle.unit_scope.specs.EnclosingReadings.{AreEnded}
 use Rattle.unit_scope.specs.Readings.{files_over}
 use Rattle.unit_scope.specs.Steps.{extending}
-use Rattle.unit_scope.specs.declared.nesting.Nesting.{Nesting}
+use Rattle.unit_scope.specs.declared.reader.ModuleReader.{ModuleReader}
 use Rattle.unit_scope.proofs.Growing.{went-extends}
 use Rattle.unit_scope.proofs.Onward.{knows-on, named-here, reads-on}
 use Rattle.unit_scope.proofs.Taking.{ended-numbered}
-use Rattle.unit_scope.proofs.nesting.Nesting.extend.Goals as goal
+use Rattle.unit_scope.proofs.reader.ModuleReader.extend.Goals as goal
 
 pub note_all-requires-clause-sound : goal.note_all-requires-clause-sound
 note_all-requires-clause-sound c = c.requires.placed.at.sound
@@ -24,8 +24,8 @@ returns-clause-state c = λ over state at.
     let text = c.args.text.now in
     let names = c.args.names.now in
     let read = c.args.self.now in
-    let mid : Nesting = record { here = c.extend_all.new.self; round = read.round; scope = read.scope } in
-    let next : Nesting = record { here = c.extend_all.new.self; round = read.round; scope = c.note_all.new.scope } in
+    let mid : ModuleReader = record { here = c.extend_all.new.self; round = read.round; scope = read.scope } in
+    let next : ModuleReader = record { here = c.extend_all.new.self; round = read.round; scope = c.note_all.new.scope } in
     let files = exports_by (files_over over) in
     let between = reads-on text over read mid state (extends_all text files state.place.here names) at refl refl c.in_ok-extend_all.ensures.modules
     (c.in_ok-extend_all.ensures.reading ∙ (λ i. extends_all text (exports_by (files_over (at.kept i))) (at.here i) names)) (went-extends text files state.place.here names) in

@@ -1,7 +1,7 @@
 use Rattle.std.proofs.Common.{[], length, refl, reverse, subst, sym}
 use Rattle.module_model.specs.Modules.{unread}
 use Rattle.unit_scope.specs.EnclosingReadings.{AreRound}
-use Rattle.unit_scope.proofs.nesting.Nesting.new.Goals as goal
+use Rattle.unit_scope.proofs.reader.ModuleReader.new.Goals as goal
 
 pub returns : goal.returns
 returns c =

@@ -9,11 +9,11 @@ use Rattle.module_model.specs.Resolution.{known_in}
 use Rattle.instance_names.specs.Named.{named_as}
 use Rattle.instance_names.specs.declared.named.NamedInstance.{NamedInstance}
 use Rattle.unit_scope.specs.Readings.{files_over}
-use Rattle.unit_scope.specs.declared.nesting.Nesting.{Nesting}
+use Rattle.unit_scope.specs.declared.reader.ModuleReader.{ModuleReader}
 use Rattle.unit_scope.proofs.Lexemes.{instance-modules-lie, instance-names-lie}
 use Rattle.unit_scope.proofs.Onward.{knows-on, named-here}
 use Rattle.unit_scope.proofs.Taking.{ended-numbered}
-use Rattle.unit_scope.proofs.nesting.Nesting.note_named.Goals as goal
+use Rattle.unit_scope.proofs.reader.ModuleReader.note_named.Goals as goal
 
 pub note_named-requires-clause-numbered : goal.note_named-requires-clause-numbered
 note_named-requires-clause-numbered c = ended-numbered _ c.args.self.now.here.modules c.requires.placed.at.numbered
@@ -32,7 +32,7 @@ pub returns : goal.returns
 returns c = λ over state at.
     let text = c.args.text.now in
     let read = c.args.self.now in
-    let next : Nesting = record { here = read.here; round = read.round; scope = c.note_named.new.self } in
+    let next : ModuleReader = record { here = read.here; round = read.round; scope = c.note_named.new.self } in
     let instances = ap (map named_as) c.as_slice.ensures ∙ c.in_ok-instances.ensures in
     let noted = c.in_ok-note_named.ensures in
     knows-on text over read next state (known_in text (files_over over) over.words state (unit_at c.args.tree.now c.args.unit.now)) at refl noted.same noted.sound

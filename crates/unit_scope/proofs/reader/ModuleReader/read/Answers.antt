@@ -1,6 +1,6 @@
 use Rattle.std.proofs.Common.{sym}
 use Rattle.unit_scope.proofs.UnitParts.{assumption-read, function-read, instance-read, module-read, on-both, operator-read, theorem-read}
-use Rattle.unit_scope.proofs.nesting.Nesting.read.Goals as goal
+use Rattle.unit_scope.proofs.reader.ModuleReader.read.Goals as goal
 
 pub returns-in-OperatorDefinition : goal.returns-in-OperatorDefinition
 returns-in-OperatorDefinition c =

@@ -4,7 +4,7 @@ use Rattle.std.specs.Prelude.{map}
 use Rattle.unit_grammar.specs.UnitNodes.{unit_at}
 use Rattle.unit_scope.specs.Steps.{Leads, Tells, behind_units, found_along}
 use Rattle.unit_scope.proofs.Onward.{leads-more, somewhere-on, take-mapped, tells-more}
-use Rattle.unit_scope.proofs.nesting.Nesting.read_all.Goals as goal
+use Rattle.unit_scope.proofs.reader.ModuleReader.read_all.Goals as goal
 
 pub read-requires-clause-somewhere : goal.read-requires-clause-somewhere
 read-requires-clause-somewhere c =

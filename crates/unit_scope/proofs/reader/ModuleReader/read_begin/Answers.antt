@@ -7,7 +7,7 @@ use Rattle.unit_scope.specs.EnclosingReadings.{IsAt}
 use Rattle.unit_scope.specs.Modules.{reading_of}
 use Rattle.unit_scope.specs.Steps.{clashing, entered}
 use Rattle.unit_scope.proofs.Onward.{extended-known, placed-on}
-use Rattle.unit_scope.proofs.nesting.Nesting.read_begin.Goals as goal
+use Rattle.unit_scope.proofs.reader.ModuleReader.read_begin.Goals as goal
 
 pub extend-requires-clause-placed : goal.extend-requires-clause-placed
 extend-requires-clause-placed c = placed-on c.args.text.now c.args.self.now c.begin.new.self (entered c.spelled.result.now) c.requires.placed (c.in_ok-begin.ensures c.args.text.now)

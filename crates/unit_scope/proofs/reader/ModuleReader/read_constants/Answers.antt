@@ -7,7 +7,7 @@ use Rattle.tla_model.specs.declared.names.Binding.TheVariants as as_binding
 use Rattle.tree_names.specs.BindersInText.{BindersLie}
 use Rattle.unit_scope.proofs.Lexemes.{placed-lie}
 use Rattle.unit_scope.proofs.UnitParts.{constants-read}
-use Rattle.unit_scope.proofs.nesting.Nesting.read_constants.Goals as goal
+use Rattle.unit_scope.proofs.reader.ModuleReader.read_constants.Goals as goal
 
 pub read_declarations-requires : goal.read_declarations-requires
 read_declarations-requires c =

@@ -5,16 +5,16 @@ use Rattle.unit_grammar.specs.UnitNodes.{unit_at}
 use Rattle.module_model.specs.Modules.{declare_all}
 use Rattle.instance_leads.specs.Leading.{views}
 use Rattle.unit_scope.specs.Steps.{noted}
-use Rattle.unit_scope.specs.declared.nesting.Nesting.{Nesting}
+use Rattle.unit_scope.specs.declared.reader.ModuleReader.{ModuleReader}
 use Rattle.unit_scope.proofs.Growing.{went-declares}
 use Rattle.unit_scope.proofs.Onward.{reads-on}
-use Rattle.unit_scope.proofs.nesting.Nesting.read_definition.Goals as goal
+use Rattle.unit_scope.proofs.reader.ModuleReader.read_definition.Goals as goal
 
 pub returns-clause-state : goal.returns-clause-state
 returns-clause-state c = λ over state at.
     let text = c.args.text.now in
     let read = c.read_tree.new.self in
-    let next : Nesting = record { here = record { name = read.here.name; names = c.define.new.names; modules = read.here.modules }; round = read.round; scope = read.scope } in
+    let next : ModuleReader = record { here = record { name = read.here.name; names = c.define.new.names; modules = read.here.modules }; round = read.round; scope = read.scope } in
     let mid = c.in_ok-read_tree.ensures.state over state at in
     let binders = definition (tree_at c.args.tree.now c.args.node) in
     reads-on text over read next (noted text (unit_at c.args.tree.now c.args.unit.now) over state) (declare_all text c.args.local state.place.here binders) mid refl refl refl

@@ -3,7 +3,7 @@ use Rattle.unit_grammar.specs.UnitNodes.{unit_at}
 use Rattle.unit_scope.specs.Steps.{noted}
 use Rattle.unit_scope.proofs.Onward.{placed-on}
 use Rattle.unit_scope.proofs.UnitParts.{instance-leads, instance-lies, instance-tells, no-instance-leads, no-instance-tells}
-use Rattle.unit_scope.proofs.nesting.Nesting.read_instance.Goals as goal
+use Rattle.unit_scope.proofs.reader.ModuleReader.read_instance.Goals as goal
 
 pub bring-requires-clause-placed : goal.bring-requires-clause-placed
 bring-requires-clause-placed c = placed-on c.args.text.now c.args.self.now c.read_tree.new.self (noted c.args.text.now (unit_at c.args.tree.now c.args.unit.now)) c.requires.placed c.in_ok-read_tree.ensures.state

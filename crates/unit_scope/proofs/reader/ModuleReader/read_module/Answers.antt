@@ -13,7 +13,7 @@ use Rattle.unit_scope.specs.EnclosingReadings.{IsAt}
 use Rattle.unit_scope.specs.Steps.{behind_units, clashing, extended_with, found_along, over_for, unread_state}
 use Rattle.unit_scope.proofs.Onward.{units-lie}
 use Rattle.unit_scope.proofs.Wholes.{at-first, at-last}
-use Rattle.unit_scope.proofs.nesting.Nesting.read_module.Goals as goal
+use Rattle.unit_scope.proofs.reader.ModuleReader.read_module.Goals as goal
 
 pub extend-requires-clause-lie : goal.extend-requires-clause-lie
 extend-requires-clause-lie c =

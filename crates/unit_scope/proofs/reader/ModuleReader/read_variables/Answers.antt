@@ -3,7 +3,7 @@ use Rattle.tla_model.specs.Lexemes.{LiesIn}
 use Rattle.tree_names.specs.BindersInText.{BindersLie}
 use Rattle.unit_scope.proofs.Lexemes.{variables-lie}
 use Rattle.unit_scope.proofs.UnitParts.{variables-read}
-use Rattle.unit_scope.proofs.nesting.Nesting.read_variables.Goals as goal
+use Rattle.unit_scope.proofs.reader.ModuleReader.read_variables.Goals as goal
 
 pub read_declarations-requires : goal.read_declarations-requires
 read_declarations-requires c = subst (BindersLie c.args.text.now.source) (sym c.in_ok-binders.ensures) (variables-lie (LiesIn c.args.text.now.source) c.args.names.now c.requires)

@@ -7,7 +7,7 @@ use Rattle.instance_leads.specs.declared.ended.Ended.{Ended}
 use Rattle.name_context.specs.AsTables.{context_of}
 use Rattle.unit_scope.specs.EnclosingReadings.{AreEnded}
 use Rattle.unit_scope.specs.Modules.{reading_in}
-use Rattle.unit_scope.specs.declared.nesting.Outer.{Outer}
+use Rattle.unit_scope.specs.declared.reader.Outer.{Outer}
 use Rattle.unit_scope.proofs.Growing.{outer-begun}
 use Rattle.unit_scope.proofs.Taking.{ended-added, views-added}
 use Rattle.unit_scope.proofs.reading.Reading.enter.Goals as goal
