@@ -1,6 +1,8 @@
 -- What was found before, and what is kept of modules that are found one after another.
 use Rattle.std.proofs.Common.{◌≡◌, ℕ, List, [], ◌∷◌, ◌++◌, Option, Some, None, Bool, true, false, refl, sym, ap, ◌∙◌, cond, inl, inr, map, subst}
 use Rattle.std.specs.Arc.{arc_value}
+use Rattle.std.specs.declared.sync.Arc.{Arc}
+use Rattle.std.specs.declared.alloc.Global.{Global}
 use Rattle.std.specs.List.{AllByRecursion}
 use Rattle.std.specs.Str.{bytes_eq}
 use Rattle.std.proofs.lemmas.List.Elements.{All-contains, All-from_recursion}
@@ -29,7 +31,7 @@ use Rattle.family_tables.specs.declared.outcome.Outcome.TheVariants as outcome
 use Rattle.family_tables.proofs.Tabling.{entry-append}
 use Rattle.family_check.specs.declared.findings.Findings.{Findings}
 use Rattle.family_check.specs.declared.names.Names.{Names}
-use Rattle.family_check.specs.Keeping.{AreAgain, AreKept, IsChecked, IsFoundOver, IsFoundTree, IsKept, IsOutcomeOf, IsSeenBefore, is_again, is_same, kept_with}
+use Rattle.family_check.specs.Keeping.{AreAgain, AreKept, HaveOneFace, IsAsked, IsChecked, IsFoundAgain, IsFoundOver, IsFoundTree, IsKept, IsOutcomeOf, IsSameIfFound, IsSameImport, IsSeenBefore, kept_with}
 use Rattle.family_check.proofs.Checking.{found-more}
 
 same-some : {A : Type 0} (x y : A) → ◌≡◌ {A = Option A} (Some x) (Some y) → x ≡ y
@@ -49,35 +51,23 @@ outcome-copied ch (outcome.Accepted shared) (outcome.Accepted copy) same face is
 
 -- ---- imports that are the same
 
-record IsSameImport (was now : Option Import) : Type 0 where
-  given : given_by was ≡ given_by now
-  face : face_of was ≡ face_of now
-
-same-by : (was now : Option Import) (again : Bool) → is_same was now again ≡ true → (again ≡ true → (f g : Face) → face_of was ≡ Some f → face_of now ≡ Some g → f ≡ g) → IsSameImport was now
-same-by (Some Import.Unknown) (Some Import.Unknown) again e faces = record { given = refl; face = refl }
-same-by (Some Import.Cyclic) (Some Import.Cyclic) again e faces = record { given = refl; face = refl }
-same-by (Some Import.Refused) (Some Import.Refused) again e faces = record { given = refl; face = refl }
-same-by (Some (Import.Module x)) (Some (Import.Module y)) again e faces =
-    let f : arc_value x ≡ arc_value y = faces e (arc_value x) (arc_value y) refl refl in
-    record { given = ap (λ (g : Face). Accepted (face_outside g)) f; face = ap (λ (g : Face). Some g) f }
-same-by _ _ again e faces = absurd (cc)
-
-again-kept : (o : Option Kept) → is_again o ≡ true → (k : Kept) × (o ≡ Some k) × (k.again ≡ true)
-again-kept None e = cc
-again-kept (Some k) e = (k, refl, e)
+-- modules with one face are the same
+pub one-module : (was now : Import) (x y : Arc Face Global) → was ≡ Import.Module x → now ≡ Import.Module y → HaveOneFace (Some was) (Some now) → IsSameImport (Some was) (Some now)
+one-module was now x y old new faces =
+    subst (λ z. HaveOneFace z (Some now) → IsSameImport z (Some now)) (ap Some (sym old))
+    (subst (λ z. HaveOneFace (Some (Import.Module x)) z → IsSameImport (Some (Import.Module x)) z) (ap Some (sym new))
+    (λ one. let f : arc_value x ≡ arc_value y = one (arc_value x) (arc_value y) refl refl in
+    record { given = ap (λ (g : Face). Accepted (face_outside g)) f; face = ap (λ (g : Face). Some g) f })) faces
 
 module _ (before : Findings) (outcomes : List (List ℕ × Outcome)) (table : List (List ℕ × Kept)) (again : AreAgain before outcomes table) (was now : Imports) (was_from : AreFrom before.outcomes was) (now_from : AreFrom outcomes now) where
-  faces-same : (need : List ℕ) → is_again (entry_of table need) ≡ true → (f g : Face) → face_of (import_of was need) ≡ Some f → face_of (import_of now need) ≡ Some g → f ≡ g
-  faces-same need e f g old new =
-      let k = again-kept (entry_of table need) e in
-      same-some f g (sym (was_from need f old) ∙ (sym (again need k.0 k.1 k.2) ∙ now_from need g new))
+  -- modules that are found again have one face
+  one-face : (need : List ℕ) → IsFoundAgain table need → HaveOneFace (import_of was need) (import_of now need)
+  one-face need is f g old new = same-some f g (sym (was_from need f old) ∙ (sym (again need is.kept is.there is.again) ∙ now_from need g new))
 
   -- where the imports of the needs are the same, all are
-  all-same : (needs : List (List ℕ)) → AllByRecursion (λ need. is_same (import_of was need) (import_of now need) (is_again (entry_of table need)) ≡ true) needs → ImportsOnly needs was → ImportsOnly needs now → (need : List ℕ) → IsSameImport (import_of was need) (import_of now need)
+  all-same : (needs : List (List ℕ)) → AllByRecursion (IsSameIfFound table was now) needs → ImportsOnly needs was → ImportsOnly needs now → (need : List ℕ) → IsSameImport (import_of was need) (import_of now need)
   all-same needs same was_only now_only need = elim (among-or-not needs need) as (λ _. IsSameImport (import_of was need) (import_of now need)) [
-    | inl there ↦
-        let P : List ℕ → Type 0 = λ n. is_same (import_of was n) (import_of now n) (is_again (entry_of table n)) ≡ true in
-        same-by (import_of was need) (import_of now need) (is_again (entry_of table need)) (All-contains P needs need (All-from_recursion P needs same) there) (faces-same need)
+    | inl there ↦ All-contains (IsSameIfFound table was now) needs need (All-from_recursion (IsSameIfFound table was now) needs same) there (one-face need)
     | inr apart ↦
         let none : import_of was need ≡ import_of now need = was_only need apart ∙ sym (now_only need apart) in
         record { given = ap given_by none; face = ap face_of none }
@@ -111,14 +101,14 @@ checked-again name was tree old new o copy names source units same faults face i
     }
 
 -- so what was found before of a module that was kept is found again
-pub seen-again : HasNoOther → (before : Findings) (outcomes : List (List ℕ × Outcome)) (table : List (List ℕ × Kept)) (name bytes : List ℕ) (tree : ModuleTree) (needs : List (List ℕ)) (imports : Imports) (kept : Kept) (o copy : Outcome) (names own : Names) → AreKept before → IsTreeOf name bytes tree → needs ≡ needs_of tree → ImportsOnly needs imports → AreFrom outcomes imports → AreAgain before outcomes table
-    → entry_of before.kept name ≡ Some kept → entry_of before.outcomes name ≡ Some o → entry_of before.names name ≡ Some names → kept.tree.source ≡ tree.source → AllByRecursion (λ need. is_same (import_of kept.imports need) (import_of imports need) (is_again (entry_of table need)) ≡ true) needs
+pub seen-again : HasNoOther → (before : Findings) (outcomes : List (List ℕ × Outcome)) (table : List (List ℕ × Kept)) (name : List ℕ) (tree : ModuleTree) (needs : List (List ℕ)) (imports : Imports) (kept : Kept) (o copy : Outcome) (names own : Names) → IsAsked before outcomes table name tree needs imports
+    → entry_of before.kept name ≡ Some kept → entry_of before.outcomes name ≡ Some o → entry_of before.names name ≡ Some names → kept.tree.source ≡ tree.source → AllByRecursion (IsSameIfFound table kept.imports imports) needs
     → faults_of (Some copy) ≡ faults_of (Some o) → accepted_face (Some copy) ≡ accepted_face (Some o) → own ≡ names → IsSeenBefore before name tree imports copy own
-seen-again one before outcomes table name bytes tree needs imports kept o copy names own are is listed only from again there outcome_there names_there source same faults face copied =
-    let k = are name kept there in
-    let units = trees-same one name k.read.bytes bytes kept.tree tree k.read.tree is source in
-    let all_needs : needs_of kept.tree ≡ needs = (λ i. map (spelled (source i)) (imports_of (source i) (units i))) ∙ sym listed in
-    let all = all-same before outcomes table again kept.imports imports k.from from needs same (subst (λ ns. ImportsOnly ns kept.imports) all_needs k.only) only in
+seen-again one before outcomes table name tree needs imports kept o copy names own asked there outcome_there names_there source same faults face copied =
+    let k = asked.kept name kept there in
+    let units = trees-same one name k.read.bytes asked.bytes kept.tree tree k.read.tree asked.is_tree source in
+    let all_needs : needs_of kept.tree ≡ needs = (λ i. map (spelled (source i)) (imports_of (source i) (units i))) ∙ sym asked.needed in
+    let all = all-same before outcomes table asked.again kept.imports imports k.from asked.from needs same (subst (λ ns. ImportsOnly ns kept.imports) all_needs k.only) asked.only in
     let outcome_is : k.outcome ≡ o = same-some k.outcome o (sym k.outcome_there ∙ outcome_there) in
     let names_is : k.names ≡ own = same-some k.names names (sym k.names_there ∙ names_there) ∙ sym copied in
     let checked = subst (λ (x : Outcome). IsChecked name kept.tree kept.imports x own) outcome_is (subst (λ (x : Names). IsChecked name kept.tree kept.imports k.outcome x) names_is k.checked) in

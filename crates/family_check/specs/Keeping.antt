@@ -1,15 +1,16 @@
 -- What is found of a module over the modules that it needs, and what of it is found again.
-use Rattle.std.specs.Prelude.{◌≡◌, ◌≢◌, ℕ, List, [], ◌∷◌, ◌++◌, Bool, true, false, Option, Some, None, ⊤}
+use Rattle.std.specs.Prelude.{◌≡◌, ◌≢◌, ℕ, List, [], ◌∷◌, ◌++◌, true, Option, Some, None, ⊤}
 use Rattle.std.specs.Arc.{arc_value}
 use Rattle.tla_tree.specs.declared.unit.ModuleTree.{ModuleTree}
 use Rattle.unit_grammar.specs.UnitNodes.{module_of}
 use Rattle.module_model.specs.declared.imported.Import.{Import}
-use Rattle.module_model.specs.Given.{IsFaceOver}
-use Rattle.module_model.specs.Imports.{Imports}
-use Rattle.module_facts.specs.Checks.{CheckedModule, facts_of, facts_told, given_in}
+use Rattle.module_model.specs.declared.face.Face.{Face}
+use Rattle.module_model.specs.Given.{IsFaceOver, face_of}
+use Rattle.module_model.specs.Imports.{Imports, import_of}
+use Rattle.module_facts.specs.Checks.{CheckedModule, facts_of, facts_told, given_by, given_in}
 use Rattle.family_tables.specs.Agreement.{AreFrom, accepted_face, found_face}
 use Rattle.family_tables.specs.Keeping.{IsRead}
-use Rattle.family_tables.specs.Modules.{needs_of}
+use Rattle.family_tables.specs.Modules.{IsTreeOf, needs_of}
 use Rattle.family_tables.specs.Outcomes.{ImportsOnly}
 use Rattle.family_tables.specs.Tables.{entry_of}
 use Rattle.family_tables.specs.declared.kept.Kept.{Kept}
@@ -61,18 +62,36 @@ AreKept found = (name : List ℕ) (kept : Kept) → entry_of found.kept name ≡
 abbrev pub AreAgain : Findings → List (List ℕ × Outcome) → List (List ℕ × Kept) → Type 0
 AreAgain before outcomes table = (name : List ℕ) (kept : Kept) → entry_of table name ≡ Some kept → kept.again ≡ true → found_face outcomes name ≡ found_face before.outcomes name
 
--- whether a module is found again
-abbrev pub is_again : Option Kept → Bool
-is_again None = false
-is_again (Some kept) = kept.again
+-- the module of a name is found again
+pub record IsFoundAgain (table : List (List ℕ × Kept)) (name : List ℕ) : Type 0 where
+  pub kept : Kept
+  pub there : entry_of table name ≡ Some kept
+  pub again : kept.again ≡ true
 
--- whether an import is what it was, where a module is or is not found again
-abbrev pub is_same : Option Import → Option Import → Bool → Bool
-is_same (Some Import.Unknown) (Some Import.Unknown) again = true
-is_same (Some Import.Cyclic) (Some Import.Cyclic) again = true
-is_same (Some Import.Refused) (Some Import.Refused) again = true
-is_same (Some (Import.Module before)) (Some (Import.Module now)) again = again
-is_same _ _ again = false
+-- the faces of these imports are one, where both are modules
+abbrev pub HaveOneFace : Option Import → Option Import → Type 0
+HaveOneFace was now = (f g : Face) → face_of was ≡ Some f → face_of now ≡ Some g → f ≡ g
+
+-- an import is to the module that names it what another one was
+pub record IsSameImport (was now : Option Import) : Type 0 where
+  pub given : given_by was ≡ given_by now
+  pub face : face_of was ≡ face_of now
+
+-- the imports of a name are the same, if modules that are found again have one face
+abbrev pub IsSameIfFound : List (List ℕ × Kept) → Imports → Imports → List ℕ → Type 0
+IsSameIfFound table was now need =
+    (IsFoundAgain table need → HaveOneFace (import_of was need) (import_of now need)) → IsSameImport (import_of was need) (import_of now need)
+
+-- what is asked of a tree and of its imports, which are modules that were found: what was found before is kept, and faces that are found
+-- again are those that were found
+pub record IsAsked (before : Findings) (outcomes : List (List ℕ × Outcome)) (table : List (List ℕ × Kept)) (name : List ℕ) (tree : ModuleTree) (needs : List (List ℕ)) (imports : Imports) : Type 0 where
+  pub kept : AreKept before
+  pub bytes : List ℕ
+  pub is_tree : IsTreeOf name bytes tree
+  pub needed : needs ≡ needs_of tree
+  pub only : ImportsOnly needs imports
+  pub from : AreFrom outcomes imports
+  pub again : AreAgain before outcomes table
 
 -- this is what a check of the tree would find, and the face is the one that was found before
 pub record IsSeenBefore (before : Findings) (name : List ℕ) (tree : ModuleTree) (imports : Imports) (outcome : Outcome) (names : Names) : Type 0 where

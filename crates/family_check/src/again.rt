@@ -1,12 +1,8 @@
 // What was found of a module before, and holds again.
-ghost use Rattle.std.specs.Prelude.{◌≡◌, ℕ, List as ListOf, None, Some, IfOk, IfSome, option_copied, true};
+ghost use Rattle.std.specs.Prelude.{◌≡◌, None, Some, IfOk, IfSome, true};
 ghost use Rattle.std.specs.List.{AllByRecursion};
-ghost use Rattle.module_model.specs.Imports.{import_of};
-ghost use Rattle.family_check.specs.Keeping as keeping;
-ghost use Rattle.family_check.specs.Keeping.{AreAgain, AreKept, IsChecked, IsSeenBefore, is_again};
-ghost use Rattle.family_tables.specs.Agreement.{AreFrom};
-ghost use Rattle.family_tables.specs.Modules.{IsTreeOf, needs_of};
-ghost use Rattle.family_tables.specs.Outcomes.{ImportsOnly};
+ghost use Rattle.family_check.specs.Keeping.{HaveOneFace, IsAsked, IsFoundAgain, IsSameIfFound};
+ghost use Rattle.family_check.specs.Keeping.{IsSameImport, IsSeenBefore};
 ghost use Rattle.family_tables.specs.Tables.{entry_of};
 
 use crate::findings::Findings;
@@ -26,23 +22,23 @@ pub struct Seen {
     pub again: bool,
 }
 
-// Whether an import is what it was. An accepted module is where its face was found again.
-fn is_same(before: Option<&Import>, now: Option<&Import>, again: bool) -> bool
-    ensures { result
-        ≡ keeping.is_same (option_copied before.entry) (option_copied now.entry) again }
+// Whether an import is what another one was. An accepted module is where its face was found again.
+fn is_same(before: &Import, now: &Import, again: bool) -> bool
+    ensures { result ≡ true → (again ≡ true → HaveOneFace (Some before.now) (Some now.now))
+        → IsSameImport (Some before.now) (Some now.now) }
 {
     match (before, now) {
-        (Some(Import::Unknown), Some(Import::Unknown)) => true,
-        (Some(Import::Cyclic), Some(Import::Cyclic)) => true,
-        (Some(Import::Refused), Some(Import::Refused)) => true,
-        (Some(Import::Module(_)), Some(Import::Module(_))) => again,
+        (Import::Unknown, Import::Unknown) => true,
+        (Import::Cyclic, Import::Cyclic) => true,
+        (Import::Refused, Import::Refused) => true,
+        (Import::Module(_was), Import::Module(_is)) => again,
         _ => false,
     }
 }
 
 // Whether what was found of the module of a name was found before.
 fn is_again(kept: &Table<Kept>, name: &str) -> bool
-    ensures { result ≡ is_again (entry_of kept.now name.now) }
+    ensures { result ≡ true → IsFoundAgain kept.now name.now }
 {
     match kept.get(name) {
         Some(kept) => kept.again,
@@ -50,14 +46,23 @@ fn is_again(kept: &Table<Kept>, name: &str) -> bool
     }
 }
 
+// Whether the import of a name is what it was.
+fn is_same_need(before: &Imported, now: &Imported, need: &str, kept: &Table<Kept>) -> bool
+    ensures { result ≡ true → IsSameIfFound kept.now before.now now.now need.now }
+{
+    match (before.get(need), now.get(need)) {
+        (Some(before), Some(now)) => is_same(before, now, is_again(kept, need)),
+        _ => false,
+    }
+}
+
 // Whether the imports of these names are what they were.
 fn are_same(before: &Imported, now: &Imported, needs: &[Chars], kept: &Table<Kept>) -> bool
-    ensures { result ≡ true → AllByRecursion (λ need. keeping.is_same (import_of before.now need)
-        (import_of now.now need) (is_again (entry_of kept.now need)) ≡ true) needs.now }
+    ensures { result ≡ true
+        → AllByRecursion (IsSameIfFound kept.now before.now now.now) needs.now }
 {
     for need in needs {
-        let need = need.as_str();
-        if !is_same(before.get(need), now.get(need), is_again(kept, need)) {
+        if !is_same_need(before, now, need.as_str(), kept) {
             return false;
         }
     }
@@ -75,12 +80,7 @@ pub fn seen_before(
     needs: &[Chars],
     imports: &Imported,
 ) -> Result<Option<Seen>, Memory>
-    requires kept { AreKept before.now }
-    requires tree { (bytes : ListOf ℕ) × IsTreeOf name.now bytes tree.now }
-    requires needs { needs.now ≡ needs_of tree.now }
-    requires only { ImportsOnly needs.now imports.now }
-    requires from { AreFrom outcomes.now imports.now }
-    requires again { AreAgain before.now outcomes.now kept.now }
+    requires { IsAsked before.now outcomes.now kept.now name.now tree.now needs.now imports.now }
     ensures seen { IfOk result (λ seen. IfSome seen
         (λ seen. IsSeenBefore before.now name.now tree.now imports.now seen.outcome seen.names)) }
     ensures none { entry_of before.now.kept name.now ≡ None → IfOk result (λ seen. seen ≡ None) }

@@ -4,12 +4,13 @@ ghost use Rattle.std.specs.List.{All};
 ghost use Rattle.family_facts.specs.Family.{Member};
 ghost use Rattle.family_facts.specs.Verdicts.{after_checks};
 ghost use Rattle.family_check.specs.Findings.{HaveNames, IsFound};
-ghost use Rattle.family_check.specs.Keeping.{AreAgain, AreKept, IsChecked, IsFoundOver, IsOutcomeOf, kept_with};
-ghost use Rattle.family_tables.specs.Agreement.{AreAgreed, AreFrom, IsAgreed, accepted_face, found_face};
+ghost use Rattle.family_check.specs.Keeping.{AreAgain, AreKept, IsAsked, IsChecked, IsFoundOver};
+ghost use Rattle.family_check.specs.Keeping.{IsOutcomeOf, kept_with};
+ghost use Rattle.family_tables.specs.Agreement.{AreAgreed, IsAgreed, accepted_face, found_face};
 ghost use Rattle.family_tables.specs.Modules as modules_of;
 ghost use Rattle.family_tables.specs.Modules.{IsTreeOf, needs_of};
 ghost use Rattle.family_tables.specs.Outcomes as outcomes_of;
-ghost use Rattle.family_tables.specs.Outcomes.{ImportsOnly, IsReady};
+ghost use Rattle.family_tables.specs.Outcomes.{IsReady};
 ghost use Rattle.family_tables.specs.Plans.{AreOnce, IsPlan};
 ghost use Rattle.family_tables.specs.Tables.{entry_of, names_in};
 ghost use Rattle.family_tables.specs.declared.reading.Reading.TheVariants as reading;
@@ -115,13 +116,9 @@ fn find_over<L>(
     imports: &Imported,
     steps: &mut Steps<L>,
 ) -> Result<Seen, Memory>
-    requires kept { AreKept before.now }
-    requires tree { (bytes : ListOf ℕ) × IsTreeOf name.now bytes tree.now }
-    requires needs { needs.now ≡ needs_of tree.now }
-    requires only { ImportsOnly needs.now imports.now }
-    requires from { AreFrom outcomes.now imports.now }
+    requires asked { IsAsked before.now outcomes.now kept.now name.now tree.now needs.now
+        imports.now }
     requires faces { AreFaces imports.now name.now }
-    requires again { AreAgain before.now outcomes.now kept.now }
     ensures checked { IfOk result
         (λ seen. IsChecked name.now tree.now imports.now seen.outcome seen.names) }
     ensures again { IfOk result (λ seen. seen.again ≡ true
@@ -160,8 +157,8 @@ fn check_tree<L>(
         → outcomes_of.IsMember family name.now (reading.Tree tree.now) needs.now
         → IfOk result (λ found. IsFound family name.now found.outcome found.names) }
     ensures agreed { IfOk result (λ found. IsAgreed outcomes.now name.now found.outcome) }
-    ensures over { IfOk result
-        (λ found. IsFoundOver before.now outcomes.now name.now found.outcome found.names found.kept) }
+    ensures over { IfOk result (λ found. IsFoundOver before.now outcomes.now name.now found.outcome
+        found.names found.kept) }
     ensures most { IfOk result (λ _. steps.new ≤ after_checks 1 steps.old) }
     ensures steps { entry_of before.now.kept name.now ≡ None
         → IfOk result (λ _. steps.new ≡ after_checks 1 steps.old) }
@@ -208,8 +205,8 @@ fn check_one<L>(
         → outcomes_of.IsMember family name.now module.now.reading module.now.needs
         → IfOk result (λ found. IsFound family name.now found.outcome found.names) }
     ensures agreed { IfOk result (λ found. IsAgreed outcomes.now name.now found.outcome) }
-    ensures over { IfOk result
-        (λ found. IsFoundOver before.now outcomes.now name.now found.outcome found.names found.kept) }
+    ensures over { IfOk result (λ found. IsFoundOver before.now outcomes.now name.now found.outcome
+        found.names found.kept) }
     ensures most { IfOk result (λ _. steps.new
         ≤ after_checks (modules_of.tree_count module.now.reading) steps.old) }
     ensures steps { entry_of before.now.kept name.now ≡ None → IfOk result (λ _. steps.new

@@ -6,6 +6,19 @@ use Rattle.family_check.specs.Keeping.{IsChecked}
 use Rattle.family_check.proofs.Checking.{tree-agreed, tree-found}
 use Rattle.family_check.proofs.outcomes.check_tree.Goals as goal
 
+pub find_over-requires-clause-asked : goal.find_over-requires-clause-asked
+find_over-requires-clause-asked g c =
+    let here = sym c.tree-tree_here.ensures in
+    record {
+      kept = c.requires.kept;
+      bytes = c.requires.tree.0;
+      is_tree = subst (IsTreeOf c.args.name.now c.requires.tree.0) here c.requires.tree.1;
+      needed = c.requires.needs ∙ ap needs_of here;
+      only = c.in_ok-imports.ensures.only;
+      from = c.in_ok-imports.ensures.from;
+      again = c.requires.again;
+    }
+
 pub returns-clause-found : goal.returns-clause-found
 returns-clause-found g c family ready member =
     tree-found family c.args.name.now c.args.tree.now c.args.needs.now c.in_ok-imports.imports c.in_ok-seen.seen.outcome c.in_ok-seen.seen.names member
