@@ -1,0 +1,6 @@
+mod Counting
+mod HeldTrees
+mod HeldUnits
+mod Starts
+mod Declared
+mod Fronts
