@@ -1,0 +1,6 @@
+pub mod Leads
+pub mod Questions
+pub mod NodeForms
+pub mod Flattened
+pub mod Readable
+pub mod Agreeing
