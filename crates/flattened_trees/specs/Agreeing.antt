@@ -1,5 +1,5 @@
 -- When what is known of names round a tree agrees with what they stand for, what they take, and what is declared so far.
-use Rattle.std.specs.Prelude.{◌≡◌, Bool, true, false, List, [], ◌∷◌, Some, if◌then◌else◌, length, map}
+use Rattle.std.specs.Prelude.{◌≡◌, Bool, true, false, List, [], ◌∷◌, Some, if◌then◌else◌, length, map, replicate}
 use Rattle.tla_symbols.specs.declared.level.Kind.TheVariants.{Const, State}
 use Rattle.tla_tree.specs.Syntax.{Tree}
 use Rattle.tla_model.specs.declared.entity.Entity.TheVariants as entity
@@ -40,10 +40,10 @@ TakesBehind (Through j orders inner) held meaning =
 TakesBehind (Brought j inner) held meaning = TakesBehind inner held meaning
 TakesBehind stand held meaning = ⊥
 
--- the same of any name: it may be a leaf, or a symbol or parameter of its order
+-- the same of any name: it may be a leaf, or a symbol or parameter of its order, which takes expressions
 abbrev pub TakesAs : Stand → Behind → Meaning → Type 0
 TakesAs (Leaf kind) held meaning = IsNoInstance meaning × (orders_of meaning ≡ [])
-TakesAs (Place place order) held meaning = IsNoInstance meaning × (order ≡ order_of meaning) × (length (orders_of meaning) ≡ order)
+TakesAs (Place place order) held meaning = IsNoInstance meaning × (order ≡ order_of meaning) × (orders_of meaning ≡ replicate order 0)
 TakesAs stand held meaning = TakesBehind stand held meaning
 
 -- all names that can be used stand for what takes what they take

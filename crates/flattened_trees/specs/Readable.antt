@@ -12,15 +12,15 @@ use Rattle.tla_tree.specs.Syntax.{Tree, Trees, Node, Nil, Cons}
 use Rattle.tla_model.specs.declared.entity.Entity.TheVariants as entity
 use Rattle.tla_model.specs.declared.names.Meaning.TheVariants.{BuiltIn, Declared}
 use Rattle.tla_model.specs.Tables.{Named, Word, Symbol, is_among}
-use Rattle.tla_model.specs.Entities.{Entity, Meaning, Text, Nothing, Operator, Function, Module, defines, name_of}
+use Rattle.tla_model.specs.Entities.{Entity, Meaning, Text, Nothing, Operator, Function, Module, declaration, defines, name_of}
 use Rattle.tla_model.specs.Contexts.{Context, meaning_of}
 use Rattle.tla_model.specs.Lexemes.{spelled}
-use Rattle.tla_model.specs.Scopes.{behind, is_free, prefixed, reserved, scope, itself as as_spelled}
-use Rattle.module_model.specs.Exports.{Behind, Exports, Known, behind_meaning, entry_of, onward}
-use Rattle.module_model.specs.Instances.{left_sides}
+use Rattle.tla_model.specs.Scopes.{all_grouped, behind, is_free, prefixed, reserved, scope, itself as as_spelled}
+use Rattle.module_model.specs.Exports.{Behind, Exports, Known, behind_instance, behind_meaning, entry_of, onward}
+use Rattle.module_model.specs.Instances.{instance_among, left_sides}
 use Rattle.level_text.specs.FormRules.{form_rule, symbol_rule}
 use Rattle.tree_kinds.specs.Standing.{Outside}
-use Rattle.tree_kinds.specs.Expanding.{Outer, Helper, Whole, bare_rule, module_of, part_of, places_at, symbol_places}
+use Rattle.tree_kinds.specs.Expanding.{Outer, Helper, Whole, bare_rule, module_of, part_of, places_at, stands_outside, symbol_places}
 use Rattle.flat_trees.specs.Names.{order_by}
 use Rattle.flat_trees.specs.Layouts.{order_of}
 use Rattle.flattened_trees.specs.Leads.{FlatFace}
@@ -69,10 +69,19 @@ abbrev pub count : Trees → ℕ
 count Nil = 0
 count (Cons x rest) = suc (count rest)
 
--- one expression, behind parts that are none
+-- one expression, behind parts that are none and define nothing
 abbrev pub EndsWhole : Trees → Type 0
 EndsWhole Nil = ⊥
-EndsWhole (Cons (Node form s parts) rest) = elim (part_of form) [ Whole ↦ rest ≡ Nil | Outer ↦ EndsWhole rest | Helper ↦ (parts ≡ Nil) × EndsWhole rest ]
+EndsWhole (Cons (Node form s parts) rest) = elim (part_of form) [
+  | Whole ↦ rest ≡ Nil
+  | Outer ↦ EndsWhole rest
+  | Helper ↦ (parts ≡ Nil) × (defines form ≡ Nothing) × EndsWhole rest
+]
+
+-- none of these parts stands outside
+abbrev pub AreInside : Trees → Type 0
+AreInside Nil = Unit {0}
+AreInside (Cons (Node form s parts) rest) = (stands_outside form ≡ false) × AreInside rest
 
 -- these are updates, each of which ends with its right side
 abbrev pub AreUpdatesWritten : Trees → Type 0
@@ -107,6 +116,11 @@ module _ (text : Text) (known : Known) (named : List ℕ → Outside) (means : �
   pub record IsFaceFor (l : Lexeme) : Type 0 where
     pub parameters : (faces (spelled text.source l)).parameters ≡ (module_of text known named l).view.parameters
     pub constant : (faces (spelled text.source l)).is_constant ≡ (module_of text known named l).is_constant
+
+  -- behind the instance of a name stands what the module has that it is of
+  abbrev pub IsKnownBehind : Lexeme → Option Lexeme → Type 0
+  IsKnownBehind own None = ⊥
+  IsKnownBehind own (Some l) = known (declaration text own) ≡ Some (behind_instance (module_of text known named l).view)
 
   -- the first name of a path means this
   abbrev pub IsReadableFirst : Context → Meaning → Trees → Type 0
@@ -147,7 +161,7 @@ module _ (text : Text) (known : Known) (named : List ℕ → Outside) (means : �
     IsReadable context (Node Form.Except s (Cons (Node form at parts) updates)) =
         (helps form ≡ false) × (places_at text known named context (Node form at parts) ≡ None) × IsReadable context (Node form at parts)
         × AreUpdatesWritten updates × AreReadable context context updates
-    IsReadable context (Node Form.Parentheses s parts) = EndsWhole parts × AreReadable context context parts
+    IsReadable context (Node Form.Parentheses s parts) = EndsWhole parts × AreInside parts × AreReadable context context parts
     IsReadable context (Node (Form.BoundedQuantifier l) s parts) =
         EndsWhole parts × AreReadable (reserved text context (Form.BoundedQuantifier l) parts) (scope text context (Form.BoundedQuantifier l) parts) parts
     IsReadable context (Node form s parts) = (is_some (form_rule form) ≡ true) × AreReadable (reserved text context form parts) (scope text context form parts) parts
@@ -193,9 +207,9 @@ module _ (text : Text) (known : Known) (named : List ℕ → Outside) (means : �
     pub IsReadableDefinition : Context → Tree → Type 0
     IsReadableDefinition context (Node form s parts) = elim (defines form) [
       | Nothing ↦ ⊥
-      | Operator l ↦ EndsWhole parts × AreReadable (reserved text context form parts) (scope text context form parts) parts
+      | Operator l ↦ EndsWhole parts × AreInside parts × AreReadable (reserved text context form parts) (scope text context form parts) parts
       | Function l ↦ AreReadable (reserved text context form parts) (scope text context form parts) parts
-      | Module l ↦ IsReadableThrough (scope text context form parts) parts
+      | Module l ↦ (all_grouped parts ≡ []) × IsKnownBehind l (instance_among parts) × IsReadableThrough (scope text context form parts) parts
     ]
 
     -- the first INSTANCE among these
