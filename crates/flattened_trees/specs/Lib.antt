@@ -4,3 +4,4 @@ pub mod NodeForms
 pub mod Flattened
 pub mod Readable
 pub mod Agreeing
+pub mod Answers
