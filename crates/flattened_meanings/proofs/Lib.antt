@@ -1,1 +1,3 @@
 pub mod Leading
+pub mod Fresh
+pub mod Rounds

@@ -1,0 +1,35 @@
+-- When modules are to their instances what a flat module has for them, round a tree that names them.
+use Rattle.std.specs.Prelude.{◌≡◌, ℕ, ◌<◌, true, false, List, [], ◌∷◌, Some}
+use Rattle.tla_model.specs.declared.names.Binder.{Binder}
+use Rattle.tla_model.specs.Tables.{Named}
+use Rattle.tla_model.specs.Entities.{Meaning, Text, meant, same_meaning}
+use Rattle.module_model.specs.Exports.{behind_instance, entry_of, onward}
+use Rattle.kind_text.specs.FlatModule.{FlatModule}
+use Rattle.tree_kinds.specs.Standing.{Outside}
+use Rattle.flat_trees.specs.Stands.{Stand, Unsaid, Leaf, Place}
+use Rattle.flat_trees.specs.Instances.{IsModuleBehind}
+use Rattle.flattened_trees.specs.Leads.{FlatFace}
+use Rattle.flattened_trees.specs.Agreeing.{TakesBehind, is_seen, lead_by}
+
+-- where the first so many places stay, a name stands for what it stands for here; or nothing is said of it
+abbrev pub StandsAs : ℕ → Stand → Stand → Type 0
+StandsAs outer Unsaid here = Unit {0}
+StandsAs outer (Leaf kind) here = here ≡ Leaf kind
+StandsAs outer (Place place order) here = (place < outer) × (here ≡ Place place order)
+StandsAs outer _ here = ⊥
+
+module _ (flat : FlatModule) (text : Text) where
+  -- a module is that to its instances, by what names stand for here and by those that were seen: its names stand so behind the symbols of
+  -- the modules round it, which stand for what they do here; and nothing is said there of names of this text that were not seen
+  pub record IsFaceOf (seen : List Meaning) (here : Meaning → Stand) (face : FlatFace) (outside : Outside) : Type 0 where
+    pub base : Meaning → Stand
+    pub inner : Named → Stand
+    pub leads : (name : Named) (names : List Named) → face.leads (name ∷ names) ≡ lead_by (inner name) names
+    pub kept : IsModuleBehind flat base face.outer inner outside
+    pub takes : (name : Named) (next : Meaning) → entry_of (behind_instance outside.view []) name ≡ Some next → TakesBehind (inner name) (onward (behind_instance outside.view) name) next
+    pub symbols : (meaning : Meaning) → StandsAs face.outer (base meaning) (here meaning)
+    pub unsaid : (binder : Binder) (meaning : Meaning) → same_meaning meaning (meant text binder) ≡ true → is_seen seen meaning ≡ false → base meaning ≡ Unsaid
+
+  -- each module is to its instances what is known of it
+  abbrev pub AreFacesOf : List Meaning → (Meaning → Stand) → (List ℕ → FlatFace) → (List ℕ → Outside) → Type 0
+  AreFacesOf seen here faces named = (name : List ℕ) → IsFaceOf seen here (faces name) (named name)
