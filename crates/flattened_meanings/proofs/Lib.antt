@@ -1,3 +1,4 @@
 pub mod Leading
 pub mod Fresh
 pub mod Rounds
+pub mod Operands
