@@ -1,7 +1,7 @@
 pub mod Reaching
 mod BuiltNodes
 pub mod Agreeing
-mod Definitions
+pub mod Definitions
 pub mod Instances
 pub mod Meanings
 pub mod Growing
