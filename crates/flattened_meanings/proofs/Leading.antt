@@ -75,7 +75,7 @@ instance-orders (Declared entity.Module callee) orders is = absurd is
 
 -- ---- items that fit
 
-fits-given : (orders : List ℕ) (xs ys : List Item) → Fits orders xs ys → length ys ≡ length orders
+pub fits-given : (orders : List ℕ) (xs ys : List Item) → Fits orders xs ys → length ys ≡ length orders
 fits-given [] [] [] fits = refl
 fits-given [] [] (y ∷ ys) fits = absurd fits
 fits-given [] (x ∷ xs) ys fits = absurd fits
@@ -92,7 +92,7 @@ fits-made (n ∷ orders) (x ∷ xs) [] fits = absurd fits
 fits-made (n ∷ orders) (x ∷ xs) (y ∷ ys) fits = ap suc (fits-made orders xs ys fits.1)
 
 -- expressions that fit are the same
-fits-texts : (n : ℕ) (xs ys : List Item) → Fits (replicate n 0) xs ys → texts xs ≡ texts ys
+pub fits-texts : (n : ℕ) (xs ys : List Item) → Fits (replicate n 0) xs ys → texts xs ≡ texts ys
 fits-texts zero [] [] fits = refl
 fits-texts zero [] (y ∷ ys) fits = absurd fits
 fits-texts zero (x ∷ xs) ys fits = absurd fits

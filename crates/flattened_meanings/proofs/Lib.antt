@@ -2,3 +2,4 @@ pub mod Leading
 pub mod Fresh
 pub mod Rounds
 pub mod Operands
+pub mod NodeNames
