@@ -3,3 +3,4 @@ pub mod Fresh
 pub mod Rounds
 pub mod Operands
 pub mod NodeNames
+pub mod Bodies

@@ -76,7 +76,7 @@ module _ (flat : FlatModule) (text : Text) (known : Known) (named : List ℕ →
       ap (λ t. Operands.Cons t Operands.Nil) (here ∙ sym (ap (λ o. judged o (expand text known named around x)) none))
 
   -- a part has these nodes, by what it is
-  abbrev IsMadeAs : Setting → Form.the_data → Span → Trees → List ℕ → List Question → Part → Type 0
+  abbrev pub IsMadeAs : Setting → Form.the_data → Span → Trees → List ℕ → List Question → Part → Type 0
   IsMadeAs setting form s parts first b p = elim p [
     | Outer ↦ AreOperands text means implied faces flat all_parts setting parts first b
     | Helper ↦ AreOperands text means implied faces flat all_parts setting parts first b
@@ -84,7 +84,7 @@ module _ (flat : FlatModule) (text : Text) (known : Known) (named : List ℕ →
   ]
 
   -- a part can be read, by what it is
-  abbrev IsReadAs : Layout → Layout → Form.the_data → Span → Trees → Part → Type 0
+  abbrev pub IsReadAs : Layout → Layout → Form.the_data → Span → Trees → Part → Type 0
   IsReadAs outside inside form s parts p = elim p [
     | Outer ↦ AreReadable text known named means implied faces outside.context outside.context parts
     | Helper ↦ AreReadable text known named means implied faces inside.context inside.context parts
@@ -92,7 +92,7 @@ module _ (flat : FlatModule) (text : Text) (known : Known) (named : List ℕ →
   ]
 
   -- what is declared in the expressions of a part is new, by what it is
-  abbrev IsNewAs : List Meaning → Form.the_data → Span → Trees → Part → Type 0
+  abbrev pub IsNewAs : List Meaning → Form.the_data → Span → Trees → Part → Type 0
   IsNewAs seen form s parts p = Fresh text seen (elim p [ Outer ↦ whole-names text parts | Helper ↦ whole-names text parts | Whole ↦ declared_in as_binding.Constant (Node form s parts) ])
 
   -- parts of a part give these operands
