@@ -59,7 +59,7 @@ helper-part form e = helper-by (stands_outside form) (helps form) e
 pub whole-part : (form : Form.the_data) → part_of form ≡ Whole → (stands_outside form ≡ false) × (helps form ≡ false)
 whole-part form e = whole-by (stands_outside form) (helps form) e
 
-part-outer : (form : Form.the_data) → stands_outside form ≡ true → part_of form ≡ Outer
+pub part-outer : (form : Form.the_data) → stands_outside form ≡ true → part_of form ≡ Outer
 part-outer form e = ap (λ a. part-by a (helps form)) e
 
 -- what stands outside helps, and defines nothing
@@ -69,7 +69,7 @@ outer-helps Form.Bound e = (refl, refl)
 outer-helps Form.TupleBound e = (refl, refl)
 outer-helps form e = cc
 
-and-apart : (ts us vs : Operands) → and_operands (and_operands ts us) vs ≡ and_operands ts (and_operands us vs)
+pub and-apart : (ts us vs : Operands) → and_operands (and_operands ts us) vs ≡ and_operands ts (and_operands us vs)
 and-apart Operands.Nil us vs = refl
 and-apart (Operands.Cons t ts) us vs = ap (Operands.Cons t) (and-apart ts us vs)
 
@@ -109,14 +109,14 @@ module _ (flat : FlatModule) (text : Text) (known : Known) (named : List ℕ →
     abbrev pub AreOuters : Layout → List ℕ → Trees → Type 0
     AreOuters outside outers parts = (frame more : List Item) (o : Around) → Agrees flat outside frame o → given flat text known named means implied faces outers (frame ++ more) ≡ outer_operands text known named o parts
 
-    outers-next : (outside : Layout) (first others is : List ℕ) (form : Form.the_data) (s : Span) (parts rest : Trees) → is ≡ first ++ others → ((frame more : List Item) (o : Around) → Agrees flat outside frame o → given flat text known named means implied faces first (frame ++ more) ≡ elim (stands_outside form) [ true ↦ operands text known named o o parts | false ↦ Operands.Nil ]) → AreOuters outside others rest → AreOuters outside is (Cons (Node form s parts) rest)
+    pub outers-next : (outside : Layout) (first others is : List ℕ) (form : Form.the_data) (s : Span) (parts rest : Trees) → is ≡ first ++ others → ((frame more : List Item) (o : Around) → Agrees flat outside frame o → given flat text known named means implied faces first (frame ++ more) ≡ elim (stands_outside form) [ true ↦ operands text known named o o parts | false ↦ Operands.Nil ]) → AreOuters outside others rest → AreOuters outside is (Cons (Node form s parts) rest)
     outers-next outside first others is form s parts rest parted one after frame more o agrees =
         given-parted flat text known named means implied faces is first others (frame ++ more) _ _ parted (one frame more o agrees) (after frame more o agrees)
 
-    outer-here : (outside : Layout) (first : List ℕ) (form : Form.the_data) (parts : Trees) (o : Around) (s : List Item) → stands_outside form ≡ true → given flat text known named means implied faces first s ≡ operands text known named o o parts → given flat text known named means implied faces first s ≡ elim (stands_outside form) [ true ↦ operands text known named o o parts | false ↦ Operands.Nil ]
+    pub outer-here : (outside : Layout) (first : List ℕ) (form : Form.the_data) (parts : Trees) (o : Around) (s : List Item) → stands_outside form ≡ true → given flat text known named means implied faces first s ≡ operands text known named o o parts → given flat text known named means implied faces first s ≡ elim (stands_outside form) [ true ↦ operands text known named o o parts | false ↦ Operands.Nil ]
     outer-here outside first form parts o s e same = same ∙ sym (ap (λ b. elim b [ true ↦ operands text known named o o parts | false ↦ Operands.Nil ]) e)
 
-    outer-none : (outside : Layout) (first : List ℕ) (form : Form.the_data) (parts : Trees) (o : Around) (s : List Item) → stands_outside form ≡ false → first ≡ [] → given flat text known named means implied faces first s ≡ elim (stands_outside form) [ true ↦ operands text known named o o parts | false ↦ Operands.Nil ]
+    pub outer-none : (outside : Layout) (first : List ℕ) (form : Form.the_data) (parts : Trees) (o : Around) (s : List Item) → stands_outside form ≡ false → first ≡ [] → given flat text known named means implied faces first s ≡ elim (stands_outside form) [ true ↦ operands text known named o o parts | false ↦ Operands.Nil ]
     outer-none outside first form parts o s e none =
         ap (λ js. given flat text known named means implied faces js s) none ∙ sym (ap (λ b. elim b [ true ↦ operands text known named o o parts | false ↦ Operands.Nil ]) e)
 

@@ -4,3 +4,4 @@ pub mod Rounds
 pub mod Operands
 pub mod NodeNames
 pub mod Bodies
+pub mod Updates
