@@ -73,7 +73,7 @@ pub and-apart : (ts us vs : Operands) → and_operands (and_operands ts us) vs �
 and-apart Operands.Nil us vs = refl
 and-apart (Operands.Cons t ts) us vs = ap (Operands.Cons t) (and-apart ts us vs)
 
-nodes-apart : (is js ks : List ℕ) → (is ++ js) ++ ks ≡ is ++ (js ++ ks)
+pub nodes-apart : (is js ks : List ℕ) → (is ++ js) ++ ks ≡ is ++ (js ++ ks)
 nodes-apart [] js ks = refl
 nodes-apart (i ∷ is) js ks = ap (λ ls. i ∷ ls) (nodes-apart is js ks)
 

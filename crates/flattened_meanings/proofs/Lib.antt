@@ -5,3 +5,4 @@ pub mod Operands
 pub mod NodeNames
 pub mod Bodies
 pub mod Updates
+pub mod Forms
