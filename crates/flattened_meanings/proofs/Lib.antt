@@ -6,3 +6,4 @@ pub mod NodeNames
 pub mod Bodies
 pub mod Updates
 pub mod Forms
+pub mod Definitions

@@ -213,6 +213,7 @@ module _ (flat : FlatModule) (text : Text) (known : Known) (named : List ℕ →
         leads = is.leads;
         kept = is.kept;
         takes = is.takes;
+        apart = is.apart;
         symbols = λ m. by_times m (times text m names) refl;
         unsaid = λ b m alike none. is.unsaid b m alike (unseen-before text names seen m none).0;
       }

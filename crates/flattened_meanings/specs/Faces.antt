@@ -1,5 +1,6 @@
 -- When modules are to their instances what a flat module has for them, round a tree that names them.
 use Rattle.std.specs.Prelude.{◌≡◌, ℕ, ◌<◌, true, false, List, [], ◌∷◌, Some}
+use Rattle.std.specs.List.{AllByRecursion}
 use Rattle.tla_model.specs.declared.names.Binder.{Binder}
 use Rattle.tla_model.specs.Tables.{Named}
 use Rattle.tla_model.specs.Entities.{Meaning, Text, meant, same_meaning}
@@ -20,13 +21,15 @@ StandsAs outer _ here = ⊥
 
 module _ (flat : FlatModule) (text : Text) where
   -- a module is that to its instances, by what names stand for here and by those that were seen: its names stand so behind the symbols of
-  -- the modules round it, which stand for what they do here; and nothing is said there of names of this text that were not seen
+  -- the modules round it, which stand for what they do here; its own are found by their names; and nothing is said there of names of this
+  -- text that were not seen
   pub record IsFaceOf (seen : List Meaning) (here : Meaning → Stand) (face : FlatFace) (outside : Outside) : Type 0 where
     pub base : Meaning → Stand
     pub inner : Named → Stand
     pub leads : (name : Named) (names : List Named) → face.leads (name ∷ names) ≡ lead_by (inner name) names
     pub kept : IsModuleBehind flat base face.outer inner outside
     pub takes : (name : Named) (next : Meaning) → entry_of (behind_instance outside.view []) name ≡ Some next → TakesBehind (inner name) (onward (behind_instance outside.view) name) next
+    pub apart : AllByRecursion (λ parameter. entry_of outside.view.parameters parameter.0 ≡ Some parameter.1) outside.view.parameters
     pub symbols : (meaning : Meaning) → StandsAs face.outer (base meaning) (here meaning)
     pub unsaid : (binder : Binder) (meaning : Meaning) → same_meaning meaning (meant text binder) ≡ true → is_seen seen meaning ≡ false → base meaning ≡ Unsaid
 
