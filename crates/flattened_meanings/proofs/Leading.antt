@@ -303,3 +303,40 @@ module _ (text : Text) (known : Known) (named : List ℕ → Outside) (around : 
     path-node stand o held meaning l at arguments rest takes fits places =
         let found = behind-leads stand o held meaning l at arguments rest (items_at f is s) takes fits places in
         reached-node f s is o stand (items text known named around arguments) (steps text known named around rest) (lead_by stand (path_names text.source rest)) found.0 found.1 found.2
+
+    -- ---- the places of nodes of names
+
+    use-places : (o : Option ℕ) (lead : Lead) (d : ℕ) → lead.end ≡ end.Definition d → (name_node o lead is).places ≡ o
+    use-places o lead d ends = subst (λ e. (name_node o (record { path = lead.path; end = e }) is).places ≡ o) (sym ends) (by_places o)
+      where
+        by_places : (p : Option ℕ) → (name_node p (record { path = lead.path; end = end.Definition d }) is).places ≡ p
+        by_places None = refl
+        by_places (Some count) = refl
+
+    leaf-places : (kind : Kind) (o : Option ℕ) (held : Behind) (meaning : Meaning) (l : Lexeme) (at : Span) (arguments rest : Trees) → IsNoInstance meaning → orders_of meaning ≡ [] → PathFits (Some meaning) held (Cons (Node (Form.Segment l) at arguments) rest) (items_at f is s) → o ≡ places-behind held (Some meaning) (Cons (Node (Form.Segment l) at arguments) rest) → (name_node o (lead_by (Leaf kind) (path_names text.source rest)) is).places ≡ o
+    leaf-places kind o held meaning l at Nil Nil plain none fits places = sym (places ∙ no-places meaning none)
+    leaf-places kind o held meaning l at (Cons x arguments) Nil plain none fits places = sym places
+    leaf-places kind o held meaning l at arguments (Cons x rest) plain none fits places =
+        no-instance meaning (orders_of meaning) plain (fits-further meaning held l at arguments x rest (items_at f is s) fits).0
+
+    place-places : (place order : ℕ) (o : Option ℕ) (held : Behind) (meaning : Meaning) (l : Lexeme) (at : Span) (arguments rest : Trees) → IsNoInstance meaning → order ≡ order_of meaning → orders_of meaning ≡ replicate order 0 → PathFits (Some meaning) held (Cons (Node (Form.Segment l) at arguments) rest) (items_at f is s) → o ≡ places-behind held (Some meaning) (Cons (Node (Form.Segment l) at arguments) rest) → (name_node o (lead_by (Place place order) (path_names text.source rest)) is).places ≡ o
+    place-places place order o held meaning l at Nil Nil plain same takes fits places =
+        subst (λ js. (name_node o (lead_by (Place place order) []) js).places ≡ o) (sym (no-nodes is fits.0)) (sym (places ∙ places-order meaning ∙ ap places_by (sym same)))
+    place-places place order o held meaning l at (Cons x arguments) Nil plain same takes fits places =
+        on_nodes is (subst (λ os. Fits os (items_at f is s) (items text known named around (Cons x arguments))) takes fits.1)
+      where
+        on_nodes : (js : List ℕ) → Fits (replicate order 0) (items_at f js s) (items text known named around (Cons x arguments)) → (name_node o (lead_by (Place place order) []) js).places ≡ o
+        on_nodes [] here =
+            let l : 0 ≡ length (replicate order 0) = fits-made (replicate order 0) [] _ here in
+            let m : length (items text known named around (Cons x arguments)) ≡ length (replicate order 0) = fits-given (replicate order 0) [] (items text known named around (Cons x arguments)) here in
+            absurd (omega (arith, l, m))
+        on_nodes (j ∷ js) here = sym places
+    place-places place order o held meaning l at arguments (Cons x rest) plain same takes fits places =
+        no-instance meaning (orders_of meaning) plain (fits-further meaning held l at arguments x rest (items_at f is s) fits).0
+
+    pub path-has-places : (stand : Stand) (o : Option ℕ) (held : Behind) (meaning : Meaning) (l : Lexeme) (at : Span) (arguments rest : Trees) → TakesAs stand held meaning → PathFits (Some meaning) held (Cons (Node (Form.Segment l) at arguments) rest) (items_at f is s) → o ≡ places-behind held (Some meaning) (Cons (Node (Form.Segment l) at arguments) rest) → (name_node o (lead_by stand (path_names text.source rest)) is).places ≡ o
+    path-has-places (Leaf kind) o held meaning l at arguments rest takes fits places = leaf-places kind o held meaning l at arguments rest takes.0 takes.1 fits places
+    path-has-places (Place place order) o held meaning l at arguments rest takes fits places = place-places place order o held meaning l at arguments rest takes.0 takes.1 takes.2 fits places
+    path-has-places stand o held meaning l at arguments rest takes fits places =
+        let found = behind-leads stand o held meaning l at arguments rest (items_at f is s) takes fits places in
+        use-places o (lead_by stand (path_names text.source rest)) found.0 found.1

@@ -29,7 +29,7 @@ use Rattle.flattened_trees.specs.Flattened.{AreOperands, all_parts}
 use Rattle.flattened_trees.specs.Readable.{AreArguments, IsMeaning, IsOperator, IsReadableBare, IsReadableFirst, IsReadablePath}
 use Rattle.flattened_trees.specs.Readable as readable
 use Rattle.flattened_trees.specs.Agreeing.{lead_by}
-use Rattle.flattened_meanings.proofs.Leading.{PathFits, fits-texts, path-node}
+use Rattle.flattened_meanings.proofs.Leading.{PathFits, fits-texts, path-has-places, path-node}
 use Rattle.flattened_meanings.proofs.Fresh.{Fresh, whole-names}
 use Rattle.flattened_meanings.proofs.Rounds.{Knows}
 use Rattle.flattened_meanings.proofs.Operands.{Each, arguments-fit, path-fits}
@@ -114,3 +114,41 @@ module _ (flat : FlatModule) (text : Text) (known : Known) (named : List ℕ →
   pub bare-is : (l : Lexeme) (rule : Option Rule) → bare_node text.source means setting l rule ≡ symbol-node l rule (bare_places text.source means l l.kind)
   bare-is l (Some rule) = refl
   bare-is l None = refl
+
+  -- ---- the places of these nodes
+
+  name-has-places : (o places : Option ℕ) (l : Lexeme) (name : Named) (meaning : Meaning) (names : List Named) (is : List ℕ) → IsMeaning text known named means implied faces layout.context l name meaning → places ≡ o → (name_node o (lead_by (layout.stands meaning) names) is).places ≡ o → (name_node places (lead_of setting.leads (means l.span.start) names) is).places ≡ o
+  name-has-places o places l name meaning names is known-as same node =
+      ap (λ p. (name_node p (lead_of setting.leads (means l.span.start) names) is).places) same
+      ∙ ap (λ lead. (name_node o lead is).places) (lead-at l name meaning names known-as)
+      ∙ node
+
+  pub identifier-has-places : (s : Span) (parts : Trees) (is : List ℕ) (asked : List Question) → Each flat text known named means implied faces parts → AreOperands text means implied faces flat all_parts setting parts is asked → ((meaning : Meaning) × IsReadableFirst text known named means implied faces layout.context meaning parts × IsReadablePath text known named means implied faces layout.context (Some meaning) (behind_meaning known (Some meaning)) parts) → path_places text.source means parts ≡ places_at text known named layout.context (Node Form.Identifier s parts) → Fresh text seen (whole-names text parts) → (path_node text.source means setting parts is).places ≡ places_at text known named layout.context (Node Form.Identifier s parts)
+  identifier-has-places s Nil is asked each made can places fresh = absurd can.1
+  identifier-has-places s (Cons (Node (Form.Segment l) at arguments) rest) is asked each made (meaning, first, path) places fresh =
+      let parts : Trees = Cons (Node (Form.Segment l) at arguments) rest in
+      let held = behind_meaning known (Some meaning) in
+      let o = places_at text known named layout.context (Node Form.Identifier s parts) in
+      let fits = path-fits flat text known named means implied faces layout setting seen knows frame more around agrees parts (Some meaning) held is asked each made path fresh in
+      let here = ap (λ found. cond (is_bare false parts) (operator_places (called_behind text known named (behind_meaning known found) found rest)) None) first.there in
+      name-has-places o (path_places text.source means parts) l (name_of text.source l) meaning (path_names text.source rest) is first places
+      (path-has-places text known named around (text_at flat) (frame ++ more) is (layout.stands meaning) o held meaning l at arguments rest (knows.orders (name_of text.source l) meaning first.there) fits here)
+  identifier-has-places s (Cons (Node form at arguments) rest) is asked each made can places fresh = absurd can.1
+
+  pub operator-has-places : (which : Op.the_data → Op.the_data) (l : Lexeme) (kind : LexKind.the_data) (rule : Option Rule) (parts : Trees) (orders is : List ℕ) (asked : List Question) → Each flat text known named means implied faces parts → AreOperands text means implied faces flat all_parts setting parts is asked → IsOperator text known named means implied faces layout.context l which kind rule parts orders → AreArguments text known named means implied faces layout.context orders parts → Fresh text seen (whole-names text parts) → (operator_node text.source means setting l rule is).places ≡ None
+  operator-has-places which l kind (Some rule) parts orders is asked each made can cans fresh = refl
+  operator-has-places which l (LexKind.Sym op) None (Cons x parts) orders is asked each made (free, (meaning, first, plain, same)) cans fresh =
+      let fits = arguments-fit flat text known named means implied faces layout setting seen knows frame more around agrees (Cons x parts) orders is asked each made cans fresh in
+      name-has-places None None l (Symbol (which op)) meaning [] is first refl
+      (path-has-places text known named around (text_at flat) (frame ++ more) is (layout.stands meaning) None (behind_meaning known (Some meaning)) meaning l l.span (Cons x parts) Nil (knows.orders (Symbol (which op)) meaning first.there)
+      (plain, subst (λ os. Fits os (items_at (text_at flat) is (frame ++ more)) (items text known named around (Cons x parts))) same fits) refl)
+  operator-has-places which l (LexKind.Sym op) None Nil orders is asked each made can cans fresh = absurd can
+  operator-has-places which l kind None parts orders is asked each made can cans fresh = absurd can
+
+  pub bare-has-places : (l : Lexeme) (kind : LexKind.the_data) (rule : Option Rule) (o : Option ℕ) → o ≡ symbol_places layout.context kind → IsReadableBare text known named means implied faces layout.context l kind rule → (symbol-node l rule o).places ≡ o
+  bare-has-places l kind (Some rule) o same can = refl
+  bare-has-places l (LexKind.Sym op) None o same (free, (meaning, first, bare), some) =
+      name-has-places o o l (Symbol op) meaning [] [] first refl
+      (path-has-places text known named around (text_at flat) (frame ++ more) [] (layout.stands meaning) o (behind_meaning known (Some meaning)) meaning l l.span Nil Nil (knows.orders (Symbol op) meaning first.there) (refl, bare)
+      (same ∙ ap (λ b. cond b (operator_places (meaning_of layout.context (Symbol op))) (Some (built_in_places op))) free ∙ ap operator_places first.there))
+  bare-has-places l kind None o same can = absurd can
