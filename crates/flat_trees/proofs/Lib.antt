@@ -1,5 +1,5 @@
 pub mod Reaching
-mod BuiltNodes
+pub mod BuiltNodes
 pub mod Agreeing
 pub mod Definitions
 pub mod Instances
