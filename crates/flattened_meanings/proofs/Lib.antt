@@ -7,3 +7,4 @@ pub mod Bodies
 pub mod Updates
 pub mod Forms
 pub mod Definitions
+pub mod Places
