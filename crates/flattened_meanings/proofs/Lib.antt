@@ -8,3 +8,4 @@ pub mod Updates
 pub mod Forms
 pub mod Definitions
 pub mod Places
+pub mod Replacing
