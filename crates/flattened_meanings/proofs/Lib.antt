@@ -9,3 +9,4 @@ pub mod Forms
 pub mod Definitions
 pub mod Places
 pub mod Replacing
+pub mod Instances
