@@ -10,3 +10,4 @@ pub mod Definitions
 pub mod Places
 pub mod Replacing
 pub mod Instances
+pub mod Meant

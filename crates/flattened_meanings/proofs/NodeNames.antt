@@ -97,7 +97,7 @@ module _ (flat : FlatModule) (text : Text) (known : Known) (named : List ℕ →
   some-count (Some count) e = (count, refl)
 
   -- the node of a bare symbol with so many places
-  abbrev symbol-node : Lexeme → Option Rule → Option ℕ → FlatNode
+  abbrev pub symbol-node : Lexeme → Option Rule → Option ℕ → FlatNode
   symbol-node l (Some rule) o = record { form = NodeForm.Symbol rule; places = o; parts = [] }
   symbol-node l None o = name_node o (lead_of setting.leads (means l.span.start) []) []
 
