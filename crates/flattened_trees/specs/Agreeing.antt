@@ -73,7 +73,10 @@ AreNew seen (meaning ∷ rest) = (is_seen seen meaning ≡ false) × AreNew (mea
 abbrev pub IsFresh : Text → List Meaning → Tree → Type 0
 IsFresh text seen x = AreNew seen (map (meant text) (within x))
 
--- names that can be used were seen, and nothing is said of others
-pub record IsSeen (seen : List Meaning) (layout : Layout) : Type 0 where
-  pub context : (name : Named) (meaning : Meaning) → meaning_of layout.context name ≡ Some meaning → is_seen seen meaning ≡ true
-  pub stands : (meaning : Meaning) → is_seen seen meaning ≡ false → layout.stands meaning ≡ unsaid_stand meaning
+-- names that can be used were seen
+abbrev pub IsSeen : List Meaning → Layout → Type 0
+IsSeen seen layout = (name : Named) (meaning : Meaning) → meaning_of layout.context name ≡ Some meaning → is_seen seen meaning ≡ true
+
+-- nothing is said of the names that a tree declares and binds
+abbrev pub IsUnsaid : Text → Layout → Tree → Type 0
+IsUnsaid text layout x = (meaning : Meaning) → is_seen (map (meant text) (within x)) meaning ≡ true → layout.stands meaning ≡ unsaid_stand meaning
