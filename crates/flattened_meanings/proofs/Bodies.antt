@@ -129,7 +129,7 @@ module _ (flat : FlatModule) (text : Text) (known : Known) (named : List ℕ →
       pub means_body : IsBody flat text known named inside body parts
       pub means_outers : AreOuters outside outers parts
 
-    pub ends : (parts : Trees) (outside inside : Layout) (setting : Setting) (seen : List Meaning) (is : List ℕ) (asked : List Question) → Each flat text known named means implied faces parts → Knows flat text known named faces outside setting seen → Knows flat text known named faces inside setting seen → EndsWhole parts → AreOperands text means implied faces flat all_parts setting parts is asked → AreReadable text known named means implied faces outside.context inside.context parts → Fresh text seen (whole-names text parts) → Ends outside inside is parts
+    pub ends : (parts : Trees) (outside inside : Layout) (setting : Setting) (seen : Meaning → Bool) (is : List ℕ) (asked : List Question) → Each flat text known named means implied faces parts → Knows flat text known named faces outside setting seen → Knows flat text known named faces inside setting seen → EndsWhole parts → AreOperands text means implied faces flat all_parts setting parts is asked → AreReadable text known named means implied faces outside.context inside.context parts → Fresh text seen (whole-names text parts) → Ends outside inside is parts
     ends Nil outside inside setting seen is asked each knows-out knows whole made can fresh = absurd whole
     ends (Cons (Node form s parts) rest) outside inside setting seen is asked each knows-out knows whole (first, others, b, c, parted, asks, one, rest-made) can fresh =
         by_part (part_of form) refl whole one can.0 (fresh-left text seen _ (whole-names text rest) fresh)

@@ -122,7 +122,7 @@ module _ (flat : FlatModule) (text : Text) (known : Known) (named : List ℕ →
       by_part Helper e can = can
       by_part Whole e can = can
 
-  module _ (ordered : IsOrdered flat) (layout : Layout) (setting : Setting) (seen : List Meaning) (knows : Knows flat text known named faces layout setting seen) where
+  module _ (ordered : IsOrdered flat) (layout : Layout) (setting : Setting) (seen : Meaning → Bool) (knows : Knows flat text known named faces layout setting seen) where
     pub operator-for : (form : Form.the_data) (s : Span) (parts : Trees) (l : Lexeme) (lead : List Named → Lead) (is : List ℕ) (root d : ℕ) (asked : List Question) → defines form ≡ Operator l → Each flat text known named means implied faces parts → AreOperands text means implied faces flat all_parts (with_parameters text setting form parts) parts is asked → IsRoot flat is root → slice_get flat.definitions d ≡ Some (record { outer = length setting.frame; root = root }) → lead ≡ only (end.Definition d) → EndsWhole parts → AreInside parts → AreReadable text known named means implied faces (reserved text layout.context form parts) (scope text layout.context form parts) parts → Fresh text seen (declared_in as_binding.Constant (Node form s parts)) → StandsFor flat text known named layout (Node form s parts) lead
     operator-for form s parts l lead is root d asked e each made first there leads whole only can fresh =
         let binds = operator-binds form l e in

@@ -52,7 +52,7 @@ last-behind before (o ∷ (p ∷ outers)) body = last-behind (before ++ (o ∷ [
 
 -- ---- what is new
 
-module _ (text : Text) (seen : List Meaning) (form : Form.the_data) (s : Span) (parts : Trees) (fresh : Fresh text seen (declared_in as_binding.Constant (Node form s parts))) where
+module _ (text : Text) (seen : Meaning → Bool) (form : Form.the_data) (s : Span) (parts : Trees) (fresh : Fresh text seen (declared_in as_binding.Constant (Node form s parts))) where
   pub wholes-fresh : Fresh text seen (whole-names text parts)
   wholes-fresh = fresh-less text seen (declared_in as_binding.Constant (Node form s parts)) (whole-names text parts) fresh (λ m. let a = scope-within text m form s parts in omega (arith, a))
 
@@ -70,7 +70,7 @@ module _ (flat : FlatModule) (text : Text) (known : Known) (named : List ℕ →
   ordered-given (Form.Fairness l) (i ∷ (j ∷ (k ∷ is))) s = refl
   ordered-given form is s = refl
 
-  module _ (layout : Layout) (setting : Setting) (seen : List Meaning) (knows : Knows flat text known named faces layout setting seen) where
+  module _ (layout : Layout) (setting : Setting) (seen : Meaning → Bool) (knows : Knows flat text known named faces layout setting seen) where
     pub ruled-built : (form : Form.the_data) (s : Span) (parts : Trees) (is : List ℕ) (asked : List Question) → Each flat text known named means implied faces parts → AreOperands text means implied faces flat all_parts setting parts is asked → is_some (form_rule form) ≡ true → AreReadable text known named means implied faces (reserved text layout.context form parts) (scope text layout.context form parts) parts → Fresh text seen (declared_in as_binding.Constant (Node form s parts)) → (frame more : List Item) (around : Around) → Agrees flat layout frame around → IsOperation (form_rule form) (rule_operands form (operands text known named (before_scope text known named around form parts) (in_scope text known named around form parts) parts)) (ruled_node (form_rule form) (in_order form is)).form (items_at (text_at flat) (ruled_node (form_rule form) (in_order form is)).parts (frame ++ more))
     ruled-built form s parts is asked each made some can fresh frame more around agrees =
         let bound = bound-form form some in

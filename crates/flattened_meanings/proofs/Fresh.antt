@@ -1,6 +1,6 @@
 -- How often names are declared in trees: those of a scope are others than those in what stands there.
 use Rattle.std.proofs.Common.{◌≡◌, inl, inr, ℕ, zero, suc, ◌+◌, ◌<◌, ◌≤◌, Bool, true, false, cond, List, [], ◌∷◌, ◌++◌, map, refl, sym, ap, ◌∙◌, subst, arith}
-use Rattle.std.specs.Prelude.{◌⊎◌, if◌then◌else◌}
+use Rattle.std.specs.Prelude.{◌⊎◌, if◌then◌else◌, not}
 use Rattle.std.proofs.lemmas.List.{map-append}
 use Rattle.tla_symbols.specs.declared.lexeme.Lexeme.{Lexeme}
 use Rattle.tla_symbols.specs.declared.lexeme.Span.{Span}
@@ -49,17 +49,17 @@ module _ (text : Text) where
   times-append m (x ∷ a) b = let e = times-append m a b in omega (arith, e)
 
   -- these names were not seen, and none is there twice
-  abbrev pub Fresh : List Meaning → List Binder → Type 0
-  Fresh seen names = (m : Meaning) → times m names + mark (is_seen seen m) ≤ 1
+  abbrev pub Fresh : (Meaning → Bool) → List Binder → Type 0
+  Fresh seen names = (m : Meaning) → times m names + mark (seen m) ≤ 1
 
-  pub new-fresh : (seen : List Meaning) (names : List Binder) → AreNew seen (map (meant text) names) → Fresh seen names
-  new-fresh seen [] new m = by_mark (is_seen seen m)
+  new-times : (seen : List Meaning) (names : List Binder) → AreNew seen (map (meant text) names) → (m : Meaning) → times m names + mark (is_seen seen m) ≤ 1
+  new-times seen [] new m = by_mark (is_seen seen m)
     where
       by_mark : (b : Bool) → 0 + mark b ≤ 1
       by_mark true = omega arith
       by_mark false = omega arith
-  new-fresh seen (x ∷ rest) new m =
-      by_sameness (same_meaning m (meant text x)) refl (new-fresh (meant text x ∷ seen) rest new.1 m)
+  new-times seen (x ∷ rest) new m =
+      by_sameness (same_meaning m (meant text x)) refl (new-times (meant text x ∷ seen) rest new.1 m)
     where
       by_sameness : (b : Bool) → same_meaning m (meant text x) ≡ b → times m rest + mark (cond b true (is_seen seen m)) ≤ 1 → (mark b + times m rest) + mark (is_seen seen m) ≤ 1
       by_sameness true e others =
@@ -67,48 +67,78 @@ module _ (text : Text) where
           omega (arith, others, unseen)
       by_sameness false e others = omega (arith, others)
 
+  others-none : (names : List Binder) (m : Meaning) → is_seen (map (meant text) names) m ≡ false → times m names ≡ 0
+  others-none [] m e = refl
+  others-none (x ∷ rest) m e = by_sameness (same_meaning m (meant text x)) e (others-none rest m)
+    where
+      by_sameness : (b : Bool) → cond b true (is_seen (map (meant text) rest) m) ≡ false → (is_seen (map (meant text) rest) m ≡ false → times m rest ≡ 0) → mark b + times m rest ≡ 0
+      by_sameness true none again = absurd (cc none)
+      by_sameness false none again = let z = again none in omega (arith, z)
+
+  -- new names are those that were not seen where all others were
+  pub new-fresh : (seen : List Meaning) (names : List Binder) → AreNew seen (map (meant text) names) → Fresh (λ m. not (is_seen (map (meant text) names) m)) names
+  new-fresh seen names new m = by_sameness (is_seen (map (meant text) names) m) (others-none names m) (new-times seen names new m)
+    where
+      by_sameness : (b : Bool) → (b ≡ false → times m names ≡ 0) → times m names + mark (is_seen seen m) ≤ 1 → times m names + mark (not b) ≤ 1
+      by_sameness true none l = omega (arith, l)
+      by_sameness false none l = let z = none refl in omega (arith, z)
+
+  -- what was seen is none of the new names
+  pub seen-other : (seen : List Meaning) (names : List Binder) (m : Meaning) → AreNew seen (map (meant text) names) → is_seen seen m ≡ true → not (is_seen (map (meant text) names) m) ≡ true
+  seen-other seen names m new is =
+      ap not (by_times names (let l = new-times seen names new m in let k : mark (is_seen seen m) ≡ 1 = ap mark is in omega (arith, l, k)))
+    where
+      by_times : (ns : List Binder) → times m ns ≡ 0 → is_seen (map (meant text) ns) m ≡ false
+      by_times [] e = refl
+      by_times (x ∷ rest) e = by_sameness (same_meaning m (meant text x)) e (by_times rest)
+        where
+          by_sameness : (b : Bool) → mark b + times m rest ≡ 0 → (times m rest ≡ 0 → is_seen (map (meant text) rest) m ≡ false) → cond b true (is_seen (map (meant text) rest) m) ≡ false
+          by_sameness true z again = absurd (omega (arith, z))
+          by_sameness false z again = again (omega (arith, z))
+
   -- ---- names that were seen with these
 
-  abbrev pub seen-with : List Binder → List Meaning → List Meaning
-  seen-with names seen = map (meant text) names ++ seen
+  abbrev pub seen-with : List Binder → (Meaning → Bool) → Meaning → Bool
+  seen-with [] seen m = seen m
+  seen-with (x ∷ rest) seen m = cond (same_meaning m (meant text x)) true (seen-with rest seen m)
 
-  pub seen-most : (names : List Binder) (seen : List Meaning) (m : Meaning) → mark (is_seen (seen-with names seen) m) ≤ times m names + mark (is_seen seen m)
+  pub seen-most : (names : List Binder) (seen : Meaning → Bool) (m : Meaning) → mark (seen-with names seen m) ≤ times m names + mark (seen m)
   seen-most [] seen m = omega arith
   seen-most (x ∷ rest) seen m = by_sameness (same_meaning m (meant text x)) (seen-most rest seen m)
     where
-      by_sameness : (b : Bool) → mark (is_seen (seen-with rest seen) m) ≤ times m rest + mark (is_seen seen m) → mark (cond b true (is_seen (seen-with rest seen) m)) ≤ (mark b + times m rest) + mark (is_seen seen m)
+      by_sameness : (b : Bool) → mark (seen-with rest seen m) ≤ times m rest + mark (seen m) → mark (cond b true (seen-with rest seen m)) ≤ (mark b + times m rest) + mark (seen m)
       by_sameness true l = omega arith
       by_sameness false l = omega (arith, l)
 
-  pub seen-still : (names : List Binder) (seen : List Meaning) (m : Meaning) → is_seen seen m ≡ true → is_seen (seen-with names seen) m ≡ true
+  pub seen-still : (names : List Binder) (seen : Meaning → Bool) (m : Meaning) → seen m ≡ true → seen-with names seen m ≡ true
   seen-still [] seen m is = is
   seen-still (x ∷ rest) seen m is = by_sameness (same_meaning m (meant text x)) (seen-still rest seen m is)
     where
-      by_sameness : (b : Bool) → is_seen (seen-with rest seen) m ≡ true → cond b true (is_seen (seen-with rest seen) m) ≡ true
+      by_sameness : (b : Bool) → seen-with rest seen m ≡ true → cond b true (seen-with rest seen m) ≡ true
       by_sameness true l = refl
       by_sameness false l = l
 
   -- what was not seen with these was not seen, and is none of these
-  pub unseen-before : (names : List Binder) (seen : List Meaning) (m : Meaning) → is_seen (seen-with names seen) m ≡ false → (is_seen seen m ≡ false) × (times m names ≡ 0)
+  pub unseen-before : (names : List Binder) (seen : Meaning → Bool) (m : Meaning) → seen-with names seen m ≡ false → (seen m ≡ false) × (times m names ≡ 0)
   unseen-before [] seen m none = (none, refl)
   unseen-before (x ∷ rest) seen m none = by_sameness (same_meaning m (meant text x)) none (unseen-before rest seen m)
     where
-      by_sameness : (b : Bool) → cond b true (is_seen (seen-with rest seen) m) ≡ false → (is_seen (seen-with rest seen) m ≡ false → (is_seen seen m ≡ false) × (times m rest ≡ 0)) → (is_seen seen m ≡ false) × (mark b + times m rest ≡ 0)
+      by_sameness : (b : Bool) → cond b true (seen-with rest seen m) ≡ false → (seen-with rest seen m ≡ false → (seen m ≡ false) × (times m rest ≡ 0)) → (seen m ≡ false) × (mark b + times m rest ≡ 0)
       by_sameness true e again = absurd (cc e)
       by_sameness false e again = let before = again e in (before.0, let z = before.1 in omega (arith, z))
 
   -- names among others, with what stands in the scope of these
-  pub fresh-among : (seen : List Meaning) (all names part : List Binder) → Fresh seen all → ((m : Meaning) → times m names + times m part ≤ times m all) → Fresh (seen-with names seen) part
+  pub fresh-among : (seen : Meaning → Bool) (all names part : List Binder) → Fresh seen all → ((m : Meaning) → times m names + times m part ≤ times m all) → Fresh (seen-with names seen) part
   fresh-among seen all names part fresh within m =
       let a = fresh m in let b = within m in let c = seen-most names seen m in omega (arith, a, b, c)
 
-  pub fresh-less : (seen : List Meaning) (all part : List Binder) → Fresh seen all → ((m : Meaning) → times m part ≤ times m all) → Fresh seen part
+  pub fresh-less : (seen : Meaning → Bool) (all part : List Binder) → Fresh seen all → ((m : Meaning) → times m part ≤ times m all) → Fresh seen part
   fresh-less seen all part fresh within m = let a = fresh m in let b = within m in omega (arith, a, b)
 
-  pub fresh-left : (seen : List Meaning) (a b : List Binder) → Fresh seen (a ++ b) → Fresh seen a
+  pub fresh-left : (seen : Meaning → Bool) (a b : List Binder) → Fresh seen (a ++ b) → Fresh seen a
   fresh-left seen a b fresh = fresh-less seen (a ++ b) a fresh (λ m. let e = times-append m a b in omega (arith, e))
 
-  pub fresh-right : (seen : List Meaning) (a b : List Binder) → Fresh seen (a ++ b) → Fresh seen b
+  pub fresh-right : (seen : Meaning → Bool) (a b : List Binder) → Fresh seen (a ++ b) → Fresh seen b
   fresh-right seen a b fresh = fresh-less seen (a ++ b) b fresh (λ m. let e = times-append m a b in omega (arith, e))
 
   -- ---- names that are one of these
@@ -125,23 +155,23 @@ module _ (text : Text) where
       let k : mark (same_meaning m (meant text x)) ≡ 1 = ap mark e in omega (arith, k)
   one-counts (x ∷ rest) m (inr one) = let l = one-counts rest m one in omega (arith, l)
 
-  pub one-unseen : (seen : List Meaning) (names : List Binder) (m : Meaning) → Fresh seen names → IsOneOf names m → is_seen seen m ≡ false
+  pub one-unseen : (seen : Meaning → Bool) (names : List Binder) (m : Meaning) → Fresh seen names → IsOneOf names m → seen m ≡ false
   one-unseen seen names m fresh one =
-      unmarked (is_seen seen m) (let a = fresh m in let b = one-counts names m one in omega (arith, a, b))
+      unmarked (seen m) (let a = fresh m in let b = one-counts names m one in omega (arith, a, b))
 
-  pub one-seen : (names : List Binder) (seen : List Meaning) (m : Meaning) → IsOneOf names m → is_seen (seen-with names seen) m ≡ true
+  pub one-seen : (names : List Binder) (seen : Meaning → Bool) (m : Meaning) → IsOneOf names m → seen-with names seen m ≡ true
   one-seen [] seen m one = absurd one
   one-seen (x ∷ rest) seen m (inl same) =
-      ap (λ b. cond b true (is_seen (seen-with rest seen) m)) (ap (λ n. same_meaning m n) (sym same) ∙ meaning-itself m)
+      ap (λ b. cond b true (seen-with rest seen m)) (ap (λ n. same_meaning m n) (sym same) ∙ meaning-itself m)
   one-seen (x ∷ rest) seen m (inr one) = by_sameness (same_meaning m (meant text x)) (one-seen rest seen m one)
     where
-      by_sameness : (b : Bool) → is_seen (seen-with rest seen) m ≡ true → cond b true (is_seen (seen-with rest seen) m) ≡ true
+      by_sameness : (b : Bool) → seen-with rest seen m ≡ true → cond b true (seen-with rest seen m) ≡ true
       by_sameness true l = refl
       by_sameness false l = l
 
   -- what was seen is none of these
-  pub seen-none : (seen : List Meaning) (names : List Binder) (m : Meaning) → Fresh seen names → is_seen seen m ≡ true → times m names ≡ 0
-  seen-none seen names m fresh is = let a = fresh m in let b : mark (is_seen seen m) ≡ 1 = ap mark is in omega (arith, a, b)
+  pub seen-none : (seen : Meaning → Bool) (names : List Binder) (m : Meaning) → Fresh seen names → seen m ≡ true → times m names ≡ 0
+  seen-none seen names m fresh is = let a = fresh m in let b : mark (seen m) ≡ 1 = ap mark is in omega (arith, a, b)
 
   -- ---- what is declared in trees
 

@@ -84,7 +84,7 @@ module _ (flat : FlatModule) where
 
 module _ (flat : FlatModule) (text : Text) (known : Known) (named : List ℕ → Outside) (means : ℕ → Option Meaning) (implied : ℕ → List Meaning) (faces : List ℕ → FlatFace) where
   -- the first INSTANCE among parts, with what is known of it
-  record First (context : Context) (outside setting : Setting) (seen : List Meaning) (count : ℕ) (lead : List Named → Lead) (parts : Trees) : Type 0 where
+  record First (context : Context) (outside setting : Setting) (seen : Meaning → Bool) (count : ℕ) (lead : List Named → Lead) (parts : Trees) : Type 0 where
     l : Lexeme
     rights : Trees
     written : List Right
@@ -104,7 +104,7 @@ module _ (flat : FlatModule) (text : Text) (known : Known) (named : List ℕ →
     fresh : Fresh text seen (whole-names text rights)
 
   -- behind parts that are no INSTANCE
-  first-behind : (context : Context) (outside setting : Setting) (seen : List Meaning) (count : ℕ) (lead : List Named → Lead) (x : Tree) (rest : Trees) → instance_in (Cons x rest) ≡ instance_in rest → instance_among (Cons x rest) ≡ instance_among rest → First context outside setting seen count lead rest → First context outside setting seen count lead (Cons x rest)
+  first-behind : (context : Context) (outside setting : Setting) (seen : Meaning → Bool) (count : ℕ) (lead : List Named → Lead) (x : Tree) (rest : Trees) → instance_in (Cons x rest) ≡ instance_in rest → instance_among (Cons x rest) ≡ instance_among rest → First context outside setting seen count lead rest → First context outside setting seen count lead (Cons x rest)
   first-behind context outside setting seen count lead x rest same among found =
       record {
         l = found.l;
@@ -126,7 +126,7 @@ module _ (flat : FlatModule) (text : Text) (known : Known) (named : List ℕ →
         fresh = found.fresh;
       }
 
-  first-instance : (context : Context) (outside setting : Setting) (seen : List Meaning) (own : Lexeme) (count : ℕ) (lead : List Named → Lead) (parts : Trees) (roots : List ℕ) (asked : List Question) → Each flat text known named means implied faces parts → IsThrough text means implied faces flat outside setting own count parts lead roots asked → IsReadableThrough text known named means implied faces context parts → Fresh text seen (whole-names text parts) → First context outside setting seen count lead parts
+  first-instance : (context : Context) (outside setting : Setting) (seen : Meaning → Bool) (own : Lexeme) (count : ℕ) (lead : List Named → Lead) (parts : Trees) (roots : List ℕ) (asked : List Question) → Each flat text known named means implied faces parts → IsThrough text means implied faces flat outside setting own count parts lead roots asked → IsReadableThrough text known named means implied faces context parts → Fresh text seen (whole-names text parts) → First context outside setting seen count lead parts
   first-instance context outside setting seen own count lead Nil roots asked each made can fresh = absurd can
   first-instance context outside setting seen own count lead (Cons (Node (Form.Instance l) s rights) rest) roots asked each (written, j, a, b, are, is, leads, asks) can fresh =
       record {
@@ -162,7 +162,7 @@ module _ (flat : FlatModule) (text : Text) (known : Known) (named : List ℕ →
   behind-known-as : (own-name : Lexeme) (o : Option Lexeme) (l : Lexeme) → o ≡ Some l → IsKnownBehind text known named means implied faces own-name o → known (declaration text own-name) ≡ Some (behind_view (module_of text known named l).view)
   behind-known-as own-name o l e is = subst (IsKnownBehind text known named means implied faces own-name) e is
 
-  module _ (ordered : IsOrdered flat) (layout : Layout) (setting : Setting) (seen : List Meaning) (knows : Knows flat text known named faces layout setting seen) (own-name : Lexeme) (s : Span) (parts : Trees) (new : Fresh text seen (declared_in as_binding.Constant (Node (Form.ModuleDefinition own-name) s parts))) where
+  module _ (ordered : IsOrdered flat) (layout : Layout) (setting : Setting) (seen : Meaning → Bool) (knows : Knows flat text known named faces layout setting seen) (own-name : Lexeme) (s : Span) (parts : Trees) (new : Fresh text seen (declared_in as_binding.Constant (Node (Form.ModuleDefinition own-name) s parts))) where
     abbrev here : Form.the_data
     here = Form.ModuleDefinition own-name
 
@@ -172,7 +172,7 @@ module _ (flat : FlatModule) (text : Text) (known : Known) (named : List ℕ →
     abbrev setting-within : Setting
     setting-within = with_parameters text setting here parts
 
-    abbrev seen-within : List Meaning
+    abbrev seen-within : Meaning → Bool
     seen-within = seen-with text (defined here parts ++ binders here parts) seen
 
     inside-known : Knows flat text known named faces within setting-within seen-within
@@ -226,7 +226,7 @@ module _ (flat : FlatModule) (text : Text) (known : Known) (named : List ℕ →
             takes = (module-takes none behind, tt);
           }
 
-  pub module-for : (ordered : IsOrdered flat) (layout : Layout) (setting : Setting) (seen : List Meaning) → Knows flat text known named faces layout setting seen → (form : Form.the_data) (s : Span) (parts : Trees) (l : Lexeme) (lead : List Named → Lead) (roots : List ℕ) (asked : List Question) → defines form ≡ Module l → Each flat text known named means implied faces parts → IsThrough text means implied faces flat setting (with_parameters text setting form parts) l (length (parameters_of text form parts)) parts lead roots asked → all_grouped parts ≡ [] → IsKnownBehind text known named means implied faces l (instance_among parts) → IsReadableThrough text known named means implied faces (scope text layout.context form parts) parts → Fresh text seen (declared_in as_binding.Constant (Node form s parts)) → StandsFor flat text known named layout (Node form s parts) lead
+  pub module-for : (ordered : IsOrdered flat) (layout : Layout) (setting : Setting) (seen : Meaning → Bool) → Knows flat text known named faces layout setting seen → (form : Form.the_data) (s : Span) (parts : Trees) (l : Lexeme) (lead : List Named → Lead) (roots : List ℕ) (asked : List Question) → defines form ≡ Module l → Each flat text known named means implied faces parts → IsThrough text means implied faces flat setting (with_parameters text setting form parts) l (length (parameters_of text form parts)) parts lead roots asked → all_grouped parts ≡ [] → IsKnownBehind text known named means implied faces l (instance_among parts) → IsReadableThrough text known named means implied faces (scope text layout.context form parts) parts → Fresh text seen (declared_in as_binding.Constant (Node form s parts)) → StandsFor flat text known named layout (Node form s parts) lead
   module-for ordered layout setting seen knows form s parts l lead roots asked e each made none behind can fresh =
       subst (λ g. IsThrough text means implied faces flat setting (with_parameters text setting g parts) l (length (parameters_of text g parts)) parts lead roots asked → IsReadableThrough text known named means implied faces (scope text layout.context g parts) parts → Fresh text seen (declared_in as_binding.Constant (Node g s parts)) → StandsFor flat text known named layout (Node g s parts) lead) (sym (module-form form l e))
       (λ made can fresh.

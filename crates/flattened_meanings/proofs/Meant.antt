@@ -50,7 +50,7 @@ all-one text P [] m all one = absurd one
 all-one text P (name ∷ rest) m all (inl same) = subst P (sym same) all.0
 all-one text P (name ∷ rest) m all (inr one) = all-one text P rest m all.1 one
 
-module _ (text : Text) (seen : List Meaning) where
+module _ (text : Text) (seen : Meaning → Bool) where
   -- what is declared among parts is new, where what their node declares is
   parts-fresh : (form : Form.the_data) (s : Span) (parts : Trees) → Fresh text seen (declared_in as_binding.Constant (Node form s parts)) → Fresh text seen (declared_among as_binding.Constant parts)
   parts-fresh form s parts fresh =
@@ -97,7 +97,7 @@ module _ (flat : FlatModule) (text : Text) (known : Known) (named : List ℕ →
   ]
 
   -- the name of a definition stands for what that gives
-  pub definition-for : (layout : Layout) (setting : Setting) (seen : List Meaning) → Knows flat text known named faces layout setting seen → (form : Form.the_data) (s : Span) (parts : Trees) (lead : List Named → Lead) (roots : List ℕ) (asked : List Question) → Each flat text known named means implied faces parts → IsDefined text means implied faces flat setting (Node form s parts) lead roots asked → IsReadableDefinition text known named means implied faces layout.context (Node form s parts) → Fresh text seen (declared_in as_binding.Constant (Node form s parts)) → StandsFor flat text known named layout (Node form s parts) lead
+  pub definition-for : (layout : Layout) (setting : Setting) (seen : Meaning → Bool) → Knows flat text known named faces layout setting seen → (form : Form.the_data) (s : Span) (parts : Trees) (lead : List Named → Lead) (roots : List ℕ) (asked : List Question) → Each flat text known named means implied faces parts → IsDefined text means implied faces flat setting (Node form s parts) lead roots asked → IsReadableDefinition text known named means implied faces layout.context (Node form s parts) → Fresh text seen (declared_in as_binding.Constant (Node form s parts)) → StandsFor flat text known named layout (Node form s parts) lead
   definition-for layout setting seen knows form s parts lead roots asked each made can fresh = by_defines (defines form) refl made can
     where
       by_defines : (d : Defines) → defines form ≡ d → IsDefinedBy layout setting form s parts lead roots asked d → IsReadBy layout form parts d → StandsFor flat text known named layout (Node form s parts) lead
@@ -130,13 +130,13 @@ module _ (flat : FlatModule) (text : Text) (known : Known) (named : List ℕ →
     | false ↦ (part_of form ≡ Whole) × (places_at text known named layout.context (Node form s parts) ≡ None) × IsReadable text known named means implied faces layout.context (Node form s parts) × (rest ≡ Nil)
   ]
 
-  chain-meant : (parts : Trees) (layout : Layout) (setting : Setting) (seen : List Meaning) (body : Option ℕ) (roots : List ℕ) (asked : List Question) → Each flat text known named means implied faces parts → Knows flat text known named faces layout setting seen → IsChain text means implied faces flat setting parts body roots asked → IsReadableChain text known named means implied faces layout.context parts → Fresh text seen (declared_among as_binding.Constant parts) → IsChainMeant layout parts body
+  chain-meant : (parts : Trees) (layout : Layout) (setting : Setting) (seen : Meaning → Bool) (body : Option ℕ) (roots : List ℕ) (asked : List Question) → Each flat text known named means implied faces parts → Knows flat text known named faces layout setting seen → IsChain text means implied faces flat setting parts body roots asked → IsReadableChain text known named means implied faces layout.context parts → Fresh text seen (declared_among as_binding.Constant parts) → IsChainMeant layout parts body
   chain-meant Nil layout setting seen body roots asked each knows made can fresh = absurd can
   chain-meant (Cons (Node form s parts) rest) layout setting seen body roots asked each knows (a, b, asks, made) can fresh =
       by_help (helps form) refl made can
       (λ next then before others bs knows-on made-on can-on fresh-on. chain-meant rest next then before body others bs each.2 knows-on made-on can-on fresh-on)
     where
-      by_help : (help : Bool) → helps form ≡ help → IsLinkedBy setting form s parts rest body roots a b help → IsLinkRead layout form s parts rest help → ((next : Layout) (then : Setting) (before : List Meaning) (others : List ℕ) (bs : List Question) → Knows flat text known named faces next then before → IsChain text means implied faces flat then rest body others bs → IsReadableChain text known named means implied faces next.context rest → Fresh text before (declared_among as_binding.Constant rest) → IsChainMeant next rest body) → IsChainMeant layout (Cons (Node form s parts) rest) body
+      by_help : (help : Bool) → helps form ≡ help → IsLinkedBy setting form s parts rest body roots a b help → IsLinkRead layout form s parts rest help → ((next : Layout) (then : Setting) (before : Meaning → Bool) (others : List ℕ) (bs : List Question) → Knows flat text known named faces next then before → IsChain text means implied faces flat then rest body others bs → IsReadableChain text known named means implied faces next.context rest → Fresh text before (declared_among as_binding.Constant rest) → IsChainMeant next rest body) → IsChainMeant layout (Cons (Node form s parts) rest) body
       by_help true e (lead, first, others, is, chain, joined) (can-here, can-rest) again =
           let new = first-fresh text seen (Node form s parts) rest fresh in
           let found = definition-for layout setting seen knows form s parts lead first a each.1 is can-here new in

@@ -34,7 +34,7 @@ use Rattle.flattened_meanings.proofs.Fresh.{Fresh, whole-names}
 use Rattle.flattened_meanings.proofs.Rounds.{Knows}
 use Rattle.flattened_meanings.proofs.Operands.{Each, arguments-fit, path-fits}
 
-module _ (flat : FlatModule) (text : Text) (known : Known) (named : List ℕ → Outside) (means : ℕ → Option Meaning) (implied : ℕ → List Meaning) (faces : List ℕ → FlatFace) (layout : Layout) (setting : Setting) (seen : List Meaning) (knows : Knows flat text known named faces layout setting seen) (frame more : List Item) (around : Around) (agrees : Agrees flat layout frame around) where
+module _ (flat : FlatModule) (text : Text) (known : Known) (named : List ℕ → Outside) (means : ℕ → Option Meaning) (implied : ℕ → List Meaning) (faces : List ℕ → FlatFace) (layout : Layout) (setting : Setting) (seen : Meaning → Bool) (knows : Knows flat text known named faces layout setting seen) (frame more : List Item) (around : Around) (agrees : Agrees flat layout frame around) where
   -- a node is made of a name
   abbrev IsNode : Option ℕ → Stand → List Item → Steps → FlatNode → Type 0
   IsNode o stand arguments path node = IsNamed o stand arguments path node.form (items_at (text_at flat) node.parts (frame ++ more))

@@ -45,7 +45,7 @@ module _ (flat : FlatModule) (text : Text) (known : Known) (named : List ℕ →
   -- a tree is meant by the node that it is, whatever is known round it
   abbrev pub IsKept : Tree → Type 0
   IsKept x =
-      (layout : Layout) (setting : Setting) (seen : List Meaning) (i : ℕ) (asked : List Question) → Knows flat text known named faces layout setting seen
+      (layout : Layout) (setting : Setting) (seen : Meaning → Bool) (i : ℕ) (asked : List Question) → Knows flat text known named faces layout setting seen
       → IsFlattened text means implied faces flat setting x i asked
       → IsReadable text known named means implied faces layout.context x
       → Fresh text seen (declared_in as_binding.Constant x)
@@ -92,17 +92,17 @@ module _ (flat : FlatModule) (text : Text) (known : Known) (named : List ℕ →
   ]
 
   -- what is declared in the expressions of a part is new, by what it is
-  abbrev pub IsNewAs : List Meaning → Form.the_data → Span → Trees → Part → Type 0
+  abbrev pub IsNewAs : (Meaning → Bool) → Form.the_data → Span → Trees → Part → Type 0
   IsNewAs seen form s parts p = Fresh text seen (elim p [ Outer ↦ whole-names text parts | Helper ↦ whole-names text parts | Whole ↦ declared_in as_binding.Constant (Node form s parts) ])
 
   -- parts of a part give these operands
-  abbrev IsGivenBy : Layout → Setting → List Meaning → List Item → Trees → Operands → Type 0
+  abbrev IsGivenBy : Layout → Setting → (Meaning → Bool) → List Item → Trees → Operands → Type 0
   IsGivenBy layout setting seen s parts ts =
       (js : List ℕ) (bs : List Question) → AreOperands text means implied faces flat all_parts setting parts js bs
       → AreReadable text known named means implied faces layout.context layout.context parts → Fresh text seen (whole-names text parts) → given js s ≡ ts
 
   -- the operands of parts, by what is known round those outside and those inside of a scope
-  pub operands-given : (parts : Trees) (outside inside : Layout) (setting : Setting) (seen : List Meaning) (is : List ℕ) (asked : List Question) → Each parts → Knows flat text known named faces outside setting seen → Knows flat text known named faces inside setting seen → AreOperands text means implied faces flat all_parts setting parts is asked → AreReadable text known named means implied faces outside.context inside.context parts → Fresh text seen (whole-names text parts) → (frame more : List Item) (o a : Around) → Agrees flat outside frame o → Agrees flat inside frame a → given is (frame ++ more) ≡ operands text known named o a parts
+  pub operands-given : (parts : Trees) (outside inside : Layout) (setting : Setting) (seen : Meaning → Bool) (is : List ℕ) (asked : List Question) → Each parts → Knows flat text known named faces outside setting seen → Knows flat text known named faces inside setting seen → AreOperands text means implied faces flat all_parts setting parts is asked → AreReadable text known named means implied faces outside.context inside.context parts → Fresh text seen (whole-names text parts) → (frame more : List Item) (o a : Around) → Agrees flat outside frame o → Agrees flat inside frame a → given is (frame ++ more) ≡ operands text known named o a parts
   operands-given Nil outside inside setting seen is asked each knows-out knows made readable fresh frame more o a agrees-out agrees = ap (λ js. given js (frame ++ more)) made.0
   operands-given (Cons (Node form s parts) rest) outside inside setting seen is asked each knows-out knows (first, others, b, c, parted, asks, one, rest-made) readable fresh frame more o a agrees-out agrees =
       given-parted is first others (frame ++ more) _ _ parted
@@ -124,7 +124,7 @@ module _ (flat : FlatModule) (text : Text) (known : Known) (named : List ℕ →
 
   -- ---- arguments
 
-  module _ (layout : Layout) (setting : Setting) (seen : List Meaning) (knows : Knows flat text known named faces layout setting seen) (frame more : List Item) (around : Around) (agrees : Agrees flat layout frame around) where
+  module _ (layout : Layout) (setting : Setting) (seen : Meaning → Bool) (knows : Knows flat text known named faces layout setting seen) (frame more : List Item) (around : Around) (agrees : Agrees flat layout frame around) where
     pub arguments-fit : (parts : Trees) (orders is : List ℕ) (asked : List Question) → Each parts → AreOperands text means implied faces flat all_parts setting parts is asked → AreArguments text known named means implied faces layout.context orders parts → Fresh text seen (whole-names text parts) → Fits orders (items_at (text_at flat) is (frame ++ more)) (items text known named around parts)
     arguments-fit Nil [] is asked each made can fresh = subst (λ js. Fits [] (items_at (text_at flat) js (frame ++ more)) []) (sym made.0) tt
     arguments-fit Nil (order ∷ orders) is asked each made can fresh = absurd can

@@ -80,7 +80,7 @@ ruled-places : (rule : Option Rule) (is : List ℕ) → (ruled_node rule is).pla
 ruled-places None is = refl
 ruled-places (Some rule) is = refl
 
-module _ (flat : FlatModule) (text : Text) (known : Known) (named : List ℕ → Outside) (means : ℕ → Option Meaning) (implied : ℕ → List Meaning) (faces : List ℕ → FlatFace) (layout : Layout) (setting : Setting) (seen : List Meaning) (knows : Knows flat text known named faces layout setting seen) (frame more : List Item) (around : Around) (agrees : Agrees flat layout frame around) where
+module _ (flat : FlatModule) (text : Text) (known : Known) (named : List ℕ → Outside) (means : ℕ → Option Meaning) (implied : ℕ → List Meaning) (faces : List ℕ → FlatFace) (layout : Layout) (setting : Setting) (seen : Meaning → Bool) (knows : Knows flat text known named faces layout setting seen) (frame more : List Item) (around : Around) (agrees : Agrees flat layout frame around) where
   pub node-has-places : (form : Form.the_data) (s : Span) (parts : Trees) (i : ℕ) (asked : List Question) → Each flat text known named means implied faces parts → IsFlattened text means implied faces flat setting (Node form s parts) i asked → IsReadable text known named means implied faces layout.context (Node form s parts) → Fresh text seen (declared_in as_binding.Constant (Node form s parts)) → places_of (slice_get flat.nodes i) ≡ places_at text known named layout.context (Node form s parts)
   node-has-places Form.Identifier s parts i asked each (is, a, made, there, asks) can fresh =
       ap places_of there ∙ identifier-has-places flat text known named means implied faces layout setting seen knows frame more around agrees s parts is a each made can.0 can.1 (wholes-fresh text seen Form.Identifier s parts fresh)

@@ -1,6 +1,6 @@
 -- What is known round a tree, and how it is kept in scopes and behind definitions.
 use Rattle.std.proofs.Common.{◌≡◌, inl, inr, ℕ, zero, suc, ◌+◌, ◌<◌, ◌≤◌, Bool, true, false, cond, List, [], ◌∷◌, ◌++◌, Option, Some, None, map, refl, sym, ap, ◌∙◌, subst, length, arith}
-use Rattle.std.specs.Prelude.{◌⊎◌, replicate}
+use Rattle.std.specs.Prelude.{◌⊎◌, not, replicate}
 use Rattle.std.proofs.lemmas.List.{length-append}
 use Rattle.tla_symbols.specs.declared.lexeme.Lexeme.{Lexeme}
 use Rattle.tla_symbols.specs.declared.lexeme.Span.{Span}
@@ -25,7 +25,7 @@ use Rattle.flat_trees.specs.Layouts.{Layout, layout_before, layout_behind, layou
 use Rattle.flattened_trees.specs.declared.End.TheVariants as end
 use Rattle.flattened_trees.specs.Leads.{FlatFace, Lead, Leads, Setting, behind, only, repeating, with_lead, with_leads, with_parameters, with_places as with_lead_places}
 use Rattle.flattened_trees.specs.Readable.{orders_of}
-use Rattle.flattened_trees.specs.Agreeing.{IsSeen, IsSettingOf, KeepsOrders, TakesAs, is_seen, lead_by, unsaid_stand}
+use Rattle.flattened_trees.specs.Agreeing.{IsSettingOf, KeepsOrders, TakesAs, lead_by, unsaid_stand}
 use Rattle.flattened_meanings.specs.Faces.{AreFacesOf, IsFaceOf, StandsAs}
 use Rattle.flattened_meanings.proofs.Fresh.{Fresh, IsOneOf, mark, one-counts, seen-none, seen-with, seen-still, times, times-append, unseen-before}
 
@@ -101,24 +101,16 @@ module _ (text : Text) where
 
   -- ---- what was seen
 
-  counted-seen : (names : List Binder) (seen : List Meaning) (m : Meaning) → 1 ≤ times text m names → is_seen (seen-with text names seen) m ≡ true
+  counted-seen : (names : List Binder) (seen : Meaning → Bool) (m : Meaning) → 1 ≤ times text m names → seen-with text names seen m ≡ true
   counted-seen [] seen m some = absurd (omega (arith, some))
   counted-seen (x ∷ rest) seen m some = by_sameness (same_meaning m (meant text x)) some (counted-seen rest seen m)
     where
-      by_sameness : (b : Bool) → 1 ≤ mark b + times text m rest → (1 ≤ times text m rest → is_seen (seen-with text rest seen) m ≡ true) → cond b true (is_seen (seen-with text rest seen) m) ≡ true
+      by_sameness : (b : Bool) → 1 ≤ mark b + times text m rest → (1 ≤ times text m rest → seen-with text rest seen m ≡ true) → cond b true (seen-with text rest seen m) ≡ true
       by_sameness true l again = refl
       by_sameness false l again = again (omega (arith, l))
 
-  counted-one : (names : List Binder) (m : Meaning) → 1 ≤ times text m names → (b : Binder) × (same_meaning m (meant text b) ≡ true)
-  counted-one [] m some = absurd (omega (arith, some))
-  counted-one (x ∷ rest) m some = by_sameness (same_meaning m (meant text x)) refl some (counted-one rest m)
-    where
-      by_sameness : (b : Bool) → same_meaning m (meant text x) ≡ b → 1 ≤ mark b + times text m rest → (1 ≤ times text m rest → (b : Binder) × (same_meaning m (meant text b) ≡ true)) → (b : Binder) × (same_meaning m (meant text b) ≡ true)
-      by_sameness true e l again = (x, e)
-      by_sameness false e l again = again (omega (arith, l))
-
-  counted-unseen : (seen : List Meaning) (names : List Binder) (m : Meaning) → Fresh text seen names → 1 ≤ times text m names → is_seen seen m ≡ false
-  counted-unseen seen names m fresh some = by_mark (is_seen seen m) (fresh m)
+  counted-unseen : (seen : Meaning → Bool) (names : List Binder) (m : Meaning) → Fresh text seen names → 1 ≤ times text m names → seen m ≡ false
+  counted-unseen seen names m fresh some = by_mark (seen m) (fresh m)
     where
       by_mark : (b : Bool) → times text m names + mark b ≤ 1 → b ≡ false
       by_mark true l = absurd (omega (arith, l, some))
@@ -196,16 +188,25 @@ places-with (m ∷ rest) stands leads place all =
 
 -- ---- all that is known
 
+not-true : (b : Bool) → not b ≡ true → b ≡ false
+not-true true e = cc
+not-true false e = refl
+
 module _ (flat : FlatModule) (text : Text) (known : Known) (named : List ℕ → Outside) (faces : List ℕ → FlatFace) where
+  -- names that can be used were seen, and nothing is said of others
+  pub record HasSeen (seen : Meaning → Bool) (layout : Layout) : Type 0 where
+    pub context : (name : Named) (m : Meaning) → meaning_of layout.context name ≡ Some m → seen m ≡ true
+    pub stands : (m : Meaning) → seen m ≡ false → layout.stands m ≡ unsaid_stand m
+
   -- what is known round a tree
-  pub record Knows (layout : Layout) (setting : Setting) (seen : List Meaning) : Type 0 where
+  pub record Knows (layout : Layout) (setting : Setting) (seen : Meaning → Bool) : Type 0 where
     pub settings : IsSettingOf layout setting
     pub orders : KeepsOrders known layout
-    pub all_seen : IsSeen seen layout
-    pub modules : AreFacesOf flat text seen layout.stands faces named
+    pub all_seen : HasSeen seen layout
+    pub modules : AreFacesOf flat (λ m. not (seen m)) layout.stands faces named
 
   -- with more names seen, in a context that has more of these, where they are said to be something
-  face-moved : (seen : List Meaning) (names : List Binder) (here next : Meaning → Stand) (face : FlatFace) (outside : Outside) → Fresh text seen names → ((m : Meaning) → times text m names ≡ 0 → next m ≡ here m) → IsFaceOf flat text seen here face outside → IsFaceOf flat text (seen-with text names seen) next face outside
+  face-moved : (seen : Meaning → Bool) (names : List Binder) (here next : Meaning → Stand) (face : FlatFace) (outside : Outside) → Fresh text seen names → ((m : Meaning) → times text m names ≡ 0 → next m ≡ here m) → IsFaceOf flat (λ m. not (seen m)) here face outside → IsFaceOf flat (λ m. not (seen-with text names seen m)) next face outside
   face-moved seen names here next face outside fresh same is =
       record {
         base = is.base;
@@ -215,17 +216,16 @@ module _ (flat : FlatModule) (text : Text) (known : Known) (named : List ℕ →
         takes = is.takes;
         apart = is.apart;
         symbols = λ m. by_times m (times text m names) refl;
-        unsaid = λ b m alike none. is.unsaid b m alike (unseen-before text names seen m none).0;
+        unsaid = λ m none. is.unsaid m (ap not (unseen-before text names seen m (not-true (seen-with text names seen m) none)).0);
       }
     where
       by_times : (m : Meaning) (n : ℕ) → times text m names ≡ n → StandsAs face.outer (is.base m) (next m)
       by_times m zero e = subst (λ stand. StandsAs face.outer (is.base m) stand) (sym (same m e)) (is.symbols m)
       by_times m (suc n) e =
           let some : 1 ≤ times text m names = omega (arith, e) in
-          let one = counted-one text names m some in
-          subst (λ stand. StandsAs face.outer stand (next m)) (sym (is.unsaid one.0 m one.1 (counted-unseen text seen names m fresh some))) tt
+          subst (λ stand. StandsAs face.outer stand (next m)) (sym (is.unsaid m (ap not (counted-unseen text seen names m fresh some)))) tt
 
-  moved : (layout next : Layout) (setting then : Setting) (seen : List Meaning) (names : List Binder) → Knows layout setting seen → Fresh text seen names → IsSettingOf next then → ((m : Meaning) → times text m names ≡ 0 → next.stands m ≡ layout.stands m) → ((name : Named) (m : Meaning) → meaning_of next.context name ≡ Some m → (meaning_of layout.context name ≡ Some m) ⊎ ((1 ≤ times text m names) × TakesAs (next.stands m) (behind_meaning known (Some m)) m)) → Knows next then (seen-with text names seen)
+  moved : (layout next : Layout) (setting then : Setting) (seen : Meaning → Bool) (names : List Binder) → Knows layout setting seen → Fresh text seen names → IsSettingOf next then → ((m : Meaning) → times text m names ≡ 0 → next.stands m ≡ layout.stands m) → ((name : Named) (m : Meaning) → meaning_of next.context name ≡ Some m → (meaning_of layout.context name ≡ Some m) ⊎ ((1 ≤ times text m names) × TakesAs (next.stands m) (behind_meaning known (Some m)) m)) → Knows next then (seen-with text names seen)
   moved layout next setting then seen names knows fresh settings same brings =
       record {
         settings = settings;
@@ -244,12 +244,12 @@ module _ (flat : FlatModule) (text : Text) (known : Known) (named : List ℕ →
           subst (λ stand. TakesAs stand (behind_meaning known (Some m)) m) (sym (same m none)) (knows.orders name m before)
       by_orders name m (inr new) = new.1
 
-      by_seen : (name : Named) (m : Meaning) → ((meaning_of layout.context name ≡ Some m) ⊎ ((1 ≤ times text m names) × TakesAs (next.stands m) (behind_meaning known (Some m)) m)) → is_seen (seen-with text names seen) m ≡ true
+      by_seen : (name : Named) (m : Meaning) → ((meaning_of layout.context name ≡ Some m) ⊎ ((1 ≤ times text m names) × TakesAs (next.stands m) (behind_meaning known (Some m)) m)) → seen-with text names seen m ≡ true
       by_seen name m (inl before) = seen-still text names seen m (knows.all_seen.context name m before)
       by_seen name m (inr new) = counted-seen text names seen m new.0
 
   -- with other nodes that `@` repeats
-  pub repeating-known : (layout : Layout) (setting : Setting) (seen : List Meaning) (olds : List ℕ) → Knows layout setting seen → Knows (layout_repeating layout olds) (repeating setting olds) seen
+  pub repeating-known : (layout : Layout) (setting : Setting) (seen : Meaning → Bool) (olds : List ℕ) → Knows layout setting seen → Knows (layout_repeating layout olds) (repeating setting olds) seen
   repeating-known layout setting seen olds knows =
       record {
         settings = record { leads = knows.settings.leads; places = knows.settings.places; olds = refl };
@@ -258,7 +258,7 @@ module _ (flat : FlatModule) (text : Text) (known : Known) (named : List ℕ →
         modules = knows.modules;
       }
 
-  module _ (layout : Layout) (setting : Setting) (seen : List Meaning) (knows : Knows layout setting seen) (form : Form.the_data) (s : Span) (parts : Trees) where
+  module _ (layout : Layout) (setting : Setting) (seen : Meaning → Bool) (knows : Knows layout setting seen) (form : Form.the_data) (s : Span) (parts : Trees) where
     -- the names of the form
     abbrev pub scoped : List Binder
     scoped = defined form parts ++ binders form parts

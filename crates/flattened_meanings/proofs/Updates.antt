@@ -28,7 +28,7 @@ module _ (flat : FlatModule) (text : Text) (known : Known) (named : List ℕ →
   IsTakenAs taken setting form s parts first b p = elim taken [ true ↦ IsMadeAs flat text known named means implied faces setting form s parts first b p | false ↦ (first ≡ []) × (b ≡ []) ]
 
   -- the indices
-  outers-given : (parts : Trees) (outside inside : Layout) (setting : Setting) (seen : List Meaning) (is : List ℕ) (asked : List Question) → Each flat text known named means implied faces parts → Knows flat text known named faces outside setting seen → AreOperands text means implied faces flat stands_outside setting parts is asked → AreReadable text known named means implied faces outside.context inside.context parts → Fresh text seen (whole-names text parts) → AreOuters flat text known named means implied faces outside is parts
+  outers-given : (parts : Trees) (outside inside : Layout) (setting : Setting) (seen : Meaning → Bool) (is : List ℕ) (asked : List Question) → Each flat text known named means implied faces parts → Knows flat text known named faces outside setting seen → AreOperands text means implied faces flat stands_outside setting parts is asked → AreReadable text known named means implied faces outside.context inside.context parts → Fresh text seen (whole-names text parts) → AreOuters flat text known named means implied faces outside is parts
   outers-given Nil outside inside setting seen is asked each knows made can fresh frame more o agrees = ap (λ js. given flat text known named means implied faces js (frame ++ more)) made.0
   outers-given (Cons (Node form s parts) rest) outside inside setting seen is asked each knows (first, others, b, c, parted, asks, one, rest-made) can fresh frame more o agrees =
       outers-next flat text known named means implied faces outside first others is form s parts rest parted
@@ -57,7 +57,7 @@ module _ (flat : FlatModule) (text : Text) (known : Known) (named : List ℕ →
   outer-operands o parts out = elim out [ true ↦ operands text known named o o parts | false ↦ Operands.Nil ]
 
   module _ (o a : Around) (frame more : List Item) where
-    values-given : (parts : Trees) (outside inside : Layout) (setting : Setting) (seen : List Meaning) (values : List ℕ) (asked : List Question) → Each flat text known named means implied faces parts → Knows flat text known named faces inside setting seen → EndsWhole parts → AreOperands text means implied faces flat inside_parts setting parts values asked → AreReadable text known named means implied faces outside.context inside.context parts → Fresh text seen (whole-names text parts) → Agrees flat inside frame a → operands text known named o a parts ≡ and_operands (outer_operands text known named o parts) (given flat text known named means implied faces values (frame ++ more))
+    values-given : (parts : Trees) (outside inside : Layout) (setting : Setting) (seen : Meaning → Bool) (values : List ℕ) (asked : List Question) → Each flat text known named means implied faces parts → Knows flat text known named faces inside setting seen → EndsWhole parts → AreOperands text means implied faces flat inside_parts setting parts values asked → AreReadable text known named means implied faces outside.context inside.context parts → Fresh text seen (whole-names text parts) → Agrees flat inside frame a → operands text known named o a parts ≡ and_operands (outer_operands text known named o parts) (given flat text known named means implied faces values (frame ++ more))
     values-given Nil outside inside setting seen values asked each knows whole made can fresh agrees = absurd whole
     values-given (Cons (Node form s parts) rest) outside inside setting seen values asked each knows whole (first, others, b, c, parted, asks, one, rest-made) can fresh agrees =
         by_part (part_of form) refl (stands_outside form) refl whole one can.0 (fresh-left text seen _ (whole-names text rest) fresh)
@@ -94,7 +94,7 @@ module _ (flat : FlatModule) (text : Text) (known : Known) (named : List ℕ →
             no-others Nil e made = made.0
             no-others (Cons x xs) e made = cc
 
-  pub updates-given : (updates : Trees) (layout : Layout) (setting : Setting) (seen : List Meaning) (f : ℕ) (is : List ℕ) (asked : List Question) → Each flat text known named means implied faces updates → Knows flat text known named faces layout setting seen → AreUpdates text means implied faces flat setting f updates is asked → AreUpdatesWritten updates → AreReadable text known named means implied faces layout.context layout.context updates → Fresh text seen (whole-names text updates) → (frame more : List Item) (around : Around) (function : Expanded) → Agrees flat layout frame around → ((longer : List Item) → (text_at flat f (frame ++ longer)).text ≡ function) → given flat text known named means implied faces is (frame ++ more) ≡ updated text known named around function updates
+  pub updates-given : (updates : Trees) (layout : Layout) (setting : Setting) (seen : Meaning → Bool) (f : ℕ) (is : List ℕ) (asked : List Question) → Each flat text known named means implied faces updates → Knows flat text known named faces layout setting seen → AreUpdates text means implied faces flat setting f updates is asked → AreUpdatesWritten updates → AreReadable text known named means implied faces layout.context layout.context updates → Fresh text seen (whole-names text updates) → (frame more : List Item) (around : Around) (function : Expanded) → Agrees flat layout frame around → ((longer : List Item) → (text_at flat f (frame ++ longer)).text ≡ function) → given flat text known named means implied faces is (frame ++ more) ≡ updated text known named around function updates
   updates-given Nil layout setting seen f is asked each knows made written can fresh frame more around function agrees gives = ap (λ js. given flat text known named means implied faces js (frame ++ more)) made.0
   updates-given (Cons (Node form s parts) rest) layout setting seen f is asked each knows (indices, values, others, b, c, d, outers, insides, rest-made, parted, asks) (help, whole, rest-written) can fresh frame more around function agrees gives =
       let then = layout_repeating layout (f ∷ indices) in

@@ -1,16 +1,15 @@
 -- When modules are to their instances what a flat module has for them, round a tree that names them.
-use Rattle.std.specs.Prelude.{◌≡◌, ℕ, ◌<◌, true, false, List, [], ◌∷◌, Some}
+use Rattle.std.specs.Prelude.{◌≡◌, ℕ, ◌<◌, Bool, true, List, [], ◌∷◌, Some}
 use Rattle.std.specs.List.{AllByRecursion}
-use Rattle.tla_model.specs.declared.names.Binder.{Binder}
 use Rattle.tla_model.specs.Tables.{Named}
-use Rattle.tla_model.specs.Entities.{Meaning, Text, meant, same_meaning}
+use Rattle.tla_model.specs.Entities.{Meaning}
 use Rattle.module_model.specs.Exports.{behind_instance, entry_of, onward}
 use Rattle.kind_text.specs.FlatModule.{FlatModule}
 use Rattle.tree_kinds.specs.Standing.{Outside}
 use Rattle.flat_trees.specs.Stands.{Stand, Unsaid, Leaf, Place}
 use Rattle.flat_trees.specs.Instances.{IsModuleBehind}
 use Rattle.flattened_trees.specs.Leads.{FlatFace}
-use Rattle.flattened_trees.specs.Agreeing.{TakesBehind, is_seen, lead_by}
+use Rattle.flattened_trees.specs.Agreeing.{TakesBehind, lead_by}
 
 -- where the first so many places stay, a name stands for what it stands for here; or nothing is said of it
 abbrev pub StandsAs : ℕ → Stand → Stand → Type 0
@@ -19,11 +18,10 @@ StandsAs outer (Leaf kind) here = here ≡ Leaf kind
 StandsAs outer (Place place order) here = (place < outer) × (here ≡ Place place order)
 StandsAs outer _ here = ⊥
 
-module _ (flat : FlatModule) (text : Text) where
-  -- a module is that to its instances, by what names stand for here and by those that were seen: its names stand so behind the symbols of
-  -- the modules round it, which stand for what they do here; its own are found by their names; and nothing is said there of names of this
-  -- text that were not seen
-  pub record IsFaceOf (seen : List Meaning) (here : Meaning → Stand) (face : FlatFace) (outside : Outside) : Type 0 where
+module _ (flat : FlatModule) where
+  -- a module is that to its instances, by what names stand for here and by which are new: its names stand so behind the symbols of the
+  -- modules round it, which stand for what they do here; its own symbols are found by their names; and nothing is said there of new names
+  pub record IsFaceOf (new : Meaning → Bool) (here : Meaning → Stand) (face : FlatFace) (outside : Outside) : Type 0 where
     pub base : Meaning → Stand
     pub inner : Named → Stand
     pub leads : (name : Named) (names : List Named) → face.leads (name ∷ names) ≡ lead_by (inner name) names
@@ -31,8 +29,8 @@ module _ (flat : FlatModule) (text : Text) where
     pub takes : (name : Named) (next : Meaning) → entry_of (behind_instance outside.view []) name ≡ Some next → TakesBehind (inner name) (onward (behind_instance outside.view) name) next
     pub apart : AllByRecursion (λ parameter. entry_of outside.view.parameters parameter.0 ≡ Some parameter.1) outside.view.parameters
     pub symbols : (meaning : Meaning) → StandsAs face.outer (base meaning) (here meaning)
-    pub unsaid : (binder : Binder) (meaning : Meaning) → same_meaning meaning (meant text binder) ≡ true → is_seen seen meaning ≡ false → base meaning ≡ Unsaid
+    pub unsaid : (meaning : Meaning) → new meaning ≡ true → base meaning ≡ Unsaid
 
   -- each module is to its instances what is known of it
-  abbrev pub AreFacesOf : List Meaning → (Meaning → Stand) → (List ℕ → FlatFace) → (List ℕ → Outside) → Type 0
-  AreFacesOf seen here faces named = (name : List ℕ) → IsFaceOf seen here (faces name) (named name)
+  abbrev pub AreFacesOf : (Meaning → Bool) → (Meaning → Stand) → (List ℕ → FlatFace) → (List ℕ → Outside) → Type 0
+  AreFacesOf new here faces named = (name : List ℕ) → IsFaceOf new here (faces name) (named name)
