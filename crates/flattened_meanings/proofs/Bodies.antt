@@ -104,21 +104,21 @@ module _ (flat : FlatModule) (text : Text) (known : Known) (named : List ℕ →
   body-next layout i form s parts rest help none body frame more around agrees =
       body frame more around agrees ∙ sym (ap (λ (x : Item). x.text) (inner-next around form s parts rest help none))
 
-  module _ (means : ℕ → Option Meaning) (implied : ℕ → List Meaning) (faces : List ℕ → FlatFace) where
+  module _ (means : ℕ → Option Meaning) (implied : ℕ → List Meaning) (faces : List ℕ → FlatFace) (nameable : List ℕ → Bool) where
     -- the operands of parts that stand outside
     abbrev pub AreOuters : Layout → List ℕ → Trees → Type 0
-    AreOuters outside outers parts = (frame more : List Item) (o : Around) → Agrees flat outside frame o → given flat text known named means implied faces outers (frame ++ more) ≡ outer_operands text known named o parts
+    AreOuters outside outers parts = (frame more : List Item) (o : Around) → Agrees flat outside frame o → given flat text known named means implied faces nameable outers (frame ++ more) ≡ outer_operands text known named o parts
 
-    pub outers-next : (outside : Layout) (first others is : List ℕ) (form : Form.the_data) (s : Span) (parts rest : Trees) → is ≡ first ++ others → ((frame more : List Item) (o : Around) → Agrees flat outside frame o → given flat text known named means implied faces first (frame ++ more) ≡ elim (stands_outside form) [ true ↦ operands text known named o o parts | false ↦ Operands.Nil ]) → AreOuters outside others rest → AreOuters outside is (Cons (Node form s parts) rest)
+    pub outers-next : (outside : Layout) (first others is : List ℕ) (form : Form.the_data) (s : Span) (parts rest : Trees) → is ≡ first ++ others → ((frame more : List Item) (o : Around) → Agrees flat outside frame o → given flat text known named means implied faces nameable first (frame ++ more) ≡ elim (stands_outside form) [ true ↦ operands text known named o o parts | false ↦ Operands.Nil ]) → AreOuters outside others rest → AreOuters outside is (Cons (Node form s parts) rest)
     outers-next outside first others is form s parts rest parted one after frame more o agrees =
-        given-parted flat text known named means implied faces is first others (frame ++ more) _ _ parted (one frame more o agrees) (after frame more o agrees)
+        given-parted flat text known named means implied faces nameable is first others (frame ++ more) _ _ parted (one frame more o agrees) (after frame more o agrees)
 
-    pub outer-here : (outside : Layout) (first : List ℕ) (form : Form.the_data) (parts : Trees) (o : Around) (s : List Item) → stands_outside form ≡ true → given flat text known named means implied faces first s ≡ operands text known named o o parts → given flat text known named means implied faces first s ≡ elim (stands_outside form) [ true ↦ operands text known named o o parts | false ↦ Operands.Nil ]
+    pub outer-here : (outside : Layout) (first : List ℕ) (form : Form.the_data) (parts : Trees) (o : Around) (s : List Item) → stands_outside form ≡ true → given flat text known named means implied faces nameable first s ≡ operands text known named o o parts → given flat text known named means implied faces nameable first s ≡ elim (stands_outside form) [ true ↦ operands text known named o o parts | false ↦ Operands.Nil ]
     outer-here outside first form parts o s e same = same ∙ sym (ap (λ b. elim b [ true ↦ operands text known named o o parts | false ↦ Operands.Nil ]) e)
 
-    pub outer-none : (outside : Layout) (first : List ℕ) (form : Form.the_data) (parts : Trees) (o : Around) (s : List Item) → stands_outside form ≡ false → first ≡ [] → given flat text known named means implied faces first s ≡ elim (stands_outside form) [ true ↦ operands text known named o o parts | false ↦ Operands.Nil ]
+    pub outer-none : (outside : Layout) (first : List ℕ) (form : Form.the_data) (parts : Trees) (o : Around) (s : List Item) → stands_outside form ≡ false → first ≡ [] → given flat text known named means implied faces nameable first s ≡ elim (stands_outside form) [ true ↦ operands text known named o o parts | false ↦ Operands.Nil ]
     outer-none outside first form parts o s e none =
-        ap (λ js. given flat text known named means implied faces js s) none ∙ sym (ap (λ b. elim b [ true ↦ operands text known named o o parts | false ↦ Operands.Nil ]) e)
+        ap (λ js. given flat text known named means implied faces nameable js s) none ∙ sym (ap (λ b. elim b [ true ↦ operands text known named o o parts | false ↦ Operands.Nil ]) e)
 
     -- the nodes of parts that end with an expression: those outside, and the body
     pub record Ends (outside inside : Layout) (is : List ℕ) (parts : Trees) : Type 0 where
@@ -129,13 +129,13 @@ module _ (flat : FlatModule) (text : Text) (known : Known) (named : List ℕ →
       pub means_body : IsBody flat text known named inside body parts
       pub means_outers : AreOuters outside outers parts
 
-    pub ends : (parts : Trees) (outside inside : Layout) (setting : Setting) (seen : Meaning → Bool) (is : List ℕ) (asked : List Question) → Each flat text known named means implied faces parts → Knows flat text known named faces outside setting seen → Knows flat text known named faces inside setting seen → EndsWhole parts → AreOperands text means implied faces flat all_parts setting parts is asked → AreReadable text known named means implied faces outside.context inside.context parts → Fresh text seen (whole-names text parts) → Ends outside inside is parts
+    pub ends : (parts : Trees) (outside inside : Layout) (setting : Setting) (seen : Meaning → Bool) (is : List ℕ) (asked : List Question) → Each flat text known named means implied faces nameable parts → Knows flat text known named faces nameable outside setting seen → Knows flat text known named faces nameable inside setting seen → EndsWhole parts → AreOperands text means implied faces flat all_parts setting parts is asked → AreReadable text known named means implied faces outside.context inside.context parts → Fresh text seen (whole-names text parts) → Ends outside inside is parts
     ends Nil outside inside setting seen is asked each knows-out knows whole made can fresh = absurd whole
     ends (Cons (Node form s parts) rest) outside inside setting seen is asked each knows-out knows whole (first, others, b, c, parted, asks, one, rest-made) can fresh =
         by_part (part_of form) refl whole one can.0 (fresh-left text seen _ (whole-names text rest) fresh)
         (λ left. ends rest outside inside setting seen others c each.2 knows-out knows left rest-made can.1 (fresh-right text seen _ (whole-names text rest) fresh))
       where
-        by_part : (p : Part) → part_of form ≡ p → EndsAs form parts rest p → IsMadeAs flat text known named means implied faces setting form s parts first b p → IsReadAs flat text known named means implied faces outside inside form s parts p → IsNewAs flat text known named means implied faces seen form s parts p → (EndsWhole rest → Ends outside inside others rest) → Ends outside inside is (Cons (Node form s parts) rest)
+        by_part : (p : Part) → part_of form ≡ p → EndsAs form parts rest p → IsMadeAs flat text known named means implied faces nameable setting form s parts first b p → IsReadAs flat text known named means implied faces nameable outside inside form s parts p → IsNewAs flat text known named means implied faces nameable seen form s parts p → (EndsWhole rest → Ends outside inside others rest) → Ends outside inside is (Cons (Node form s parts) rest)
         by_part Outer e left made read new again =
             let after = again left in
             let out = outer-part form e in
@@ -147,7 +147,7 @@ module _ (flat : FlatModule) (text : Text) (known : Known) (named : List ℕ →
               inside_only = λ none. both-ways (stands_outside form) none.0 out;
               means_body = body-next inside after.body form s parts rest help.0 help.1 after.means_body;
               means_outers = outers-next outside first after.outers (first ++ after.outers) form s parts rest refl
-                  (λ frame more o agrees. outer-here outside first form parts o (frame ++ more) out (operands-given flat text known named means implied faces parts outside outside setting seen first b each.1 knows-out knows-out made read new frame more o o agrees agrees)) after.means_outers;
+                  (λ frame more o agrees. outer-here outside first form parts o (frame ++ more) out (operands-given flat text known named means implied faces nameable parts outside outside setting seen first b each.1 knows-out knows-out made read new frame more o o agrees agrees)) after.means_outers;
             }
         by_part Helper e (empty, none, left) made read new again =
             let after = again left in

@@ -103,7 +103,7 @@ module _ (text : Text) where
   pub takes-defined : (P : Meaning → Type 0) (form : Form.the_data) (parts : Trees) (d : Defines) → defines form ≡ d → AllByRecursion P (map (meant text) (defined_as d parts)) → AllByRecursion P (map (meant text) (defined form parts))
   takes-defined P form parts d e all = subst (λ x. AllByRecursion P (map (meant text) (defined_as x parts))) (sym e) all
 
-module _ (flat : FlatModule) (text : Text) (known : Known) (named : List ℕ → Outside) (means : ℕ → Option Meaning) (implied : ℕ → List Meaning) (faces : List ℕ → FlatFace) where
+module _ (flat : FlatModule) (text : Text) (known : Known) (named : List ℕ → Outside) (means : ℕ → Option Meaning) (implied : ℕ → List Meaning) (faces : List ℕ → FlatFace) (nameable : List ℕ → Bool) where
   -- a part can be read in these contexts, by what it is
   abbrev IsReadBy : Context → Context → Form.the_data → Span → Trees → Part → Type 0
   IsReadBy outside inside form s parts p = elim p [
@@ -122,13 +122,13 @@ module _ (flat : FlatModule) (text : Text) (known : Known) (named : List ℕ →
       by_part Helper e can = can
       by_part Whole e can = can
 
-  module _ (ordered : IsOrdered flat) (layout : Layout) (setting : Setting) (seen : Meaning → Bool) (knows : Knows flat text known named faces layout setting seen) where
-    pub operator-for : (form : Form.the_data) (s : Span) (parts : Trees) (l : Lexeme) (lead : List Named → Lead) (is : List ℕ) (root d : ℕ) (asked : List Question) → defines form ≡ Operator l → Each flat text known named means implied faces parts → AreOperands text means implied faces flat all_parts (with_parameters text setting form parts) parts is asked → IsRoot flat is root → slice_get flat.definitions d ≡ Some (record { outer = length setting.frame; root = root }) → lead ≡ only (end.Definition d) → EndsWhole parts → AreInside parts → AreReadable text known named means implied faces (reserved text layout.context form parts) (scope text layout.context form parts) parts → Fresh text seen (declared_in as_binding.Constant (Node form s parts)) → StandsFor flat text known named layout (Node form s parts) lead
+  module _ (ordered : IsOrdered flat) (layout : Layout) (setting : Setting) (seen : Meaning → Bool) (knows : Knows flat text known named faces nameable layout setting seen) where
+    pub operator-for : (form : Form.the_data) (s : Span) (parts : Trees) (l : Lexeme) (lead : List Named → Lead) (is : List ℕ) (root d : ℕ) (asked : List Question) → defines form ≡ Operator l → Each flat text known named means implied faces nameable parts → AreOperands text means implied faces flat all_parts (with_parameters text setting form parts) parts is asked → IsRoot flat is root → slice_get flat.definitions d ≡ Some (record { outer = length setting.frame; root = root }) → lead ≡ only (end.Definition d) → EndsWhole parts → AreInside parts → AreReadable text known named means implied faces (reserved text layout.context form parts) (scope text layout.context form parts) parts → Fresh text seen (declared_in as_binding.Constant (Node form s parts)) → StandsFor flat text known named layout (Node form s parts) lead
     operator-for form s parts l lead is root d asked e each made first there leads whole only can fresh =
         let binds = operator-binds form l e in
         let within = layout_with text layout form parts in
-        let inside = parameters-known flat text known named faces layout setting seen knows form s parts (names-fresh text seen form s parts fresh) binds.0 in
-        let body = ends flat text known named means implied faces parts within within (with_parameters text setting form parts) (seen-with text (defined form parts ++ binders form parts) seen) is asked each inside inside whole made (inside-read parts (reserved text layout.context form parts) (scope text layout.context form parts) only can) (scope-fresh text seen form s parts fresh) in
+        let inside = parameters-known flat text known named faces nameable layout setting seen knows form s parts (names-fresh text seen form s parts fresh) binds.0 in
+        let body = ends flat text known named means implied faces nameable parts within within (with_parameters text setting form parts) (seen-with text (defined form parts ++ binders form parts) seen) is asked each inside inside whole made (inside-read parts (reserved text layout.context form parts) (scope text layout.context form parts) only can) (scope-fresh text seen form s parts fresh) in
         let one : is ≡ body.body ∷ [] = body.parted ∙ ap (λ js. js ++ (body.body ∷ [])) (body.inside_only only) in
         let same : root ≡ body.body = subst (λ js. IsRoot flat js root) one first in
         let found : Definition = record { outer = length setting.frame; root = root } in
@@ -140,18 +140,18 @@ module _ (flat : FlatModule) (text : Text) (known : Known) (named : List ℕ →
               ((tt, parameter-orders text form parts binds.0 binds.1 (grouped-none parts whole only)), tt);
         }
 
-    function-given : (l : Lexeme) (s : Span) (parts : Trees) (is : List ℕ) (root : ℕ) (asked : List Question) → Each flat text known named means implied faces parts → AreOperands text means implied faces flat all_parts setting parts is asked → HasNode flat root (plain_node (NodeForm.Operation Plain) is) → AreReadable text known named means implied faces (reserved text layout.context (Form.FunctionDefinition l) parts) (scope text layout.context (Form.FunctionDefinition l) parts) parts → Fresh text seen (declared_in as_binding.Constant (Node (Form.FunctionDefinition l) s parts)) → Gives flat layout root (λ around. function_text text known named around (Form.FunctionDefinition l) parts)
+    function-given : (l : Lexeme) (s : Span) (parts : Trees) (is : List ℕ) (root : ℕ) (asked : List Question) → Each flat text known named means implied faces nameable parts → AreOperands text means implied faces flat all_parts setting parts is asked → HasNode flat root (plain_node (NodeForm.Operation Plain) is) → AreReadable text known named means implied faces (reserved text layout.context (Form.FunctionDefinition l) parts) (scope text layout.context (Form.FunctionDefinition l) parts) parts → Fresh text seen (declared_in as_binding.Constant (Node (Form.FunctionDefinition l) s parts)) → Gives flat layout root (λ around. function_text text known named around (Form.FunctionDefinition l) parts)
     function-given l s parts is root asked each made node can fresh frame more around agrees =
         let form : Form.the_data = Form.FunctionDefinition l in
         let names = names-fresh text seen form s parts fresh in
-        let outside = before-known flat text known named faces layout setting seen knows form s parts names in
-        let inside = scope-known flat text known named faces layout setting seen knows form s parts names false refl in
+        let outside = before-known flat text known named faces nameable layout setting seen knows form s parts names in
+        let inside = scope-known flat text known named faces nameable layout setting seen knows form s parts names false refl in
         ap (λ (x : Item). x.text) (text-step flat root (plain_node (NodeForm.Operation Plain) is) (frame ++ more) ordered node)
         ∙ ap (Ruled Plain)
-        (operands-given flat text known named means implied faces parts (layout_before text layout form parts) (layout_in text layout form parts) setting (seen-with text (defined form parts ++ binders form parts) seen) is asked each outside inside made can (scope-fresh text seen form s parts fresh) frame more (before_scope text known named around form parts) (in_scope text known named around form parts)
+        (operands-given flat text known named means implied faces nameable parts (layout_before text layout form parts) (layout_in text layout form parts) setting (seen-with text (defined form parts ++ binders form parts) seen) is asked each outside inside made can (scope-fresh text seen form s parts fresh) frame more (before_scope text known named around form parts) (in_scope text known named around form parts)
         (before-agrees flat text known named layout frame around agrees form parts) (scope-agrees flat text known named layout frame around agrees form parts))
 
-    pub function-for : (form : Form.the_data) (s : Span) (parts : Trees) (l : Lexeme) (lead : List Named → Lead) (is : List ℕ) (root d : ℕ) (asked : List Question) → defines form ≡ Function l → Each flat text known named means implied faces parts → AreOperands text means implied faces flat all_parts setting parts is asked → HasNode flat root (plain_node (NodeForm.Operation Plain) is) → slice_get flat.definitions d ≡ Some (record { outer = length setting.frame; root = root }) → lead ≡ only (end.Definition d) → AreReadable text known named means implied faces (reserved text layout.context form parts) (scope text layout.context form parts) parts → Fresh text seen (declared_in as_binding.Constant (Node form s parts)) → StandsFor flat text known named layout (Node form s parts) lead
+    pub function-for : (form : Form.the_data) (s : Span) (parts : Trees) (l : Lexeme) (lead : List Named → Lead) (is : List ℕ) (root d : ℕ) (asked : List Question) → defines form ≡ Function l → Each flat text known named means implied faces nameable parts → AreOperands text means implied faces flat all_parts setting parts is asked → HasNode flat root (plain_node (NodeForm.Operation Plain) is) → slice_get flat.definitions d ≡ Some (record { outer = length setting.frame; root = root }) → lead ≡ only (end.Definition d) → AreReadable text known named means implied faces (reserved text layout.context form parts) (scope text layout.context form parts) parts → Fresh text seen (declared_in as_binding.Constant (Node form s parts)) → StandsFor flat text known named layout (Node form s parts) lead
     function-for form s parts l lead is root d asked e each made node there leads can fresh =
         subst (λ g. AreReadable text known named means implied faces (reserved text layout.context g parts) (scope text layout.context g parts) parts → Fresh text seen (declared_in as_binding.Constant (Node g s parts)) → StandsFor flat text known named layout (Node g s parts) lead) (sym (function-form form l e))
         (λ can fresh.

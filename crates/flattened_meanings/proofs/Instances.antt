@@ -82,7 +82,7 @@ module _ (flat : FlatModule) where
   staying-stays ordered outer staying (Through j orders inner) here all stands = absurd stands
   staying-stays ordered outer staying (Brought j inner) here all stands = absurd stands
 
-module _ (flat : FlatModule) (text : Text) (known : Known) (named : List ℕ → Outside) (means : ℕ → Option Meaning) (implied : ℕ → List Meaning) (faces : List ℕ → FlatFace) where
+module _ (flat : FlatModule) (text : Text) (known : Known) (named : List ℕ → Outside) (means : ℕ → Option Meaning) (implied : ℕ → List Meaning) (faces : List ℕ → FlatFace) (nameable : List ℕ → Bool) where
   -- the first INSTANCE among parts, with what is known of it
   record First (context : Context) (outside setting : Setting) (seen : Meaning → Bool) (count : ℕ) (lead : List Named → Lead) (parts : Trees) : Type 0 where
     l : Lexeme
@@ -100,8 +100,9 @@ module _ (flat : FlatModule) (text : Text) (known : Known) (named : List ℕ →
     face : IsFaceFor text known named means implied faces l
     stand-in : AreImplied context (left_sides text.source rights) (module_of text known named l).view.parameters (implied l.span.start)
     readable : AreReadableRights text known named means implied faces context (module_of text known named l).view.parameters [] rights
-    each : Each flat text known named means implied faces rights
+    each : Each flat text known named means implied faces nameable rights
     fresh : Fresh text seen (whole-names text rights)
+    can-name : nameable (spelled text.source l) ≡ true
 
   -- behind parts that are no INSTANCE
   first-behind : (context : Context) (outside setting : Setting) (seen : Meaning → Bool) (count : ℕ) (lead : List Named → Lead) (x : Tree) (rest : Trees) → instance_in (Cons x rest) ≡ instance_in rest → instance_among (Cons x rest) ≡ instance_among rest → First context outside setting seen count lead rest → First context outside setting seen count lead (Cons x rest)
@@ -124,9 +125,10 @@ module _ (flat : FlatModule) (text : Text) (known : Known) (named : List ℕ →
         readable = found.readable;
         each = found.each;
         fresh = found.fresh;
+        can-name = found.can-name;
       }
 
-  first-instance : (context : Context) (outside setting : Setting) (seen : Meaning → Bool) (own : Lexeme) (count : ℕ) (lead : List Named → Lead) (parts : Trees) (roots : List ℕ) (asked : List Question) → Each flat text known named means implied faces parts → IsThrough text means implied faces flat outside setting own count parts lead roots asked → IsReadableThrough text known named means implied faces context parts → Fresh text seen (whole-names text parts) → First context outside setting seen count lead parts
+  first-instance : (context : Context) (outside setting : Setting) (seen : Meaning → Bool) (own : Lexeme) (count : ℕ) (lead : List Named → Lead) (parts : Trees) (roots : List ℕ) (asked : List Question) → Each flat text known named means implied faces nameable parts → IsThrough text means implied faces flat outside setting own count parts lead roots asked → IsReadableThrough text known named means implied faces context parts → Fresh text seen (whole-names text parts) → First context outside setting seen count lead parts
   first-instance context outside setting seen own count lead Nil roots asked each made can fresh = absurd can
   first-instance context outside setting seen own count lead (Cons (Node (Form.Instance l) s rights) rest) roots asked each (written, j, a, b, are, is, leads, asks) can fresh =
       record {
@@ -147,6 +149,7 @@ module _ (flat : FlatModule) (text : Text) (known : Known) (named : List ℕ →
         readable = can.2;
         each = each.1;
         fresh = fresh-left text seen (whole-names text rights) (whole-names text rest) fresh;
+        can-name = each.3;
       }
   first-instance context outside setting seen own count lead (Cons (Node form s parts) rest) roots asked each made can fresh =
       first-behind context outside setting seen count lead (Node form s parts) rest refl refl
@@ -162,7 +165,7 @@ module _ (flat : FlatModule) (text : Text) (known : Known) (named : List ℕ →
   behind-known-as : (own-name : Lexeme) (o : Option Lexeme) (l : Lexeme) → o ≡ Some l → IsKnownBehind text known named means implied faces own-name o → known (declaration text own-name) ≡ Some (behind_view (module_of text known named l).view)
   behind-known-as own-name o l e is = subst (IsKnownBehind text known named means implied faces own-name) e is
 
-  module _ (ordered : IsOrdered flat) (layout : Layout) (setting : Setting) (seen : Meaning → Bool) (knows : Knows flat text known named faces layout setting seen) (own-name : Lexeme) (s : Span) (parts : Trees) (new : Fresh text seen (declared_in as_binding.Constant (Node (Form.ModuleDefinition own-name) s parts))) where
+  module _ (ordered : IsOrdered flat) (layout : Layout) (setting : Setting) (seen : Meaning → Bool) (knows : Knows flat text known named faces nameable layout setting seen) (own-name : Lexeme) (s : Span) (parts : Trees) (new : Fresh text seen (declared_in as_binding.Constant (Node (Form.ModuleDefinition own-name) s parts))) where
     abbrev here : Form.the_data
     here = Form.ModuleDefinition own-name
 
@@ -175,8 +178,8 @@ module _ (flat : FlatModule) (text : Text) (known : Known) (named : List ℕ →
     abbrev seen-within : Meaning → Bool
     seen-within = seen-with text (defined here parts ++ binders here parts) seen
 
-    inside-known : Knows flat text known named faces within setting-within seen-within
-    inside-known = parameters-known flat text known named faces layout setting seen knows here s parts (names-fresh text seen here s parts new) refl
+    inside-known : Knows flat text known named faces nameable within setting-within seen-within
+    inside-known = parameters-known flat text known named faces nameable layout setting seen knows here s parts (names-fresh text seen here s parts new) refl
 
     module _ (lead : List Named → Lead) (first : First within.context setting setting-within seen-within (length (parameters_of text here parts)) lead parts) where
       outside-of : Outside
@@ -186,16 +189,16 @@ module _ (flat : FlatModule) (text : Text) (known : Known) (named : List ℕ →
       put-in : (made : List Replacement) (asked : List Question) → AreReplacing flat setting-within.leads setting-within.frame (face_of text means implied faces flat first.l).is_constant first.written first.l (face_of text means implied faces flat first.l).parameters (implied first.l.span.start) made asked → ArePutIn flat text known named within made first.l first.rights
       put-in made asked all frame around agrees =
           let m = module_of text known named first.l in
-          let face = inside-known.modules (spelled text.source first.l) in
-          let found = rights-found flat text known named means implied faces ordered within setting-within seen-within inside-known frame around agrees first.rights m.view.parameters [] first.l first.written first.roots first.asked-rights first.each first.are-rights first.readable first.fresh in
+          let face = inside-known.modules (spelled text.source first.l) first.can-name in
+          let found = rights-found flat text known named means implied faces nameable ordered within setting-within seen-within inside-known frame around agrees first.rights m.view.parameters [] first.l first.written first.roots first.asked-rights first.each first.are-rights first.readable first.fresh in
           let all-by = subst (λ ps. AreReplacing flat setting-within.leads setting-within.frame (face_of text means implied faces flat first.l).is_constant first.written first.l ps (implied first.l.span.start) made asked) first.face.parameters all in
           let all-of = subst (λ c. AreReplacing flat setting-within.leads setting-within.frame c first.written first.l m.view.parameters (implied first.l.span.start) made asked) first.face.constant all-by in
-          replaced-all flat text known named means implied faces ordered within setting-within seen-within inside-known frame around agrees first.l m.is_constant m.view.parameters first.written (right_sides text known named around first.rights) (left_sides text.source first.rights) found m.view.parameters (implied first.l.span.start) made asked face.apart all-of first.stand-in
+          replaced-all flat text known named means implied faces nameable ordered within setting-within seen-within inside-known frame around agrees first.l m.is_constant m.view.parameters first.written (right_sides text known named around first.rights) (left_sides text.source first.rights) found m.view.parameters (implied first.l.span.start) made asked face.apart all-of first.stand-in
 
-      module-stands : (staying made : List Replacement) (asked : List Question) → slice_get flat.instances first.j ≡ Some (record { outer = length setting.frame; parameters = length (parameters_of text here parts); guards = true; replacements = staying ++ made }) → AreStaying flat 0 (face_of text means implied faces flat first.l).outer staying → AreReplacing flat setting-within.leads setting-within.frame (face_of text means implied faces flat first.l).is_constant first.written first.l (face_of text means implied faces flat first.l).parameters (implied first.l.span.start) made asked → Stands flat layout (Through first.j (map order_of (parameters_of text here parts)) (inside-known.modules (spelled text.source first.l)).inner) (λ around. defined_value text known named around (Node here s parts))
+      module-stands : (staying made : List Replacement) (asked : List Question) → slice_get flat.instances first.j ≡ Some (record { outer = length setting.frame; parameters = length (parameters_of text here parts); guards = true; replacements = staying ++ made }) → AreStaying flat 0 (face_of text means implied faces flat first.l).outer staying → AreReplacing flat setting-within.leads setting-within.frame (face_of text means implied faces flat first.l).is_constant first.written first.l (face_of text means implied faces flat first.l).parameters (implied first.l.span.start) made asked → Stands flat layout (Through first.j (map order_of (parameters_of text here parts)) (inside-known.modules (spelled text.source first.l) first.can-name).inner) (λ around. defined_value text known named around (Node here s parts))
       module-stands staying made asked there stay all =
           let x : Instance = record { outer = length setting.frame; parameters = length (parameters_of text here parts); guards = true; replacements = staying ++ made } in
-          let face = inside-known.modules (spelled text.source first.l) in
+          let face = inside-known.modules (spelled text.source first.l) first.can-name in
           let outer = (face_of text means implied faces flat first.l).outer in
           let is : IsMadeInstance flat layout first.j x (length (parameters_of text here parts)) true = record { there = there; outer = sym knows.settings.places; parameters = refl; guards = refl } in
           let puts : PutsInBehind x staying made = record { replacements = refl; unbounded = staying-unbounded flat 0 outer staying stay } in
@@ -203,15 +206,15 @@ module _ (flat : FlatModule) (text : Text) (known : Known) (named : List ℕ →
           instance-stands flat text known named layout own-name s parts first.j x first.l first.rights staying made face.base face.inner is puts first.is-first kept
           (λ m. staying-stays flat ordered outer staying (face.base m) (within.stands m) stay (face.symbols m)) (put-in made asked all)
 
-      lead-names : (names : List Named) → lead names ≡ lead_by (Through first.j (map order_of (parameters_of text here parts)) (inside-known.modules (spelled text.source first.l)).inner) names
+      lead-names : (names : List Named) → lead names ≡ lead_by (Through first.j (map order_of (parameters_of text here parts)) (inside-known.modules (spelled text.source first.l) first.can-name).inner) names
       lead-names [] = ap (λ (f : List Named → Lead). f []) first.leads
       lead-names (name ∷ names) =
           ap (λ (f : List Named → Lead). f (name ∷ names)) first.leads
-          ∙ ap (λ (found : Lead). record { path = first.j ∷ found.path; end = found.end }) ((inside-known.modules (spelled text.source first.l)).leads name names)
+          ∙ ap (λ (found : Lead). record { path = first.j ∷ found.path; end = found.end }) ((inside-known.modules (spelled text.source first.l) first.can-name).leads name names)
 
-      module-takes : all_grouped parts ≡ [] → IsKnownBehind text known named means implied faces own-name (instance_among parts) → TakesAs (Through first.j (map order_of (parameters_of text here parts)) (inside-known.modules (spelled text.source first.l)).inner) (behind_meaning known (Some (Declared (entity.Instance (orders parts)) (own text own-name)))) (Declared (entity.Instance (orders parts)) (own text own-name))
+      module-takes : all_grouped parts ≡ [] → IsKnownBehind text known named means implied faces own-name (instance_among parts) → TakesAs (Through first.j (map order_of (parameters_of text here parts)) (inside-known.modules (spelled text.source first.l) first.can-name).inner) (behind_meaning known (Some (Declared (entity.Instance (orders parts)) (own text own-name)))) (Declared (entity.Instance (orders parts)) (own text own-name))
       module-takes none behind =
-          let face = inside-known.modules (spelled text.source first.l) in
+          let face = inside-known.modules (spelled text.source first.l) first.can-name in
           subst (λ os. TakesBehind (Through first.j os face.inner) (behind_meaning known (Some (Declared (entity.Instance (orders parts)) (own text own-name)))) (Declared (entity.Instance (orders parts)) (own text own-name))) (sym (parameter-orders text here parts refl refl none))
           (known-takes own-name (orders parts) (behind_view (module_of text known named first.l).view) first.j face.inner
           (behind-known-as own-name (instance_among parts) first.l first.is-among behind) face.takes)
@@ -220,13 +223,13 @@ module _ (flat : FlatModule) (text : Text) (known : Known) (named : List ℕ →
       module-found none behind =
           let is = first.is-instance in
           record {
-            stand = Through first.j (map order_of (parameters_of text here parts)) (inside-known.modules (spelled text.source first.l)).inner;
+            stand = Through first.j (map order_of (parameters_of text here parts)) (inside-known.modules (spelled text.source first.l) first.can-name).inner;
             leads = lead-names;
             stands = module-stands is.0 is.1 first.asked-instance is.2 is.3 is.4;
             takes = (module-takes none behind, tt);
           }
 
-  pub module-for : (ordered : IsOrdered flat) (layout : Layout) (setting : Setting) (seen : Meaning → Bool) → Knows flat text known named faces layout setting seen → (form : Form.the_data) (s : Span) (parts : Trees) (l : Lexeme) (lead : List Named → Lead) (roots : List ℕ) (asked : List Question) → defines form ≡ Module l → Each flat text known named means implied faces parts → IsThrough text means implied faces flat setting (with_parameters text setting form parts) l (length (parameters_of text form parts)) parts lead roots asked → all_grouped parts ≡ [] → IsKnownBehind text known named means implied faces l (instance_among parts) → IsReadableThrough text known named means implied faces (scope text layout.context form parts) parts → Fresh text seen (declared_in as_binding.Constant (Node form s parts)) → StandsFor flat text known named layout (Node form s parts) lead
+  pub module-for : (ordered : IsOrdered flat) (layout : Layout) (setting : Setting) (seen : Meaning → Bool) → Knows flat text known named faces nameable layout setting seen → (form : Form.the_data) (s : Span) (parts : Trees) (l : Lexeme) (lead : List Named → Lead) (roots : List ℕ) (asked : List Question) → defines form ≡ Module l → Each flat text known named means implied faces nameable parts → IsThrough text means implied faces flat setting (with_parameters text setting form parts) l (length (parameters_of text form parts)) parts lead roots asked → all_grouped parts ≡ [] → IsKnownBehind text known named means implied faces l (instance_among parts) → IsReadableThrough text known named means implied faces (scope text layout.context form parts) parts → Fresh text seen (declared_in as_binding.Constant (Node form s parts)) → StandsFor flat text known named layout (Node form s parts) lead
   module-for ordered layout setting seen knows form s parts l lead roots asked e each made none behind can fresh =
       subst (λ g. IsThrough text means implied faces flat setting (with_parameters text setting g parts) l (length (parameters_of text g parts)) parts lead roots asked → IsReadableThrough text known named means implied faces (scope text layout.context g parts) parts → Fresh text seen (declared_in as_binding.Constant (Node g s parts)) → StandsFor flat text known named layout (Node g s parts) lead) (sym (module-form form l e))
       (λ made can fresh.

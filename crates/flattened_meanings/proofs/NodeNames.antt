@@ -34,7 +34,7 @@ use Rattle.flattened_meanings.proofs.Fresh.{Fresh, whole-names}
 use Rattle.flattened_meanings.proofs.Rounds.{Knows}
 use Rattle.flattened_meanings.proofs.Operands.{Each, arguments-fit, path-fits}
 
-module _ (flat : FlatModule) (text : Text) (known : Known) (named : List ℕ → Outside) (means : ℕ → Option Meaning) (implied : ℕ → List Meaning) (faces : List ℕ → FlatFace) (layout : Layout) (setting : Setting) (seen : Meaning → Bool) (knows : Knows flat text known named faces layout setting seen) (frame more : List Item) (around : Around) (agrees : Agrees flat layout frame around) where
+module _ (flat : FlatModule) (text : Text) (known : Known) (named : List ℕ → Outside) (means : ℕ → Option Meaning) (implied : ℕ → List Meaning) (faces : List ℕ → FlatFace) (nameable : List ℕ → Bool) (layout : Layout) (setting : Setting) (seen : Meaning → Bool) (knows : Knows flat text known named faces nameable layout setting seen) (frame more : List Item) (around : Around) (agrees : Agrees flat layout frame around) where
   -- a node is made of a name
   abbrev IsNode : Option ℕ → Stand → List Item → Steps → FlatNode → Type 0
   IsNode o stand arguments path node = IsNamed o stand arguments path node.form (items_at (text_at flat) node.parts (frame ++ more))
@@ -50,13 +50,13 @@ module _ (flat : FlatModule) (text : Text) (known : Known) (named : List ℕ →
       (subst (λ p. IsNode o (layout.stands meaning) arguments path (name_node p (lead_of setting.leads (means l.span.start) names) is)) (sym same)
       (subst (λ lead. IsNode o (layout.stands meaning) arguments path (name_node o lead is)) (sym (lead-at l name meaning names known-as)) node))
 
-  pub identifier-built : (s : Span) (parts : Trees) (is : List ℕ) (asked : List Question) → Each flat text known named means implied faces parts → AreOperands text means implied faces flat all_parts setting parts is asked → ((meaning : Meaning) × IsReadableFirst text known named means implied faces layout.context meaning parts × IsReadablePath text known named means implied faces layout.context (Some meaning) (behind_meaning known (Some meaning)) parts) → path_places text.source means parts ≡ places_at text known named layout.context (Node Form.Identifier s parts) → Fresh text seen (whole-names text parts) → IsPath layout.stands around.context (places_at text known named around.context (Node Form.Identifier s parts)) (steps text known named around parts) (path_node text.source means setting parts is).form (items_at (text_at flat) (path_node text.source means setting parts is).parts (frame ++ more))
+  pub identifier-built : (s : Span) (parts : Trees) (is : List ℕ) (asked : List Question) → Each flat text known named means implied faces nameable parts → AreOperands text means implied faces flat all_parts setting parts is asked → ((meaning : Meaning) × IsReadableFirst text known named means implied faces layout.context meaning parts × IsReadablePath text known named means implied faces layout.context (Some meaning) (behind_meaning known (Some meaning)) parts) → path_places text.source means parts ≡ places_at text known named layout.context (Node Form.Identifier s parts) → Fresh text seen (whole-names text parts) → IsPath layout.stands around.context (places_at text known named around.context (Node Form.Identifier s parts)) (steps text known named around parts) (path_node text.source means setting parts is).form (items_at (text_at flat) (path_node text.source means setting parts is).parts (frame ++ more))
   identifier-built s Nil is asked each made can places fresh = absurd can.1
   identifier-built s (Cons (Node (Form.Segment l) at arguments) rest) is asked each made (meaning, first, path) places fresh =
       let parts : Trees = Cons (Node (Form.Segment l) at arguments) rest in
       let held = behind_meaning known (Some meaning) in
       let o = places_at text known named layout.context (Node Form.Identifier s parts) in
-      let fits = path-fits flat text known named means implied faces layout setting seen knows frame more around agrees parts (Some meaning) held is asked each made path fresh in
+      let fits = path-fits flat text known named means implied faces nameable layout setting seen knows frame more around agrees parts (Some meaning) held is asked each made path fresh in
       let here = ap (λ found. cond (is_bare false parts) (operator_places (called_behind text known named (behind_meaning known found) found rest)) None) first.there in
       let node = path-node text known named around (text_at flat) (frame ++ more) is (layout.stands meaning) o held meaning l at arguments rest (knows.orders (name_of text.source l) meaning first.there) fits here in
       subst (λ context. IsPath layout.stands context (places_at text known named context (Node Form.Identifier s parts)) (steps text known named around parts) (path_node text.source means setting parts is).form (items_at (text_at flat) (path_node text.source means setting parts is).parts (frame ++ more))) (sym agrees.context)
@@ -74,12 +74,12 @@ module _ (flat : FlatModule) (text : Text) (known : Known) (named : List ℕ →
   count-orders : (parts : Trees) (orders : List ℕ) → AreArguments text known named means implied faces layout.context orders parts → orders ≡ replicate (readable.count parts) 0 → (made : List Item) → Fits orders made (items text known named around parts) → Fits (replicate (readable.count parts) 0) made (items text known named around parts)
   count-orders parts orders can same made fits = subst (λ os. Fits os made (items text known named around parts)) same fits
 
-  pub operator-built : (which : Op.the_data → Op.the_data) (l : Lexeme) (kind : LexKind.the_data) (rule : Option Rule) (parts : Trees) (orders is : List ℕ) (asked : List Question) → Each flat text known named means implied faces parts → AreOperands text means implied faces flat all_parts setting parts is asked → IsOperator text known named means implied faces layout.context l which kind rule parts orders → AreArguments text known named means implied faces layout.context orders parts → Fresh text seen (whole-names text parts) → IsSymbolOn layout.stands around.context rule (symbol_name which kind) (items text known named around parts) (operator_node text.source means setting l rule is).form (items_at (text_at flat) (operator_node text.source means setting l rule is).parts (frame ++ more))
+  pub operator-built : (which : Op.the_data → Op.the_data) (l : Lexeme) (kind : LexKind.the_data) (rule : Option Rule) (parts : Trees) (orders is : List ℕ) (asked : List Question) → Each flat text known named means implied faces nameable parts → AreOperands text means implied faces flat all_parts setting parts is asked → IsOperator text known named means implied faces layout.context l which kind rule parts orders → AreArguments text known named means implied faces layout.context orders parts → Fresh text seen (whole-names text parts) → IsSymbolOn layout.stands around.context rule (symbol_name which kind) (items text known named around parts) (operator_node text.source means setting l rule is).form (items_at (text_at flat) (operator_node text.source means setting l rule is).parts (frame ++ more))
   operator-built which l kind (Some rule) parts orders is asked each made can cans fresh =
-      let fits = arguments-fit flat text known named means implied faces layout setting seen knows frame more around agrees parts orders is asked each made cans fresh in
+      let fits = arguments-fit flat text known named means implied faces nameable layout setting seen knows frame more around agrees parts orders is asked each made cans fresh in
       (refl, fits-texts (readable.count parts) (items_at (text_at flat) is (frame ++ more)) (items text known named around parts) (count-orders parts orders cans can (items_at (text_at flat) is (frame ++ more)) fits))
   operator-built which l (LexKind.Sym op) None (Cons x parts) orders is asked each made (free, (meaning, first, plain, same)) cans fresh =
-      let fits = arguments-fit flat text known named means implied faces layout setting seen knows frame more around agrees (Cons x parts) orders is asked each made cans fresh in
+      let fits = arguments-fit flat text known named means implied faces nameable layout setting seen knows frame more around agrees (Cons x parts) orders is asked each made cans fresh in
       subst (λ context. IsPath layout.stands context None (record { name = Symbol (which op); arguments = items text known named around (Cons x parts) } ∷ []) (name_node None (lead_of setting.leads (means l.span.start) []) is).form (items_at (text_at flat) (name_node None (lead_of setting.leads (means l.span.start) []) is).parts (frame ++ more))) (sym agrees.context)
       (symbol-on l (Symbol (which op)) meaning x parts is first (plain, subst (λ os. Fits os (items_at (text_at flat) is (frame ++ more)) (items text known named around (Cons x parts))) same fits))
   operator-built which l (LexKind.Sym op) None Nil orders is asked each made can cans fresh = absurd can
@@ -123,22 +123,22 @@ module _ (flat : FlatModule) (text : Text) (known : Known) (named : List ℕ →
       ∙ ap (λ lead. (name_node o lead is).places) (lead-at l name meaning names known-as)
       ∙ node
 
-  pub identifier-has-places : (s : Span) (parts : Trees) (is : List ℕ) (asked : List Question) → Each flat text known named means implied faces parts → AreOperands text means implied faces flat all_parts setting parts is asked → ((meaning : Meaning) × IsReadableFirst text known named means implied faces layout.context meaning parts × IsReadablePath text known named means implied faces layout.context (Some meaning) (behind_meaning known (Some meaning)) parts) → path_places text.source means parts ≡ places_at text known named layout.context (Node Form.Identifier s parts) → Fresh text seen (whole-names text parts) → (path_node text.source means setting parts is).places ≡ places_at text known named layout.context (Node Form.Identifier s parts)
+  pub identifier-has-places : (s : Span) (parts : Trees) (is : List ℕ) (asked : List Question) → Each flat text known named means implied faces nameable parts → AreOperands text means implied faces flat all_parts setting parts is asked → ((meaning : Meaning) × IsReadableFirst text known named means implied faces layout.context meaning parts × IsReadablePath text known named means implied faces layout.context (Some meaning) (behind_meaning known (Some meaning)) parts) → path_places text.source means parts ≡ places_at text known named layout.context (Node Form.Identifier s parts) → Fresh text seen (whole-names text parts) → (path_node text.source means setting parts is).places ≡ places_at text known named layout.context (Node Form.Identifier s parts)
   identifier-has-places s Nil is asked each made can places fresh = absurd can.1
   identifier-has-places s (Cons (Node (Form.Segment l) at arguments) rest) is asked each made (meaning, first, path) places fresh =
       let parts : Trees = Cons (Node (Form.Segment l) at arguments) rest in
       let held = behind_meaning known (Some meaning) in
       let o = places_at text known named layout.context (Node Form.Identifier s parts) in
-      let fits = path-fits flat text known named means implied faces layout setting seen knows frame more around agrees parts (Some meaning) held is asked each made path fresh in
+      let fits = path-fits flat text known named means implied faces nameable layout setting seen knows frame more around agrees parts (Some meaning) held is asked each made path fresh in
       let here = ap (λ found. cond (is_bare false parts) (operator_places (called_behind text known named (behind_meaning known found) found rest)) None) first.there in
       name-has-places o (path_places text.source means parts) l (name_of text.source l) meaning (path_names text.source rest) is first places
       (path-has-places text known named around (text_at flat) (frame ++ more) is (layout.stands meaning) o held meaning l at arguments rest (knows.orders (name_of text.source l) meaning first.there) fits here)
   identifier-has-places s (Cons (Node form at arguments) rest) is asked each made can places fresh = absurd can.1
 
-  pub operator-has-places : (which : Op.the_data → Op.the_data) (l : Lexeme) (kind : LexKind.the_data) (rule : Option Rule) (parts : Trees) (orders is : List ℕ) (asked : List Question) → Each flat text known named means implied faces parts → AreOperands text means implied faces flat all_parts setting parts is asked → IsOperator text known named means implied faces layout.context l which kind rule parts orders → AreArguments text known named means implied faces layout.context orders parts → Fresh text seen (whole-names text parts) → (operator_node text.source means setting l rule is).places ≡ None
+  pub operator-has-places : (which : Op.the_data → Op.the_data) (l : Lexeme) (kind : LexKind.the_data) (rule : Option Rule) (parts : Trees) (orders is : List ℕ) (asked : List Question) → Each flat text known named means implied faces nameable parts → AreOperands text means implied faces flat all_parts setting parts is asked → IsOperator text known named means implied faces layout.context l which kind rule parts orders → AreArguments text known named means implied faces layout.context orders parts → Fresh text seen (whole-names text parts) → (operator_node text.source means setting l rule is).places ≡ None
   operator-has-places which l kind (Some rule) parts orders is asked each made can cans fresh = refl
   operator-has-places which l (LexKind.Sym op) None (Cons x parts) orders is asked each made (free, (meaning, first, plain, same)) cans fresh =
-      let fits = arguments-fit flat text known named means implied faces layout setting seen knows frame more around agrees (Cons x parts) orders is asked each made cans fresh in
+      let fits = arguments-fit flat text known named means implied faces nameable layout setting seen knows frame more around agrees (Cons x parts) orders is asked each made cans fresh in
       name-has-places None None l (Symbol (which op)) meaning [] is first refl
       (path-has-places text known named around (text_at flat) (frame ++ more) is (layout.stands meaning) None (behind_meaning known (Some meaning)) meaning l l.span (Cons x parts) Nil (knows.orders (Symbol (which op)) meaning first.there)
       (plain, subst (λ os. Fits os (items_at (text_at flat) is (frame ++ more)) (items text known named around (Cons x parts))) same fits) refl)

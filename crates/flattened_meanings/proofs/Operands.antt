@@ -19,6 +19,7 @@ use Rattle.flattened_trees.specs.Leads.{FlatFace, Setting}
 use Rattle.flattened_trees.specs.Questions.{Question}
 use Rattle.flattened_trees.specs.Flattened.{AreOperands, IsFlattened, all_parts}
 use Rattle.flattened_trees.specs.Readable.{AreArguments, AreReadable, CanStandBare, IsReadable, IsReadablePath, first_name, orders_of}
+use Rattle.flattened_meanings.specs.Faces.{IsOfNameable}
 use Rattle.flattened_meanings.proofs.Leading.{PathFits}
 use Rattle.flattened_meanings.proofs.Fresh.{Fresh, fresh-left, fresh-right, whole-names}
 use Rattle.flattened_meanings.proofs.Rounds.{Knows}
@@ -41,20 +42,20 @@ pub nodes-nil : (is : List ℕ) → is ++ [] ≡ is
 nodes-nil [] = refl
 nodes-nil (i ∷ is) = ap (λ js. i ∷ js) (nodes-nil is)
 
-module _ (flat : FlatModule) (text : Text) (known : Known) (named : List ℕ → Outside) (means : ℕ → Option Meaning) (implied : ℕ → List Meaning) (faces : List ℕ → FlatFace) where
+module _ (flat : FlatModule) (text : Text) (known : Known) (named : List ℕ → Outside) (means : ℕ → Option Meaning) (implied : ℕ → List Meaning) (faces : List ℕ → FlatFace) (nameable : List ℕ → Bool) where
   -- a tree is meant by the node that it is, whatever is known round it
   abbrev pub IsKept : Tree → Type 0
   IsKept x =
-      (layout : Layout) (setting : Setting) (seen : Meaning → Bool) (i : ℕ) (asked : List Question) → Knows flat text known named faces layout setting seen
+      (layout : Layout) (setting : Setting) (seen : Meaning → Bool) (i : ℕ) (asked : List Question) → Knows flat text known named faces nameable layout setting seen
       → IsFlattened text means implied faces flat setting x i asked
       → IsReadable text known named means implied faces layout.context x
       → Fresh text seen (declared_in as_binding.Constant x)
       → IsMeant flat text known named layout i x
 
-  -- the same of each of these, and of each of their parts
+  -- the same of each of these, and of each of their parts; and each INSTANCE is of a module that can be named
   abbrev pub Each : Trees → Type 0
   Each Nil = Unit {0}
-  Each (Cons (Node form s parts) rest) = IsKept (Node form s parts) × Each parts × Each rest
+  Each (Cons (Node form s parts) rest) = IsKept (Node form s parts) × Each parts × Each rest × IsOfNameable text.source nameable form
 
   -- the operands of nodes, over a frame
   abbrev pub given : List ℕ → List Item → Operands
@@ -102,7 +103,7 @@ module _ (flat : FlatModule) (text : Text) (known : Known) (named : List ℕ →
       → AreReadable text known named means implied faces layout.context layout.context parts → Fresh text seen (whole-names text parts) → given js s ≡ ts
 
   -- the operands of parts, by what is known round those outside and those inside of a scope
-  pub operands-given : (parts : Trees) (outside inside : Layout) (setting : Setting) (seen : Meaning → Bool) (is : List ℕ) (asked : List Question) → Each parts → Knows flat text known named faces outside setting seen → Knows flat text known named faces inside setting seen → AreOperands text means implied faces flat all_parts setting parts is asked → AreReadable text known named means implied faces outside.context inside.context parts → Fresh text seen (whole-names text parts) → (frame more : List Item) (o a : Around) → Agrees flat outside frame o → Agrees flat inside frame a → given is (frame ++ more) ≡ operands text known named o a parts
+  pub operands-given : (parts : Trees) (outside inside : Layout) (setting : Setting) (seen : Meaning → Bool) (is : List ℕ) (asked : List Question) → Each parts → Knows flat text known named faces nameable outside setting seen → Knows flat text known named faces nameable inside setting seen → AreOperands text means implied faces flat all_parts setting parts is asked → AreReadable text known named means implied faces outside.context inside.context parts → Fresh text seen (whole-names text parts) → (frame more : List Item) (o a : Around) → Agrees flat outside frame o → Agrees flat inside frame a → given is (frame ++ more) ≡ operands text known named o a parts
   operands-given Nil outside inside setting seen is asked each knows-out knows made readable fresh frame more o a agrees-out agrees = ap (λ js. given js (frame ++ more)) made.0
   operands-given (Cons (Node form s parts) rest) outside inside setting seen is asked each knows-out knows (first, others, b, c, parted, asks, one, rest-made) readable fresh frame more o a agrees-out agrees =
       given-parted is first others (frame ++ more) _ _ parted
@@ -124,7 +125,7 @@ module _ (flat : FlatModule) (text : Text) (known : Known) (named : List ℕ →
 
   -- ---- arguments
 
-  module _ (layout : Layout) (setting : Setting) (seen : Meaning → Bool) (knows : Knows flat text known named faces layout setting seen) (frame more : List Item) (around : Around) (agrees : Agrees flat layout frame around) where
+  module _ (layout : Layout) (setting : Setting) (seen : Meaning → Bool) (knows : Knows flat text known named faces nameable layout setting seen) (frame more : List Item) (around : Around) (agrees : Agrees flat layout frame around) where
     pub arguments-fit : (parts : Trees) (orders is : List ℕ) (asked : List Question) → Each parts → AreOperands text means implied faces flat all_parts setting parts is asked → AreArguments text known named means implied faces layout.context orders parts → Fresh text seen (whole-names text parts) → Fits orders (items_at (text_at flat) is (frame ++ more)) (items text known named around parts)
     arguments-fit Nil [] is asked each made can fresh = subst (λ js. Fits [] (items_at (text_at flat) js (frame ++ more)) []) (sym made.0) tt
     arguments-fit Nil (order ∷ orders) is asked each made can fresh = absurd can

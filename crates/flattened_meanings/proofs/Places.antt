@@ -80,21 +80,21 @@ ruled-places : (rule : Option Rule) (is : List ℕ) → (ruled_node rule is).pla
 ruled-places None is = refl
 ruled-places (Some rule) is = refl
 
-module _ (flat : FlatModule) (text : Text) (known : Known) (named : List ℕ → Outside) (means : ℕ → Option Meaning) (implied : ℕ → List Meaning) (faces : List ℕ → FlatFace) (layout : Layout) (setting : Setting) (seen : Meaning → Bool) (knows : Knows flat text known named faces layout setting seen) (frame more : List Item) (around : Around) (agrees : Agrees flat layout frame around) where
-  pub node-has-places : (form : Form.the_data) (s : Span) (parts : Trees) (i : ℕ) (asked : List Question) → Each flat text known named means implied faces parts → IsFlattened text means implied faces flat setting (Node form s parts) i asked → IsReadable text known named means implied faces layout.context (Node form s parts) → Fresh text seen (declared_in as_binding.Constant (Node form s parts)) → places_of (slice_get flat.nodes i) ≡ places_at text known named layout.context (Node form s parts)
+module _ (flat : FlatModule) (text : Text) (known : Known) (named : List ℕ → Outside) (means : ℕ → Option Meaning) (implied : ℕ → List Meaning) (faces : List ℕ → FlatFace) (nameable : List ℕ → Bool) (layout : Layout) (setting : Setting) (seen : Meaning → Bool) (knows : Knows flat text known named faces nameable layout setting seen) (frame more : List Item) (around : Around) (agrees : Agrees flat layout frame around) where
+  pub node-has-places : (form : Form.the_data) (s : Span) (parts : Trees) (i : ℕ) (asked : List Question) → Each flat text known named means implied faces nameable parts → IsFlattened text means implied faces flat setting (Node form s parts) i asked → IsReadable text known named means implied faces layout.context (Node form s parts) → Fresh text seen (declared_in as_binding.Constant (Node form s parts)) → places_of (slice_get flat.nodes i) ≡ places_at text known named layout.context (Node form s parts)
   node-has-places Form.Identifier s parts i asked each (is, a, made, there, asks) can fresh =
-      ap places_of there ∙ identifier-has-places flat text known named means implied faces layout setting seen knows frame more around agrees s parts is a each made can.0 can.1 (wholes-fresh text seen Form.Identifier s parts fresh)
+      ap places_of there ∙ identifier-has-places flat text known named means implied faces nameable layout setting seen knows frame more around agrees s parts is a each made can.0 can.1 (wholes-fresh text seen Form.Identifier s parts fresh)
   node-has-places (Form.Symbol l) s parts i asked each (is, a, made, there, asks) (empty, same, can) fresh =
       ap places_of there
-      ∙ ap (λ (node : FlatNode). node.places) (bare-is flat text known named means implied faces layout setting seen knows frame more around agrees l (bare_rule l.kind))
-      ∙ bare-has-places flat text known named means implied faces layout setting seen knows frame more around agrees l l.kind (bare_rule l.kind) (bare_places text.source means l l.kind) same can
+      ∙ ap (λ (node : FlatNode). node.places) (bare-is flat text known named means implied faces nameable layout setting seen knows frame more around agrees l (bare_rule l.kind))
+      ∙ bare-has-places flat text known named means implied faces nameable layout setting seen knows frame more around agrees l l.kind (bare_rule l.kind) (bare_places text.source means l l.kind) same can
       ∙ same
   node-has-places (Form.Prefix l) s parts i asked each (is, a, made, there, asks) (orders, can, cans) fresh =
-      ap places_of there ∙ operator-has-places flat text known named means implied faces layout setting seen knows frame more around agrees prefixed l l.kind (symbol_rule Prefix l.kind) parts orders is a each made can cans (wholes-fresh text seen (Form.Prefix l) s parts fresh)
+      ap places_of there ∙ operator-has-places flat text known named means implied faces nameable layout setting seen knows frame more around agrees prefixed l l.kind (symbol_rule Prefix l.kind) parts orders is a each made can cans (wholes-fresh text seen (Form.Prefix l) s parts fresh)
   node-has-places (Form.Infix l) s parts i asked each (is, a, made, there, asks) (orders, can, cans) fresh =
-      ap places_of there ∙ operator-has-places flat text known named means implied faces layout setting seen knows frame more around agrees as_spelled l l.kind (symbol_rule Infix l.kind) parts orders is a each made can cans (wholes-fresh text seen (Form.Infix l) s parts fresh)
+      ap places_of there ∙ operator-has-places flat text known named means implied faces nameable layout setting seen knows frame more around agrees as_spelled l l.kind (symbol_rule Infix l.kind) parts orders is a each made can cans (wholes-fresh text seen (Form.Infix l) s parts fresh)
   node-has-places (Form.Postfix l) s parts i asked each (is, a, made, there, asks) (orders, can, cans) fresh =
-      ap places_of there ∙ operator-has-places flat text known named means implied faces layout setting seen knows frame more around agrees as_spelled l l.kind (symbol_rule Postfix l.kind) parts orders is a each made can cans (wholes-fresh text seen (Form.Postfix l) s parts fresh)
+      ap places_of there ∙ operator-has-places flat text known named means implied faces nameable layout setting seen knows frame more around agrees as_spelled l l.kind (symbol_rule Postfix l.kind) parts orders is a each made can cans (wholes-fresh text seen (Form.Postfix l) s parts fresh)
   node-has-places Form.Let s parts i asked each (body, roots, chain, there) can fresh = ap places_of there ∙ let-places body roots
   node-has-places Form.Except s Nil i asked each made can fresh = absurd can
   node-has-places Form.Except s (Cons x updates) i asked each (f, is, a, b, made, changed, there, asks) can fresh = ap places_of there

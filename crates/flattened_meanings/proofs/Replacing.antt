@@ -40,7 +40,7 @@ use Rattle.flattened_meanings.proofs.Places.{node-has-places, places-again}
 or-true : (b : Bool) → (true || b) ≡ true
 or-true b = refl
 
-module _ (flat : FlatModule) (text : Text) (known : Known) (named : List ℕ → Outside) (means : ℕ → Option Meaning) (implied : ℕ → List Meaning) (faces : List ℕ → FlatFace) (ordered : IsOrdered flat) (layout : Layout) (setting : Setting) (seen : Meaning → Bool) (knows : Knows flat text known named faces layout setting seen) (frame : List Item) (around : Around) (agrees : Agrees flat layout frame around) where
+module _ (flat : FlatModule) (text : Text) (known : Known) (named : List ℕ → Outside) (means : ℕ → Option Meaning) (implied : ℕ → List Meaning) (faces : List ℕ → FlatFace) (nameable : List ℕ → Bool) (ordered : IsOrdered flat) (layout : Layout) (setting : Setting) (seen : Meaning → Bool) (knows : Knows flat text known named faces nameable layout setting seen) (frame : List Item) (around : Around) (agrees : Agrees flat layout frame around) where
   -- a right side that is written for a name is what its node is, with the places of the symbol
   abbrev IsRight : Exports → Named → Right → Written → Type 0
   IsRight parameters name right written =
@@ -59,28 +59,28 @@ module _ (flat : FlatModule) (text : Text) (known : Known) (named : List ℕ →
   found-here parameters name a b left more others among right equal false e rest = rest
 
   -- the node of a right side
-  right-node : (form : Form.the_data) (at : Span) (parts : Trees) (is : List ℕ) (asked : List Question) → Each flat text known named means implied faces (Cons (Node form at parts) Nil) → AreOperands text means implied faces flat all_parts setting (Cons (Node form at parts) Nil) is asked → part_of form ≡ Whole → Fresh text seen (whole-names text (Cons (Node form at parts) Nil)) → (i : ℕ) × (a : List Question) × (is ≡ i ∷ []) × IsFlattened text means implied faces flat setting (Node form at parts) i a × Fresh text seen (declared_in as_binding.Constant (Node form at parts))
+  right-node : (form : Form.the_data) (at : Span) (parts : Trees) (is : List ℕ) (asked : List Question) → Each flat text known named means implied faces nameable (Cons (Node form at parts) Nil) → AreOperands text means implied faces flat all_parts setting (Cons (Node form at parts) Nil) is asked → part_of form ≡ Whole → Fresh text seen (whole-names text (Cons (Node form at parts) Nil)) → (i : ℕ) × (a : List Question) × (is ≡ i ∷ []) × IsFlattened text means implied faces flat setting (Node form at parts) i a × Fresh text seen (declared_in as_binding.Constant (Node form at parts))
   right-node form at parts is asked each (first, others, b, c, parted, asks, one, rest-made) whole fresh =
       by_part (part_of form) whole one (fresh-left text seen _ [] fresh)
     where
-      by_part : (p : Part) → p ≡ Whole → IsMadeAs flat text known named means implied faces setting form at parts first b p → IsNewAs flat text known named means implied faces seen form at parts p → (i : ℕ) × (a : List Question) × (is ≡ i ∷ []) × IsFlattened text means implied faces flat setting (Node form at parts) i a × Fresh text seen (declared_in as_binding.Constant (Node form at parts))
+      by_part : (p : Part) → p ≡ Whole → IsMadeAs flat text known named means implied faces nameable setting form at parts first b p → IsNewAs flat text known named means implied faces nameable seen form at parts p → (i : ℕ) × (a : List Question) × (is ≡ i ∷ []) × IsFlattened text means implied faces flat setting (Node form at parts) i a × Fresh text seen (declared_in as_binding.Constant (Node form at parts))
       by_part Outer e made new = cc
       by_part Helper e made new = cc
       by_part Whole e (i, single, made) new = (i, b, parted ∙ ap (λ js. js ++ others) single ∙ ap (λ js. (i ∷ []) ++ js) rest-made.0, made, new)
 
-  right-is : (parameters : Exports) (name : Named) (form : Form.the_data) (at : Span) (parts : Trees) (i : ℕ) (asked : List Question) → Each flat text known named means implied faces (Cons (Node form at parts) Nil) → IsFlattened text means implied faces flat setting (Node form at parts) i asked → IsReadable text known named means implied faces layout.context (Node form at parts) → Fresh text seen (declared_in as_binding.Constant (Node form at parts)) → parameter_order (entry_of parameters name) ≡ Some (order_by (places_at text known named layout.context (Node form at parts))) → IsRight parameters name (record { name = name; node = i; at = at }) (record { name = name; item = expand text known named around (Node form at parts); at = at })
+  right-is : (parameters : Exports) (name : Named) (form : Form.the_data) (at : Span) (parts : Trees) (i : ℕ) (asked : List Question) → Each flat text known named means implied faces nameable (Cons (Node form at parts) Nil) → IsFlattened text means implied faces flat setting (Node form at parts) i asked → IsReadable text known named means implied faces layout.context (Node form at parts) → Fresh text seen (declared_in as_binding.Constant (Node form at parts)) → parameter_order (entry_of parameters name) ≡ Some (order_by (places_at text known named layout.context (Node form at parts))) → IsRight parameters name (record { name = name; node = i; at = at }) (record { name = name; item = expand text known named around (Node form at parts); at = at })
   right-is parameters name form at parts i asked each made can fresh order =
       let x : Tree = Node form at parts in
       let o = places_at text known named layout.context x in
       let meant-here = each.0 layout setting seen i asked knows made can fresh in (
         o,
         places-again text known named layout.context x,
-        node-has-places flat text known named means implied faces layout setting seen knows frame [] around agrees form at parts i asked each.1 made can fresh,
+        node-has-places flat text known named means implied faces nameable layout setting seen knows frame [] around agrees form at parts i asked each.1 made can fresh,
         order,
         subst (λ s. Matches (order_by o) (text_at flat i s) (expand text known named around x)) (append-nil frame) (meant-here frame [] around agrees),
       )
 
-  pub rights-found : (rights : Trees) (parameters : Exports) (before : List Named) (l : Lexeme) (made : List Right) (roots : List ℕ) (asked : List Question) → Each flat text known named means implied faces rights → AreRights text means implied faces flat setting l rights made roots asked → AreReadableRights text known named means implied faces layout.context parameters before rights → Fresh text seen (whole-names text rights) → (name : Named) → IsFound parameters name (right_for made name) (written_for (right_sides text known named around rights) name) (is_among (left_sides text.source rights) name)
+  pub rights-found : (rights : Trees) (parameters : Exports) (before : List Named) (l : Lexeme) (made : List Right) (roots : List ℕ) (asked : List Question) → Each flat text known named means implied faces nameable rights → AreRights text means implied faces flat setting l rights made roots asked → AreReadableRights text known named means implied faces layout.context parameters before rights → Fresh text seen (whole-names text rights) → (name : Named) → IsFound parameters name (right_for made name) (written_for (right_sides text known named around rights) name) (is_among (left_sides text.source rights) name)
   rights-found Nil parameters before l made roots asked each all can fresh name = inr (ap (λ rs. right_for rs name) all.0, refl, refl)
   rights-found (Cons (Node (Form.Replacement left) s (Cons (Node form at parts) Nil)) rest) parameters before l made roots asked each (is, others, a, b, more, one, rest-made, parted, joined, asks) (whole, new, order, can, cans) fresh name =
       let node = right-node form at parts is a each.1 one whole (fresh-left text seen (whole-names text (Cons (Node form at parts) Nil)) (whole-names text rest) fresh) in

@@ -192,7 +192,7 @@ not-true : (b : Bool) → not b ≡ true → b ≡ false
 not-true true e = cc
 not-true false e = refl
 
-module _ (flat : FlatModule) (text : Text) (known : Known) (named : List ℕ → Outside) (faces : List ℕ → FlatFace) where
+module _ (flat : FlatModule) (text : Text) (known : Known) (named : List ℕ → Outside) (faces : List ℕ → FlatFace) (nameable : List ℕ → Bool) where
   -- names that can be used were seen, and nothing is said of others
   pub record HasSeen (seen : Meaning → Bool) (layout : Layout) : Type 0 where
     pub context : (name : Named) (m : Meaning) → meaning_of layout.context name ≡ Some m → seen m ≡ true
@@ -203,7 +203,7 @@ module _ (flat : FlatModule) (text : Text) (known : Known) (named : List ℕ →
     pub settings : IsSettingOf layout setting
     pub orders : KeepsOrders known layout
     pub all_seen : HasSeen seen layout
-    pub modules : AreFacesOf flat (λ m. not (seen m)) layout.stands faces named
+    pub modules : AreFacesOf flat nameable (λ m. not (seen m)) layout.stands faces named
 
   -- with more names seen, in a context that has more of these, where they are said to be something
   face-moved : (seen : Meaning → Bool) (names : List Binder) (here next : Meaning → Stand) (face : FlatFace) (outside : Outside) → Fresh text seen names → ((m : Meaning) → times text m names ≡ 0 → next m ≡ here m) → IsFaceOf flat (λ m. not (seen m)) here face outside → IsFaceOf flat (λ m. not (seen-with text names seen m)) next face outside
@@ -234,7 +234,7 @@ module _ (flat : FlatModule) (text : Text) (known : Known) (named : List ℕ →
           context = λ name m e. by_seen name m (brings name m e);
           stands = λ m none. let before = unseen-before text names seen m none in same m before.1 ∙ knows.all_seen.stands m before.0;
         };
-        modules = λ name. face-moved seen names layout.stands next.stands (faces name) (named name) fresh same (knows.modules name);
+        modules = λ name can. face-moved seen names layout.stands next.stands (faces name) (named name) fresh same (knows.modules name can);
       }
     where
       by_orders : (name : Named) (m : Meaning) → ((meaning_of layout.context name ≡ Some m) ⊎ ((1 ≤ times text m names) × TakesAs (next.stands m) (behind_meaning known (Some m)) m)) → TakesAs (next.stands m) (behind_meaning known (Some m)) m

@@ -22,28 +22,28 @@ use Rattle.flattened_meanings.proofs.Rounds.{Knows, repeating-known}
 use Rattle.flattened_meanings.proofs.Operands.{Each, IsMadeAs, IsNewAs, IsReadAs, given, given-append, operands-given, operands-nil, whole-given}
 use Rattle.flattened_meanings.proofs.Bodies.{AreOuters, EndsAs, and-apart, both-ways, helper-part, outer-here, outer-none, outer-part, outers-next, part-outer, whole-part}
 
-module _ (flat : FlatModule) (text : Text) (known : Known) (named : List ℕ → Outside) (means : ℕ → Option Meaning) (implied : ℕ → List Meaning) (faces : List ℕ → FlatFace) where
+module _ (flat : FlatModule) (text : Text) (known : Known) (named : List ℕ → Outside) (means : ℕ → Option Meaning) (implied : ℕ → List Meaning) (faces : List ℕ → FlatFace) (nameable : List ℕ → Bool) where
   -- a part is looked at, or it has no nodes
   abbrev IsTakenAs : Bool → Setting → Form.the_data → Span → Trees → List ℕ → List Question → Part → Type 0
-  IsTakenAs taken setting form s parts first b p = elim taken [ true ↦ IsMadeAs flat text known named means implied faces setting form s parts first b p | false ↦ (first ≡ []) × (b ≡ []) ]
+  IsTakenAs taken setting form s parts first b p = elim taken [ true ↦ IsMadeAs flat text known named means implied faces nameable setting form s parts first b p | false ↦ (first ≡ []) × (b ≡ []) ]
 
   -- the indices
-  outers-given : (parts : Trees) (outside inside : Layout) (setting : Setting) (seen : Meaning → Bool) (is : List ℕ) (asked : List Question) → Each flat text known named means implied faces parts → Knows flat text known named faces outside setting seen → AreOperands text means implied faces flat stands_outside setting parts is asked → AreReadable text known named means implied faces outside.context inside.context parts → Fresh text seen (whole-names text parts) → AreOuters flat text known named means implied faces outside is parts
-  outers-given Nil outside inside setting seen is asked each knows made can fresh frame more o agrees = ap (λ js. given flat text known named means implied faces js (frame ++ more)) made.0
+  outers-given : (parts : Trees) (outside inside : Layout) (setting : Setting) (seen : Meaning → Bool) (is : List ℕ) (asked : List Question) → Each flat text known named means implied faces nameable parts → Knows flat text known named faces nameable outside setting seen → AreOperands text means implied faces flat stands_outside setting parts is asked → AreReadable text known named means implied faces outside.context inside.context parts → Fresh text seen (whole-names text parts) → AreOuters flat text known named means implied faces nameable outside is parts
+  outers-given Nil outside inside setting seen is asked each knows made can fresh frame more o agrees = ap (λ js. given flat text known named means implied faces nameable js (frame ++ more)) made.0
   outers-given (Cons (Node form s parts) rest) outside inside setting seen is asked each knows (first, others, b, c, parted, asks, one, rest-made) can fresh frame more o agrees =
-      outers-next flat text known named means implied faces outside first others is form s parts rest parted
+      outers-next flat text known named means implied faces nameable outside first others is form s parts rest parted
       (by_outside (stands_outside form) refl one)
       (outers-given rest outside inside setting seen others c each.2 knows rest-made can.1 (fresh-right text seen _ (whole-names text rest) fresh)) frame more o agrees
     where
-      by_outside : (out : Bool) → stands_outside form ≡ out → IsTakenAs out setting form s parts first b (part_of form) → (s0 more0 : List Item) (o0 : Around) → Agrees flat outside s0 o0 → given flat text known named means implied faces first (s0 ++ more0) ≡ elim (stands_outside form) [ true ↦ operands text known named o0 o0 parts | false ↦ Operands.Nil ]
+      by_outside : (out : Bool) → stands_outside form ≡ out → IsTakenAs out setting form s parts first b (part_of form) → (s0 more0 : List Item) (o0 : Around) → Agrees flat outside s0 o0 → given flat text known named means implied faces nameable first (s0 ++ more0) ≡ elim (stands_outside form) [ true ↦ operands text known named o0 o0 parts | false ↦ Operands.Nil ]
       by_outside true e made s0 more0 o0 agrees0 =
           let is-outer = part-outer form e in
-          let made-outer = subst (IsMadeAs flat text known named means implied faces setting form s parts first b) is-outer made in
-          let can-outer = subst (IsReadAs flat text known named means implied faces outside inside form s parts) is-outer can.0 in
-          let new-outer = subst (IsNewAs flat text known named means implied faces seen form s parts) is-outer (fresh-left text seen _ (whole-names text rest) fresh) in
-          outer-here flat text known named means implied faces outside first form parts o0 (s0 ++ more0) e
-          (operands-given flat text known named means implied faces parts outside outside setting seen first b each.1 knows knows made-outer can-outer new-outer s0 more0 o0 o0 agrees0 agrees0)
-      by_outside false e none s0 more0 o0 agrees0 = outer-none flat text known named means implied faces outside first form parts o0 (s0 ++ more0) e none.0
+          let made-outer = subst (IsMadeAs flat text known named means implied faces nameable setting form s parts first b) is-outer made in
+          let can-outer = subst (IsReadAs flat text known named means implied faces nameable outside inside form s parts) is-outer can.0 in
+          let new-outer = subst (IsNewAs flat text known named means implied faces nameable seen form s parts) is-outer (fresh-left text seen _ (whole-names text rest) fresh) in
+          outer-here flat text known named means implied faces nameable outside first form parts o0 (s0 ++ more0) e
+          (operands-given flat text known named means implied faces nameable parts outside outside setting seen first b each.1 knows knows made-outer can-outer new-outer s0 more0 o0 o0 agrees0 agrees0)
+      by_outside false e none s0 more0 o0 agrees0 = outer-none flat text known named means implied faces nameable outside first form parts o0 (s0 ++ more0) e none.0
 
   -- the operands of a part, by what it is
   abbrev part-operands : Around → Around → Form.the_data → Span → Trees → Part → Operands
@@ -57,25 +57,25 @@ module _ (flat : FlatModule) (text : Text) (known : Known) (named : List ℕ →
   outer-operands o parts out = elim out [ true ↦ operands text known named o o parts | false ↦ Operands.Nil ]
 
   module _ (o a : Around) (frame more : List Item) where
-    values-given : (parts : Trees) (outside inside : Layout) (setting : Setting) (seen : Meaning → Bool) (values : List ℕ) (asked : List Question) → Each flat text known named means implied faces parts → Knows flat text known named faces inside setting seen → EndsWhole parts → AreOperands text means implied faces flat inside_parts setting parts values asked → AreReadable text known named means implied faces outside.context inside.context parts → Fresh text seen (whole-names text parts) → Agrees flat inside frame a → operands text known named o a parts ≡ and_operands (outer_operands text known named o parts) (given flat text known named means implied faces values (frame ++ more))
+    values-given : (parts : Trees) (outside inside : Layout) (setting : Setting) (seen : Meaning → Bool) (values : List ℕ) (asked : List Question) → Each flat text known named means implied faces nameable parts → Knows flat text known named faces nameable inside setting seen → EndsWhole parts → AreOperands text means implied faces flat inside_parts setting parts values asked → AreReadable text known named means implied faces outside.context inside.context parts → Fresh text seen (whole-names text parts) → Agrees flat inside frame a → operands text known named o a parts ≡ and_operands (outer_operands text known named o parts) (given flat text known named means implied faces nameable values (frame ++ more))
     values-given Nil outside inside setting seen values asked each knows whole made can fresh agrees = absurd whole
     values-given (Cons (Node form s parts) rest) outside inside setting seen values asked each knows whole (first, others, b, c, parted, asks, one, rest-made) can fresh agrees =
         by_part (part_of form) refl (stands_outside form) refl whole one can.0 (fresh-left text seen _ (whole-names text rest) fresh)
         (λ left. values-given rest outside inside setting seen others c each.2 knows left rest-made can.1 (fresh-right text seen _ (whole-names text rest) fresh) agrees)
       where
-        by_part : (p : Part) → part_of form ≡ p → (out : Bool) → stands_outside form ≡ out → EndsAs form parts rest p → IsTakenAs (not out) setting form s parts first b p → IsReadAs flat text known named means implied faces outside inside form s parts p → IsNewAs flat text known named means implied faces seen form s parts p → (EndsWhole rest → operands text known named o a rest ≡ and_operands (outer_operands text known named o rest) (given flat text known named means implied faces others (frame ++ more))) → and_operands (part-operands o a form s parts p) (operands text known named o a rest) ≡ and_operands (and_operands (outer-operands o parts out) (outer_operands text known named o rest)) (given flat text known named means implied faces values (frame ++ more))
+        by_part : (p : Part) → part_of form ≡ p → (out : Bool) → stands_outside form ≡ out → EndsAs form parts rest p → IsTakenAs (not out) setting form s parts first b p → IsReadAs flat text known named means implied faces nameable outside inside form s parts p → IsNewAs flat text known named means implied faces nameable seen form s parts p → (EndsWhole rest → operands text known named o a rest ≡ and_operands (outer_operands text known named o rest) (given flat text known named means implied faces nameable others (frame ++ more))) → and_operands (part-operands o a form s parts p) (operands text known named o a rest) ≡ and_operands (and_operands (outer-operands o parts out) (outer_operands text known named o rest)) (given flat text known named means implied faces nameable values (frame ++ more))
         by_part Outer e true out left made read new again =
             let same : values ≡ others = parted ∙ ap (λ js. js ++ others) made.0 in
             ap (and_operands (operands text known named o o parts)) (again left)
-            ∙ ap (λ js. and_operands (operands text known named o o parts) (and_operands (outer_operands text known named o rest) (given flat text known named means implied faces js (frame ++ more)))) (sym same)
-            ∙ sym (and-apart (operands text known named o o parts) (outer_operands text known named o rest) (given flat text known named means implied faces values (frame ++ more)))
+            ∙ ap (λ js. and_operands (operands text known named o o parts) (and_operands (outer_operands text known named o rest) (given flat text known named means implied faces nameable js (frame ++ more)))) (sym same)
+            ∙ sym (and-apart (operands text known named o o parts) (outer_operands text known named o rest) (given flat text known named means implied faces nameable values (frame ++ more)))
         by_part Outer e false out left made read new again = both-ways (stands_outside form) out (outer-part form e)
         by_part Helper e true out left made read new again = both-ways (stands_outside form) (helper-part form e).0 out
         by_part Helper e false out (empty, none, left) made read new again =
             let same : values ≡ others = parted ∙ ap (λ js. js ++ others) (no-nodes parts empty made) in
             ap (λ ps. and_operands (operands text known named a a ps) (operands text known named o a rest)) empty
             ∙ again left
-            ∙ ap (λ js. and_operands (outer_operands text known named o rest) (given flat text known named means implied faces js (frame ++ more))) (sym same)
+            ∙ ap (λ js. and_operands (outer_operands text known named o rest) (given flat text known named means implied faces nameable js (frame ++ more))) (sym same)
           where
             no-nodes : (ps : Trees) → ps ≡ Nil → AreOperands text means implied faces flat all_parts setting ps first b → first ≡ []
             no-nodes Nil e made = made.0
@@ -86,36 +86,36 @@ module _ (flat : FlatModule) (text : Text) (known : Known) (named : List ℕ →
             let meant-here = each.0 inside setting seen i b knows made read.1 new in
             ap (λ ps. and_operands (part-operands o a form s parts Whole) (operands text known named o a ps)) last
             ∙ operands-nil (part-operands o a form s parts Whole)
-            ∙ sym (whole-given flat text known named means implied faces (Node form s parts) inside i frame more a meant-here read.0 agrees)
-            ∙ ap (λ js. given flat text known named means implied faces js (frame ++ more)) (sym one-node)
-            ∙ ap (λ ps. and_operands (outer_operands text known named o ps) (given flat text known named means implied faces values (frame ++ more))) (sym last)
+            ∙ sym (whole-given flat text known named means implied faces nameable (Node form s parts) inside i frame more a meant-here read.0 agrees)
+            ∙ ap (λ js. given flat text known named means implied faces nameable js (frame ++ more)) (sym one-node)
+            ∙ ap (λ ps. and_operands (outer_operands text known named o ps) (given flat text known named means implied faces nameable values (frame ++ more))) (sym last)
           where
             no-others : (ps : Trees) → ps ≡ Nil → AreOperands text means implied faces flat inside_parts setting ps others c → others ≡ []
             no-others Nil e made = made.0
             no-others (Cons x xs) e made = cc
 
-  pub updates-given : (updates : Trees) (layout : Layout) (setting : Setting) (seen : Meaning → Bool) (f : ℕ) (is : List ℕ) (asked : List Question) → Each flat text known named means implied faces updates → Knows flat text known named faces layout setting seen → AreUpdates text means implied faces flat setting f updates is asked → AreUpdatesWritten updates → AreReadable text known named means implied faces layout.context layout.context updates → Fresh text seen (whole-names text updates) → (frame more : List Item) (around : Around) (function : Expanded) → Agrees flat layout frame around → ((longer : List Item) → (text_at flat f (frame ++ longer)).text ≡ function) → given flat text known named means implied faces is (frame ++ more) ≡ updated text known named around function updates
-  updates-given Nil layout setting seen f is asked each knows made written can fresh frame more around function agrees gives = ap (λ js. given flat text known named means implied faces js (frame ++ more)) made.0
+  pub updates-given : (updates : Trees) (layout : Layout) (setting : Setting) (seen : Meaning → Bool) (f : ℕ) (is : List ℕ) (asked : List Question) → Each flat text known named means implied faces nameable updates → Knows flat text known named faces nameable layout setting seen → AreUpdates text means implied faces flat setting f updates is asked → AreUpdatesWritten updates → AreReadable text known named means implied faces layout.context layout.context updates → Fresh text seen (whole-names text updates) → (frame more : List Item) (around : Around) (function : Expanded) → Agrees flat layout frame around → ((longer : List Item) → (text_at flat f (frame ++ longer)).text ≡ function) → given flat text known named means implied faces nameable is (frame ++ more) ≡ updated text known named around function updates
+  updates-given Nil layout setting seen f is asked each knows made written can fresh frame more around function agrees gives = ap (λ js. given flat text known named means implied faces nameable js (frame ++ more)) made.0
   updates-given (Cons (Node form s parts) rest) layout setting seen f is asked each knows (indices, values, others, b, c, d, outers, insides, rest-made, parted, asks) (help, whole, rest-written) can fresh frame more around function agrees gives =
       let then = layout_repeating layout (f ∷ indices) in
       let setting-then = repeating setting (f ∷ indices) in
-      let knows-then = repeating-known flat text known named faces layout setting seen (f ∷ indices) knows in
-      let can-here = subst (IsReadAs flat text known named means implied faces layout layout form s parts) help can.0 in
-      let new-here = subst (IsNewAs flat text known named means implied faces seen form s parts) help (fresh-left text seen _ (whole-names text rest) fresh) in
+      let knows-then = repeating-known flat text known named faces nameable layout setting seen (f ∷ indices) knows in
+      let can-here = subst (IsReadAs flat text known named means implied faces nameable layout layout form s parts) help can.0 in
+      let new-here = subst (IsNewAs flat text known named means implied faces nameable seen form s parts) help (fresh-left text seen _ (whole-names text rest) fresh) in
       let indices-given = outers-given parts layout layout setting seen indices b each.1 knows outers can-here new-here in
       let around-then : Around = record { context = around.context; standing = around.standing; old = Operands.Cons function (outer_operands text known named around parts) } in
       let agrees-then : Agrees flat then frame around-then = record {
         context = agrees.context;
         places = agrees.places;
         standing = agrees.standing;
-        old = λ longer. ap (λ t. Operands.Cons t (given flat text known named means implied faces indices (frame ++ longer))) (gives longer) ∙ ap (Operands.Cons function) (indices-given frame longer around agrees);
+        old = λ longer. ap (λ t. Operands.Cons t (given flat text known named means implied faces nameable indices (frame ++ longer))) (gives longer) ∙ ap (Operands.Cons function) (indices-given frame longer around agrees);
       } in
       let value = values-given around around-then frame more parts layout then setting-then seen values c each.1 knows-then whole insides can-here new-here agrees-then in
       let after = updates-given rest layout setting seen f others d each.2 knows rest-made rest-written can.1 (fresh-right text seen _ (whole-names text rest) fresh) frame more around function agrees gives in
-      ap (λ js. given flat text known named means implied faces js (frame ++ more)) parted
-      ∙ given-append flat text known named means implied faces indices (values ++ others) (frame ++ more)
-      ∙ ap (and_operands (given flat text known named means implied faces indices (frame ++ more))) (given-append flat text known named means implied faces values others (frame ++ more))
-      ∙ ap (λ t. and_operands t (and_operands (given flat text known named means implied faces values (frame ++ more)) (given flat text known named means implied faces others (frame ++ more)))) (indices-given frame more around agrees)
-      ∙ sym (and-apart (outer_operands text known named around parts) (given flat text known named means implied faces values (frame ++ more)) (given flat text known named means implied faces others (frame ++ more)))
-      ∙ ap (λ t. and_operands t (given flat text known named means implied faces others (frame ++ more))) (sym value)
+      ap (λ js. given flat text known named means implied faces nameable js (frame ++ more)) parted
+      ∙ given-append flat text known named means implied faces nameable indices (values ++ others) (frame ++ more)
+      ∙ ap (and_operands (given flat text known named means implied faces nameable indices (frame ++ more))) (given-append flat text known named means implied faces nameable values others (frame ++ more))
+      ∙ ap (λ t. and_operands t (and_operands (given flat text known named means implied faces nameable values (frame ++ more)) (given flat text known named means implied faces nameable others (frame ++ more)))) (indices-given frame more around agrees)
+      ∙ sym (and-apart (outer_operands text known named around parts) (given flat text known named means implied faces nameable values (frame ++ more)) (given flat text known named means implied faces nameable others (frame ++ more)))
+      ∙ ap (λ t. and_operands t (given flat text known named means implied faces nameable others (frame ++ more))) (sym value)
       ∙ ap (and_operands (operands text known named around around-then parts)) after

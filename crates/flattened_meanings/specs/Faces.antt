@@ -1,6 +1,9 @@
 -- When modules are to their instances what a flat module has for them, round a tree that names them.
 use Rattle.std.specs.Prelude.{◌≡◌, ℕ, ◌<◌, Bool, true, List, [], ◌∷◌, Some}
 use Rattle.std.specs.List.{AllByRecursion}
+use Rattle.tla_tree.specs.declared.form.Form.TheVariants as Form
+use Rattle.tla_tree.specs.Syntax.{Tree, Trees, Node, Nil, Cons}
+use Rattle.tla_model.specs.Lexemes.{spelled}
 use Rattle.tla_model.specs.Tables.{Named}
 use Rattle.tla_model.specs.Entities.{Meaning}
 use Rattle.module_model.specs.Exports.{behind_instance, entry_of, onward}
@@ -31,6 +34,22 @@ module _ (flat : FlatModule) where
     pub symbols : (meaning : Meaning) → StandsAs face.outer (base meaning) (here meaning)
     pub unsaid : (meaning : Meaning) → new meaning ≡ true → base meaning ≡ Unsaid
 
-  -- each module is to its instances what is known of it
-  abbrev pub AreFacesOf : (Meaning → Bool) → (Meaning → Stand) → (List ℕ → FlatFace) → (List ℕ → Outside) → Type 0
-  AreFacesOf new here faces named = (name : List ℕ) → IsFaceOf new here (faces name) (named name)
+  -- each module that can be named is to its instances what is known of it
+  abbrev pub AreFacesOf : (List ℕ → Bool) → (Meaning → Bool) → (Meaning → Stand) → (List ℕ → FlatFace) → (List ℕ → Outside) → Type 0
+  AreFacesOf nameable new here faces named = (name : List ℕ) → nameable name ≡ true → IsFaceOf new here (faces name) (named name)
+
+module _ (source : List ℕ) (nameable : List ℕ → Bool) where
+  -- a form is no INSTANCE, or one of a module that can be named
+  abbrev pub IsOfNameable : Form.the_data → Type 0
+  IsOfNameable (Form.Instance l) = nameable (spelled source l) ≡ true
+  IsOfNameable form = Unit {0}
+
+  abbrev mutual
+    -- each INSTANCE in a tree is of a module that can be named
+    pub NamesModules : Tree → Type 0
+    NamesModules (Node form s parts) = IsOfNameable form × NameModules parts
+
+    -- the same of several trees
+    pub NameModules : Trees → Type 0
+    NameModules Nil = Unit {0}
+    NameModules (Cons x rest) = NamesModules x × NameModules rest
