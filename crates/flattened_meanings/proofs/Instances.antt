@@ -32,7 +32,7 @@ use Rattle.flattened_trees.specs.Flattened.{AreReplacing, AreRights, AreStaying,
 use Rattle.flattened_trees.specs.Readable.{AreImplied, AreReadableRights, IsFaceFor, IsKnownBehind, IsReadableThrough}
 use Rattle.flattened_trees.specs.Agreeing.{TakesAs, TakesBehind, lead_by}
 use Rattle.flattened_meanings.specs.Faces.{IsFaceOf, StandsAs}
-use Rattle.flattened_meanings.specs.Definitions.{StandsFor}
+use Rattle.flattened_meanings.specs.Definitions.{IsOfModule, StandsFor}
 use Rattle.flattened_meanings.proofs.Fresh.{Fresh, fresh-left, fresh-right, seen-with, whole-names}
 use Rattle.flattened_meanings.proofs.Rounds.{Knows, parameters-known}
 use Rattle.flattened_meanings.proofs.Operands.{Each}
@@ -83,6 +83,33 @@ module _ (flat : FlatModule) where
   staying-stays ordered outer staying (Brought j inner) here all stands = absurd stands
 
 module _ (flat : FlatModule) (text : Text) (known : Known) (named : List ℕ → Outside) (means : ℕ → Option Meaning) (implied : ℕ → List Meaning) (faces : List ℕ → FlatFace) (nameable : List ℕ → Bool) where
+  module _ (ordered : IsOrdered flat) (layout : Layout) (setting : Setting) (seen : Meaning → Bool) (knows : Knows flat text known named faces nameable layout setting seen) where
+    -- an instance that is written is one of the module that it names
+    pub instance-put : (outer count : ℕ) (guards : Bool) (l : Lexeme) (rights : Trees) (written : List Right) (roots : List ℕ) (j : ℕ) (asked more : List Question) → nameable (spelled text.source l) ≡ true → Each flat text known named means implied faces nameable rights → AreRights text means implied faces flat setting l rights written roots asked → IsInstance text means implied faces flat setting outer count guards l written j more → IsFaceFor text known named means implied faces l → AreImplied layout.context (left_sides text.source rights) (module_of text known named l).view.parameters (implied l.span.start) → AreReadableRights text known named means implied faces layout.context (module_of text known named l).view.parameters [] rights → Fresh text seen (whole-names text rights) → IsOfModule flat text known named faces layout outer count guards l rights j
+    instance-put outer count guards l rights written roots j asked more can each are (staying, made, there, stay, all) fits stand-in readable fresh =
+        let face = knows.modules (spelled text.source l) can in
+        let many = (faces (spelled text.source l)).outer in
+        let parameters = (module_of text known named l).view.parameters in
+        let constant = (module_of text known named l).is_constant in
+        let all-by = subst (λ ps. AreReplacing flat setting.leads setting.frame (faces (spelled text.source l)).is_constant written l ps (implied l.span.start) made more) fits.parameters all in
+        let all-of = subst (λ c. AreReplacing flat setting.leads setting.frame c written l parameters (implied l.span.start) made more) fits.constant all-by in
+        record {
+          staying = staying;
+          made = made;
+          base = face.base;
+          inner = face.inner;
+          there = there;
+          unbounded = staying-unbounded flat 0 many staying stay;
+          kept = subst (λ n. IsModuleBehind flat face.base n face.inner (module_of text known named l)) (sym (staying-many flat 0 many staying stay)) face.kept;
+          stays = λ m. staying-stays flat ordered many staying (face.base m) (layout.stands m) stay (face.symbols m);
+          put = λ frame around agrees.
+              replaced-all flat text known named means implied faces nameable ordered layout setting seen knows frame around agrees l constant parameters written (right_sides text known named around rights) (left_sides text.source rights)
+              (rights-found flat text known named means implied faces nameable ordered layout setting seen knows frame around agrees rights parameters [] l written roots asked each are readable fresh)
+              parameters (implied l.span.start) made more face.apart all-of stand-in;
+          leads = face.leads;
+          takes = face.takes;
+        }
+
   -- the first INSTANCE among parts, with what is known of it
   record First (context : Context) (outside setting : Setting) (seen : Meaning → Bool) (count : ℕ) (lead : List Named → Lead) (parts : Trees) : Type 0 where
     l : Lexeme
@@ -182,50 +209,36 @@ module _ (flat : FlatModule) (text : Text) (known : Known) (named : List ℕ →
     inside-known = parameters-known flat text known named faces nameable layout setting seen knows here s parts (names-fresh text seen here s parts new) refl
 
     module _ (lead : List Named → Lead) (first : First within.context setting setting-within seen-within (length (parameters_of text here parts)) lead parts) where
-      outside-of : Outside
-      outside-of = module_of text known named first.l
+      -- the instance
+      is-of : IsOfModule flat text known named faces within (length setting.frame) (length (parameters_of text here parts)) true first.l first.rights first.j
+      is-of =
+          instance-put ordered within setting-within seen-within inside-known (length setting.frame) (length (parameters_of text here parts)) true first.l first.rights first.written first.roots first.j first.asked-rights first.asked-instance first.can-name first.each first.are-rights first.is-instance first.face first.stand-in first.readable first.fresh
 
-      -- replacements are put in
-      put-in : (made : List Replacement) (asked : List Question) → AreReplacing flat setting-within.leads setting-within.frame (face_of text means implied faces flat first.l).is_constant first.written first.l (face_of text means implied faces flat first.l).parameters (implied first.l.span.start) made asked → ArePutIn flat text known named within made first.l first.rights
-      put-in made asked all frame around agrees =
-          let m = module_of text known named first.l in
-          let face = inside-known.modules (spelled text.source first.l) first.can-name in
-          let found = rights-found flat text known named means implied faces nameable ordered within setting-within seen-within inside-known frame around agrees first.rights m.view.parameters [] first.l first.written first.roots first.asked-rights first.each first.are-rights first.readable first.fresh in
-          let all-by = subst (λ ps. AreReplacing flat setting-within.leads setting-within.frame (face_of text means implied faces flat first.l).is_constant first.written first.l ps (implied first.l.span.start) made asked) first.face.parameters all in
-          let all-of = subst (λ c. AreReplacing flat setting-within.leads setting-within.frame c first.written first.l m.view.parameters (implied first.l.span.start) made asked) first.face.constant all-by in
-          replaced-all flat text known named means implied faces nameable ordered within setting-within seen-within inside-known frame around agrees first.l m.is_constant m.view.parameters first.written (right_sides text known named around first.rights) (left_sides text.source first.rights) found m.view.parameters (implied first.l.span.start) made asked face.apart all-of first.stand-in
+      module-stands : Stands flat layout (Through first.j (map order_of (parameters_of text here parts)) is-of.inner) (λ around. defined_value text known named around (Node here s parts))
+      module-stands =
+          let x : Instance = record { outer = length setting.frame; parameters = length (parameters_of text here parts); guards = true; replacements = is-of.staying ++ is-of.made } in
+          let is : IsMadeInstance flat layout first.j x (length (parameters_of text here parts)) true = record { there = is-of.there; outer = sym knows.settings.places; parameters = refl; guards = refl } in
+          let puts : PutsInBehind x is-of.staying is-of.made = record { replacements = refl; unbounded = is-of.unbounded } in
+          instance-stands flat text known named layout own-name s parts first.j x first.l first.rights is-of.staying is-of.made is-of.base is-of.inner is puts first.is-first is-of.kept is-of.stays is-of.put
 
-      module-stands : (staying made : List Replacement) (asked : List Question) → slice_get flat.instances first.j ≡ Some (record { outer = length setting.frame; parameters = length (parameters_of text here parts); guards = true; replacements = staying ++ made }) → AreStaying flat 0 (face_of text means implied faces flat first.l).outer staying → AreReplacing flat setting-within.leads setting-within.frame (face_of text means implied faces flat first.l).is_constant first.written first.l (face_of text means implied faces flat first.l).parameters (implied first.l.span.start) made asked → Stands flat layout (Through first.j (map order_of (parameters_of text here parts)) (inside-known.modules (spelled text.source first.l) first.can-name).inner) (λ around. defined_value text known named around (Node here s parts))
-      module-stands staying made asked there stay all =
-          let x : Instance = record { outer = length setting.frame; parameters = length (parameters_of text here parts); guards = true; replacements = staying ++ made } in
-          let face = inside-known.modules (spelled text.source first.l) first.can-name in
-          let outer = (face_of text means implied faces flat first.l).outer in
-          let is : IsMadeInstance flat layout first.j x (length (parameters_of text here parts)) true = record { there = there; outer = sym knows.settings.places; parameters = refl; guards = refl } in
-          let puts : PutsInBehind x staying made = record { replacements = refl; unbounded = staying-unbounded flat 0 outer staying stay } in
-          let kept : IsModuleBehind flat face.base (length staying) face.inner (module_of text known named first.l) = subst (λ n. IsModuleBehind flat face.base n face.inner (module_of text known named first.l)) (sym (staying-many flat 0 outer staying stay)) face.kept in
-          instance-stands flat text known named layout own-name s parts first.j x first.l first.rights staying made face.base face.inner is puts first.is-first kept
-          (λ m. staying-stays flat ordered outer staying (face.base m) (within.stands m) stay (face.symbols m)) (put-in made asked all)
-
-      lead-names : (names : List Named) → lead names ≡ lead_by (Through first.j (map order_of (parameters_of text here parts)) (inside-known.modules (spelled text.source first.l) first.can-name).inner) names
+      lead-names : (names : List Named) → lead names ≡ lead_by (Through first.j (map order_of (parameters_of text here parts)) is-of.inner) names
       lead-names [] = ap (λ (f : List Named → Lead). f []) first.leads
       lead-names (name ∷ names) =
           ap (λ (f : List Named → Lead). f (name ∷ names)) first.leads
-          ∙ ap (λ (found : Lead). record { path = first.j ∷ found.path; end = found.end }) ((inside-known.modules (spelled text.source first.l) first.can-name).leads name names)
+          ∙ ap (λ (found : Lead). record { path = first.j ∷ found.path; end = found.end }) (is-of.leads name names)
 
-      module-takes : all_grouped parts ≡ [] → IsKnownBehind text known named means implied faces own-name (instance_among parts) → TakesAs (Through first.j (map order_of (parameters_of text here parts)) (inside-known.modules (spelled text.source first.l) first.can-name).inner) (behind_meaning known (Some (Declared (entity.Instance (orders parts)) (own text own-name)))) (Declared (entity.Instance (orders parts)) (own text own-name))
+      module-takes : all_grouped parts ≡ [] → IsKnownBehind text known named means implied faces own-name (instance_among parts) → TakesAs (Through first.j (map order_of (parameters_of text here parts)) is-of.inner) (behind_meaning known (Some (Declared (entity.Instance (orders parts)) (own text own-name)))) (Declared (entity.Instance (orders parts)) (own text own-name))
       module-takes none behind =
-          let face = inside-known.modules (spelled text.source first.l) first.can-name in
-          subst (λ os. TakesBehind (Through first.j os face.inner) (behind_meaning known (Some (Declared (entity.Instance (orders parts)) (own text own-name)))) (Declared (entity.Instance (orders parts)) (own text own-name))) (sym (parameter-orders text here parts refl refl none))
-          (known-takes own-name (orders parts) (behind_view (module_of text known named first.l).view) first.j face.inner
-          (behind-known-as own-name (instance_among parts) first.l first.is-among behind) face.takes)
+          subst (λ os. TakesBehind (Through first.j os is-of.inner) (behind_meaning known (Some (Declared (entity.Instance (orders parts)) (own text own-name)))) (Declared (entity.Instance (orders parts)) (own text own-name))) (sym (parameter-orders text here parts refl refl none))
+          (known-takes own-name (orders parts) (behind_view (module_of text known named first.l).view) first.j is-of.inner
+          (behind-known-as own-name (instance_among parts) first.l first.is-among behind) is-of.takes)
 
       module-found : all_grouped parts ≡ [] → IsKnownBehind text known named means implied faces own-name (instance_among parts) → StandsFor flat text known named layout (Node here s parts) lead
       module-found none behind =
-          let is = first.is-instance in
           record {
-            stand = Through first.j (map order_of (parameters_of text here parts)) (inside-known.modules (spelled text.source first.l) first.can-name).inner;
+            stand = Through first.j (map order_of (parameters_of text here parts)) is-of.inner;
             leads = lead-names;
-            stands = module-stands is.0 is.1 first.asked-instance is.2 is.3 is.4;
+            stands = module-stands;
             takes = (module-takes none behind, tt);
           }
 
