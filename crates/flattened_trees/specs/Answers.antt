@@ -8,9 +8,9 @@ use Rattle.kind_text.specs.Expansion.{text}
 use Rattle.kind_text.specs.Substitution.{Item, judged}
 use Rattle.level_text.specs.Depth.{depth, depth_of, instance_depth, is_too_deep}
 use Rattle.tla_symbols.specs.declared.lexeme.Lexeme.{Lexeme}
-use Rattle.tree_kinds.specs.TreeLevels.{LevelFinding, Leveled, Refused, TooHigh, is_above, level_word}
+use Rattle.tree_kinds.specs.TreeLevels.{LevelFinding, Leveled, NotConstant, Refused, TooHigh, is_above, level_word}
 use Rattle.flat_kinds.specs.Symbols.{item_itself}
-use Rattle.flattened_trees.specs.Questions.{Asked, Question, UseOf, UseAs, HasKind, IsAtMost, IsShallow, IsShallowInstance}
+use Rattle.flattened_trees.specs.Questions.{Asked, Question, UseOf, UseAs, HasKind, IsAtMost, IsShallow, IsShallowInstance, IsShallowNode, IsConstant}
 
 -- symbols and parameters by themselves
 abbrev pub items_of : List Meaning → List Item
@@ -37,6 +37,7 @@ module _ (flat : FlatModule) where
   level_answer frame (UseAs l level) = Leveled l level ∷ []
   level_answer frame (HasKind s i) = if not (is_some (kind_in frame i)) && parts_have_kinds frame (slice_get flat.nodes i) then Refused s ∷ [] else []
   level_answer frame (IsAtMost s i most) = if is_above most (kind_in frame i) then TooHigh s ∷ [] else []
+  level_answer frame (IsConstant s i) = if is_above 0 (kind_in frame i) then NotConstant s ∷ [] else []
   level_answer frame asked = []
 
   -- the same of all questions, in their order
@@ -44,10 +45,11 @@ module _ (flat : FlatModule) where
   level_answers [] = []
   level_answers (q ∷ rest) = level_answer q.frame q.asked ++ level_answers rest
 
-  -- the names of definitions that are too deep
+  -- the names of definitions that are too deep, and the words of assumptions and theorems
   abbrev pub deep_answer : Asked → List Lexeme
   deep_answer (IsShallow l d) = if is_too_deep (depth_of (depth flat) (slice_get flat.definitions d)) then l ∷ [] else []
   deep_answer (IsShallowInstance l j) = if is_too_deep (instance_depth (depth flat) (slice_get flat.instances j)) then l ∷ [] else []
+  deep_answer (IsShallowNode l i) = if is_too_deep (depth flat i) then l ∷ [] else []
   deep_answer asked = []
 
   -- the same of all questions, in their order

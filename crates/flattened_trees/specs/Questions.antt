@@ -25,6 +25,10 @@ pub data Asked : Type 0 where
   IsShallow : (name : Lexeme) (definition : ℕ) → Asked
   -- the same of a module definition, by the number of its instance
   IsShallowInstance : (name : Lexeme) (instance : ℕ) → Asked
+  -- the same of an assumption or a theorem, by its first word
+  IsShallowNode : (word : Lexeme) (node : ℕ) → Asked
+  -- an assumption is constant, or has no kind
+  IsConstant : (at : Span) (node : ℕ) → Asked
 
 -- a question about nodes over the symbols and parameters of a frame, each by itself
 pub record Question : Type 0 where
