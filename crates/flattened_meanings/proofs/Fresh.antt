@@ -52,7 +52,7 @@ module _ (text : Text) where
   abbrev pub Fresh : (Meaning → Bool) → List Binder → Type 0
   Fresh seen names = (m : Meaning) → times m names + mark (seen m) ≤ 1
 
-  new-times : (seen : List Meaning) (names : List Binder) → AreNew seen (map (meant text) names) → (m : Meaning) → times m names + mark (is_seen seen m) ≤ 1
+  pub new-times : (seen : List Meaning) (names : List Binder) → AreNew seen (map (meant text) names) → (m : Meaning) → times m names + mark (is_seen seen m) ≤ 1
   new-times seen [] new m = by_mark (is_seen seen m)
     where
       by_mark : (b : Bool) → 0 + mark b ≤ 1
@@ -67,7 +67,7 @@ module _ (text : Text) where
           omega (arith, others, unseen)
       by_sameness false e others = omega (arith, others)
 
-  others-none : (names : List Binder) (m : Meaning) → is_seen (map (meant text) names) m ≡ false → times m names ≡ 0
+  pub others-none : (names : List Binder) (m : Meaning) → is_seen (map (meant text) names) m ≡ false → times m names ≡ 0
   others-none [] m e = refl
   others-none (x ∷ rest) m e = by_sameness (same_meaning m (meant text x)) e (others-none rest m)
     where

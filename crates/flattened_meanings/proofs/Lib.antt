@@ -1,6 +1,7 @@
 pub mod Leading
 pub mod Fresh
 pub mod Rounds
+pub mod Behind
 pub mod Operands
 pub mod NodeNames
 pub mod Bodies

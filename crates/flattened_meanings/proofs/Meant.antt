@@ -2,6 +2,7 @@
 use Rattle.std.proofs.Common.{◌≡◌, inl, inr, ℕ, zero, suc, ◌+◌, ◌≤◌, Bool, true, false, cond, List, [], ◌∷◌, ◌++◌, Option, Some, None, map, refl, sym, ap, ◌∙◌, subst, length, arith}
 use Rattle.std.specs.Prelude.{slice_get}
 use Rattle.std.specs.List.{AllByRecursion}
+use Rattle.tla_symbols.specs.declared.lexeme.Lexeme.{Lexeme}
 use Rattle.tla_symbols.specs.declared.lexeme.Span.{Span}
 use Rattle.tla_symbols.specs.declared.level.Rule.TheVariants.{Plain}
 use Rattle.tla_symbols.specs.declared.place.Fix.TheVariants.{Prefix, Infix, Postfix}
@@ -31,25 +32,21 @@ use Rattle.flattened_trees.specs.declared.End.TheVariants as end
 use Rattle.flattened_trees.specs.Leads.{FlatFace, Lead, Setting, behind, only, with_parameters}
 use Rattle.flattened_trees.specs.Questions.{IsShallow, Question, over}
 use Rattle.flattened_trees.specs.NodeForms.{bare_node, bare_places, let_node, plain_node}
-use Rattle.flattened_trees.specs.Flattened.{AreOperands, HasNode, IsChain, IsDefined, IsFlattened, IsRoot, IsThrough, all_parts, asked_at, written_node}
+use Rattle.flattened_trees.specs.Flattened.{AreOperands, AreRights, HasNode, IsChain, IsDefined, IsFlattened, IsInstance, IsRoot, IsThrough, Right, all_parts, asked_at, written_node}
 use Rattle.flattened_trees.specs.Readable.{AreInside, AreReadable, EndsWhole, IsKnownBehind, IsReadable, IsReadableChain, IsReadableDefinition, IsReadableThrough}
 use Rattle.flattened_trees.specs.Agreeing.{TakesAs}
 use Rattle.flattened_meanings.specs.Faces.{NameModules, NamesModules}
-use Rattle.flattened_meanings.specs.Definitions.{StandsFor}
+use Rattle.flattened_meanings.specs.Definitions.{IsOfModule, StandsFor}
+use Rattle.flattened_meanings.specs.Rounds.{IsKnownRound}
 use Rattle.flattened_meanings.proofs.Fresh.{Fresh, IsOneOf, among-any, among-next, fresh-among, fresh-less, fresh-right, in-tree, node-names, seen-with, times, times-append, whole-names}
 use Rattle.flattened_meanings.proofs.Rounds.{Knows, behind-known}
+use Rattle.flattened_meanings.proofs.Behind.{all-one, fresh-round, known-round, seen-round}
 use Rattle.flattened_meanings.proofs.Operands.{Each, IsKept, given}
 use Rattle.flattened_meanings.proofs.NodeNames.{bare-built, bare-is, identifier-built, operator-built, symbol-node}
 use Rattle.flattened_meanings.proofs.Updates.{updates-given}
 use Rattle.flattened_meanings.proofs.Forms.{bounded-given, inside-built, ruled-built, wholes-fresh}
 use Rattle.flattened_meanings.proofs.Definitions.{function-for, operator-for}
-use Rattle.flattened_meanings.proofs.Instances.{module-for}
-
--- what holds of all names holds of one
-all-one : (text : Text) (P : Meaning → Type 0) (names : List Binder) (m : Meaning) → AllByRecursion P (map (meant text) names) → IsOneOf text names m → P m
-all-one text P [] m all one = absurd one
-all-one text P (name ∷ rest) m all (inl same) = subst P (sym same) all.0
-all-one text P (name ∷ rest) m all (inr one) = all-one text P rest m all.1 one
+use Rattle.flattened_meanings.proofs.Instances.{instance-put, module-for}
 
 module _ (text : Text) (seen : Meaning → Bool) where
   -- what is declared among parts is new, where what their node declares is
@@ -208,3 +205,18 @@ module _ (flat : FlatModule) (text : Text) (known : Known) (named : List ℕ →
 
   pub tree-kept : (x : Tree) → NamesModules text.source nameable x → IsKept flat text known named means implied faces nameable x
   tree-kept (Node form s parts) names = node-kept form s parts (each-kept parts names.1)
+
+  -- ---- by what is known round a tree
+
+  pub definition-stands : (layout : Layout) (setting : Setting) (seen : List Meaning) (x : Tree) (lead : List Named → Lead) (roots : List ℕ) (asked : List Question) → IsKnownRound flat text known named faces nameable layout setting seen x → IsReadableDefinition text known named means implied faces layout.context x → IsDefined text means implied faces flat setting x lead roots asked → StandsFor flat text known named layout x lead
+  definition-stands layout setting seen (Node form s parts) lead roots asked round can made =
+      let x : Tree = Node form s parts in
+      definition-for layout setting (seen-round flat text known named faces nameable layout setting seen x round) (known-round flat text known named faces nameable layout setting seen x round) form s parts lead roots asked
+      (each-kept parts round.instances.1) made can (fresh-round flat text known named faces nameable layout setting seen x round)
+
+  pub instance-stands : (layout : Layout) (setting : Setting) (seen : List Meaning) (l : Lexeme) (at : Span) (rights : Trees) (outer count : ℕ) (guards : Bool) (written : List Right) (roots : List ℕ) (j : ℕ) (asked more : List Question) → IsKnownRound flat text known named faces nameable layout setting seen (Node (Form.Instance l) at rights) → IsReadableThrough text known named means implied faces layout.context (Cons (Node (Form.Instance l) at rights) Nil) → AreRights text means implied faces flat setting l rights written roots asked → IsInstance text means implied faces flat setting outer count guards l written j more → IsOfModule flat text known named faces layout outer count guards l rights j
+  instance-stands layout setting seen l at rights outer count guards written roots j asked more round can are is =
+      let x : Tree = Node (Form.Instance l) at rights in
+      let before = seen-round flat text known named faces nameable layout setting seen x round in
+      instance-put flat text known named means implied faces nameable ordered layout setting before (known-round flat text known named faces nameable layout setting seen x round) outer count guards l rights written roots j asked more round.instances.0
+      (each-kept rights round.instances.1) are is can.0 can.1 can.2 (wholes-fresh text before (Form.Instance l) at rights (fresh-round flat text known named faces nameable layout setting seen x round))

@@ -101,7 +101,7 @@ module _ (text : Text) where
 
   -- ---- what was seen
 
-  counted-seen : (names : List Binder) (seen : Meaning → Bool) (m : Meaning) → 1 ≤ times text m names → seen-with text names seen m ≡ true
+  pub counted-seen : (names : List Binder) (seen : Meaning → Bool) (m : Meaning) → 1 ≤ times text m names → seen-with text names seen m ≡ true
   counted-seen [] seen m some = absurd (omega (arith, some))
   counted-seen (x ∷ rest) seen m some = by_sameness (same_meaning m (meant text x)) some (counted-seen rest seen m)
     where
@@ -140,7 +140,7 @@ module _ (text : Text) where
   places-in (x ∷ rest) stands place m (inr one) l =
       places-in rest (with_stand stands (meant text x) (Place place (order_of (meant text x)))) (suc place) m one (omega (arith, l))
 
-  stands-other : (names : List Binder) (stands : Meaning → Stand) (stand : Stand) (m : Meaning) → times text m names ≡ 0 → with_stands stands (map (meant text) names) stand m ≡ stands m
+  pub stands-other : (names : List Binder) (stands : Meaning → Stand) (stand : Stand) (m : Meaning) → times text m names ≡ 0 → with_stands stands (map (meant text) names) stand m ≡ stands m
   stands-other [] stands stand m none = refl
   stands-other (x ∷ rest) stands stand m none =
       by_sameness (same_meaning m (meant text x)) none (stands-other rest (with_stand stands (meant text x) stand) stand m)
@@ -157,7 +157,7 @@ module _ (text : Text) where
       by_sameness true = refl
       by_sameness false = is
 
-  stands-in : (names : List Binder) (stands : Meaning → Stand) (stand : Stand) (m : Meaning) → IsOneOf text names m → with_stands stands (map (meant text) names) stand m ≡ stand
+  pub stands-in : (names : List Binder) (stands : Meaning → Stand) (stand : Stand) (m : Meaning) → IsOneOf text names m → with_stands stands (map (meant text) names) stand m ≡ stand
   stands-in [] stands stand m one = absurd one
   stands-in (x ∷ rest) stands stand m (inl same) =
       stands-kept rest (with_stand stands (meant text x) stand) stand m
@@ -175,7 +175,7 @@ lead-with stands leads meaning stand lead all one m names = by_sameness (same_me
     by_sameness true = one names
     by_sameness false = all m names
 
-leads-with : (meanings : List Meaning) (stands : Meaning → Stand) (leads : Leads) (stand : Stand) (lead : List Named → Lead) → LeadsBy stands leads → ((names : List Named) → lead names ≡ lead_by stand names) → LeadsBy (with_stands stands meanings stand) (with_leads leads meanings lead)
+pub leads-with : (meanings : List Meaning) (stands : Meaning → Stand) (leads : Leads) (stand : Stand) (lead : List Named → Lead) → LeadsBy stands leads → ((names : List Named) → lead names ≡ lead_by stand names) → LeadsBy (with_stands stands meanings stand) (with_leads leads meanings lead)
 leads-with [] stands leads stand lead all one = all
 leads-with (m ∷ rest) stands leads stand lead all one =
     leads-with rest (with_stand stands m stand) (with_lead leads m lead) stand lead (lead-with stands leads m stand lead all one) one
