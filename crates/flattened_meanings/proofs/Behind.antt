@@ -1,5 +1,5 @@
 -- What is known behind a definition, and at the beginning of a tree.
-use Rattle.std.proofs.Common.{◌≡◌, inl, inr, ℕ, zero, suc, ◌+◌, ◌≤◌, Bool, true, false, cond, List, [], ◌∷◌, ◌++◌, Option, Some, None, map, refl, sym, ap, ◌∙◌, subst, arith}
+use Rattle.std.proofs.Common.{◌≡◌, inl, inr, ℕ, Bool, true, false, cond, List, [], ◌∷◌, ◌++◌, Some, map, refl, sym, ap, ◌∙◌, subst, arith}
 use Rattle.std.specs.Prelude.{◌⊎◌, not}
 use Rattle.std.specs.List.{AllByRecursion}
 use Rattle.tla_symbols.specs.declared.lexeme.Span.{Span}
@@ -10,7 +10,6 @@ use Rattle.tla_model.specs.declared.names.Binding.TheVariants as as_binding
 use Rattle.tla_model.specs.Tables.{Named}
 use Rattle.tla_model.specs.Entities.{Meaning, Text, declared_in, defined, meant, same_meaning, within}
 use Rattle.tla_model.specs.Contexts.{meaning_of}
-use Rattle.tla_model.specs.Scopes.{definition}
 use Rattle.tla_model.proofs.Same.{meaning-itself}
 use Rattle.module_model.specs.Exports.{Known, behind_meaning}
 use Rattle.kind_text.specs.FlatModule.{FlatModule}
@@ -22,7 +21,7 @@ use Rattle.flattened_trees.specs.Agreeing.{AreNew, IsSeen, IsSettingOf, IsUnsaid
 use Rattle.flattened_meanings.specs.Faces.{AreFacesOf, IsFaceOf, StandsAs}
 use Rattle.flattened_meanings.specs.Rounds.{IsKnownRound}
 use Rattle.flattened_meanings.proofs.Fresh.{Fresh, IsOneOf, fresh-less, mark, new-fresh, new-times, others-none, seen-other, times, tree-any}
-use Rattle.flattened_meanings.proofs.Rounds.{HasSeen, Knows, bind-all-gives, leads-with, stands-in, stands-other}
+use Rattle.flattened_meanings.proofs.Rounds.{Knows, bind-all-gives, leads-with, stands-in, stands-other}
 
 -- ---- names that are seen
 

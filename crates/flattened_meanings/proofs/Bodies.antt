@@ -1,30 +1,26 @@
 -- Nodes of bodies, of quantifiers over sets and of updates.
-use Rattle.std.proofs.Common.{◌≡◌, ℕ, zero, suc, Bool, true, false, cond, List, [], ◌∷◌, ◌++◌, Option, Some, None, map, refl, sym, ap, ◌∙◌, subst, arith}
-use Rattle.std.specs.Prelude.{not}
+use Rattle.std.proofs.Common.{◌≡◌, ℕ, Bool, true, false, cond, List, [], ◌∷◌, ◌++◌, Option, map, refl, sym, ap, ◌∙◌}
 use Rattle.tla_symbols.specs.declared.lexeme.Span.{Span}
 use Rattle.tla_tree.specs.declared.form.Form.TheVariants as Form
 use Rattle.tla_tree.specs.Forms.{helps}
-use Rattle.tla_tree.specs.Syntax.{Tree, Trees, Node, Nil, Cons}
-use Rattle.tla_model.specs.declared.names.Binder.{Binder}
-use Rattle.tla_model.specs.declared.names.Binding.TheVariants as as_binding
-use Rattle.tla_model.specs.Entities.{Meaning, Nothing, Text, declared_in, defined, defined_as, defines, meant}
+use Rattle.tla_tree.specs.Syntax.{Trees, Node, Nil, Cons}
+use Rattle.tla_model.specs.Entities.{Meaning, Nothing, Text, defined_as, defines, meant}
 use Rattle.tla_model.specs.Contexts.{bind_all}
 use Rattle.module_model.specs.Exports.{Known}
-use Rattle.kind_text.specs.ExpandedKind.{Expanded, Operands}
+use Rattle.kind_text.specs.ExpandedKind.{Operands}
 use Rattle.kind_text.specs.FlatModule.{FlatModule}
-use Rattle.kind_text.specs.Expansion.{text as text_at}
-use Rattle.kind_text.specs.Substitution.{Item, judged}
+use Rattle.kind_text.specs.Substitution.{Item}
 use Rattle.tree_kinds.specs.Standing.{Outside, Value, with_values}
-use Rattle.tree_kinds.specs.Expanding.{Around, Outer, Helper, Whole, Part, and_operands, behind_definition, defined_value, expand, inner, operands, outer_operands, part_of, places_at, stands_outside}
+use Rattle.tree_kinds.specs.Expanding.{Around, Outer, Helper, Whole, Part, and_operands, behind_definition, defined_value, expand, inner, operands, outer_operands, part_of, stands_outside}
 use Rattle.flat_trees.specs.Layouts.{Agrees, IsBody, Layout}
 use Rattle.flat_trees.proofs.Definitions.{body-itself}
 use Rattle.flattened_trees.specs.Leads.{FlatFace, Setting}
 use Rattle.flattened_trees.specs.Questions.{Question}
-use Rattle.flattened_trees.specs.Flattened.{AreOperands, all_parts, inside_parts}
+use Rattle.flattened_trees.specs.Flattened.{AreOperands, all_parts}
 use Rattle.flattened_trees.specs.Readable.{AreInside, AreReadable, EndsWhole}
 use Rattle.flattened_meanings.proofs.Fresh.{Fresh, fresh-left, fresh-right, whole-names}
 use Rattle.flattened_meanings.proofs.Rounds.{Knows}
-use Rattle.flattened_meanings.proofs.Operands.{Each, IsMadeAs, IsNewAs, IsReadAs, given, given-parted, nodes-nil, operands-given, operands-nil, whole-given}
+use Rattle.flattened_meanings.proofs.Operands.{Each, IsMadeAs, IsNewAs, IsReadAs, given, given-parted, operands-given}
 
 -- ---- what a part is
 

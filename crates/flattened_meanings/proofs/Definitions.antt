@@ -6,22 +6,21 @@ use Rattle.tla_symbols.specs.declared.level.Rule.TheVariants.{Plain}
 use Rattle.tla_symbols.specs.declared.lexeme.Lexeme.{Lexeme}
 use Rattle.tla_symbols.specs.declared.lexeme.Span.{Span}
 use Rattle.tla_tree.specs.declared.form.Form.TheVariants as Form
-use Rattle.tla_tree.specs.Syntax.{Tree, Trees, Node, Nil, Cons}
+use Rattle.tla_tree.specs.Syntax.{Trees, Node, Nil, Cons}
 use Rattle.tla_model.specs.declared.names.Binding.TheVariants as as_binding
 use Rattle.tla_model.specs.Tables.{Named}
-use Rattle.tla_model.specs.Entities.{Binding, Meaning, Text, Nothing, Operator, Function, Module, Defines, all_placed, binding_of, bound_as, declared_in, defined, defined_as, defines, is_group, meant, orders}
+use Rattle.tla_model.specs.Entities.{Meaning, Text, Operator, Function, Module, Defines, all_placed, binding_of, bound_as, declared_in, defined, defined_as, defines, is_group, meant, orders}
 use Rattle.tla_model.specs.Contexts.{Context}
 use Rattle.tla_model.specs.Scopes.{all_grouped, binders, names_in, reserved, scope}
 use Rattle.module_model.specs.Exports.{Known, behind_meaning}
 use Rattle.kind_text.specs.ExpandedKind.{Ruled}
 use Rattle.kind_text.specs.FlatModule.{Definition, FlatModule, Form as NodeForm, IsOrdered}
-use Rattle.kind_text.specs.Expansion.{text as text_at}
 use Rattle.kind_text.specs.Substitution.{Item}
 use Rattle.kind_text.proofs.Unfolding.{text-step}
 use Rattle.tree_kinds.specs.Standing.{Outside}
-use Rattle.tree_kinds.specs.Expanding.{Around, Outer, Helper, Whole, Part, before_scope, defined_value, in_scope, operands, part_of, places_at, stands_outside}
+use Rattle.tree_kinds.specs.Expanding.{Outer, Helper, Whole, Part, before_scope, defined_value, in_scope, part_of, places_at, stands_outside}
 use Rattle.flat_trees.specs.Stands.{Defined}
-use Rattle.flat_trees.specs.Layouts.{Agrees, Gives, IsBody, Layout, function_text, layout_before, layout_in, layout_with, order_of, parameters_of}
+use Rattle.flat_trees.specs.Layouts.{Gives, IsBody, Layout, function_text, layout_before, layout_in, layout_with, order_of, parameters_of}
 use Rattle.flat_trees.proofs.Agreeing.{before-agrees, scope-agrees}
 use Rattle.flat_trees.proofs.Definitions.{definition-stands, function-stands}
 use Rattle.flattened_trees.specs.declared.End.TheVariants as end
@@ -30,9 +29,9 @@ use Rattle.flattened_trees.specs.Questions.{Question}
 use Rattle.flattened_trees.specs.NodeForms.{plain_node}
 use Rattle.flattened_trees.specs.Flattened.{AreOperands, HasNode, IsRoot, all_parts}
 use Rattle.flattened_trees.specs.Readable.{AreInside, AreReadable, EndsWhole, IsReadable}
-use Rattle.flattened_trees.specs.Agreeing.{TakesAs, lead_by}
+use Rattle.flattened_trees.specs.Agreeing.{TakesAs}
 use Rattle.flattened_meanings.specs.Definitions.{StandsFor}
-use Rattle.flattened_meanings.proofs.Fresh.{Fresh, seen-with, whole-names}
+use Rattle.flattened_meanings.proofs.Fresh.{Fresh, seen-with}
 use Rattle.flattened_meanings.proofs.Rounds.{Knows, before-known, parameters-known, scope-known}
 use Rattle.flattened_meanings.proofs.Operands.{Each, operands-given}
 use Rattle.flattened_meanings.proofs.Bodies.{EndsAs, ends, both-ways, outer-part}

@@ -1,20 +1,19 @@
 -- Nodes of forms are built of these, but for LET.
-use Rattle.std.proofs.Common.{◌≡◌, ℕ, zero, suc, ◌+◌, ◌≤◌, Bool, true, false, cond, List, [], ◌∷◌, ◌++◌, Option, Some, None, refl, sym, ap, ◌∙◌, subst, arith}
+use Rattle.std.proofs.Common.{◌≡◌, ℕ, Bool, true, false, List, [], ◌∷◌, ◌++◌, Option, Some, None, refl, sym, ap, ◌∙◌, subst, arith}
 use Rattle.std.specs.Prelude.{is_some}
 use Rattle.tla_symbols.specs.declared.lexeme.Lexeme.{Lexeme}
 use Rattle.tla_symbols.specs.declared.lexeme.Span.{Span}
 use Rattle.tla_symbols.specs.declared.level.Rule.{Rule}
 use Rattle.tla_tree.specs.declared.form.Form.TheVariants as Form
-use Rattle.tla_tree.specs.Syntax.{Tree, Trees, Node, Nil, Cons}
-use Rattle.tla_model.specs.declared.names.Binder.{Binder}
+use Rattle.tla_tree.specs.Syntax.{Trees, Node}
 use Rattle.tla_model.specs.declared.names.Binding.TheVariants as as_binding
 use Rattle.tla_model.specs.Entities.{Meaning, Text, binding_of, declared_in, defined}
 use Rattle.tla_model.specs.Scopes.{binders, reserved, scope}
 use Rattle.module_model.specs.Exports.{Known}
 use Rattle.kind_text.specs.ExpandedKind.{Operands}
-use Rattle.kind_text.specs.FlatModule.{FlatModule, Form as NodeForm}
+use Rattle.kind_text.specs.FlatModule.{FlatModule}
 use Rattle.kind_text.specs.Expansion.{items as items_at, text as text_at}
-use Rattle.kind_text.specs.Substitution.{Item, texts}
+use Rattle.kind_text.specs.Substitution.{Item}
 use Rattle.level_text.specs.FormRules.{form_rule, rule_operands}
 use Rattle.tree_kinds.specs.Standing.{Outside}
 use Rattle.tree_kinds.specs.Expanding.{Around, before_scope, in_scope, inner, operands, outer_operands}
@@ -24,13 +23,13 @@ use Rattle.flat_trees.specs.Layouts.{Agrees, Layout, layout_before, layout_in}
 use Rattle.flat_trees.proofs.Agreeing.{before-agrees, scope-agrees}
 use Rattle.flattened_trees.specs.Leads.{FlatFace, Setting}
 use Rattle.flattened_trees.specs.Questions.{Question}
-use Rattle.flattened_trees.specs.NodeForms.{in_order, inside_node, last_first, plain_node, ruled_node}
+use Rattle.flattened_trees.specs.NodeForms.{in_order, inside_node, last_first, ruled_node}
 use Rattle.flattened_trees.specs.Flattened.{AreOperands, all_parts}
 use Rattle.flattened_trees.specs.Readable.{AreInside, AreReadable, EndsWhole}
-use Rattle.flattened_meanings.proofs.Fresh.{Fresh, fresh-among, fresh-less, scope-within, seen-with, times, times-append, whole-names}
+use Rattle.flattened_meanings.proofs.Fresh.{Fresh, fresh-among, fresh-less, scope-within, seen-with, whole-names}
 use Rattle.flattened_meanings.proofs.Rounds.{Knows, before-known, scope-known}
 use Rattle.flattened_meanings.proofs.Operands.{Each, given, nodes-nil, operands-given}
-use Rattle.flattened_meanings.proofs.Bodies.{Ends, ends, nodes-apart}
+use Rattle.flattened_meanings.proofs.Bodies.{ends, nodes-apart}
 
 -- ---- forms
 

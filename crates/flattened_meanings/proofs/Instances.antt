@@ -1,5 +1,5 @@
 -- The names of module definitions stand for what is behind these.
-use Rattle.std.proofs.Common.{◌≡◌, ℕ, zero, suc, ◌+◌, ◌<◌, Bool, true, false, cond, List, [], ◌∷◌, ◌++◌, Option, Some, None, map, refl, sym, ap, ◌∙◌, subst, length, arith}
+use Rattle.std.proofs.Common.{◌≡◌, ℕ, zero, suc, ◌+◌, ◌<◌, Bool, true, List, [], ◌∷◌, ◌++◌, Option, Some, None, map, refl, sym, ap, ◌∙◌, subst, length, arith}
 use Rattle.std.specs.Prelude.{slice_get}
 use Rattle.std.specs.List.{AllByRecursion}
 use Rattle.tla_symbols.specs.declared.lexeme.Lexeme.{Lexeme}
@@ -11,27 +11,25 @@ use Rattle.tla_model.specs.declared.names.Binding.TheVariants as as_binding
 use Rattle.tla_model.specs.declared.names.Meaning.TheVariants.{Declared}
 use Rattle.tla_model.specs.Lexemes.{spelled}
 use Rattle.tla_model.specs.Tables.{Named}
-use Rattle.tla_model.specs.Entities.{Meaning, Module, Text, declaration, declared_in, defined, defines, meant, orders, own}
+use Rattle.tla_model.specs.Entities.{Meaning, Module, Text, declaration, declared_in, defined, defines, orders, own}
 use Rattle.tla_model.specs.Contexts.{Context}
 use Rattle.tla_model.specs.Scopes.{all_grouped, binders, scope}
-use Rattle.module_model.specs.Exports.{Behind, Exports, Known, at_path, behind_instance as behind_view, behind_meaning, entry_of, onward}
+use Rattle.module_model.specs.Exports.{Behind, Known, at_path, behind_instance as behind_view, behind_meaning, entry_of, onward}
 use Rattle.module_model.specs.Instances.{instance_among, left_sides}
 use Rattle.kind_text.specs.FlatModule.{FlatModule, Form as NodeForm, Instance, IsOrdered, Replacement}
-use Rattle.kind_text.specs.Substitution.{Item}
 use Rattle.tree_kinds.specs.Standing.{Outside}
-use Rattle.tree_kinds.specs.Expanding.{Around, defined_value, module_of, replacements, right_sides}
+use Rattle.tree_kinds.specs.Expanding.{defined_value, module_of, right_sides}
 use Rattle.flat_trees.specs.Stands.{Stand, Unsaid, Leaf, Place, Defined, Through, Brought}
-use Rattle.flat_trees.specs.Layouts.{Agrees, Layout, Stands, layout_with, order_of, parameters_of}
-use Rattle.flat_trees.specs.Instances.{AreReplaced, ArePutIn, IsMadeInstance, IsModuleBehind, PutsInBehind, StaysIn, instance_in}
+use Rattle.flat_trees.specs.Layouts.{Layout, Stands, layout_with, order_of, parameters_of}
+use Rattle.flat_trees.specs.Instances.{IsMadeInstance, IsModuleBehind, PutsInBehind, StaysIn, instance_in}
 use Rattle.flat_trees.proofs.Instances.{instance-stands, parameter-stays}
-use Rattle.flattened_trees.specs.declared.End.TheVariants as end
-use Rattle.flattened_trees.specs.Leads.{FlatFace, Lead, Setting, behind_instance, nowhere, with_parameters}
+use Rattle.flattened_trees.specs.Leads.{FlatFace, Lead, Setting, behind_instance, with_parameters}
 use Rattle.flattened_trees.specs.Questions.{Question}
 use Rattle.flattened_trees.specs.NodeForms.{plain_node}
 use Rattle.flattened_trees.specs.Flattened.{AreReplacing, AreRights, AreStaying, IsInstance, IsThrough, Right, face_of}
 use Rattle.flattened_trees.specs.Readable.{AreImplied, AreReadableRights, IsFaceFor, IsKnownBehind, IsReadableThrough}
 use Rattle.flattened_trees.specs.Agreeing.{TakesAs, TakesBehind, lead_by}
-use Rattle.flattened_meanings.specs.Faces.{IsFaceOf, StandsAs}
+use Rattle.flattened_meanings.specs.Faces.{StandsAs}
 use Rattle.flattened_meanings.specs.Definitions.{IsOfModule, StandsFor}
 use Rattle.flattened_meanings.proofs.Fresh.{Fresh, fresh-left, fresh-right, seen-with, whole-names}
 use Rattle.flattened_meanings.proofs.Rounds.{Knows, parameters-known}

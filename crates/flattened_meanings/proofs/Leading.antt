@@ -1,6 +1,6 @@
 -- A node that is made by where a name leads is made of the name, by what that stands for.
-use Rattle.std.proofs.Common.{◌≡◌, ℕ, zero, suc, ◌<◌, Bool, true, false, cond, List, [], ◌∷◌, ◌++◌, Option, Some, None, refl, sym, ap, ◌∙◌, subst, take, drop, length, nat_eq, arith}
-use Rattle.std.specs.Prelude.{replicate, if◌then◌else◌}
+use Rattle.std.proofs.Common.{◌≡◌, ℕ, zero, suc, Bool, true, false, cond, List, [], ◌∷◌, ◌++◌, Option, Some, None, refl, sym, ap, ◌∙◌, subst, take, drop, length, nat_eq, arith}
+use Rattle.std.specs.Prelude.{replicate}
 use Rattle.std.proofs.lemmas.Bool.Decides.{nat_tests}
 use Rattle.std.proofs.lemmas.List.{length-replicate}
 use Rattle.tla_symbols.specs.declared.lexeme.Lexeme.{Lexeme}
@@ -14,13 +14,12 @@ use Rattle.tla_model.specs.Tables.{Named}
 use Rattle.tla_model.specs.Entities.{Meaning, Text, name_of}
 use Rattle.module_model.specs.Exports.{Behind, Known, entry_of, onward}
 use Rattle.kind_text.specs.ExpandedKind.{Operands}
-use Rattle.kind_text.specs.FlatModule.{Form as NodeForm}
 use Rattle.kind_text.specs.Expansion.{Earlier, items as items_at}
 use Rattle.kind_text.specs.Substitution.{Item, texts}
 use Rattle.tree_kinds.specs.Standing.{Outside, Steps, operator_places, places as places_of}
 use Rattle.tree_kinds.specs.Expanding.{Around, called_behind, is_bare, items, steps}
 use Rattle.tree_kinds.specs.TreeDepths.{path_names}
-use Rattle.flat_trees.specs.Stands.{Fits, Matches, Stand, Unsaid, Leaf, Place, Defined, Through, Brought}
+use Rattle.flat_trees.specs.Stands.{Fits, Stand, Unsaid, Leaf, Place, Defined, Through, Brought}
 use Rattle.flat_trees.specs.Names.{Ending, IsBare, IsNamed, IsUse, Leads, places_by}
 use Rattle.flat_trees.specs.Layouts.{order_of}
 use Rattle.flattened_trees.specs.declared.End.TheVariants as end

@@ -1,7 +1,6 @@
 -- Nodes that are written trees mean these, and names of definitions stand for what these give.
-use Rattle.std.proofs.Common.{◌≡◌, inl, inr, ℕ, zero, suc, ◌+◌, ◌≤◌, Bool, true, false, cond, List, [], ◌∷◌, ◌++◌, Option, Some, None, map, refl, sym, ap, ◌∙◌, subst, length, arith}
+use Rattle.std.proofs.Common.{◌≡◌, ℕ, Bool, true, false, List, [], ◌∷◌, ◌++◌, Option, Some, None, refl, sym, ap, ◌∙◌, subst, length, arith}
 use Rattle.std.specs.Prelude.{slice_get}
-use Rattle.std.specs.List.{AllByRecursion}
 use Rattle.tla_symbols.specs.declared.lexeme.Lexeme.{Lexeme}
 use Rattle.tla_symbols.specs.declared.lexeme.Span.{Span}
 use Rattle.tla_symbols.specs.declared.level.Rule.TheVariants.{Plain}
@@ -9,12 +8,10 @@ use Rattle.tla_symbols.specs.declared.place.Fix.TheVariants.{Prefix, Infix, Post
 use Rattle.tla_tree.specs.declared.form.Form.TheVariants as Form
 use Rattle.tla_tree.specs.Forms.{helps}
 use Rattle.tla_tree.specs.Syntax.{Tree, Trees, Node, Nil, Cons}
-use Rattle.tla_model.specs.declared.names.Binder.{Binder}
 use Rattle.tla_model.specs.declared.names.Binding.TheVariants as as_binding
 use Rattle.tla_model.specs.Tables.{Named}
-use Rattle.tla_model.specs.Entities.{Defines, Meaning, Nothing, Operator, Function, Module, Text, declared_among, declared_in, defined, defines, meant}
-use Rattle.tla_model.specs.Contexts.{Context}
-use Rattle.tla_model.specs.Scopes.{all_grouped, behind as behind_context, binders, prefixed, reserved, scope, itself as as_spelled}
+use Rattle.tla_model.specs.Entities.{Defines, Meaning, Nothing, Operator, Function, Module, Text, declared_among, declared_in, defined, defines}
+use Rattle.tla_model.specs.Scopes.{all_grouped, behind as behind_context, prefixed, reserved, scope, itself as as_spelled}
 use Rattle.module_model.specs.Exports.{Known, behind_meaning}
 use Rattle.module_model.specs.Instances.{instance_among}
 use Rattle.kind_text.specs.ExpandedKind.{Operands}
@@ -23,26 +20,26 @@ use Rattle.kind_text.specs.Expansion.{items as items_at, text as text_at}
 use Rattle.kind_text.specs.Substitution.{Item}
 use Rattle.level_text.specs.FormRules.{symbol_rule}
 use Rattle.tree_kinds.specs.Standing.{Outside}
-use Rattle.tree_kinds.specs.Expanding.{Around, Whole, bare_rule, expand, inner, part_of, places_at, symbol_name, symbol_places}
+use Rattle.tree_kinds.specs.Expanding.{Whole, bare_rule, expand, part_of, places_at, symbol_name, symbol_places}
 use Rattle.flat_trees.specs.Names.{IsBareSymbol, order_by}
 use Rattle.flat_trees.specs.Stands.{Matches}
-use Rattle.flat_trees.specs.Layouts.{Agrees, IsBody, IsMeant, Layout, layout_behind, parameters_of}
+use Rattle.flat_trees.specs.Layouts.{IsBody, Layout, layout_behind, parameters_of}
 use Rattle.flat_trees.proofs.Definitions.{body-behind, body-itself, node-meant}
 use Rattle.flattened_trees.specs.declared.End.TheVariants as end
 use Rattle.flattened_trees.specs.Leads.{FlatFace, Lead, Setting, behind, only, with_parameters}
 use Rattle.flattened_trees.specs.Questions.{IsShallow, Question, over}
-use Rattle.flattened_trees.specs.NodeForms.{bare_node, bare_places, let_node, plain_node}
+use Rattle.flattened_trees.specs.NodeForms.{bare_places, let_node, plain_node}
 use Rattle.flattened_trees.specs.Flattened.{AreOperands, AreRights, HasNode, IsChain, IsDefined, IsFlattened, IsInstance, IsRoot, IsThrough, Right, all_parts, asked_at, written_node}
 use Rattle.flattened_trees.specs.Readable.{AreInside, AreReadable, EndsWhole, IsKnownBehind, IsReadable, IsReadableChain, IsReadableDefinition, IsReadableThrough}
 use Rattle.flattened_trees.specs.Agreeing.{TakesAs}
 use Rattle.flattened_meanings.specs.Faces.{NameModules, NamesModules}
 use Rattle.flattened_meanings.specs.Definitions.{IsOfModule, StandsFor}
 use Rattle.flattened_meanings.specs.Rounds.{IsKnownRound}
-use Rattle.flattened_meanings.proofs.Fresh.{Fresh, IsOneOf, among-any, among-next, fresh-among, fresh-less, fresh-right, in-tree, node-names, seen-with, times, times-append, whole-names}
+use Rattle.flattened_meanings.proofs.Fresh.{Fresh, IsOneOf, among-next, fresh-among, fresh-less, fresh-right, node-names, seen-with, whole-names}
 use Rattle.flattened_meanings.proofs.Rounds.{Knows, behind-known}
 use Rattle.flattened_meanings.proofs.Behind.{all-one, fresh-round, known-round, seen-round}
 use Rattle.flattened_meanings.proofs.Operands.{Each, IsKept, given}
-use Rattle.flattened_meanings.proofs.NodeNames.{bare-built, bare-is, identifier-built, operator-built, symbol-node}
+use Rattle.flattened_meanings.proofs.NodeNames.{bare-built, bare-is, identifier-built, operator-built}
 use Rattle.flattened_meanings.proofs.Updates.{updates-given}
 use Rattle.flattened_meanings.proofs.Forms.{bounded-given, inside-built, ruled-built, wholes-fresh}
 use Rattle.flattened_meanings.proofs.Definitions.{function-for, operator-for}

@@ -1,5 +1,5 @@
 -- Nodes of names and of symbols are built of these.
-use Rattle.std.proofs.Common.{◌≡◌, ℕ, zero, suc, Bool, true, false, cond, List, [], ◌∷◌, ◌++◌, Option, Some, None, refl, sym, ap, ◌∙◌, subst, arith}
+use Rattle.std.proofs.Common.{◌≡◌, ℕ, Bool, true, false, cond, List, [], ◌∷◌, ◌++◌, Option, Some, None, refl, sym, ap, ◌∙◌, subst}
 use Rattle.std.specs.Prelude.{is_some, replicate}
 use Rattle.tla_symbols.specs.declared.lexeme.LexKind.TheVariants as LexKind
 use Rattle.tla_symbols.specs.declared.lexeme.Lexeme.{Lexeme}
@@ -10,9 +10,9 @@ use Rattle.tla_tree.specs.declared.form.Form.TheVariants as Form
 use Rattle.tla_tree.specs.Syntax.{Tree, Trees, Node, Nil, Cons}
 use Rattle.tla_model.specs.Tables.{Named, Symbol}
 use Rattle.tla_model.specs.Entities.{Meaning, Text, name_of}
-use Rattle.tla_model.specs.Contexts.{Context, meaning_of}
+use Rattle.tla_model.specs.Contexts.{meaning_of}
 use Rattle.tla_model.specs.Scopes.{is_free, itself as as_spelled}
-use Rattle.module_model.specs.Exports.{Behind, Known, behind_meaning}
+use Rattle.module_model.specs.Exports.{Known, behind_meaning}
 use Rattle.kind_text.specs.FlatModule.{FlatModule, Form as NodeForm, Node as FlatNode}
 use Rattle.kind_text.specs.Expansion.{items as items_at, text as text_at}
 use Rattle.kind_text.specs.Substitution.{Item}
@@ -22,7 +22,7 @@ use Rattle.tree_kinds.specs.TreeDepths.{path_names}
 use Rattle.flat_trees.specs.Stands.{Fits, Stand}
 use Rattle.flat_trees.specs.Names.{IsBareSymbol, IsNamed, IsPath, IsSymbolOn, IsMeaning as IsMadeBy}
 use Rattle.flat_trees.specs.Layouts.{Agrees, Layout}
-use Rattle.flattened_trees.specs.Leads.{FlatFace, Lead, Setting}
+use Rattle.flattened_trees.specs.Leads.{FlatFace, Setting}
 use Rattle.flattened_trees.specs.Questions.{Question}
 use Rattle.flattened_trees.specs.NodeForms.{bare_node, bare_places, lead_of, name_node, operator_node, path_node, path_places}
 use Rattle.flattened_trees.specs.Flattened.{AreOperands, all_parts}

@@ -1,5 +1,5 @@
 -- The nodes of operands are what the expressions in parts are, where each of these means its tree.
-use Rattle.std.proofs.Common.{◌≡◌, ℕ, zero, suc, ◌+◌, Bool, true, false, cond, List, [], ◌∷◌, ◌++◌, Option, Some, None, refl, sym, ap, ◌∙◌, subst, length, arith}
+use Rattle.std.proofs.Common.{◌≡◌, ℕ, Bool, List, [], ◌∷◌, ◌++◌, Option, Some, None, refl, sym, ap, ◌∙◌, subst}
 use Rattle.tla_symbols.specs.declared.lexeme.Span.{Span}
 use Rattle.tla_tree.specs.declared.form.Form.TheVariants as Form
 use Rattle.tla_tree.specs.Syntax.{Tree, Trees, Node, Nil, Cons}
@@ -11,14 +11,14 @@ use Rattle.kind_text.specs.FlatModule.{FlatModule}
 use Rattle.kind_text.specs.Expansion.{Earlier, items as items_at, text as text_at}
 use Rattle.kind_text.specs.Substitution.{Item, judged, texts}
 use Rattle.tree_kinds.specs.Standing.{Outside}
-use Rattle.tree_kinds.specs.Expanding.{Around, Outer, Helper, Whole, Part, and_operands, expand, items, operands, outer_operands, part_of, places_at, stands_outside}
+use Rattle.tree_kinds.specs.Expanding.{Around, Outer, Helper, Whole, Part, and_operands, expand, items, operands, part_of, places_at}
 use Rattle.flat_trees.specs.Stands.{Fits, Matches}
 use Rattle.flat_trees.specs.Names.{order_by}
 use Rattle.flat_trees.specs.Layouts.{Agrees, IsMeant, Layout}
 use Rattle.flattened_trees.specs.Leads.{FlatFace, Setting}
 use Rattle.flattened_trees.specs.Questions.{Question}
 use Rattle.flattened_trees.specs.Flattened.{AreOperands, IsFlattened, all_parts}
-use Rattle.flattened_trees.specs.Readable.{AreArguments, AreReadable, CanStandBare, IsReadable, IsReadablePath, first_name, orders_of}
+use Rattle.flattened_trees.specs.Readable.{AreArguments, AreReadable, IsReadable, IsReadablePath, first_name, orders_of}
 use Rattle.flattened_meanings.specs.Faces.{IsOfNameable}
 use Rattle.flattened_meanings.proofs.Leading.{PathFits}
 use Rattle.flattened_meanings.proofs.Fresh.{Fresh, fresh-left, fresh-right, whole-names}
@@ -158,14 +158,22 @@ module _ (flat : FlatModule) (text : Text) (known : Known) (named : List ℕ →
         )
     path-fits (Cons (Node (Form.Segment l) s Nil) (Cons y rest)) (Some m) held is asked each (first, others, b, c, parted, asks, one, rest-made) can fresh = (
       can.0,
-      (items_at (text_at flat) first (frame ++ more), items_at (text_at flat) others (frame ++ more), ap (λ js. items_at (text_at flat) js (frame ++ more)) parted ∙ items-append (text_at flat) first others (frame ++ more),
-          arguments-fit Nil (orders_of m) first b each.1 one can.1 (fresh-left text seen (whole-names text Nil) (whole-names text (Cons y rest)) fresh),
-          path-fits (Cons y rest) (entry_of (held []) (first_name text.source (Cons y rest))) (onward held (first_name text.source (Cons y rest))) others c each.2 rest-made can.2 (fresh-right text seen (whole-names text Nil) (whole-names text (Cons y rest)) fresh)),
+      (
+        items_at (text_at flat) first (frame ++ more),
+        items_at (text_at flat) others (frame ++ more),
+        ap (λ js. items_at (text_at flat) js (frame ++ more)) parted ∙ items-append (text_at flat) first others (frame ++ more),
+        arguments-fit Nil (orders_of m) first b each.1 one can.1 (fresh-left text seen (whole-names text Nil) (whole-names text (Cons y rest)) fresh),
+        path-fits (Cons y rest) (entry_of (held []) (first_name text.source (Cons y rest))) (onward held (first_name text.source (Cons y rest))) others c each.2 rest-made can.2 (fresh-right text seen (whole-names text Nil) (whole-names text (Cons y rest)) fresh),
+      ),
     )
     path-fits (Cons (Node (Form.Segment l) s (Cons x arguments)) (Cons y rest)) (Some m) held is asked each (first, others, b, c, parted, asks, one, rest-made) can fresh = (
       can.0,
-      (items_at (text_at flat) first (frame ++ more), items_at (text_at flat) others (frame ++ more), ap (λ js. items_at (text_at flat) js (frame ++ more)) parted ∙ items-append (text_at flat) first others (frame ++ more),
-          arguments-fit (Cons x arguments) (orders_of m) first b each.1 one can.1 (fresh-left text seen (whole-names text (Cons x arguments)) (whole-names text (Cons y rest)) fresh),
-          path-fits (Cons y rest) (entry_of (held []) (first_name text.source (Cons y rest))) (onward held (first_name text.source (Cons y rest))) others c each.2 rest-made can.2 (fresh-right text seen (whole-names text (Cons x arguments)) (whole-names text (Cons y rest)) fresh)),
+      (
+        items_at (text_at flat) first (frame ++ more),
+        items_at (text_at flat) others (frame ++ more),
+        ap (λ js. items_at (text_at flat) js (frame ++ more)) parted ∙ items-append (text_at flat) first others (frame ++ more),
+        arguments-fit (Cons x arguments) (orders_of m) first b each.1 one can.1 (fresh-left text seen (whole-names text (Cons x arguments)) (whole-names text (Cons y rest)) fresh),
+        path-fits (Cons y rest) (entry_of (held []) (first_name text.source (Cons y rest))) (onward held (first_name text.source (Cons y rest))) others c each.2 rest-made can.2 (fresh-right text seen (whole-names text (Cons x arguments)) (whole-names text (Cons y rest)) fresh),
+      ),
     )
     path-fits (Cons (Node form s arguments) rest) (Some m) held is asked each made can fresh = absurd can

@@ -1,6 +1,6 @@
 -- What replaces the symbols of a module: right sides that are written, and symbols that stand in.
-use Rattle.std.proofs.Common.{◌≡◌, inl, inr, ℕ, zero, suc, Bool, true, false, cond, List, [], ◌∷◌, ◌++◌, Option, Some, None, map, refl, sym, ap, ◌∙◌, subst, length}
-use Rattle.std.specs.Prelude.{◌⊎◌, ◌||◌, drop, if◌then◌else◌, slice_get}
+use Rattle.std.proofs.Common.{◌≡◌, inl, inr, ℕ, zero, suc, Bool, true, false, cond, List, [], ◌∷◌, ◌++◌, Option, Some, None, map, refl, sym, ap, ◌∙◌, subst}
+use Rattle.std.specs.Prelude.{◌⊎◌, ◌||◌, drop, slice_get}
 use Rattle.std.specs.List.{AllByRecursion}
 use Rattle.tla_symbols.specs.declared.lexeme.Lexeme.{Lexeme}
 use Rattle.tla_symbols.specs.declared.lexeme.Span.{Span}
@@ -16,9 +16,9 @@ use Rattle.kind_text.specs.FlatModule.{FlatModule, IsOrdered, Node as FlatNode, 
 use Rattle.kind_text.specs.Expansion.{items as items_at, text as text_at}
 use Rattle.kind_text.specs.Substitution.{Item}
 use Rattle.kind_text.proofs.Unfolding.{text-step}
-use Rattle.tree_kinds.specs.Standing.{Outside, applied_to, item_of, operator_places, single}
+use Rattle.tree_kinds.specs.Standing.{Outside, item_of, operator_places, single}
 use Rattle.tree_kinds.specs.Expanding.{Around, Outer, Helper, Whole, Part, Written, at_names, expand, greatest_level, part_of, places_at, replaced_by, right_sides, written_for}
-use Rattle.flat_trees.specs.Stands.{Matches, Stand}
+use Rattle.flat_trees.specs.Stands.{Matches}
 use Rattle.flat_trees.specs.Names.{IsNamed, IsPath, order_by, places_by, IsMeaning as IsMadeBy}
 use Rattle.flat_trees.specs.Layouts.{Agrees, Layout, order_of}
 use Rattle.flat_trees.specs.Instances.{AreReplaced, IsReplaced}
@@ -173,19 +173,21 @@ module _ (flat : FlatModule) (text : Text) (known : Known) (named : List ℕ →
       where
         by_found : IsFound whole parameter.0 (right_for rights parameter.0) (written_for written parameter.0) (is_among left parameter.0) → (o : Option Right) → right_for rights parameter.0 ≡ o → RestReplaced parameters symbols made rest o parameter r asked → (among : Bool) → is_among left parameter.0 ≡ among → RestImplied parameters symbols among parameter → (AreReplacing flat setting.leads setting.frame constant rights l parameters symbols made rest → AreImplied layout.context left parameters symbols → AreReplaced flat constant frame made (map (λ p. replaced_by around l p (written_for written p.0)) parameters)) → (AreReplacing flat setting.leads setting.frame constant rights l parameters (drop 1 symbols) made rest → AreImplied layout.context left parameters (drop 1 symbols) → AreReplaced flat constant frame made (map (λ p. replaced_by around l p (written_for written p.0)) parameters)) → AreReplaced flat constant frame (r ∷ made) (replaced_by around l parameter (written_for written parameter.0) ∷ map (λ p. replaced_by around l p (written_for written p.0)) parameters)
         by_found (inl (a, b, is-right, is-written, is-among, right)) (Some other) e (root, asks, on) true f on-implied same next =
-            let equal : a ≡ other = let s : Some a ≡ Some other = sym is-right ∙ e in cc in
-            (subst (λ w. IsReplaced flat constant frame r (replaced_by around l parameter w)) (sym is-written)
-            (replaced-right parameter r other b most entries.0 root (subst (λ x. IsRight whole parameter.0 x b) equal right)),
-            same on on-implied)
+            let equal : a ≡ other = let s : Some a ≡ Some other = sym is-right ∙ e in cc in (
+              subst (λ w. IsReplaced flat constant frame r (replaced_by around l parameter w)) (sym is-written)
+                  (replaced-right parameter r other b most entries.0 root (subst (λ x. IsRight whole parameter.0 x b) equal right)),
+              same on on-implied,
+            )
         by_found (inl (a, b, is-right, is-written, is-among, right)) (Some other) e on false f on-implied same next = absurd (let never : true ≡ false = sym is-among ∙ f in cc)
         by_found (inl (a, b, is-right, is-written, is-among, right)) None e on among f on-implied same next = absurd (let never : Some a ≡ None = sym is-right ∙ e in cc)
         by_found (inr (is-right, is-written, is-among)) (Some other) e on among f on-implied same next = absurd (let never : Some other ≡ None = sym e ∙ is-right in cc)
         by_found (inr (is-right, is-written, is-among)) None e on true f on-implied same next = absurd (let never : true ≡ false = sym f ∙ is-among in cc)
-        by_found (inr (is-right, is-written, is-among)) None e (node, asks, on) false f (meaning, first, there, can-stand, on-implied) same next =
-            (subst (λ w. IsReplaced flat constant frame r (replaced_by around l parameter w)) (sym is-written)
-            (record {
-              most = most;
-              places = ap places_of node ∙ symbol-places l parameter.0 parameter.1 meaning symbols first there can-stand;
-              item = symbol-item l parameter.0 parameter.1 meaning symbols first there can-stand r.root node;
-            }),
-            next on on-implied)
+        by_found (inr (is-right, is-written, is-among)) None e (node, asks, on) false f (meaning, first, there, can-stand, on-implied) same next = (
+          subst (λ w. IsReplaced flat constant frame r (replaced_by around l parameter w)) (sym is-written)
+              (record {
+                most = most;
+                places = ap places_of node ∙ symbol-places l parameter.0 parameter.1 meaning symbols first there can-stand;
+                item = symbol-item l parameter.0 parameter.1 meaning symbols first there can-stand r.root node;
+              }),
+          next on on-implied,
+        )

@@ -1,30 +1,29 @@
 -- What is known round a tree, and how it is kept in scopes and behind definitions.
-use Rattle.std.proofs.Common.{◌≡◌, inl, inr, ℕ, zero, suc, ◌+◌, ◌<◌, ◌≤◌, Bool, true, false, cond, List, [], ◌∷◌, ◌++◌, Option, Some, None, map, refl, sym, ap, ◌∙◌, subst, length, arith}
-use Rattle.std.specs.Prelude.{◌⊎◌, not, replicate}
+use Rattle.std.proofs.Common.{◌≡◌, inl, inr, ℕ, zero, suc, ◌+◌, ◌≤◌, Bool, true, false, cond, List, [], ◌∷◌, ◌++◌, Option, Some, None, map, refl, sym, ap, ◌∙◌, subst, length, arith}
+use Rattle.std.specs.Prelude.{◌⊎◌, not}
 use Rattle.std.proofs.lemmas.List.{length-append}
 use Rattle.tla_symbols.specs.declared.lexeme.Lexeme.{Lexeme}
 use Rattle.tla_symbols.specs.declared.lexeme.Span.{Span}
 use Rattle.tla_tree.specs.declared.form.Form.TheVariants as Form
-use Rattle.tla_tree.specs.Syntax.{Tree, Trees, Node, Nil, Cons}
+use Rattle.tla_tree.specs.Syntax.{Trees, Node}
 use Rattle.tla_model.specs.declared.entity.Entity.TheVariants as entity
 use Rattle.tla_model.specs.declared.ids.Callee.{Callee}
 use Rattle.tla_model.specs.declared.names.Binder.{Binder}
 use Rattle.tla_model.specs.declared.names.Binding.TheVariants as as_binding
-use Rattle.tla_model.specs.declared.names.Meaning.TheVariants.{BuiltIn, Declared}
+use Rattle.tla_model.specs.declared.names.Meaning.TheVariants.{Declared}
 use Rattle.tla_model.specs.Tables.{Named, find, put}
 use Rattle.tla_model.specs.Entities.{Binding, Meaning, Text, binding_of, bound_as, defined, entity_of, is_group, meant, name_of, own, same_meaning, all_placed}
 use Rattle.tla_model.specs.Contexts.{Context, bind, bind_all, meaning_of, reserve_all, usable}
-use Rattle.tla_model.specs.Scopes.{all_grouped, binders, definition, inside, reserved, scope}
+use Rattle.tla_model.specs.Scopes.{all_grouped, binders, inside}
 use Rattle.tla_model.proofs.Same.{meaning-itself}
 use Rattle.model_laws.proofs.Settling.{put-gives}
 use Rattle.module_model.specs.Exports.{Known, behind_meaning}
 use Rattle.kind_text.specs.FlatModule.{FlatModule}
 use Rattle.tree_kinds.specs.Standing.{Outside}
-use Rattle.flat_trees.specs.Stands.{Stand, Unsaid, Leaf, Place, Defined, Through, Brought}
+use Rattle.flat_trees.specs.Stands.{Stand, Place}
 use Rattle.flat_trees.specs.Layouts.{Layout, layout_before, layout_behind, layout_in, layout_repeating, layout_with, order_of, parameters_of, with_places, with_stand, with_stands}
 use Rattle.flattened_trees.specs.declared.End.TheVariants as end
 use Rattle.flattened_trees.specs.Leads.{FlatFace, Lead, Leads, Setting, behind, only, repeating, with_lead, with_leads, with_parameters, with_places as with_lead_places}
-use Rattle.flattened_trees.specs.Readable.{orders_of}
 use Rattle.flattened_trees.specs.Agreeing.{IsSettingOf, KeepsOrders, TakesAs, lead_by, unsaid_stand}
 use Rattle.flattened_meanings.specs.Faces.{AreFacesOf, IsFaceOf, StandsAs}
 use Rattle.flattened_meanings.proofs.Fresh.{Fresh, IsOneOf, mark, one-counts, seen-none, seen-with, seen-still, times, times-append, unseen-before}

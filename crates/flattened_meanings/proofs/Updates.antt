@@ -1,9 +1,9 @@
 -- Nodes of the updates of a function: the indices, and right sides in which `@` repeats the function and these.
-use Rattle.std.proofs.Common.{◌≡◌, ℕ, Bool, true, false, cond, List, [], ◌∷◌, ◌++◌, Option, refl, sym, ap, ◌∙◌, subst}
+use Rattle.std.proofs.Common.{◌≡◌, ℕ, Bool, true, false, List, [], ◌∷◌, ◌++◌, Option, refl, sym, ap, ◌∙◌, subst}
 use Rattle.std.specs.Prelude.{not}
 use Rattle.tla_symbols.specs.declared.lexeme.Span.{Span}
 use Rattle.tla_tree.specs.declared.form.Form.TheVariants as Form
-use Rattle.tla_tree.specs.Syntax.{Tree, Trees, Node, Nil, Cons}
+use Rattle.tla_tree.specs.Syntax.{Trees, Node, Nil, Cons}
 use Rattle.tla_model.specs.Entities.{Meaning, Text}
 use Rattle.module_model.specs.Exports.{Known}
 use Rattle.kind_text.specs.ExpandedKind.{Expanded, Operands}
@@ -35,15 +35,15 @@ module _ (flat : FlatModule) (text : Text) (known : Known) (named : List ℕ →
       (by_outside (stands_outside form) refl one)
       (outers-given rest outside inside setting seen others c each.2 knows rest-made can.1 (fresh-right text seen _ (whole-names text rest) fresh)) frame more o agrees
     where
-      by_outside : (out : Bool) → stands_outside form ≡ out → IsTakenAs out setting form s parts first b (part_of form) → (s0 more0 : List Item) (o0 : Around) → Agrees flat outside s0 o0 → given flat text known named means implied faces nameable first (s0 ++ more0) ≡ elim (stands_outside form) [ true ↦ operands text known named o0 o0 parts | false ↦ Operands.Nil ]
-      by_outside true e made s0 more0 o0 agrees0 =
+      by_outside : (out : Bool) → stands_outside form ≡ out → IsTakenAs out setting form s parts first b (part_of form) → (over longer : List Item) (here : Around) → Agrees flat outside over here → given flat text known named means implied faces nameable first (over ++ longer) ≡ elim (stands_outside form) [ true ↦ operands text known named here here parts | false ↦ Operands.Nil ]
+      by_outside true e made over longer here agrees-here =
           let is-outer = part-outer form e in
           let made-outer = subst (IsMadeAs flat text known named means implied faces nameable setting form s parts first b) is-outer made in
           let can-outer = subst (IsReadAs flat text known named means implied faces nameable outside inside form s parts) is-outer can.0 in
           let new-outer = subst (IsNewAs flat text known named means implied faces nameable seen form s parts) is-outer (fresh-left text seen _ (whole-names text rest) fresh) in
-          outer-here flat text known named means implied faces nameable outside first form parts o0 (s0 ++ more0) e
-          (operands-given flat text known named means implied faces nameable parts outside outside setting seen first b each.1 knows knows made-outer can-outer new-outer s0 more0 o0 o0 agrees0 agrees0)
-      by_outside false e none s0 more0 o0 agrees0 = outer-none flat text known named means implied faces nameable outside first form parts o0 (s0 ++ more0) e none.0
+          outer-here flat text known named means implied faces nameable outside first form parts here (over ++ longer) e
+          (operands-given flat text known named means implied faces nameable parts outside outside setting seen first b each.1 knows knows made-outer can-outer new-outer over longer here here agrees-here agrees-here)
+      by_outside false e none over longer here agrees-here = outer-none flat text known named means implied faces nameable outside first form parts here (over ++ longer) e none.0
 
   -- the operands of a part, by what it is
   abbrev part-operands : Around → Around → Form.the_data → Span → Trees → Part → Operands
