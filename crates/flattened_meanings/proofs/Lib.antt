@@ -12,3 +12,4 @@ pub mod Places
 pub mod Replacing
 pub mod Instances
 pub mod Meant
+mod Samples
