@@ -28,6 +28,7 @@ pub both-ways : {C : Type 0} (b : Bool) → b ≡ false → b ≡ true → C
 both-ways true no-way e = cc
 both-ways false no-way e = cc
 
+-- a part, by whether it stands outside and whether it helps
 abbrev part-by : Bool → Bool → Part
 part-by outer help = cond outer Outer (cond help Helper Whole)
 

@@ -19,14 +19,10 @@ use Rattle.flattened_trees.specs.Agreeing.{AreNew, is_seen}
 
 -- ---- marks
 
--- how often
+-- once or never
 abbrev pub mark : Bool → ℕ
 mark true = 1
 mark false = 0
-
-unmarked : (b : Bool) → mark b ≡ 0 → b ≡ false
-unmarked true e = absurd (omega (arith, e))
-unmarked false e = refl
 
 -- as whatever it is declared, a name is the same
 same-entity : (m : Meaning) (e f : Entity) (c : Callee) → same_meaning m (Declared e c) ≡ same_meaning m (Declared f c)
@@ -98,6 +94,7 @@ module _ (text : Text) where
 
   -- ---- names that were seen with these
 
+  -- it was seen, or is one of these
   abbrev pub seen-with : List Binder → (Meaning → Bool) → Meaning → Bool
   seen-with [] seen m = seen m
   seen-with (x ∷ rest) seen m = cond (same_meaning m (meant text x)) true (seen-with rest seen m)
@@ -155,20 +152,6 @@ module _ (text : Text) where
       let k : mark (same_meaning m (meant text x)) ≡ 1 = ap mark e in omega (arith, k)
   one-counts (x ∷ rest) m (inr one) = let l = one-counts rest m one in omega (arith, l)
 
-  pub one-unseen : (seen : Meaning → Bool) (names : List Binder) (m : Meaning) → Fresh seen names → IsOneOf names m → seen m ≡ false
-  one-unseen seen names m fresh one =
-      unmarked (seen m) (let a = fresh m in let b = one-counts names m one in omega (arith, a, b))
-
-  pub one-seen : (names : List Binder) (seen : Meaning → Bool) (m : Meaning) → IsOneOf names m → seen-with names seen m ≡ true
-  one-seen [] seen m one = absurd one
-  one-seen (x ∷ rest) seen m (inl same) =
-      ap (λ b. cond b true (seen-with rest seen m)) (ap (λ n. same_meaning m n) (sym same) ∙ meaning-itself m)
-  one-seen (x ∷ rest) seen m (inr one) = by_sameness (same_meaning m (meant text x)) (one-seen rest seen m one)
-    where
-      by_sameness : (b : Bool) → seen-with rest seen m ≡ true → cond b true (seen-with rest seen m) ≡ true
-      by_sameness true l = refl
-      by_sameness false l = l
-
   -- what was seen is none of these
   pub seen-none : (seen : Meaning → Bool) (names : List Binder) (m : Meaning) → Fresh seen names → seen m ≡ true → times m names ≡ 0
   seen-none seen names m fresh is = let a = fresh m in let b : mark (seen m) ≡ 1 = ap mark is in omega (arith, a, b)
@@ -196,10 +179,11 @@ module _ (text : Text) where
   placed-append : (m : Meaning) (xs ys : List (Lexeme × ℕ)) → placed-times m (xs ++ ys) ≡ placed-times m xs + placed-times m ys
   placed-append m xs ys = ap (times m) (bound-append as_binding.Constant xs ys) ∙ times-append m (bound_as as_binding.Constant xs) (bound_as as_binding.Constant ys)
 
-  -- the names among parts, as what they are bound being left out
+  -- how often a meaning is declared among parts, whatever it is bound as
   abbrev pub among : Meaning → Trees → ℕ
   among m parts = times m (declared_among as_binding.Constant parts)
 
+  -- the same in a tree
   abbrev pub in-tree : Meaning → Tree → ℕ
   in-tree m x = times m (declared_in as_binding.Constant x)
 
@@ -249,8 +233,9 @@ module _ (text : Text) where
           let whole : times m ((declared_in (binding_of form) x ++ defined form (Cons x rest)) ++ declared_among (binding_of form) rest) ≡ times m (defined form (Cons x rest)) + among m (Cons x rest) = omega (arith, a, b, c, d, e) in
           whole
 
-  -- ---- what is declared in the expressions that parts are made of
+  -- ---- what is declared in expressions
 
+  -- the names in the expressions that parts are made of
   abbrev pub whole-names : Trees → List Binder
   whole-names Nil = []
   whole-names (Cons (Node form s parts) rest) =

@@ -191,6 +191,7 @@ module _ (flat : FlatModule) (text : Text) (known : Known) (named : List ℕ →
   behind-known-as own-name o l e is = subst (IsKnownBehind text known named means implied faces own-name) e is
 
   module _ (ordered : IsOrdered flat) (layout : Layout) (setting : Setting) (seen : Meaning → Bool) (knows : Knows flat text known named faces nameable layout setting seen) (own-name : Lexeme) (s : Span) (parts : Trees) (new : Fresh text seen (declared_in as_binding.Constant (Node (Form.ModuleDefinition own-name) s parts))) where
+    -- in the scope of the parameters: the form, the layout, the setting, and which names were seen
     abbrev here : Form.the_data
     here = Form.ModuleDefinition own-name
 

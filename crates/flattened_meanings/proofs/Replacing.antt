@@ -37,9 +37,6 @@ use Rattle.flattened_meanings.proofs.Rounds.{Knows}
 use Rattle.flattened_meanings.proofs.Operands.{Each, IsMadeAs, IsNewAs}
 use Rattle.flattened_meanings.proofs.Places.{node-has-places, places-again}
 
-or-true : (b : Bool) → (true || b) ≡ true
-or-true b = refl
-
 module _ (flat : FlatModule) (text : Text) (known : Known) (named : List ℕ → Outside) (means : ℕ → Option Meaning) (implied : ℕ → List Meaning) (faces : List ℕ → FlatFace) (nameable : List ℕ → Bool) (ordered : IsOrdered flat) (layout : Layout) (setting : Setting) (seen : Meaning → Bool) (knows : Knows flat text known named faces nameable layout setting seen) (frame : List Item) (around : Around) (agrees : Agrees flat layout frame around) where
   -- a right side that is written for a name is what its node is, with the places of the symbol
   abbrev IsRight : Exports → Named → Right → Written → Type 0

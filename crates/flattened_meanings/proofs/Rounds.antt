@@ -204,7 +204,7 @@ module _ (flat : FlatModule) (text : Text) (known : Known) (named : List ℕ →
     pub all_seen : HasSeen seen layout
     pub modules : AreFacesOf flat nameable (λ m. not (seen m)) layout.stands faces named
 
-  -- with more names seen, in a context that has more of these, where they are said to be something
+  -- where more names were seen, which came to stand for something, and others stand for the same
   face-moved : (seen : Meaning → Bool) (names : List Binder) (here next : Meaning → Stand) (face : FlatFace) (outside : Outside) → Fresh text seen names → ((m : Meaning) → times text m names ≡ 0 → next m ≡ here m) → IsFaceOf flat (λ m. not (seen m)) here face outside → IsFaceOf flat (λ m. not (seen-with text names seen m)) next face outside
   face-moved seen names here next face outside fresh same is =
       record {
@@ -224,6 +224,7 @@ module _ (flat : FlatModule) (text : Text) (known : Known) (named : List ℕ →
           let some : 1 ≤ times text m names = omega (arith, e) in
           subst (λ stand. StandsAs face.outer stand (next m)) (sym (is.unsaid m (ap not (counted-unseen text seen names m fresh some)))) tt
 
+  -- the same of all that is known, where a context brings names that were there before, or that are these and take what they stand for
   moved : (layout next : Layout) (setting then : Setting) (seen : Meaning → Bool) (names : List Binder) → Knows layout setting seen → Fresh text seen names → IsSettingOf next then → ((m : Meaning) → times text m names ≡ 0 → next.stands m ≡ layout.stands m) → ((name : Named) (m : Meaning) → meaning_of next.context name ≡ Some m → (meaning_of layout.context name ≡ Some m) ⊎ ((1 ≤ times text m names) × TakesAs (next.stands m) (behind_meaning known (Some m)) m)) → Knows next then (seen-with text names seen)
   moved layout next setting then seen names knows fresh settings same brings =
       record {
@@ -265,9 +266,6 @@ module _ (flat : FlatModule) (text : Text) (known : Known) (named : List ℕ →
     -- a name was there before, or is one of these and takes what it stands for
     abbrev Brings : (Meaning → Stand) → Named → Meaning → Type 0
     Brings stands name m = (meaning_of layout.context name ≡ Some m) ⊎ ((1 ≤ times text m scoped) × TakesAs (stands m) (behind_meaning known (Some m)) m)
-
-    left-counts : (m : Meaning) → IsOneOf text (defined form parts) m → 1 ≤ times text m scoped
-    left-counts m one = let a = one-counts text (defined form parts) m one in let b = times-append text m (defined form parts) (binders form parts) in omega (arith, a, b)
 
     right-counts : (m : Meaning) → IsOneOf text (binders form parts) m → 1 ≤ times text m scoped
     right-counts m one = let a = one-counts text (binders form parts) m one in let b = times-append text m (defined form parts) (binders form parts) in omega (arith, a, b)

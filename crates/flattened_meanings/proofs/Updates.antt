@@ -53,6 +53,7 @@ module _ (flat : FlatModule) (text : Text) (known : Known) (named : List ℕ →
     | Whole ↦ Operands.Cons (judged (places_at text known named a.context (Node form s parts)) (expand text known named a (Node form s parts))) Operands.Nil
   ]
 
+  -- the operands of a part that stands outside, by whether it does
   abbrev outer-operands : Around → Trees → Bool → Operands
   outer-operands o parts out = elim out [ true ↦ operands text known named o o parts | false ↦ Operands.Nil ]
 
