@@ -13,3 +13,4 @@ pub mod Replacing
 pub mod Instances
 pub mod Meant
 mod Samples
+mod InstanceSamples
