@@ -72,7 +72,7 @@ module _ (flat : FlatModule) where
       by_sameness true e = plain other e
       by_sameness false e = have other
 
-  places-deep : (meanings : List Meaning) (stands : Meaning → Stand) (depths : Depths) (place : ℕ) → HaveDepths flat stands depths → AllByRecursion (IsPlain depths) meanings → HaveDepths flat (with_places stands meanings place) depths
+  pub places-deep : (meanings : List Meaning) (stands : Meaning → Stand) (depths : Depths) (place : ℕ) → HaveDepths flat stands depths → AllByRecursion (IsPlain depths) meanings → HaveDepths flat (with_places stands meanings place) depths
   places-deep [] stands depths place have plain = have
   places-deep (meaning ∷ rest) stands depths place have plain =
       places-deep rest (with_stand stands meaning (Place place (order_of meaning))) depths (suc place) (place-deep stands depths meaning place have plain.0) plain.1

@@ -132,7 +132,7 @@ module _ (flat : FlatModule) where
         helpers-join outside around form sp parts rest (i ∷ []) is (no-set form plain) (max-zero (depth_at flat i) ∙ deep) others
 
     module _ (around : Beneath) where
-      arguments-deep : (arguments : Trees) (is : List ℕ) → AreArguments flat text known named around arguments is → greatest (depth_at flat) is ≡ parts_depth text known named around around arguments
+      pub arguments-deep : (arguments : Trees) (is : List ℕ) → AreArguments flat text known named around arguments is → greatest (depth_at flat) is ≡ parts_depth text known named around around arguments
       arguments-deep Nil [] all = refl
       arguments-deep Nil (i ∷ is) all = absurd all
       arguments-deep (Cons (Node form s parts) rest) [] all = absurd all

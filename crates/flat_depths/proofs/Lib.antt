@@ -1,7 +1,7 @@
-mod Nodes
+pub mod Nodes
 pub mod Agreeing
-mod Joining
-mod Replacing
-mod Definitions
+pub mod Joining
+pub mod Replacing
+pub mod Definitions
 pub mod Growing
 mod Units

@@ -67,7 +67,7 @@ some-bare None None None r e = cc
 free-none : (beneath : Beneath) (which : Op.the_data → Op.the_data) (op : Op.the_data) → is_free (which op) ≡ false → symbol_depth beneath which (LexKind.Sym op) ≡ 0
 free-none beneath which op e = ap (λ b. cond b (name_depth beneath (Symbol (which op))) 0) e
 
-prefix-none : (beneath : Beneath) (kind : LexKind.the_data) (r : Rule) → symbol_rule Prefix kind ≡ Some r → symbol_depth beneath prefixed kind ≡ 0
+pub prefix-none : (beneath : Beneath) (kind : LexKind.the_data) (r : Rule) → symbol_rule Prefix kind ≡ Some r → symbol_depth beneath prefixed kind ≡ 0
 prefix-none beneath (LexKind.Sym op) r e =
     free-none beneath prefixed op (prefix-is-none (is_free op) (is_some (rule_of op Infix)) (is_some (rule_of op Prefix)) (is_some (rule_of op Postfix)) (is_free (prefixed op)) (table op) (ap is_some e))
 prefix-none beneath kind r e = refl
@@ -76,15 +76,15 @@ spelled-none : (beneath : Beneath) (op : Op.the_data) → (is_some (rule_of op I
 spelled-none beneath op some =
     free-none beneath as_spelled op (first-is-none (is_free op) (is_some (rule_of op Infix)) (is_some (rule_of op Prefix)) (is_some (rule_of op Postfix)) (is_free (prefixed op)) (table op) some)
 
-infix-none : (beneath : Beneath) (kind : LexKind.the_data) (r : Rule) → symbol_rule Infix kind ≡ Some r → symbol_depth beneath as_spelled kind ≡ 0
+pub infix-none : (beneath : Beneath) (kind : LexKind.the_data) (r : Rule) → symbol_rule Infix kind ≡ Some r → symbol_depth beneath as_spelled kind ≡ 0
 infix-none beneath (LexKind.Sym op) r e = spelled-none beneath op (or_left (is_some (rule_of op Infix) || is_some (rule_of op Prefix)) (is_some (rule_of op Postfix)) (or_left (is_some (rule_of op Infix)) (is_some (rule_of op Prefix)) (ap is_some e)))
 infix-none beneath kind r e = refl
 
-postfix-none : (beneath : Beneath) (kind : LexKind.the_data) (r : Rule) → symbol_rule Postfix kind ≡ Some r → symbol_depth beneath as_spelled kind ≡ 0
+pub postfix-none : (beneath : Beneath) (kind : LexKind.the_data) (r : Rule) → symbol_rule Postfix kind ≡ Some r → symbol_depth beneath as_spelled kind ≡ 0
 postfix-none beneath (LexKind.Sym op) r e = spelled-none beneath op (or_right (is_some (rule_of op Infix) || is_some (rule_of op Prefix)) (is_some (rule_of op Postfix)) (ap is_some e))
 postfix-none beneath kind r e = refl
 
-bare-none : (beneath : Beneath) (kind : LexKind.the_data) (r : Rule) → bare_rule kind ≡ Some r → symbol_depth beneath as_spelled kind ≡ 0
+pub bare-none : (beneath : Beneath) (kind : LexKind.the_data) (r : Rule) → bare_rule kind ≡ Some r → symbol_depth beneath as_spelled kind ≡ 0
 bare-none beneath (LexKind.Sym op) r e = spelled-none beneath op (some-bare (rule_of op Infix) (rule_of op Prefix) (rule_of op Postfix) r e)
 bare-none beneath kind r e = refl
 
@@ -99,19 +99,19 @@ names-same text known named around (Cons (Node form s arguments) rest) = names-s
 
 -- ---- names
 
-plain : (r : Reached) (n most : ℕ) → r ≡ record { depth = 0; replaced = 0 } → n ≤ most → most ≡ max (use_depth r n) most
+pub plain : (r : Reached) (n most : ℕ) → r ≡ record { depth = 0; replaced = 0 } → n ≤ most → most ≡ max (use_depth r n) most
 plain r n most e l =
     let a = ap (λ (x : Reached). x.depth) e in
     let b = ap (λ (x : Reached). x.replaced) e in
     omega (arith, a, b, l)
 
-used : (r : Reached) (d replaced n most : ℕ) → r ≡ record { depth = d; replaced = max 0 replaced } → max most (d + max replaced n) ≡ max (use_depth r n) most
+pub used : (r : Reached) (d replaced n most : ℕ) → r ≡ record { depth = d; replaced = max 0 replaced } → max most (d + max replaced n) ≡ max (use_depth r n) most
 used r d replaced n most e =
     let a = ap (λ (x : Reached). x.depth) e in
     let b = ap (λ (x : Reached). x.replaced) e in
     omega (arith, a, b)
 
-top : {n m : ℕ} → n ≡ m → n ≡ max 0 m
+pub top : {n m : ℕ} → n ≡ m → n ≡ max 0 m
 top {m} e = e ∙ sym (zero-max m)
 
 module _ (flat : FlatModule) where
