@@ -139,7 +139,7 @@ module _ (text : Text) (known : Known) (named : List ℕ → Outside) (means : �
   IsOperator context l which kind (Some rule) parts orders = orders ≡ replicate (count parts) 0
   IsOperator context l which (LexKind.Sym op) None (Cons x parts) orders =
       (is_free (which op) ≡ true)
-      × ((meaning : Meaning) × IsMeaning context l (Symbol (which op)) meaning × IsNoInstance meaning × (orders ≡ orders_of meaning))
+      × ((meaning : Meaning) × IsMeaning context l (Symbol (which op)) meaning × CanStandBare meaning × (orders ≡ orders_of meaning))
   IsOperator context l which kind None parts orders = ⊥
 
   abbrev mutual
