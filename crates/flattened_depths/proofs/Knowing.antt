@@ -1,0 +1,184 @@
+-- What is known round a tree, and what of it is kept in scopes, with parameters, behind definitions and in a flat module that has more.
+use Rattle.std.proofs.Common.{◌≡◌, ℕ, ◌+◌, Bool, true, false, List, ◌++◌, Option, length, map, refl, sym, ap, ◌∙◌, subst, length-append, arith}
+use Rattle.std.specs.Prelude.{slice_get}
+use Rattle.tla_symbols.specs.declared.lexeme.Span.{Span}
+use Rattle.tla_tree.specs.declared.form.Form.TheVariants as Form
+use Rattle.tla_tree.specs.Syntax.{Tree, Trees, Node}
+use Rattle.tla_model.specs.declared.names.Binding.TheVariants as as_binding
+use Rattle.tla_model.specs.Tables.{Named}
+use Rattle.tla_model.specs.Entities.{Meaning, Text, binding_of, defined, meant, within}
+use Rattle.tla_model.specs.Scopes.{behind as behind_context, binders, scope}
+use Rattle.module_model.specs.Exports.{Known}
+use Rattle.kind_text.specs.FlatModule.{Extends, FlatModule, IsOrdered, places_of}
+use Rattle.level_text.specs.Depth.{parameters_of as taken}
+use Rattle.tree_kinds.specs.Standing.{Outside}
+use Rattle.tree_kinds.specs.Expanding.{places_at}
+use Rattle.tree_kinds.specs.TreeDepths.{Beneath, behind_depth, deep_names, defined_depth, depth, in_scope}
+use Rattle.flat_trees.specs.Growing.{IsLayoutWithin, IsWithin}
+use Rattle.flat_trees.specs.Layouts.{Layout, layout_behind, layout_in, layout_repeating, layout_with, parameters_of, with_places}
+use Rattle.flat_trees.specs.Stands.{Stand, Unsaid, Leaf, Place, Defined, Through, Brought}
+use Rattle.flat_depths.specs.Depths.{HasDepths, IsAsDeep}
+use Rattle.flat_depths.proofs.Growing.{agrees-kept}
+use Rattle.flattened_trees.specs.Leads.{FlatFace, Lead, Setting, behind, repeating, with_parameters}
+use Rattle.flattened_trees.specs.Questions.{Question}
+use Rattle.flattened_trees.specs.Flattened.{IsDefined, IsFlattened}
+use Rattle.flattened_trees.specs.Readable.{IsReadable, IsReadableDefinition}
+use Rattle.flattened_trees.specs.Agreeing.{AreNew, IsFresh, is_seen, lead_by}
+use Rattle.flattened_depths.specs.Arranged.{IsArranged, IsArrangedDefinition}
+use Rattle.flattened_depths.specs.Asking.{deep_asked}
+use Rattle.flattened_depths.specs.Rounds.{IsDefinedAs, IsKnownRound, LeadsBehind, TakesParameters}
+use Rattle.flattened_depths.proofs.Chains.{definition-good}
+use Rattle.flattened_depths.proofs.Counting.{and_seen, new-from, new-fewer, times-joins, within-counts}
+use Rattle.flattened_depths.proofs.Definitions.{DefinedGood}
+use Rattle.flattened_depths.proofs.Facts.{TreeMatches, beneath as beneath_at}
+use Rattle.flattened_depths.proofs.Rounds.{OwnName, Round, Usable, behind-round, behind-usable, more-round, placed-round, placed-usable, scope-usable}
+use Rattle.flattened_depths.proofs.Trees.{all-good, everywhere}
+
+module _ (flat : FlatModule) (known : Known) where
+  -- more names may have been seen
+  pub known-more : (seen more : List Meaning) (layout : Layout) (setting : Setting) (around : Beneath) → ((meaning : Meaning) → is_seen seen meaning ≡ true → is_seen more meaning ≡ true) → IsKnownRound flat known seen layout setting around → IsKnownRound flat known more layout setting around
+  known-more seen more layout setting around all knows =
+      record {
+        leads = knows.leads;
+        orders = knows.orders;
+        usable = record { context = λ name m e. all m (knows.usable.context name m e); stands = λ m e. knows.usable.stands m (unseen m e) };
+        agrees = knows.agrees;
+        plain = λ m e. knows.plain m (unseen m e);
+        parameters = knows.parameters;
+      }
+    where
+      unseen : (m : Meaning) → is_seen more m ≡ false → is_seen seen m ≡ false
+      unseen m e = by_seen (is_seen seen m) refl
+        where
+          by_seen : (b : Bool) → is_seen seen m ≡ b → b ≡ false
+          by_seen false f = refl
+          by_seen true f = let g = all m f in cc
+
+  pub known-repeating : (seen : List Meaning) (layout : Layout) (setting : Setting) (around : Beneath) (olds : List ℕ) → IsKnownRound flat known seen layout setting around → IsKnownRound flat known seen (layout_repeating layout olds) (repeating setting olds) around
+  known-repeating seen layout setting around olds knows =
+      record {
+        leads = record { leads = knows.leads.leads; places = knows.leads.places; olds = refl };
+        orders = knows.orders;
+        usable = record { context = knows.usable.context; stands = knows.usable.stands };
+        agrees = record { context = knows.agrees.context; depths = knows.agrees.depths };
+        plain = knows.plain;
+        parameters = knows.parameters;
+      }
+
+  -- in a flat module that has more
+  takes-kept : (more : FlatModule) (extends : Extends flat more) (stand : Stand) → IsWithin flat stand → TakesParameters flat stand → TakesParameters more stand
+  takes-kept more extends Unsaid there takes = tt
+  takes-kept more extends (Leaf kind) there takes = tt
+  takes-kept more extends (Place place order) there takes = tt
+  takes-kept more extends (Defined d orders) there takes = tt
+  takes-kept more extends (Through j orders inner) ((x, at, before), each) takes = (
+    ap taken (extends.instances j x at) ∙ sym (ap taken at) ∙ takes.0,
+    λ name. takes-kept more extends (inner name) (each name) (takes.1 name),
+  )
+  takes-kept more extends (Brought j inner) ((x, at, before), there) takes = (ap taken (extends.instances j x at) ∙ sym (ap taken at) ∙ takes.0, takes-kept more extends inner there takes.1)
+
+  pub known-grown : (more : FlatModule) (seen : List Meaning) (layout : Layout) (setting : Setting) (around : Beneath) → Extends flat more → IsOrdered flat → IsLayoutWithin flat layout → IsKnownRound flat known seen layout setting around → IsKnownRound more known seen layout setting around
+  known-grown more seen layout setting around extends ordered within knows =
+      record {
+        leads = knows.leads;
+        orders = knows.orders;
+        usable = knows.usable;
+        agrees = agrees-kept flat more extends ordered layout around within knows.agrees;
+        plain = knows.plain;
+        parameters = λ m. takes-kept more extends (layout.stands m) (within.stands m) (knows.parameters m);
+      }
+
+module _ (flat : FlatModule) (text : Text) (known : Known) where
+  round-of : (seen : List Meaning) (layout : Layout) (setting : Setting) (around : Beneath) → IsKnownRound flat known seen layout setting around → Round text flat known seen layout.stands setting around.depths
+  round-of seen layout setting around knows = record { leads = knows.leads.leads; unsaid = knows.usable.stands; plain = knows.plain; deep = knows.agrees.depths; parameters = knows.parameters }
+
+  usable-of : (seen : List Meaning) (layout : Layout) (setting : Setting) (around : Beneath) → IsKnownRound flat known seen layout setting around → Usable text flat known seen layout.stands layout.context
+  usable-of seen layout setting around knows = record { orders = knows.orders; usable = knows.usable.context }
+
+  known-by : (seen : List Meaning) (layout : Layout) (setting : Setting) (around : Beneath) → layout.places ≡ length setting.frame → layout.olds ≡ setting.olds → around.context ≡ layout.context → Round text flat known seen layout.stands setting around.depths → Usable text flat known seen layout.stands layout.context → IsKnownRound flat known seen layout setting around
+  known-by seen layout setting around places olds context round here =
+      record {
+        leads = record { leads = round.leads; places = places; olds = olds };
+        orders = here.orders;
+        usable = record { context = here.usable; stands = round.unsaid };
+        agrees = record { context = context; depths = round.deep };
+        plain = round.plain;
+        parameters = round.parameters;
+      }
+
+  -- ---- what is kept
+
+  -- in the scope of a form that binds names
+  pub known-scope : (named : List ℕ → Outside) (seen : List Meaning) (layout : Layout) (setting : Setting) (around : Beneath) (state : Bool) (form : Form.the_data) (parts : Trees) → IsKnownRound flat known seen layout setting around → binding_of form ≡ as_binding.Bound state → AreNew seen (map (meant text) (defined form parts ++ binders form parts)) → IsKnownRound flat known (map (meant text) (defined form parts ++ binders form parts) ++ seen) (layout_in text layout form parts) setting (in_scope text known named around form parts)
+  known-scope named seen layout setting around state form parts knows bound fresh =
+      let round = round-of seen layout setting around knows in
+      let new = new-from text (defined form parts ++ binders form parts) seen fresh in
+      known-by (and_seen text (defined form parts ++ binders form parts) seen) (layout_in text layout form parts) setting (in_scope text known named around form parts) knows.leads.places knows.leads.olds
+      (ap (λ context. scope text context form parts) knows.agrees.context)
+      (more-round text flat known (defined form parts ++ binders form parts) seen layout.stands setting around.depths round)
+      (scope-usable text flat known seen layout.stands setting around.depths layout.context state form parts bound round (usable-of seen layout setting around knows) new)
+
+  no-own : (form : Form.the_data) → binding_of form ≡ as_binding.Parameter → (m : Meaning) → OwnName text flat known form m → ⊥
+  no-own (Form.FunctionDefinition l) e m same = cc e
+  no-own form e m same = same
+
+  -- with the parameters of a form
+  pub known-parameters : (named : List ℕ → Outside) (seen : List Meaning) (layout : Layout) (setting : Setting) (around : Beneath) (form : Form.the_data) (parts : Trees) → IsKnownRound flat known seen layout setting around → binding_of form ≡ as_binding.Parameter → AreNew seen (map (meant text) (defined form parts ++ binders form parts)) → IsKnownRound flat known (map (meant text) (defined form parts ++ binders form parts) ++ seen) (layout_with text layout form parts) (with_parameters text setting form parts) (in_scope text known named around form parts)
+  known-parameters named seen layout setting around form parts knows placed fresh =
+      let round = round-of seen layout setting around knows in
+      let new = new-from text (defined form parts ++ binders form parts) seen fresh in
+      subst (λ (place : ℕ). IsKnownRound flat known (map (meant text) (defined form parts ++ binders form parts) ++ seen) (record { context = scope text layout.context form parts; stands = with_places layout.stands (parameters_of text form parts) place; places = layout.places + length (parameters_of text form parts); olds = layout.olds }) (with_parameters text setting form parts) (in_scope text known named around form parts)) (sym knows.leads.places)
+      (known-by (and_seen text (defined form parts ++ binders form parts) seen) (record { context = scope text layout.context form parts; stands = with_places layout.stands (parameters_of text form parts) (length setting.frame); places = layout.places + length (parameters_of text form parts); olds = layout.olds }) (with_parameters text setting form parts) (in_scope text known named around form parts)
+      (ap (λ n. n + length (parameters_of text form parts)) knows.leads.places ∙ sym (length-append setting.frame (parameters_of text form parts))) knows.leads.olds
+      (ap (λ context. scope text context form parts) knows.agrees.context)
+      (placed-round text flat known seen layout.stands setting around.depths form parts round new)
+      (placed-usable text flat known seen layout.stands setting around.depths form parts round new layout.context placed (no-own form placed) (usable-of seen layout setting around knows)))
+
+module _ (flat : FlatModule) (text : Text) (known : Known) (named : List ℕ → Outside) (means : ℕ → Option Meaning) (implied : ℕ → List Meaning) (faces : List ℕ → FlatFace) (inside : List ℕ → Named → Stand) (ordered : IsOrdered flat) (seen : List Meaning) (layout : Layout) (setting : Setting) (around : Beneath) (knows : IsKnownRound flat known seen layout setting around) where
+  -- ---- trees
+
+  tree-matches : (x : Tree) (i : ℕ) (asked : List Question) → IsFresh text seen x → IsArranged (LeadsBehind flat text known named faces inside) x → IsReadable text known named means implied faces layout.context x → IsFlattened text means implied faces flat setting x i asked → TreeMatches flat text known named means implied faces inside layout.context around.depths x i asked
+  tree-matches x i asked fresh arranged readable flattened =
+      all-good flat text known named means implied faces inside ordered x seen layout.stands setting around.depths layout.context i asked (round-of flat text known seen layout setting around knows) (usable-of flat text known seen layout setting around knows)
+      (new-from text (within x) seen fresh) arranged readable flattened
+
+  pub tree-deep : (x : Tree) (i : ℕ) (asked : List Question) → IsFresh text seen x → IsArranged (LeadsBehind flat text known named faces inside) x → IsReadable text known named means implied faces layout.context x → IsFlattened text means implied faces flat setting x i asked → IsAsDeep flat text known named around i x
+  tree-deep x i asked fresh arranged readable flattened =
+      (tree-matches x i asked fresh arranged readable flattened).deep ∙ ap (λ context. depth text known named (beneath_at context around.depths) x) (sym knows.agrees.context)
+
+  pub tree-places : (x : Tree) (i : ℕ) (asked : List Question) → IsFresh text seen x → IsArranged (LeadsBehind flat text known named faces inside) x → IsReadable text known named means implied faces layout.context x → IsFlattened text means implied faces flat setting x i asked → places_of (slice_get flat.nodes i) ≡ places_at text known named layout.context x
+  tree-places x i asked fresh arranged readable flattened = (tree-matches x i asked fresh arranged readable flattened).places
+
+  pub tree-asked : (x : Tree) (i : ℕ) (asked : List Question) → IsFresh text seen x → IsArranged (LeadsBehind flat text known named faces inside) x → IsReadable text known named means implied faces layout.context x → IsFlattened text means implied faces flat setting x i asked → deep_asked flat asked ≡ deep_names text known named around x
+  tree-asked x i asked fresh arranged readable flattened =
+      (tree-matches x i asked fresh arranged readable flattened).names ∙ ap (λ context. deep_names text known named (beneath_at context around.depths) x) (sym knows.agrees.context)
+
+  -- ---- definitions
+
+  definition-matches : (form : Form.the_data) (s : Span) (parts : Trees) (lead : List Named → Lead) (roots : List ℕ) (asked : List Question) → IsFresh text seen (Node form s parts) → IsArrangedDefinition (LeadsBehind flat text known named faces inside) (Node form s parts) → IsReadableDefinition text known named means implied faces layout.context (Node form s parts) → IsDefined text means implied faces flat setting (Node form s parts) lead roots asked → DefinedGood flat text known named means implied faces inside ordered layout.context around.depths form s parts lead roots asked
+  definition-matches form s parts lead roots asked fresh arranged readable flattened =
+      definition-good flat text known named means implied faces inside ordered seen layout.stands setting around.depths layout.context (round-of flat text known seen layout setting around knows) (usable-of flat text known seen layout setting around knows)
+      form s parts lead roots asked (everywhere flat text known named means implied faces inside ordered parts) (new-from text (within (Node form s parts)) seen fresh) arranged readable flattened
+
+  pub definition-asked : (x : Tree) (lead : List Named → Lead) (roots : List ℕ) (asked : List Question) → IsFresh text seen x → IsArrangedDefinition (LeadsBehind flat text known named faces inside) x → IsReadableDefinition text known named means implied faces layout.context x → IsDefined text means implied faces flat setting x lead roots asked → deep_asked flat asked ≡ deep_names text known named around x
+  definition-asked (Node form s parts) lead roots asked fresh arranged readable flattened =
+      (definition-matches form s parts lead roots asked fresh arranged readable flattened).names ∙ ap (λ context. deep_names text known named (beneath_at context around.depths) (Node form s parts)) (sym knows.agrees.context)
+
+  pub definition-known : (x : Tree) (lead : List Named → Lead) (roots : List ℕ) (asked : List Question) → IsFresh text seen x → IsArrangedDefinition (LeadsBehind flat text known named faces inside) x → IsReadableDefinition text known named means implied faces layout.context x → IsDefined text means implied faces flat setting x lead roots asked → (number : ℕ) × IsDefinedAs flat text known named faces inside seen layout setting around x lead roots number
+  definition-known (Node form s parts) lead roots asked fresh arranged readable flattened =
+      let good = definition-matches form s parts lead roots asked fresh arranged readable flattened in
+      let round = round-of flat text known seen layout setting around knows in
+      let reached = subst (λ context. HasDepths flat 0 good.stand (defined_depth text known named (beneath_at context around.depths) (Node form s parts))) (sym knows.agrees.context) good.reached in
+      let new = new-fewer text (within (Node form s parts)) (defined form parts) seen (λ m. let e = within-counts text m form s parts in let j = times-joins text m (defined form parts) (binders form parts) in omega (arith, e, j)) (new-from text (within (Node form s parts)) seen fresh) in
+      let stand_behind = behind-round text flat known seen layout.stands setting around.depths form s parts good.stand lead (defined_depth text known named around (Node form s parts)) round new good.leads reached good.parameters in
+      let use_behind = behind-usable text flat known seen layout.stands setting around.depths form s parts good.stand lead (defined_depth text known named around (Node form s parts)) round new layout.context good.takes (usable-of flat text known seen layout setting around knows) in
+      let behind_it = known-by flat text known (and_seen text (defined form parts) seen) (layout_behind text layout (Node form s parts) good.stand) (behind text setting (Node form s parts) lead) (behind_depth text known named around (Node form s parts) (defined_depth text known named around (Node form s parts)))
+      knows.leads.places knows.leads.olds (ap (λ context. behind_context text context (Node form s parts)) knows.agrees.context) stand_behind use_behind in (
+        good.number,
+        record {
+          leads = λ names. good.leads names ∙ ap (λ stand. lead_by stand names) good.same;
+          reached = subst (λ stand. HasDepths flat 0 stand (defined_depth text known named around (Node form s parts))) good.same reached;
+          behind = subst (λ stand. IsKnownRound flat known (and_seen text (defined form parts) seen) (layout_behind text layout (Node form s parts) stand) (behind text setting (Node form s parts) lead) (behind_depth text known named around (Node form s parts) (defined_depth text known named around (Node form s parts)))) good.same behind_it;
+          deep = good.deep ∙ ap (λ context. depth text known named (beneath_at context around.depths) (Node form s parts)) (sym knows.agrees.context);
+        },
+      )

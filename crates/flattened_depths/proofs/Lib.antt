@@ -1,0 +1,13 @@
+pub mod Counting
+pub mod Rounds
+pub mod Facts
+pub mod Naming
+pub mod Uses
+pub mod Leaves
+pub mod Operands
+pub mod Arguments
+pub mod Definitions
+pub mod Instances
+pub mod Chains
+pub mod Trees
+pub mod Knowing

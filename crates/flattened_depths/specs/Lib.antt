@@ -1,0 +1,3 @@
+pub mod Arranged
+pub mod Rounds
+pub mod Asking
