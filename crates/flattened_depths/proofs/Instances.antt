@@ -57,7 +57,7 @@ both-tests b e f = cc
 module _ (flat : FlatModule) (text : Text) (known : Known) (named : List ℕ → Outside) (means : ℕ → Option Meaning) (implied : ℕ → List Meaning) (faces : List ℕ → FlatFace) (inside : List ℕ → Named → Stand) (ordered : IsOrdered flat) where
   -- ---- replacements
 
-  staying-deep : (place count : ℕ) (staying : List Replacement) → AreStaying flat place count staying → AllByRecursion (λ r. depth_at flat r.root ≡ 0) staying
+  pub staying-deep : (place count : ℕ) (staying : List Replacement) → AreStaying flat place count staying → AllByRecursion (λ r. depth_at flat r.root ≡ 0) staying
   staying-deep place zero [] all = tt
   staying-deep place zero (r ∷ staying) all = absurd all
   staying-deep place (suc count) [] all = absurd all
@@ -140,7 +140,7 @@ module _ (flat : FlatModule) (text : Text) (known : Known) (named : List ℕ →
               (none-match flat text known named means implied faces inside context context depths others y more.0 more.1),
         )
 
-    rights-good : (l : Lexeme) (parameters : Exports) (rights : Trees) → Everywhere flat text known named means implied faces inside rights → (before : List Named) (sides : List Right) (roots : List ℕ) (asked : List Question) → New text seen (inner_names text rights) → AreArranged (LeadsBehind flat text known named faces inside) true rights → AreReadableRights text known named means implied faces context parameters before rights → AreRights text means implied faces flat setting l rights sides roots asked → RightsGood parameters before rights sides roots asked
+    pub rights-good : (l : Lexeme) (parameters : Exports) (rights : Trees) → Everywhere flat text known named means implied faces inside rights → (before : List Named) (sides : List Right) (roots : List ℕ) (asked : List Question) → New text seen (inner_names text rights) → AreArranged (LeadsBehind flat text known named faces inside) true rights → AreReadableRights text known named means implied faces context parameters before rights → AreRights text means implied faces flat setting l rights sides roots asked → RightsGood parameters before rights sides roots asked
     rights-good l parameters Nil below before sides roots asked new arranged readable (e, f, g) = rights-nil parameters before sides roots asked e f g
     rights-good l parameters (Cons (Node (Form.Replacement left) s (Cons (Node form at ys) Nil)) rest) (outer, (tree, inner, nothing), later) before sides roots asked new arranged (whole, fresh, order, readable, more) (is, others, a, b, after, operands, flattened, same, together, joined) =
         let one = right-good form at ys is a tree whole (helper-new flat text known named means implied faces inside seen (Form.Replacement left) s (Cons (Node form at ys) Nil) rest refl new) arranged.0.1 readable operands in
@@ -150,7 +150,7 @@ module _ (flat : FlatModule) (text : Text) (known : Known) (named : List ℕ →
     rights-good l parameters (Cons x rest) below before sides roots asked new arranged readable flattened = absurd readable
 
     -- each replacement is as deep as what replaces its symbol
-    replacing-good : (l : Lexeme) (rights : Trees) (sides : List Right) (roots : List ℕ) (before : List Named) (all : Exports) (asked_sides : List Question) → RightsGood all before rights sides roots asked_sides → (constant : Bool) (parameters : Exports) (symbols : List Meaning) (made : List Replacement) (b : List Question) → AreReplacing flat setting.leads setting.frame constant sides l parameters symbols made b → AreImplied context (left_sides text.source rights) parameters symbols → AreEachAsDeep flat text known named (beneath context depths) rights parameters made × (deep_asked flat b ≡ [])
+    pub replacing-good : (l : Lexeme) (rights : Trees) (sides : List Right) (roots : List ℕ) (before : List Named) (all : Exports) (asked_sides : List Question) → RightsGood all before rights sides roots asked_sides → (constant : Bool) (parameters : Exports) (symbols : List Meaning) (made : List Replacement) (b : List Question) → AreReplacing flat setting.leads setting.frame constant sides l parameters symbols made b → AreImplied context (left_sides text.source rights) parameters symbols → AreEachAsDeep flat text known named (beneath context depths) rights parameters made × (deep_asked flat b ≡ [])
     replacing-good l rights sides roots before all asked_sides good constant [] symbols made b (none, empty) implied_by = (subst (λ xs. AreEachAsDeep flat text known named (beneath context depths) rights [] xs) (sym none) tt, ap (deep_asked flat) empty)
     replacing-good l rights sides roots before all asked_sides good constant (parameter ∷ parameters) symbols [] b replacing implied_by = absurd replacing
     replacing-good l rights sides roots before all asked_sides good constant (parameter ∷ parameters) symbols (r ∷ made) b (rest, most, each) implied_by =

@@ -1,36 +1,40 @@
 -- What is known round a tree, and what of it is kept in scopes, with parameters, behind definitions and in a flat module that has more.
-use Rattle.std.proofs.Common.{◌≡◌, ℕ, ◌+◌, Bool, true, false, List, ◌++◌, Option, length, map, refl, sym, ap, ◌∙◌, subst, length-append, arith}
+use Rattle.std.proofs.Common.{◌≡◌, ℕ, ◌+◌, Bool, true, false, List, [], ◌++◌, Option, length, map, refl, sym, ap, ◌∙◌, subst, length-append, append-nil, arith}
 use Rattle.std.specs.Prelude.{slice_get}
+use Rattle.tla_symbols.specs.declared.lexeme.Lexeme.{Lexeme}
 use Rattle.tla_symbols.specs.declared.lexeme.Span.{Span}
 use Rattle.tla_tree.specs.declared.form.Form.TheVariants as Form
-use Rattle.tla_tree.specs.Syntax.{Tree, Trees, Node}
+use Rattle.tla_tree.specs.Syntax.{Tree, Trees, Node, Nil, Cons}
 use Rattle.tla_model.specs.declared.names.Binding.TheVariants as as_binding
 use Rattle.tla_model.specs.Tables.{Named}
 use Rattle.tla_model.specs.Entities.{Meaning, Text, binding_of, defined, meant, within}
 use Rattle.tla_model.specs.Scopes.{behind as behind_context, binders, scope}
 use Rattle.module_model.specs.Exports.{Known}
-use Rattle.kind_text.specs.FlatModule.{Extends, FlatModule, IsOrdered, places_of}
+use Rattle.kind_text.specs.FlatModule.{Extends, FlatModule, IsOrdered, Replacement, places_of}
 use Rattle.level_text.specs.Depth.{parameters_of as taken}
 use Rattle.tree_kinds.specs.Standing.{Outside}
-use Rattle.tree_kinds.specs.Expanding.{places_at}
+use Rattle.tree_kinds.specs.Expanding.{module_of, places_at}
 use Rattle.tree_kinds.specs.TreeDepths.{Beneath, behind_depth, deep_names, defined_depth, depth, in_scope}
 use Rattle.flat_trees.specs.Growing.{IsLayoutWithin, IsWithin}
 use Rattle.flat_trees.specs.Layouts.{Layout, layout_behind, layout_in, layout_repeating, layout_with, parameters_of, with_places}
 use Rattle.flat_trees.specs.Stands.{Stand, Unsaid, Leaf, Place, Defined, Through, Brought}
 use Rattle.flat_depths.specs.Depths.{HasDepths, IsAsDeep}
+use Rattle.flat_depths.specs.Parts.{AreEachAsDeep, AreReplacedAsDeep}
 use Rattle.flat_depths.proofs.Growing.{agrees-kept}
+use Rattle.flat_depths.proofs.Replacing.{each-together}
 use Rattle.flattened_trees.specs.Leads.{FlatFace, Lead, Setting, behind, repeating, with_parameters}
 use Rattle.flattened_trees.specs.Questions.{Question}
-use Rattle.flattened_trees.specs.Flattened.{IsDefined, IsFlattened}
-use Rattle.flattened_trees.specs.Readable.{IsReadable, IsReadableDefinition}
+use Rattle.flattened_trees.specs.Flattened.{AreReplacing, AreRights, IsDefined, IsFlattened, IsInstance, Right, face_of}
+use Rattle.flattened_trees.specs.Readable.{IsReadable, IsReadableDefinition, IsReadableThrough}
 use Rattle.flattened_trees.specs.Agreeing.{AreNew, IsFresh, is_seen, lead_by}
-use Rattle.flattened_depths.specs.Arranged.{IsArranged, IsArrangedDefinition}
+use Rattle.flattened_depths.specs.Arranged.{AreArranged, BindsNothing, IsArranged, IsArrangedDefinition}
 use Rattle.flattened_depths.specs.Asking.{deep_asked}
-use Rattle.flattened_depths.specs.Rounds.{IsDefinedAs, IsKnownRound, LeadsBehind, TakesParameters}
+use Rattle.flattened_depths.specs.Rounds.{IsDefinedAs, IsKnownRound, LeadsBehind, PutsInAsDeep, TakesParameters}
 use Rattle.flattened_depths.proofs.Chains.{definition-good}
-use Rattle.flattened_depths.proofs.Counting.{and_seen, new-from, new-fewer, times-joins, within-counts}
+use Rattle.flattened_depths.proofs.Counting.{and_seen, inner_names, new-from, new-fewer, times-joins, within-counts}
 use Rattle.flattened_depths.proofs.Definitions.{DefinedGood}
-use Rattle.flattened_depths.proofs.Facts.{TreeMatches, beneath as beneath_at}
+use Rattle.flattened_depths.proofs.Facts.{TreeMatches, asked-joins, beneath as beneath_at, helper-matches}
+use Rattle.flattened_depths.proofs.Instances.{RightsGood, replacing-good, rights-good, staying-deep}
 use Rattle.flattened_depths.proofs.Rounds.{OwnName, Round, Usable, behind-round, behind-usable, more-round, placed-round, placed-usable, scope-usable}
 use Rattle.flattened_depths.proofs.Trees.{all-good, everywhere}
 
@@ -182,3 +186,35 @@ module _ (flat : FlatModule) (text : Text) (known : Known) (named : List ℕ →
           deep = good.deep ∙ ap (λ context. depth text known named (beneath_at context around.depths) (Node form s parts)) (sym knows.agrees.context);
         },
       )
+
+  -- ---- an INSTANCE
+
+  module _ (l : Lexeme) (s : Span) (rights : Trees) (fresh : IsFresh text seen (Node (Form.Instance l) s rights)) (none : BindsNothing (Form.Instance l) rights) (arranged : AreArranged (LeadsBehind flat text known named faces inside) true rights) (readable : IsReadableThrough text known named means implied faces layout.context (Cons (Node (Form.Instance l) s rights) Nil)) where
+    rights-known : (sides : List Right) (roots : List ℕ) (a : List Question) → AreRights text means implied faces flat setting l rights sides roots a → RightsGood flat text known named means implied faces inside ordered seen layout.stands setting around.depths (round-of flat text known seen layout setting around knows) layout.context (usable-of flat text known seen layout setting around knows) (module_of text known named l).view.parameters [] rights sides roots a
+    rights-known sides roots a flattened =
+        rights-good flat text known named means implied faces inside ordered seen layout.stands setting around.depths (round-of flat text known seen layout setting around knows) layout.context (usable-of flat text known seen layout setting around knows) l (module_of text known named l).view.parameters rights (everywhere flat text known named means implied faces inside ordered rights) [] sides roots a
+        (new-fewer text (within (Node (Form.Instance l) s rights)) (inner_names text rights) seen (λ m. let e = within-counts text m (Form.Instance l) s rights in omega (arith, e)) (new-from text (within (Node (Form.Instance l) s rights)) seen fresh)) arranged readable.2 flattened
+
+    each-known : (sides : List Right) (roots : List ℕ) (a b : List Question) (made : List Replacement) → AreRights text means implied faces flat setting l rights sides roots a → AreReplacing flat setting.leads setting.frame (face_of text means implied faces flat l).is_constant sides l (face_of text means implied faces flat l).parameters (implied l.span.start) made b → AreEachAsDeep flat text known named (beneath_at layout.context around.depths) rights (module_of text known named l).view.parameters made × (deep_asked flat b ≡ [])
+    each-known sides roots a b made flattened replacing =
+        replacing-good flat text known named means implied faces inside ordered seen layout.stands setting around.depths (round-of flat text known seen layout setting around knows) layout.context (usable-of flat text known seen layout setting around knows) l rights sides roots [] (module_of text known named l).view.parameters a (rights-known sides roots a flattened) (face_of text means implied faces flat l).is_constant (module_of text known named l).view.parameters (implied l.span.start) made b
+        (subst (λ parameters. AreReplacing flat setting.leads setting.frame (face_of text means implied faces flat l).is_constant sides l parameters (implied l.span.start) made b) readable.0.parameters replacing) readable.1
+
+    pub instance-known : (outer count : ℕ) (guards : Bool) (sides : List Right) (roots : List ℕ) (j : ℕ) (a b : List Question) → AreRights text means implied faces flat setting l rights sides roots a → IsInstance text means implied faces flat setting outer count guards l sides j b → PutsInAsDeep flat text known named around l rights j
+    instance-known outer count guards sides roots j a b flattened (staying, made, there, stay, replacing) =
+        record {
+          instance = record { outer = outer; parameters = count; guards = guards; replacements = staying ++ made };
+          staying = staying;
+          made = made;
+          there = there;
+          replacements = refl;
+          plain = staying-deep flat text known named means implied faces inside ordered 0 (face_of text means implied faces flat l).outer staying stay;
+          deep = subst (λ context. AreReplacedAsDeep flat text known named (beneath_at context around.depths) made l rights) (sym knows.agrees.context)
+              (each-together flat text known named (beneath_at layout.context around.depths) rights (module_of text known named l).view.parameters made (rights-known sides roots a flattened).placed (each-known sides roots a b made flattened replacing).0);
+        }
+
+    pub instance-asked : (outer count : ℕ) (guards : Bool) (sides : List Right) (roots : List ℕ) (j : ℕ) (a b : List Question) → AreRights text means implied faces flat setting l rights sides roots a → IsInstance text means implied faces flat setting outer count guards l sides j b → deep_asked flat (a ++ b) ≡ deep_names text known named around (Node (Form.Instance l) s rights)
+    instance-asked outer count guards sides roots j a b flattened (staying, made, there, stay, replacing) =
+        asked-joins flat a b ∙ ap (λ xs. deep_asked flat a ++ xs) (each-known sides roots a b made flattened replacing).1 ∙ append-nil (deep_asked flat a)
+        ∙ (helper-matches flat text known named means implied faces inside layout.context around.depths (Form.Instance l) s rights roots a refl none (rights-known sides roots a flattened).match).1
+        ∙ ap (λ context. deep_names text known named (beneath_at context around.depths) (Node (Form.Instance l) s rights)) (sym knows.agrees.context)

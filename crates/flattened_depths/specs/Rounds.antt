@@ -1,15 +1,16 @@
 -- What is known round a tree of the depths and the instances that its names stand for, and behind a definition.
 use Rattle.std.specs.Prelude.{◌≡◌, ℕ, false, List, [], ◌∷◌, ◌++◌, Option, Some, None, length, map, slice_get}
+use Rattle.std.specs.List.{AllByRecursion}
 use Rattle.tla_symbols.specs.declared.lexeme.Lexeme.{Lexeme}
 use Rattle.tla_model.specs.declared.entity.Entity.TheVariants as entity
 use Rattle.tla_model.specs.declared.names.Meaning.TheVariants.{Declared}
 use Rattle.tla_model.specs.Lexemes.{spelled}
 use Rattle.tla_model.specs.Tables.{Named}
-use Rattle.tla_tree.specs.Syntax.{Tree, Node}
+use Rattle.tla_tree.specs.Syntax.{Tree, Trees, Node}
 use Rattle.tla_model.specs.Entities.{Meaning, Nothing, Operator, Function, Module, Text, defines, meant, orders, own as own_callee}
 use Rattle.tla_model.specs.Scopes.{definition}
 use Rattle.module_model.specs.Exports.{Behind, Known, behind_meaning, entry_of, onward}
-use Rattle.kind_text.specs.FlatModule.{FlatModule}
+use Rattle.kind_text.specs.FlatModule.{FlatModule, Instance, Replacement}
 use Rattle.module_model.specs.Instances.{instance_among}
 use Rattle.level_text.specs.Depth.{depth as depth_at, greatest, parameters_of}
 use Rattle.tree_kinds.specs.Standing.{Outside}
@@ -18,6 +19,7 @@ use Rattle.tree_kinds.specs.TreeDepths.{Beneath, Depths, behind_depth, defined_d
 use Rattle.flat_trees.specs.Layouts.{Layout, layout_behind}
 use Rattle.flat_trees.specs.Stands.{Stand, Unsaid, Defined, Through, Brought}
 use Rattle.flat_depths.specs.Depths.{AgreesInDepth, HasDepths, IsDeepModule}
+use Rattle.flat_depths.specs.Parts.{AreReplacedAsDeep}
 use Rattle.flattened_trees.specs.Leads.{FlatFace, Lead, Setting, behind}
 use Rattle.flattened_trees.specs.Agreeing.{IsSeen, IsSettingOf, KeepsOrders, TakesBehind, is_seen, lead_by}
 
@@ -54,6 +56,16 @@ module _ (flat : FlatModule) where
     pub agrees : AgreesInDepth flat layout beneath
     pub plain : ArePlain seen beneath.depths
     pub parameters : (meaning : Meaning) → TakesParameters (layout.stands meaning)
+
+  -- an instance puts in what is as deep as the replacements of an INSTANCE, behind symbols that stay, which have no depth
+  pub record PutsInAsDeep (text : Text) (known : Known) (named : List ℕ → Outside) (beneath : Beneath) (l : Lexeme) (rights : Trees) (j : ℕ) : Type 0 where
+    pub instance : Instance
+    pub staying : List Replacement
+    pub made : List Replacement
+    pub there : slice_get flat.instances j ≡ Some instance
+    pub replacements : instance.replacements ≡ staying ++ made
+    pub plain : AllByRecursion (λ r. depth_at flat r.root ≡ 0) staying
+    pub deep : AreReplacedAsDeep flat text known named beneath made l rights
 
   module _ (text : Text) (known : Known) (named : List ℕ → Outside) (faces : List ℕ → FlatFace) where
     -- the names of a module lead where these stand, as deep as outside of it; they take what is known of them behind an instance

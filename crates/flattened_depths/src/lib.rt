@@ -5,7 +5,10 @@
 #![tactic(auto)]
 
 ghost use Rattle.std.specs.Prelude.{◌≡◌, ℕ, Bool, true, List, ◌++◌, Option, map, slice_get};
+ghost use Rattle.tla_symbols.specs.declared.lexeme.Lexeme.{Lexeme};
+ghost use Rattle.tla_symbols.specs.declared.lexeme.Span.{Span};
 ghost use Rattle.tla_tree.specs.declared.form.Form.TheVariants as Form;
+ghost use Rattle.tla_tree.specs.Syntax as tree;
 ghost use Rattle.tla_tree.specs.Syntax.{Tree, Trees};
 ghost use Rattle.tla_model.specs.declared.names.Binding.TheVariants as binding;
 ghost use Rattle.tla_model.specs.Tables.{Named};
@@ -23,12 +26,16 @@ ghost use Rattle.flat_depths.specs.Depths.{IsAsDeep};
 ghost use Rattle.flattened_trees.specs.Leads.{FlatFace, Lead, Setting, repeating};
 ghost use Rattle.flattened_trees.specs.Leads.{with_parameters};
 ghost use Rattle.flattened_trees.specs.Questions.{Question};
-ghost use Rattle.flattened_trees.specs.Flattened.{IsDefined, IsFlattened};
+ghost use Rattle.flattened_trees.specs.Flattened.{AreRights, IsDefined, IsFlattened, IsInstance};
+ghost use Rattle.flattened_trees.specs.Flattened.{Right};
 ghost use Rattle.flattened_trees.specs.Readable.{IsReadable, IsReadableDefinition};
+ghost use Rattle.flattened_trees.specs.Readable.{IsReadableThrough};
 ghost use Rattle.flattened_trees.specs.Agreeing.{AreNew, IsFresh, is_seen};
-ghost use Rattle.flattened_depths.specs.Arranged.{IsArranged, IsArrangedDefinition};
+ghost use Rattle.flattened_depths.specs.Arranged.{AreArranged, BindsNothing, IsArranged};
+ghost use Rattle.flattened_depths.specs.Arranged.{IsArrangedDefinition};
 ghost use Rattle.flattened_depths.specs.Asking.{deep_asked};
 ghost use Rattle.flattened_depths.specs.Rounds.{IsDefinedAs, IsKnownRound, LeadsBehind};
+ghost use Rattle.flattened_depths.specs.Rounds.{PutsInAsDeep};
 
 /// A node that is a written tree, node by node, is as deep as the tree, where names lead to what is
 /// as deep as they are. And it is a bare operator of so many places where the tree is one.
@@ -95,6 +102,43 @@ pub fn deep_definitions_are_asked()
         → IsReadableDefinition text known named means implied faces layout.context x
         → IsDefined text means implied faces flat setting x lead roots asked
         → deep_asked flat asked ≡ deep_names text known named beneath x }
+{}
+
+/// An instance puts in what is as deep as the replacements of its INSTANCE, with a name or without,
+/// behind symbols that stay. And of the definitions that questions ask for there, those that are too
+/// deep are the ones in its right sides.
+pub fn instances_are_as_deep()
+    ensures depths { (flat : FlatModule) (text : Text) (known : Known) (named : List ℕ → Outside)
+        (means : ℕ → Option Meaning) (implied : ℕ → List Meaning) (faces : List ℕ → FlatFace)
+        (inside : List ℕ → Named → Stand) (seen : List Meaning) (layout : Layout)
+        (setting : Setting) (beneath : Beneath) (l : Lexeme) (at : Span) (rights : Trees)
+        (outer count : ℕ) (guards : Bool) (sides : List Right) (roots : List ℕ) (j : ℕ)
+        (a b : List Question) → IsOrdered flat
+        → IsKnownRound flat known seen layout setting beneath
+        → IsFresh text seen (tree.Node (Form.Instance l) at rights)
+        → BindsNothing (Form.Instance l) rights
+        → AreArranged (LeadsBehind flat text known named faces inside) true rights
+        → IsReadableThrough text known named means implied faces layout.context
+        (tree.Cons (tree.Node (Form.Instance l) at rights) tree.Nil)
+        → AreRights text means implied faces flat setting l rights sides roots a
+        → IsInstance text means implied faces flat setting outer count guards l sides j b
+        → PutsInAsDeep flat text known named beneath l rights j }
+    ensures questions { (flat : FlatModule) (text : Text) (known : Known)
+        (named : List ℕ → Outside) (means : ℕ → Option Meaning) (implied : ℕ → List Meaning)
+        (faces : List ℕ → FlatFace) (inside : List ℕ → Named → Stand) (seen : List Meaning)
+        (layout : Layout) (setting : Setting) (beneath : Beneath) (l : Lexeme) (at : Span)
+        (rights : Trees) (outer count : ℕ) (guards : Bool) (sides : List Right) (roots : List ℕ)
+        (j : ℕ) (a b : List Question) → IsOrdered flat
+        → IsKnownRound flat known seen layout setting beneath
+        → IsFresh text seen (tree.Node (Form.Instance l) at rights)
+        → BindsNothing (Form.Instance l) rights
+        → AreArranged (LeadsBehind flat text known named faces inside) true rights
+        → IsReadableThrough text known named means implied faces layout.context
+        (tree.Cons (tree.Node (Form.Instance l) at rights) tree.Nil)
+        → AreRights text means implied faces flat setting l rights sides roots a
+        → IsInstance text means implied faces flat setting outer count guards l sides j b
+        → deep_asked flat (a ++ b)
+        ≡ deep_names text known named beneath (tree.Node (Form.Instance l) at rights) }
 {}
 
 /// All stays known where more names may have been seen, where `@` repeats other nodes, in the scope
