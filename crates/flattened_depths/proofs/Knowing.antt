@@ -1,24 +1,29 @@
 -- What is known round a tree, and what of it is kept in scopes, with parameters, behind definitions and in a flat module that has more.
-use Rattle.std.proofs.Common.{◌≡◌, ℕ, ◌+◌, Bool, true, false, List, [], ◌++◌, Option, length, map, refl, sym, ap, ◌∙◌, subst, length-append, append-nil, arith}
-use Rattle.std.specs.Prelude.{slice_get}
+use Rattle.std.proofs.Common.{◌≡◌, ℕ, ◌+◌, Bool, true, false, cond, List, [], ◌∷◌, ◌++◌, Option, Some, None, length, map, refl, sym, ap, ◌∙◌, subst, length-append, append-nil, inl, inr, arith}
+use Rattle.std.specs.Prelude.{codes, slice_get}
+use Rattle.std.specs.Str.{bytes_eq}
 use Rattle.tla_symbols.specs.declared.lexeme.Lexeme.{Lexeme}
 use Rattle.tla_symbols.specs.declared.lexeme.Span.{Span}
 use Rattle.tla_tree.specs.declared.form.Form.TheVariants as Form
 use Rattle.tla_tree.specs.Syntax.{Tree, Trees, Node, Nil, Cons}
 use Rattle.tla_model.specs.declared.names.Binding.TheVariants as as_binding
-use Rattle.tla_model.specs.Tables.{Named}
+use Rattle.tla_model.specs.declared.entity.Entity.TheVariants as entity
+use Rattle.tla_model.specs.declared.names.Binder.{Binder}
+use Rattle.tla_model.specs.declared.names.Meaning.TheVariants.{BuiltIn, Declared}
+use Rattle.tla_model.specs.Tables.{Named, Word, Symbol}
+use Rattle.tla_model.specs.Contexts.{bind, built_in, meaning_of, usable}
 use Rattle.tla_model.specs.Entities.{Meaning, Text, binding_of, defined, meant, within}
 use Rattle.tla_model.specs.Scopes.{behind as behind_context, binders, scope}
-use Rattle.module_model.specs.Exports.{Known}
+use Rattle.module_model.specs.Exports.{Known, behind_meaning}
 use Rattle.kind_text.specs.FlatModule.{Extends, FlatModule, IsOrdered, Replacement, places_of}
 use Rattle.level_text.specs.Depth.{parameters_of as taken}
 use Rattle.tree_kinds.specs.Standing.{Outside}
 use Rattle.tree_kinds.specs.Expanding.{module_of, places_at}
-use Rattle.tree_kinds.specs.TreeDepths.{Beneath, behind_depth, deep_names, defined_depth, depth, in_scope}
+use Rattle.tree_kinds.specs.TreeDepths.{Beneath, behind_depth, deep_names, defined_depth, depth, in_scope, no_depths}
 use Rattle.flat_trees.specs.Growing.{IsLayoutWithin, IsWithin}
 use Rattle.flat_trees.specs.Layouts.{Layout, layout_behind, layout_in, layout_repeating, layout_with, parameters_of, with_places}
 use Rattle.flat_trees.specs.Stands.{Stand, Unsaid, Leaf, Place, Defined, Through, Brought}
-use Rattle.flat_depths.specs.Depths.{HasDepths, IsAsDeep}
+use Rattle.flat_depths.specs.Depths.{HasDepths, IsAsDeep, beneath_in}
 use Rattle.flat_depths.specs.Parts.{AreEachAsDeep, AreReplacedAsDeep}
 use Rattle.flat_depths.proofs.Growing.{agrees-kept}
 use Rattle.flat_depths.proofs.Replacing.{each-together}
@@ -26,19 +31,74 @@ use Rattle.flattened_trees.specs.Leads.{FlatFace, Lead, Setting, behind, repeati
 use Rattle.flattened_trees.specs.Questions.{Question}
 use Rattle.flattened_trees.specs.Flattened.{AreReplacing, AreRights, IsDefined, IsFlattened, IsInstance, Right, face_of}
 use Rattle.flattened_trees.specs.Readable.{IsReadable, IsReadableDefinition, IsReadableThrough}
-use Rattle.flattened_trees.specs.Agreeing.{AreNew, IsFresh, is_seen, lead_by}
+use Rattle.flattened_trees.specs.Agreeing.{AreNew, IsFresh, TakesAs, is_seen, lead_by, unsaid_stand}
 use Rattle.flattened_depths.specs.Arranged.{AreArranged, BindsNothing, IsArranged, IsArrangedDefinition}
 use Rattle.flattened_depths.specs.Asking.{deep_asked}
-use Rattle.flattened_depths.specs.Rounds.{IsDefinedAs, IsKnownRound, LeadsBehind, PutsInAsDeep, TakesParameters}
+use Rattle.flattened_depths.specs.Rounds.{IsDefinedAs, IsKnownRound, LeadsBehind, PutsInAsDeep, TakesParameters, first_beneath, first_layout, first_setting, layout_at}
 use Rattle.flattened_depths.proofs.Chains.{definition-good}
 use Rattle.flattened_depths.proofs.Counting.{and_seen, inner_names, new-from, new-fewer, times-joins, within-counts}
 use Rattle.flattened_depths.proofs.Definitions.{DefinedGood}
 use Rattle.flattened_depths.proofs.Facts.{TreeMatches, asked-joins, beneath as beneath_at, helper-matches}
 use Rattle.flattened_depths.proofs.Instances.{RightsGood, replacing-good, rights-good, staying-deep}
-use Rattle.flattened_depths.proofs.Rounds.{OwnName, Round, Usable, behind-round, behind-usable, more-round, placed-round, placed-usable, scope-usable}
+use Rattle.flattened_depths.proofs.Rounds.{OwnName, Round, Usable, behind-round, behind-usable, bound-means, more-round, placed-round, placed-usable, scope-usable}
 use Rattle.flattened_depths.proofs.Trees.{all-good, everywhere}
 
+-- before all names only some are built in
+built-alone : (name : Named) (meaning : Meaning) → meaning_of built_in name ≡ Some meaning → meaning ≡ BuiltIn
+built-alone (Word bytes) meaning e = by_tests (bytes_eq bytes (codes "TRUE")) (bytes_eq bytes (codes "FALSE")) (bytes_eq bytes (codes "BOOLEAN")) (bytes_eq bytes (codes "STRING")) e
+  where
+    by_tests : (a b c d : Bool) → usable (cond a (Some (Some BuiltIn)) (cond b (Some (Some BuiltIn)) (cond c (Some (Some BuiltIn)) (cond d (Some (Some BuiltIn)) None)))) ≡ Some meaning → meaning ≡ BuiltIn
+    by_tests true b c d e = cc
+    by_tests false true c d e = cc
+    by_tests false false true d e = cc
+    by_tests false false false true e = cc
+    by_tests false false false false e = cc
+built-alone (Symbol op) meaning e = cc
+
 module _ (flat : FlatModule) (known : Known) where
+  -- what is known before all names
+  pub known-first : IsKnownRound flat known (BuiltIn ∷ []) first_layout first_setting first_beneath
+  known-first =
+      record {
+        leads = record { leads = λ meaning names. refl; places = refl; olds = refl };
+        orders = λ name meaning e. subst (λ m. TakesAs (unsaid_stand m) (behind_meaning known (Some m)) m) (sym (built-alone name meaning e)) (tt, refl);
+        usable = record { context = λ name meaning e. ap (is_seen (BuiltIn ∷ [])) (built-alone name meaning e); stands = λ meaning e. refl };
+        agrees = record { context = refl; depths = none };
+        plain = λ meaning e. refl;
+        parameters = few;
+      }
+    where
+      none : (meaning : Meaning) → HasDepths flat 0 (unsaid_stand meaning) (no_depths meaning)
+      none BuiltIn = refl
+      none (Declared (entity.Bound state) callee) = refl
+      none (Declared e callee) = tt
+
+      few : (meaning : Meaning) → TakesParameters flat (unsaid_stand meaning)
+      few BuiltIn = tt
+      few (Declared (entity.Bound state) callee) = tt
+      few (Declared e callee) = tt
+
+  -- with one name more
+  pub known-bound : (text : Text) (seen : List Meaning) (layout : Layout) (setting : Setting) (around : Beneath) (binder : Binder) → IsKnownRound flat known seen layout setting around → is_seen seen (meant text binder) ≡ true → TakesAs (layout.stands (meant text binder)) (behind_meaning known (Some (meant text binder))) (meant text binder) → IsKnownRound flat known seen (layout_at layout (bind text layout.context binder)) setting (beneath_in around (bind text layout.context binder))
+  known-bound text seen layout setting around binder knows there takes =
+      record {
+        leads = record { leads = knows.leads.leads; places = knows.leads.places; olds = knows.leads.olds };
+        orders = λ name meaning e. (case name meaning e).0;
+        usable = record { context = λ name meaning e. (case name meaning e).1; stands = knows.usable.stands };
+        agrees = record { context = refl; depths = knows.agrees.depths };
+        plain = knows.plain;
+        parameters = knows.parameters;
+      }
+    where
+      case : (name : Named) (meaning : Meaning) → meaning_of (bind text layout.context binder) name ≡ Some meaning → TakesAs (layout.stands meaning) (behind_meaning known (Some meaning)) meaning × (is_seen seen meaning ≡ true)
+      case name meaning e = elim (bound-means text (binder ∷ []) layout.context name meaning e) [
+        | inl before ↦ (knows.orders name meaning before, knows.usable.context name meaning before)
+        | inr among ↦ elim among [
+          | inl same ↦ (subst (λ m. TakesAs (layout.stands m) (behind_meaning known (Some m)) m) same takes, subst (λ m. is_seen seen m ≡ true) same there)
+          | inr never ↦ absurd never
+        ]
+      ]
+
   -- more names may have been seen
   pub known-more : (seen more : List Meaning) (layout : Layout) (setting : Setting) (around : Beneath) → ((meaning : Meaning) → is_seen seen meaning ≡ true → is_seen more meaning ≡ true) → IsKnownRound flat known seen layout setting around → IsKnownRound flat known more layout setting around
   known-more seen more layout setting around all knows =

@@ -51,7 +51,7 @@ module _ (text : Text) where
   Among meaning [] = ⊥
   Among meaning (b ∷ rest) = (meant text b ≡ meaning) ⊎ Among meaning rest
 
-  bound-means : (binders : List Binder) (context : Context) (name : Named) (meaning : Meaning) → meaning_of (bind_all text context binders) name ≡ Some meaning → (meaning_of context name ≡ Some meaning) ⊎ Among meaning binders
+  pub bound-means : (binders : List Binder) (context : Context) (name : Named) (meaning : Meaning) → meaning_of (bind_all text context binders) name ≡ Some meaning → (meaning_of context name ≡ Some meaning) ⊎ Among meaning binders
   bound-means [] context name meaning e = inl e
   bound-means (b ∷ rest) context name meaning e = elim (bound-means rest (bind text context b) name meaning e) [
     | inl before ↦ elim (put-means context (name_of text.source b.name) (Some (meant text b)) name meaning before) [ inl there ↦ inl there | inr same ↦ inr (inl cc) ]

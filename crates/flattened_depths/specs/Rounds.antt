@@ -8,6 +8,7 @@ use Rattle.tla_model.specs.Lexemes.{spelled}
 use Rattle.tla_model.specs.Tables.{Named}
 use Rattle.tla_tree.specs.Syntax.{Tree, Trees, Node}
 use Rattle.tla_model.specs.Entities.{Meaning, Nothing, Operator, Function, Module, Text, defines, meant, orders, own as own_callee}
+use Rattle.tla_model.specs.Contexts.{Context, built_in}
 use Rattle.tla_model.specs.Scopes.{definition}
 use Rattle.module_model.specs.Exports.{Behind, Known, behind_meaning, entry_of, onward}
 use Rattle.kind_text.specs.FlatModule.{FlatModule, Instance, Replacement}
@@ -15,17 +16,33 @@ use Rattle.module_model.specs.Instances.{instance_among}
 use Rattle.level_text.specs.Depth.{depth as depth_at, greatest, parameters_of}
 use Rattle.tree_kinds.specs.Standing.{Outside}
 use Rattle.tree_kinds.specs.Expanding.{module_of}
-use Rattle.tree_kinds.specs.TreeDepths.{Beneath, Depths, behind_depth, defined_depth, depth}
+use Rattle.tree_kinds.specs.TreeDepths.{Beneath, Depths, behind_depth, defined_depth, depth, no_depths}
 use Rattle.flat_trees.specs.Layouts.{Layout, layout_behind}
 use Rattle.flat_trees.specs.Stands.{Stand, Unsaid, Defined, Through, Brought}
 use Rattle.flat_depths.specs.Depths.{AgreesInDepth, HasDepths, IsDeepModule}
 use Rattle.flat_depths.specs.Parts.{AreReplacedAsDeep}
 use Rattle.flattened_trees.specs.Leads.{FlatFace, Lead, Setting, behind}
-use Rattle.flattened_trees.specs.Agreeing.{IsSeen, IsSettingOf, KeepsOrders, TakesBehind, is_seen, lead_by}
+use Rattle.flattened_trees.specs.Agreeing.{IsSeen, IsSettingOf, KeepsOrders, TakesBehind, is_seen, lead_by, unsaid_stand}
 
 -- what was not seen has no depth
 abbrev pub ArePlain : List Meaning → Depths → Type 0
 ArePlain seen depths = (meaning : Meaning) → is_seen seen meaning ≡ false → depths meaning [] ≡ record { depth = 0; replaced = 0 }
+
+-- the same in another context
+abbrev pub layout_at : Layout → Context → Layout
+layout_at layout context = record layout { context = context }
+
+-- before all names but those that are built in
+abbrev pub first_layout : Layout
+first_layout = record { context = built_in; stands = unsaid_stand; places = 0; olds = [] }
+
+-- where these lead
+abbrev pub first_setting : Setting
+first_setting = record { leads = λ meaning names. lead_by (unsaid_stand meaning) names; frame = []; olds = [] }
+
+-- and that they have no depth
+abbrev pub first_beneath : Beneath
+first_beneath = record { context = built_in; depths = no_depths }
 
 -- what stands for the names of the module that an INSTANCE names, by the names of modules
 abbrev pub stands_in : Text → (List ℕ → Named → Stand) → Option Lexeme → Named → Stand

@@ -4,17 +4,21 @@
 //! nodes are built.
 #![tactic(auto)]
 
-ghost use Rattle.std.specs.Prelude.{◌≡◌, ℕ, Bool, true, List, ◌++◌, Option, map, slice_get};
+ghost use Rattle.std.specs.Prelude.{◌≡◌, ℕ, Bool, true, List, [], ◌∷◌, ◌++◌, Option, Some, map};
+ghost use Rattle.std.specs.Prelude.{slice_get};
 ghost use Rattle.tla_symbols.specs.declared.lexeme.Lexeme.{Lexeme};
 ghost use Rattle.tla_symbols.specs.declared.lexeme.Span.{Span};
 ghost use Rattle.tla_tree.specs.declared.form.Form.TheVariants as Form;
 ghost use Rattle.tla_tree.specs.Syntax as tree;
 ghost use Rattle.tla_tree.specs.Syntax.{Tree, Trees};
 ghost use Rattle.tla_model.specs.declared.names.Binding.TheVariants as binding;
+ghost use Rattle.tla_model.specs.declared.names.Binder.{Binder};
+ghost use Rattle.tla_model.specs.declared.names.Meaning.TheVariants.{BuiltIn};
+ghost use Rattle.tla_model.specs.Contexts.{bind};
 ghost use Rattle.tla_model.specs.Tables.{Named};
 ghost use Rattle.tla_model.specs.Entities.{Meaning, Text, binding_of, defined, meant};
 ghost use Rattle.tla_model.specs.Scopes.{binders};
-ghost use Rattle.module_model.specs.Exports.{Known};
+ghost use Rattle.module_model.specs.Exports.{Known, behind_meaning};
 ghost use Rattle.kind_text.specs.FlatModule.{Extends, FlatModule, IsOrdered, places_of};
 ghost use Rattle.tree_kinds.specs.Standing.{Outside};
 ghost use Rattle.tree_kinds.specs.Expanding.{places_at};
@@ -22,7 +26,7 @@ ghost use Rattle.tree_kinds.specs.TreeDepths.{Beneath, deep_names, in_scope};
 ghost use Rattle.flat_trees.specs.Growing.{IsLayoutWithin};
 ghost use Rattle.flat_trees.specs.Layouts.{Layout, layout_in, layout_repeating, layout_with};
 ghost use Rattle.flat_trees.specs.Stands.{Stand};
-ghost use Rattle.flat_depths.specs.Depths.{IsAsDeep};
+ghost use Rattle.flat_depths.specs.Depths.{IsAsDeep, beneath_in};
 ghost use Rattle.flattened_trees.specs.Leads.{FlatFace, Lead, Setting, repeating};
 ghost use Rattle.flattened_trees.specs.Leads.{with_parameters};
 ghost use Rattle.flattened_trees.specs.Questions.{Question};
@@ -30,12 +34,13 @@ ghost use Rattle.flattened_trees.specs.Flattened.{AreRights, IsDefined, IsFlatte
 ghost use Rattle.flattened_trees.specs.Flattened.{Right};
 ghost use Rattle.flattened_trees.specs.Readable.{IsReadable, IsReadableDefinition};
 ghost use Rattle.flattened_trees.specs.Readable.{IsReadableThrough};
-ghost use Rattle.flattened_trees.specs.Agreeing.{AreNew, IsFresh, is_seen};
+ghost use Rattle.flattened_trees.specs.Agreeing.{AreNew, IsFresh, TakesAs, is_seen};
 ghost use Rattle.flattened_depths.specs.Arranged.{AreArranged, BindsNothing, IsArranged};
 ghost use Rattle.flattened_depths.specs.Arranged.{IsArrangedDefinition};
 ghost use Rattle.flattened_depths.specs.Asking.{deep_asked};
 ghost use Rattle.flattened_depths.specs.Rounds.{IsDefinedAs, IsKnownRound, LeadsBehind};
-ghost use Rattle.flattened_depths.specs.Rounds.{PutsInAsDeep};
+ghost use Rattle.flattened_depths.specs.Rounds.{PutsInAsDeep, first_beneath, first_layout};
+ghost use Rattle.flattened_depths.specs.Rounds.{first_setting, layout_at};
 
 /// A node that is a written tree, node by node, is as deep as the tree, where names lead to what is
 /// as deep as they are. And it is a bare operator of so many places where the tree is one.
@@ -105,8 +110,8 @@ pub fn deep_definitions_are_asked()
 {}
 
 /// An instance puts in what is as deep as the replacements of its INSTANCE, with a name or without,
-/// behind symbols that stay. And of the definitions that questions ask for there, those that are too
-/// deep are the ones in its right sides.
+/// behind symbols that stay. And of the definitions that questions ask for there, those that are
+/// too deep are the ones in its right sides.
 pub fn instances_are_as_deep()
     ensures depths { (flat : FlatModule) (text : Text) (known : Known) (named : List ℕ → Outside)
         (means : ℕ → Option Meaning) (implied : ℕ → List Meaning) (faces : List ℕ → FlatFace)
@@ -141,9 +146,20 @@ pub fn instances_are_as_deep()
         ≡ deep_names text known named beneath (tree.Node (Form.Instance l) at rights) }
 {}
 
-/// All stays known where more names may have been seen, where `@` repeats other nodes, in the scope
-/// of a form that binds names, with parameters, and in a flat module that has more.
+/// Before all names all is known of those that are built in. It stays known with one name more that
+/// was seen, where more names may have been seen, where `@` repeats other nodes, in the scope of a
+/// form that binds names, with parameters, and in a flat module that has more.
 pub fn names_stay_known()
+    ensures first { (flat : FlatModule) (known : Known)
+        → IsKnownRound flat known (BuiltIn ∷ []) first_layout first_setting first_beneath }
+    ensures bound { (flat : FlatModule) (text : Text) (known : Known) (seen : List Meaning)
+        (layout : Layout) (setting : Setting) (beneath : Beneath) (binder : Binder)
+        → IsKnownRound flat known seen layout setting beneath
+        → is_seen seen (meant text binder) ≡ true
+        → TakesAs (layout.stands (meant text binder))
+        (behind_meaning known (Some (meant text binder))) (meant text binder)
+        → IsKnownRound flat known seen (layout_at layout (bind text layout.context binder))
+        setting (beneath_in beneath (bind text layout.context binder)) }
     ensures seen { (flat : FlatModule) (known : Known) (seen more : List Meaning)
         (layout : Layout) (setting : Setting) (beneath : Beneath)
         → ((meaning : Meaning) → is_seen seen meaning ≡ true → is_seen more meaning ≡ true)

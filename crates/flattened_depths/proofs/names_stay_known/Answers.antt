@@ -1,5 +1,11 @@
-use Rattle.flattened_depths.proofs.Knowing.{known-grown, known-more, known-parameters, known-repeating, known-scope}
+use Rattle.flattened_depths.proofs.Knowing.{known-bound, known-first, known-grown, known-more, known-parameters, known-repeating, known-scope}
 use Rattle.flattened_depths.proofs.names_stay_known.Goals as goal
+
+pub returns-clause-first : goal.returns-clause-first
+returns-clause-first c flat known = known-first flat known
+
+pub returns-clause-bound : goal.returns-clause-bound
+returns-clause-bound c flat text known seen layout setting beneath binder knows there takes = known-bound flat known text seen layout setting beneath binder knows there takes
 
 pub returns-clause-seen : goal.returns-clause-seen
 returns-clause-seen c flat known seen more layout setting beneath all knows = known-more flat known seen more layout setting beneath all knows
