@@ -7,7 +7,7 @@ use Rattle.tla_symbols.specs.declared.lexeme.Span.{Span}
 use Rattle.tla_tree.specs.declared.form.Form.TheVariants as Form
 use Rattle.tla_tree.specs.Syntax.{Trees, Node, Nil, Cons}
 use Rattle.tla_model.specs.Tables.{Named}
-use Rattle.tla_model.specs.Entities.{Meaning, Text, within}
+use Rattle.tla_model.specs.Entities.{Meaning, Nothing, Text, defines, within}
 use Rattle.tla_model.specs.Contexts.{Context}
 use Rattle.tla_model.specs.Scopes.{has_set}
 use Rattle.module_model.specs.Exports.{Known}
@@ -209,9 +209,9 @@ module _ (flat : FlatModule) (text : Text) (known : Known) (named : List ℕ →
               part.2
               (subst (λ xs. PartsMatch flat text known named means implied faces inside context context depths xs [] []) (sym none) (none-match flat text known named means implied faces inside context context depths [] [] refl refl))
 
-          by_part : (p : Part) → part_of form ≡ p → (elim p as (λ _. Type 0) [ Whole ↦ rest ≡ Nil | Outer ↦ EndsWhole rest | Helper ↦ (parts ≡ Nil) × EndsWhole rest ]) → PartsMatch flat text known named means implied faces inside context context depths (Cons (Node form s parts) rest) (indices ++ values) (a ++ b)
+          by_part : (p : Part) → part_of form ≡ p → (elim p as (λ _. Type 0) [ Whole ↦ rest ≡ Nil | Outer ↦ EndsWhole rest | Helper ↦ (parts ≡ Nil) × (defines form ≡ Nothing) × EndsWhole rest ]) → PartsMatch flat text known named means implied faces inside context context depths (Cons (Node form s parts) rest) (indices ++ values) (a ++ b)
           by_part Outer e last_rest = outer (stands-outside form e) last_rest
-          by_part Helper e last_rest = helper e (helps-out form e).1 last_rest.0 last_rest.1
+          by_part Helper e last_rest = helper e (helps-out form e).1 last_rest.0 last_rest.2
           by_part Whole e none = whole (whole-inside form e) none
 
       pub update-good : (parts : Trees) → Everywhere flat text known named means implied faces inside parts → UpdateGood parts

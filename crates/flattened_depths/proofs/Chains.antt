@@ -36,17 +36,17 @@ module _ (flat : FlatModule) (text : Text) (known : Known) (named : List ℕ →
   module _ (seen : List Meaning) (stands : Meaning → Stand) (setting : Setting) (depths : Depths) (context : Context) (round : Round text flat known seen stands setting depths) (here : Usable text flat known seen stands context) where
     pub definition-good : (form : Form.the_data) (s : Span) (parts : Trees) (lead : List Named → Lead) (roots : List ℕ) (asked : List Question) → Everywhere flat text known named means implied faces inside parts → New text seen (within (Node form s parts)) → IsArrangedDefinition (LeadsBehind flat text known named faces inside) (Node form s parts) → IsReadableDefinition text known named means implied faces context (Node form s parts) → IsDefined text means implied faces flat setting (Node form s parts) lead roots asked → DefinedGood flat text known named means implied faces inside ordered context depths form s parts lead roots asked
     definition-good (Form.OperatorDefinition l) s parts lead roots asked below new (body, arranged) readable (is, root, d, a, operands, first, there, leads, one, joined) =
-        operator-good flat text known named means implied faces inside ordered seen stands setting depths context round here (Form.OperatorDefinition l) s parts below new l refl body arranged readable.1 lead roots asked is root d a operands first there leads one joined
+        operator-good flat text known named means implied faces inside ordered seen stands setting depths context round here (Form.OperatorDefinition l) s parts below new l refl body arranged readable.2 lead roots asked is root d a operands first there leads one joined
     definition-good (Form.PrefixDefinition l) s parts lead roots asked below new (body, arranged) readable (is, root, d, a, operands, first, there, leads, one, joined) =
-        operator-good flat text known named means implied faces inside ordered seen stands setting depths context round here (Form.PrefixDefinition l) s parts below new l refl body arranged readable.1 lead roots asked is root d a operands first there leads one joined
+        operator-good flat text known named means implied faces inside ordered seen stands setting depths context round here (Form.PrefixDefinition l) s parts below new l refl body arranged readable.2 lead roots asked is root d a operands first there leads one joined
     definition-good (Form.InfixDefinition l) s parts lead roots asked below new (body, arranged) readable (is, root, d, a, operands, first, there, leads, one, joined) =
-        operator-good flat text known named means implied faces inside ordered seen stands setting depths context round here (Form.InfixDefinition l) s parts below new l refl body arranged readable.1 lead roots asked is root d a operands first there leads one joined
+        operator-good flat text known named means implied faces inside ordered seen stands setting depths context round here (Form.InfixDefinition l) s parts below new l refl body arranged readable.2 lead roots asked is root d a operands first there leads one joined
     definition-good (Form.PostfixDefinition l) s parts lead roots asked below new (body, arranged) readable (is, root, d, a, operands, first, there, leads, one, joined) =
-        operator-good flat text known named means implied faces inside ordered seen stands setting depths context round here (Form.PostfixDefinition l) s parts below new l refl body arranged readable.1 lead roots asked is root d a operands first there leads one joined
+        operator-good flat text known named means implied faces inside ordered seen stands setting depths context round here (Form.PostfixDefinition l) s parts below new l refl body arranged readable.2 lead roots asked is root d a operands first there leads one joined
     definition-good (Form.FunctionDefinition l) s parts lead roots asked below new arranged readable (is, root, d, a, operands, node, there, leads, one, joined) =
         function-good flat text known named means implied faces inside ordered seen stands setting depths context round here l s parts below new arranged readable lead roots asked is root d a operands node there leads one joined
     definition-good (Form.ModuleDefinition l) s parts lead roots asked below new arranged readable through =
-        module-good flat text known named means implied faces inside ordered seen stands setting depths context round here l s parts below new arranged readable lead roots asked through
+        module-good flat text known named means implied faces inside ordered seen stands setting depths context round here l s parts below new arranged readable.2 lead roots asked through
     definition-good form s parts lead roots asked below new arranged readable flattened = absurd arranged
 
   -- nodes are the definitions and the body of a LET

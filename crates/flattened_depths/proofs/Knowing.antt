@@ -62,7 +62,8 @@ module _ (flat : FlatModule) (known : Known) where
       record {
         leads = record { leads = λ meaning names. refl; places = refl; olds = refl };
         orders = λ name meaning e. subst (λ m. TakesAs (unsaid_stand m) (behind_meaning known (Some m)) m) (sym (built-alone name meaning e)) (tt, refl);
-        usable = record { context = λ name meaning e. ap (is_seen (BuiltIn ∷ [])) (built-alone name meaning e); stands = λ meaning e. refl };
+        usable = λ name meaning e. ap (is_seen (BuiltIn ∷ [])) (built-alone name meaning e);
+        unsaid = λ meaning e. refl;
         agrees = record { context = refl; depths = none };
         plain = λ meaning e. refl;
         parameters = few;
@@ -84,7 +85,8 @@ module _ (flat : FlatModule) (known : Known) where
       record {
         leads = record { leads = knows.leads.leads; places = knows.leads.places; olds = knows.leads.olds };
         orders = λ name meaning e. (case name meaning e).0;
-        usable = record { context = λ name meaning e. (case name meaning e).1; stands = knows.usable.stands };
+        usable = λ name meaning e. (case name meaning e).1;
+        unsaid = knows.unsaid;
         agrees = record { context = refl; depths = knows.agrees.depths };
         plain = knows.plain;
         parameters = knows.parameters;
@@ -92,7 +94,7 @@ module _ (flat : FlatModule) (known : Known) where
     where
       case : (name : Named) (meaning : Meaning) → meaning_of (bind text layout.context binder) name ≡ Some meaning → TakesAs (layout.stands meaning) (behind_meaning known (Some meaning)) meaning × (is_seen seen meaning ≡ true)
       case name meaning e = elim (bound-means text (binder ∷ []) layout.context name meaning e) [
-        | inl before ↦ (knows.orders name meaning before, knows.usable.context name meaning before)
+        | inl before ↦ (knows.orders name meaning before, knows.usable name meaning before)
         | inr among ↦ elim among [
           | inl same ↦ (subst (λ m. TakesAs (layout.stands m) (behind_meaning known (Some m)) m) same takes, subst (λ m. is_seen seen m ≡ true) same there)
           | inr never ↦ absurd never
@@ -105,7 +107,8 @@ module _ (flat : FlatModule) (known : Known) where
       record {
         leads = knows.leads;
         orders = knows.orders;
-        usable = record { context = λ name m e. all m (knows.usable.context name m e); stands = λ m e. knows.usable.stands m (unseen m e) };
+        usable = λ name m e. all m (knows.usable name m e);
+        unsaid = λ m e. knows.unsaid m (unseen m e);
         agrees = knows.agrees;
         plain = λ m e. knows.plain m (unseen m e);
         parameters = knows.parameters;
@@ -123,7 +126,8 @@ module _ (flat : FlatModule) (known : Known) where
       record {
         leads = record { leads = knows.leads.leads; places = knows.leads.places; olds = refl };
         orders = knows.orders;
-        usable = record { context = knows.usable.context; stands = knows.usable.stands };
+        usable = knows.usable;
+        unsaid = knows.unsaid;
         agrees = record { context = knows.agrees.context; depths = knows.agrees.depths };
         plain = knows.plain;
         parameters = knows.parameters;
@@ -147,6 +151,7 @@ module _ (flat : FlatModule) (known : Known) where
         leads = knows.leads;
         orders = knows.orders;
         usable = knows.usable;
+        unsaid = knows.unsaid;
         agrees = agrees-kept flat more extends ordered layout around within knows.agrees;
         plain = knows.plain;
         parameters = λ m. takes-kept more extends (layout.stands m) (within.stands m) (knows.parameters m);
@@ -154,17 +159,18 @@ module _ (flat : FlatModule) (known : Known) where
 
 module _ (flat : FlatModule) (text : Text) (known : Known) where
   round-of : (seen : List Meaning) (layout : Layout) (setting : Setting) (around : Beneath) → IsKnownRound flat known seen layout setting around → Round text flat known seen layout.stands setting around.depths
-  round-of seen layout setting around knows = record { leads = knows.leads.leads; unsaid = knows.usable.stands; plain = knows.plain; deep = knows.agrees.depths; parameters = knows.parameters }
+  round-of seen layout setting around knows = record { leads = knows.leads.leads; unsaid = knows.unsaid; plain = knows.plain; deep = knows.agrees.depths; parameters = knows.parameters }
 
   usable-of : (seen : List Meaning) (layout : Layout) (setting : Setting) (around : Beneath) → IsKnownRound flat known seen layout setting around → Usable text flat known seen layout.stands layout.context
-  usable-of seen layout setting around knows = record { orders = knows.orders; usable = knows.usable.context }
+  usable-of seen layout setting around knows = record { orders = knows.orders; usable = knows.usable }
 
   known-by : (seen : List Meaning) (layout : Layout) (setting : Setting) (around : Beneath) → layout.places ≡ length setting.frame → layout.olds ≡ setting.olds → around.context ≡ layout.context → Round text flat known seen layout.stands setting around.depths → Usable text flat known seen layout.stands layout.context → IsKnownRound flat known seen layout setting around
   known-by seen layout setting around places olds context round here =
       record {
         leads = record { leads = round.leads; places = places; olds = olds };
         orders = here.orders;
-        usable = record { context = here.usable; stands = round.unsaid };
+        usable = here.usable;
+        unsaid = round.unsaid;
         agrees = record { context = context; depths = round.deep };
         plain = round.plain;
         parameters = round.parameters;

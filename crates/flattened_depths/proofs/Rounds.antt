@@ -1,7 +1,6 @@
 -- What is known round a tree stays known in scopes, with parameters and behind definitions.
 use Rattle.std.proofs.Common.{◌≡◌, ℕ, suc, ◌+◌, ◌≤◌, Bool, true, false, cond, List, [], ◌∷◌, ◌++◌, Option, Some, None, length, map, refl, sym, ap, ◌∙◌, subst, ◌⊎◌, inl, inr, arith}
 use Rattle.std.specs.List.{AllByRecursion}
-use Rattle.std.proofs.lemmas.List.{length-replicate}
 use Rattle.tla_symbols.specs.declared.lexeme.Lexeme.{Lexeme}
 use Rattle.tla_symbols.specs.declared.lexeme.Span.{Span}
 use Rattle.tla_tree.specs.declared.form.Form.TheVariants as Form
@@ -128,7 +127,7 @@ module _ (text : Text) where
   -- a parameter takes as many arguments as its order says
   takes-parameter : (names : List (Lexeme × ℕ)) (held : Behind) (at : ℕ) (meaning : Meaning) → Among meaning (bound_as as_binding.Parameter names) → TakesAs (Place at (order_of meaning)) held meaning
   takes-parameter [] held at meaning among = absurd among
-  takes-parameter (n ∷ rest) held at meaning (inl same) = subst (λ (m : Meaning). TakesAs (Place at (order_of m)) held m) same (tt, refl, length-replicate n.1 0)
+  takes-parameter (n ∷ rest) held at meaning (inl same) = subst (λ (m : Meaning). TakesAs (Place at (order_of m)) held m) same (tt, refl, refl)
   takes-parameter (n ∷ rest) held at meaning (inr among) = takes-parameter rest held at meaning among
 
   binders-placed : (form : Form.the_data) (parts : Trees) (held : Behind) (at : ℕ) (meaning : Meaning) → binding_of form ≡ as_binding.Parameter → Among meaning (binders form parts) → TakesAs (Place at (order_of meaning)) held meaning

@@ -231,7 +231,7 @@ module _ (flat : FlatModule) (text : Text) (known : Known) (named : List ℕ →
   tree-good Form.Parentheses s parts below seen stands setting depths context i asked round here new arranged readable (is, a, operands, there, joined) =
       over-parts seen stands setting depths context round here Form.Parentheses s parts i asked a (inside_node is) is there (inside-bare seen stands setting depths context round here is) (inside-deep seen stands setting depths context round here is) refl joined refl refl refl
       (unbound-match seen stands setting depths context round here Form.Parentheses parts is a arranged.0
-      (operands-good flat text known named means implied faces inside seen stands setting depths round parts below context context false is a here here (λ _. refl) (fewer-new seen stands setting depths context round here Form.Parentheses s parts new) arranged.1 readable.1 operands))
+      (operands-good flat text known named means implied faces inside seen stands setting depths round parts below context context false is a here here (λ _. refl) (fewer-new seen stands setting depths context round here Form.Parentheses s parts new) arranged.1 readable.2 operands))
   tree-good (Form.BoundedQuantifier l) s parts below seen stands setting depths context i asked round here new arranged readable (is, a, operands, there, joined) =
       over-parts seen stands setting depths context round here (Form.BoundedQuantifier l) s parts i asked a (plain_node NodeForm.Bounded (last_first [] is)) is there refl (last-same (depth_at flat) [] is) refl joined refl refl refl
       (scoped seen stands setting depths context round here false (Form.BoundedQuantifier l) s parts is a below refl new arranged.1 readable.1 operands)

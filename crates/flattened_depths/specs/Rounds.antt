@@ -24,6 +24,10 @@ use Rattle.flat_depths.specs.Parts.{AreReplacedAsDeep}
 use Rattle.flattened_trees.specs.Leads.{FlatFace, Lead, Setting, behind}
 use Rattle.flattened_trees.specs.Agreeing.{IsSeen, IsSettingOf, KeepsOrders, TakesBehind, is_seen, lead_by, unsaid_stand}
 
+-- nothing is said of what was not seen
+abbrev pub AreUnsaid : List Meaning → Layout → Type 0
+AreUnsaid seen layout = (meaning : Meaning) → is_seen seen meaning ≡ false → layout.stands meaning ≡ unsaid_stand meaning
+
 -- what was not seen has no depth
 abbrev pub ArePlain : List Meaning → Depths → Type 0
 ArePlain seen depths = (meaning : Meaning) → is_seen seen meaning ≡ false → depths meaning [] ≡ record { depth = 0; replaced = 0 }
@@ -65,11 +69,13 @@ module _ (flat : FlatModule) where
   TakesParameters (Brought j inner) = (parameters_of (slice_get flat.instances j) ≡ 0) × TakesParameters inner
   TakesParameters stand = Unit {0}
 
-  -- all that is known round a tree: where names lead and what they stand for, what they take, which were seen, and how deep they are
+  -- all that is known round a tree: where names lead and what they stand for, what they take, which were seen, of which nothing is said, and how deep
+  -- they are
   pub record IsKnownRound (known : Known) (seen : List Meaning) (layout : Layout) (setting : Setting) (beneath : Beneath) : Type 0 where
     pub leads : IsSettingOf layout setting
     pub orders : KeepsOrders known layout
     pub usable : IsSeen seen layout
+    pub unsaid : AreUnsaid seen layout
     pub agrees : AgreesInDepth flat layout beneath
     pub plain : ArePlain seen beneath.depths
     pub parameters : (meaning : Meaning) → TakesParameters (layout.stands meaning)
