@@ -26,7 +26,7 @@ use Rattle.flat_trees.specs.Stands.{Stand}
 use Rattle.flat_depths.proofs.Joining.{greatest-joins}
 use Rattle.flat_depths.proofs.Nodes.{infix-none, postfix-none, prefix-none, top}
 use Rattle.flattened_trees.specs.Leads.{FlatFace, Setting}
-use Rattle.flattened_trees.specs.NodeForms.{constant_node, in_order, inside_node, last_first, let_node, plain_node, ruled_node}
+use Rattle.flattened_trees.specs.NodeForms.{constant_node, rule_order, inside_node, last_first, let_node, plain_node, ruled_node}
 use Rattle.flattened_trees.specs.Questions.{Question, asks_at, over}
 use Rattle.flattened_trees.specs.Flattened.{AreOperands, AreUpdates, HasNode, IsFlattened, all_parts}
 use Rattle.flattened_trees.specs.Readable.{AreReadable, AreUpdatesWritten, IsReadable}
@@ -47,7 +47,7 @@ use Rattle.flattened_depths.proofs.Rounds.{Round, Usable, more-round, more-usabl
 swapped : (a b : ℕ) → max a (max b 0) ≡ max b (max a 0)
 swapped a b = omega arith
 
-ordered-same : (f : ℕ → ℕ) (form : Form.the_data) (is : List ℕ) → greatest f (in_order form is) ≡ greatest f is
+ordered-same : (f : ℕ → ℕ) (form : Form.the_data) (is : List ℕ) → greatest f (rule_order form is) ≡ greatest f is
 ordered-same f (Form.Fairness l) [] = refl
 ordered-same f (Form.Fairness l) (i ∷ []) = refl
 ordered-same f (Form.Fairness l) (i ∷ j ∷ []) = swapped (f j) (f i)
@@ -116,15 +116,15 @@ module _ (flat : FlatModule) (text : Text) (known : Known) (named : List ℕ →
     -- a form with a rule
     ruled : (form : Form.the_data) (s : Span) (parts : Trees) (i : ℕ) (asked a : List Question) (is : List ℕ) → Everywhere flat text known named means implied faces inside parts → New text seen (within (Node form s parts)) → (defines form ≡ Nothing) × AreArranged (LeadsBehind flat text known named faces inside) false parts
         → (is_some (form_rule form) ≡ true) × AreReadable text known named means implied faces (reserved text context form parts) (scope text context form parts) parts
-        → AreOperands text means implied faces flat all_parts setting parts is a → HasNode flat i (ruled_node (form_rule form) (in_order form is)) → asked ≡ over setting.frame (asks_at i form s parts) ++ a
+        → AreOperands text means implied faces flat all_parts setting parts is a → HasNode flat i (ruled_node (form_rule form) (rule_order form is)) → asked ≡ over setting.frame (asks_at i form s parts) ++ a
         → depth text known named (beneath context depths) (Node form s parts) ≡ max 0 (parts_depth text known named (beneath (reserved text context form parts) depths) (beneath (scope text context form parts) depths) parts)
         → places_at text known named context (Node form s parts) ≡ None
         → deep_names text known named (beneath context depths) (Node form s parts) ≡ written.deep_name text known named (beneath context depths) (Node form s parts) ++ deep_parts text known named (beneath (reserved text context form parts) depths) (beneath (scope text context form parts) depths) parts
         → TreeMatches flat text known named means implied faces inside context depths (Node form s parts) i asked
     ruled form s parts i asked a is below new (none, arranged) (some, readable) operands there joined opens bare_not names_open =
         let bound = binds-bound form some none in
-        over-parts form s parts i asked a (ruled_node (form_rule form) (in_order form is)) is there (ruled-bare (form_rule form) (in_order form is))
-        (ruled-deep (form_rule form) (in_order form is) some ∙ ordered-same (depth_at flat) form is) none joined opens bare_not names_open
+        over-parts form s parts i asked a (ruled_node (form_rule form) (rule_order form is)) is there (ruled-bare (form_rule form) (rule_order form is))
+        (ruled-deep (form_rule form) (rule_order form is) some ∙ ordered-same (depth_at flat) form is) none joined opens bare_not names_open
         (scoped bound.0 form s parts is a below bound.1 new arranged readable operands)
 
     -- parts that are in the context of the form, which binds nothing

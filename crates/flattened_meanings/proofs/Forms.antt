@@ -23,7 +23,7 @@ use Rattle.flat_trees.specs.Layouts.{Agrees, Layout, layout_before, layout_in}
 use Rattle.flat_trees.proofs.Agreeing.{before-agrees, scope-agrees}
 use Rattle.flattened_trees.specs.Leads.{FlatFace, Setting}
 use Rattle.flattened_trees.specs.Questions.{Question}
-use Rattle.flattened_trees.specs.NodeForms.{in_order, inside_node, last_first, ruled_node}
+use Rattle.flattened_trees.specs.NodeForms.{rule_order, inside_node, last_first, ruled_node}
 use Rattle.flattened_trees.specs.Flattened.{AreOperands, all_parts}
 use Rattle.flattened_trees.specs.Readable.{AreInside, AreReadable, EndsWhole}
 use Rattle.flattened_meanings.proofs.Fresh.{Fresh, fresh-among, fresh-less, scope-within, seen-with, whole-names}
@@ -62,7 +62,7 @@ module _ (text : Text) (seen : Meaning → Bool) (form : Form.the_data) (s : Spa
   scope-fresh = fresh-among text seen (declared_in as_binding.Constant (Node form s parts)) (defined form parts ++ binders form parts) (whole-names text parts) fresh (λ m. scope-within text m form s parts)
 
 module _ (flat : FlatModule) (text : Text) (known : Known) (named : List ℕ → Outside) (means : ℕ → Option Meaning) (implied : ℕ → List Meaning) (faces : List ℕ → FlatFace) (nameable : List ℕ → Bool) where
-  ordered-given : (form : Form.the_data) (is : List ℕ) (s : List Item) → given flat text known named means implied faces nameable (in_order form is) s ≡ rule_operands form (given flat text known named means implied faces nameable is s)
+  ordered-given : (form : Form.the_data) (is : List ℕ) (s : List Item) → given flat text known named means implied faces nameable (rule_order form is) s ≡ rule_operands form (given flat text known named means implied faces nameable is s)
   ordered-given (Form.Fairness l) [] s = refl
   ordered-given (Form.Fairness l) (i ∷ []) s = refl
   ordered-given (Form.Fairness l) (i ∷ (j ∷ [])) s = refl
@@ -70,7 +70,7 @@ module _ (flat : FlatModule) (text : Text) (known : Known) (named : List ℕ →
   ordered-given form is s = refl
 
   module _ (layout : Layout) (setting : Setting) (seen : Meaning → Bool) (knows : Knows flat text known named faces nameable layout setting seen) where
-    pub ruled-built : (form : Form.the_data) (s : Span) (parts : Trees) (is : List ℕ) (asked : List Question) → Each flat text known named means implied faces nameable parts → AreOperands text means implied faces flat all_parts setting parts is asked → is_some (form_rule form) ≡ true → AreReadable text known named means implied faces (reserved text layout.context form parts) (scope text layout.context form parts) parts → Fresh text seen (declared_in as_binding.Constant (Node form s parts)) → (frame more : List Item) (around : Around) → Agrees flat layout frame around → IsOperation (form_rule form) (rule_operands form (operands text known named (before_scope text known named around form parts) (in_scope text known named around form parts) parts)) (ruled_node (form_rule form) (in_order form is)).form (items_at (text_at flat) (ruled_node (form_rule form) (in_order form is)).parts (frame ++ more))
+    pub ruled-built : (form : Form.the_data) (s : Span) (parts : Trees) (is : List ℕ) (asked : List Question) → Each flat text known named means implied faces nameable parts → AreOperands text means implied faces flat all_parts setting parts is asked → is_some (form_rule form) ≡ true → AreReadable text known named means implied faces (reserved text layout.context form parts) (scope text layout.context form parts) parts → Fresh text seen (declared_in as_binding.Constant (Node form s parts)) → (frame more : List Item) (around : Around) → Agrees flat layout frame around → IsOperation (form_rule form) (rule_operands form (operands text known named (before_scope text known named around form parts) (in_scope text known named around form parts) parts)) (ruled_node (form_rule form) (rule_order form is)).form (items_at (text_at flat) (ruled_node (form_rule form) (rule_order form is)).parts (frame ++ more))
     ruled-built form s parts is asked each made some can fresh frame more around agrees =
         let bound = bound-form form some in
         let names = names-fresh text seen form s parts fresh in
@@ -82,7 +82,7 @@ module _ (flat : FlatModule) (text : Text) (known : Known) (named : List ℕ →
         (before-agrees flat text known named layout frame around agrees form parts) (scope-agrees flat text known named layout frame around agrees form parts) in
         by_rule (form_rule form) some (ordered-given form is (frame ++ more) ∙ ap (rule_operands form) same)
       where
-        by_rule : (rule : Option Rule) → is_some rule ≡ true → given flat text known named means implied faces nameable (in_order form is) (frame ++ more) ≡ rule_operands form (operands text known named (before_scope text known named around form parts) (in_scope text known named around form parts) parts) → IsOperation rule (rule_operands form (operands text known named (before_scope text known named around form parts) (in_scope text known named around form parts) parts)) (ruled_node rule (in_order form is)).form (items_at (text_at flat) (ruled_node rule (in_order form is)).parts (frame ++ more))
+        by_rule : (rule : Option Rule) → is_some rule ≡ true → given flat text known named means implied faces nameable (rule_order form is) (frame ++ more) ≡ rule_operands form (operands text known named (before_scope text known named around form parts) (in_scope text known named around form parts) parts) → IsOperation rule (rule_operands form (operands text known named (before_scope text known named around form parts) (in_scope text known named around form parts) parts)) (ruled_node rule (rule_order form is)).form (items_at (text_at flat) (ruled_node rule (rule_order form is)).parts (frame ++ more))
         by_rule None e same = cc
         by_rule (Some rule) e same = (refl, same)
 

@@ -23,7 +23,7 @@ use Rattle.flat_trees.specs.Names.{order_by, places_by}
 use Rattle.flat_trees.specs.Layouts.{Agrees, Layout, order_of}
 use Rattle.flattened_trees.specs.Leads.{FlatFace, Setting}
 use Rattle.flattened_trees.specs.Questions.{Question}
-use Rattle.flattened_trees.specs.NodeForms.{bare_places, in_order, inside_node, let_node, ruled_node}
+use Rattle.flattened_trees.specs.NodeForms.{bare_places, rule_order, inside_node, let_node, ruled_node}
 use Rattle.flattened_trees.specs.Flattened.{IsFlattened}
 use Rattle.flattened_trees.specs.Readable.{IsReadable}
 use Rattle.flattened_meanings.proofs.Leading.{places-order}
@@ -103,4 +103,4 @@ module _ (flat : FlatModule) (text : Text) (known : Known) (named : List ℕ →
   node-has-places (Form.At l) s parts i asked each (is, a, made, there, asks) can fresh = ap places_of there
   node-has-places Form.Parentheses s parts i asked each (is, a, made, there, asks) can fresh = ap places_of there ∙ inside-places is
   node-has-places (Form.BoundedQuantifier l) s parts i asked each (is, a, made, there, asks) can fresh = ap places_of there
-  node-has-places form s parts i asked each made can fresh = ap places_of made.3 ∙ ruled-places (form_rule form) (in_order form made.0)
+  node-has-places form s parts i asked each made can fresh = ap places_of made.3 ∙ ruled-places (form_rule form) (rule_order form made.0)

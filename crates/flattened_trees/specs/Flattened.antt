@@ -37,10 +37,11 @@ abbrev pub right_of : Named → Trees → List ℕ → List Right
 right_of name (Cons (Node form at parts) others) (i ∷ is) = record { name = name; node = i; at = at } ∷ []
 right_of name _ _ = []
 
--- which parts of a form are looked at: all; those that stand outside of its scope; those that don't
+-- all parts of a form are looked at
 abbrev pub all_parts : Form.the_data → Bool
 all_parts form = true
 
+-- those that do not stand outside of its scope
 abbrev pub inside_parts : Form.the_data → Bool
 inside_parts form = not (stands_outside form)
 
