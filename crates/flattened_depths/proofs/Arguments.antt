@@ -25,7 +25,7 @@ use Rattle.flattened_trees.specs.Flattened.{AreOperands, AreUpdates, IsFlattened
 use Rattle.flattened_trees.specs.Readable.{AreReadable, AreUpdatesWritten, EndsWhole, IsReadable}
 use Rattle.flattened_depths.specs.Arranged.{AreArranged, BindsNothing, IsArranged}
 use Rattle.flattened_depths.specs.Rounds.{LeadsBehind}
-use Rattle.flattened_depths.specs.Asking.{deep_asked}
+use Rattle.flattened_trees.specs.Answers.{deep_answers}
 use Rattle.flattened_depths.proofs.Counting.{New, inner_names, whole-plain}
 use Rattle.flattened_depths.proofs.Facts.{Everywhere, PartsMatch, TreeGood, asked-joins, beneath}
 use Rattle.flattened_depths.proofs.Naming.{ArgumentsGood, SegmentsGood}
@@ -103,18 +103,18 @@ module _ (flat : FlatModule) (text : Text) (known : Known) (named : List ℕ →
         let part = inside-matches flat text known named means implied faces inside context context depths form s parts (one.0 ∷ []) a (no-set form (whole-plain form whole)) (max-zero (depth_at flat one.0) ∙ match.deep) match.names in (
           subst (λ xs. parts_of.AreArguments flat text known named (beneath context depths) (Cons (Node form s parts) rest) xs) (sym together) (whole-plain form whole, match.deep, match.places, all.0),
           ap length together ∙ ap suc all.1,
-          (names-join (has_set form) (no-set form (whole-plain form whole)) match.names all.2 (ap (deep_asked flat) joined ∙ asked-joins flat a b)),
+          (names-join (has_set form) (no-set form (whole-plain form whole)) match.names all.2 (ap (deep_answers flat) joined ∙ asked-joins flat a b)),
         )
       where
-        names-join : (t : Bool) → t ≡ false → deep_asked flat a ≡ deep_names text known named (beneath context depths) (Node form s parts) → deep_asked flat b ≡ deep_parts text known named (beneath context depths) (beneath context depths) rest → deep_asked flat asked ≡ deep_asked flat a ++ deep_asked flat b → deep_asked flat asked ≡ elim t as (λ _. List Lexeme) [ true ↦ deep_parts text known named (beneath context depths) (beneath context depths) parts ++ deep_parts text known named (beneath context depths) (beneath context depths) rest | false ↦ deep_names text known named (beneath context depths) (Node form s parts) ++ deep_parts text known named (beneath context depths) (beneath context depths) rest ]
+        names-join : (t : Bool) → t ≡ false → deep_answers flat a ≡ deep_names text known named (beneath context depths) (Node form s parts) → deep_answers flat b ≡ deep_parts text known named (beneath context depths) (beneath context depths) rest → deep_answers flat asked ≡ deep_answers flat a ++ deep_answers flat b → deep_answers flat asked ≡ elim t as (λ _. List Lexeme) [ true ↦ deep_parts text known named (beneath context depths) (beneath context depths) parts ++ deep_parts text known named (beneath context depths) (beneath context depths) rest | false ↦ deep_names text known named (beneath context depths) (Node form s parts) ++ deep_parts text known named (beneath context depths) (beneath context depths) rest ]
         names-join true e one two three = cc
-        names-join false e one two three = three ∙ ap (λ xs. xs ++ deep_asked flat b) one ∙ ap (λ xs. deep_names text known named (beneath context depths) (Node form s parts) ++ xs) two
+        names-join false e one two three = three ∙ ap (λ xs. xs ++ deep_answers flat b) one ∙ ap (λ xs. deep_names text known named (beneath context depths) (Node form s parts) ++ xs) two
 
     arguments-nil : ArgumentsGood flat text known named means implied faces inside context depths setting Nil
     arguments-nil [] is asked readable (none, empty) = (
       subst (λ xs. parts_of.AreArguments flat text known named (beneath context depths) Nil xs) (sym none) tt,
       ap length none,
-      ap (deep_asked flat) empty,
+      ap (deep_answers flat) empty,
     )
     arguments-nil (order ∷ orders) is asked readable flattened = absurd readable
 

@@ -24,7 +24,7 @@ use Rattle.flattened_trees.specs.Questions.{Question}
 use Rattle.flattened_trees.specs.Flattened.{IsChain, IsDefined, IsFlattened}
 use Rattle.flattened_trees.specs.Readable.{IsReadable, IsReadableChain, IsReadableDefinition}
 use Rattle.flattened_depths.specs.Arranged.{IsArranged, IsArrangedChain, IsArrangedDefinition}
-use Rattle.flattened_depths.specs.Asking.{deep_asked}
+use Rattle.flattened_trees.specs.Answers.{deep_answers}
 use Rattle.flattened_depths.specs.Rounds.{LeadsBehind}
 use Rattle.flattened_depths.proofs.Counting.{New, and_seen, new-behind, new-fewer, times, times-joins, within-counts}
 use Rattle.flattened_depths.proofs.Definitions.{DefinedGood, function-good, operator-good}
@@ -54,7 +54,7 @@ module _ (flat : FlatModule) (text : Text) (known : Known) (named : List ℕ →
     pub node : ℕ
     pub there : body ≡ Some node
     pub deep : max (depth_at flat node) (greatest (depth_at flat) roots) ≡ chain_depth text known named (beneath context depths) parts
-    pub names : deep_asked flat asked ≡ deep_chain text known named (beneath context depths) parts
+    pub names : deep_answers flat asked ≡ deep_chain text known named (beneath context depths) parts
 
   -- wherever it can be read, a LET is as deep as it is written
   abbrev pub ChainGood : Trees → Type 0
@@ -103,7 +103,7 @@ module _ (flat : FlatModule) (text : Text) (known : Known) (named : List ℕ →
                 ∙ turn (depth_at flat match.node) (greatest (depth_at flat) first) (greatest (depth_at flat) others)
                 ∙ ap (λ n. max n (max (depth_at flat match.node) (greatest (depth_at flat) others))) good.deep
                 ∙ ap (max (depth text known named (beneath context depths) (Node form s parts))) match.deep;
-            names = ap (deep_asked flat) joined ∙ asked-joins flat a b ∙ ap (λ xs. xs ++ deep_asked flat b) good.names
+            names = ap (deep_answers flat) joined ∙ asked-joins flat a b ∙ ap (λ xs. xs ++ deep_answers flat b) good.names
                 ∙ ap (λ xs. deep_names text known named (beneath context depths) (Node form s parts) ++ xs) match.names;
           }
 
@@ -116,8 +116,8 @@ module _ (flat : FlatModule) (text : Text) (known : Known) (named : List ℕ →
             there = there;
             deep = ap (λ xs. max (depth_at flat i) (greatest (depth_at flat) xs)) empty.1 ∙ ap (λ n. max n 0) match.deep
                 ∙ ap (λ xs. max (depth text known named (beneath context depths) (Node form s parts)) (chain_depth text known named (behind_depth text known named (beneath context depths) (Node form s parts) (defined_depth text known named (beneath context depths) (Node form s parts))) xs)) (sym none);
-            names = ap (deep_asked flat) joined ∙ asked-joins flat a b ∙ ap (λ xs. xs ++ deep_asked flat b) match.names
-                ∙ ap (λ xs. deep_names text known named (beneath context depths) (Node form s parts) ++ deep_asked flat xs) empty.2
+            names = ap (deep_answers flat) joined ∙ asked-joins flat a b ∙ ap (λ xs. xs ++ deep_answers flat b) match.names
+                ∙ ap (λ xs. deep_names text known named (beneath context depths) (Node form s parts) ++ deep_answers flat xs) empty.2
                 ∙ ap (λ xs. deep_names text known named (beneath context depths) (Node form s parts) ++ deep_chain text known named (behind_depth text known named (beneath context depths) (Node form s parts) (defined_depth text known named (beneath context depths) (Node form s parts))) xs) (sym none);
           }
 

@@ -34,7 +34,7 @@ use Rattle.flattened_trees.specs.Flattened.{AreOperands, HasNode, IsFlattened, I
 use Rattle.flattened_trees.specs.Readable.{AreReadable}
 use Rattle.flattened_trees.specs.Agreeing.{TakesAs, lead_by}
 use Rattle.flattened_depths.specs.Arranged.{AreArranged, HasBody}
-use Rattle.flattened_depths.specs.Asking.{deep_asked}
+use Rattle.flattened_trees.specs.Answers.{deep_answers}
 use Rattle.flattened_depths.specs.Rounds.{LeadsBehind, TakesParameters, definition_stand, stands_in}
 use Rattle.flattened_depths.proofs.Counting.{New, and_seen, inner_names, new-behind, new-fewer, within-counts}
 use Rattle.flattened_depths.proofs.Facts.{Everywhere, asked-joins, asks-none, beneath, helper-depth, names-open}
@@ -87,7 +87,7 @@ module _ (flat : FlatModule) (text : Text) (known : Known) (named : List ℕ →
     pub parameters : TakesParameters flat stand
     pub takes : (m : Meaning) → Among text m (defined form parts) → TakesAs stand (behind_meaning known (Some m)) m
     pub deep : greatest (depth_at flat) roots ≡ depth text known named (beneath context depths) (Node form s parts)
-    pub names : deep_asked flat asked ≡ deep_names text known named (beneath context depths) (Node form s parts)
+    pub names : deep_answers flat asked ≡ deep_names text known named (beneath context depths) (Node form s parts)
 
   -- the name of a definition, if it is too deep
   pub own-name : (context : Context) (depths : Depths) (form : Form.the_data) (s : Span) (parts : Trees) (l : Lexeme) (n : ℕ) → map (λ (b : Binder). b.name) (defined form parts) ≡ l ∷ [] → (defined_depth text known named (beneath context depths) (Node form s parts) []).depth ≡ n → cond (is_too_deep n) (l ∷ []) [] ≡ written.deep_name text known named (beneath context depths) (Node form s parts)
@@ -136,8 +136,8 @@ module _ (flat : FlatModule) (text : Text) (known : Known) (named : List ℕ →
           parameters = tt;
           takes = λ m among. operator-takes m (subst (λ ds. Among text m (defined_as ds parts)) e among);
           deep = ap (greatest (depth_at flat)) one ∙ max-zero (depth_at flat root) ∙ deep;
-          names = ap (deep_asked flat) joined
-              ∙ ap (λ xs. xs ++ deep_asked flat a) (own-name context depths form s parts l (depth_of (depth_at flat) (slice_get flat.definitions d)) (ap (λ ds. map (λ (b : Binder). b.name) (defined_as ds parts)) e) (ap (λ r. r.depth) reached))
+          names = ap (deep_answers flat) joined
+              ∙ ap (λ xs. xs ++ deep_answers flat a) (own-name context depths form s parts l (depth_of (depth_at flat) (slice_get flat.definitions d)) (ap (λ ds. map (λ (b : Binder). b.name) (defined_as ds parts)) e) (ap (λ r. r.depth) reached))
               ∙ ap (λ xs. written.deep_name text known named (beneath context depths) (Node form s parts) ++ xs) match.names
               ∙ sym (names-open flat text known named means implied faces inside (beneath context depths) form s parts binds.0);
         }
@@ -174,10 +174,10 @@ module _ (flat : FlatModule) (text : Text) (known : Known) (named : List ℕ →
           parameters = tt;
           takes = function-takes;
           deep = ap (greatest (depth_at flat)) one ∙ max-zero (depth_at flat root) ∙ deep;
-          names = ap (deep_asked flat) joined
-              ∙ ap (λ xs. xs ++ deep_asked flat (over setting.frame (asks_at root (Form.FunctionDefinition l) s parts) ++ a)) (own-name context depths (Form.FunctionDefinition l) s parts l (depth_of (depth_at flat) (slice_get flat.definitions d)) refl (ap (λ r. r.depth) reached))
+          names = ap (deep_answers flat) joined
+              ∙ ap (λ xs. xs ++ deep_answers flat (over setting.frame (asks_at root (Form.FunctionDefinition l) s parts) ++ a)) (own-name context depths (Form.FunctionDefinition l) s parts l (depth_of (depth_at flat) (slice_get flat.definitions d)) refl (ap (λ r. r.depth) reached))
               ∙ ap (λ xs. written.deep_name text known named (beneath context depths) (Node (Form.FunctionDefinition l) s parts) ++ xs)
-              (asked-joins flat (over setting.frame (asks_at root (Form.FunctionDefinition l) s parts)) a ∙ ap (λ xs. xs ++ deep_asked flat a) (asks-none flat setting.frame root (Form.FunctionDefinition l) s parts) ∙ match.names);
+              (asked-joins flat (over setting.frame (asks_at root (Form.FunctionDefinition l) s parts)) a ∙ ap (λ xs. xs ++ deep_answers flat a) (asks-none flat setting.frame root (Form.FunctionDefinition l) s parts) ∙ match.names);
         }
       where
         function-takes : (m : Meaning) → Among text m (defined (Form.FunctionDefinition l) parts) → TakesAs (Defined d []) (behind_meaning known (Some m)) m

@@ -28,7 +28,7 @@ use Rattle.flattened_trees.specs.Flattened.{IsFlattened}
 use Rattle.flattened_trees.specs.Readable.{IsReadable}
 use Rattle.flattened_depths.specs.Arranged.{BindsNothing, IsArranged}
 use Rattle.flattened_depths.specs.Rounds.{LeadsBehind}
-use Rattle.flattened_depths.specs.Asking.{deep_asked, deep_name}
+use Rattle.flattened_trees.specs.Answers.{deep_answers, deep_answer}
 use Rattle.flattened_depths.proofs.Counting.{New}
 use Rattle.flattened_depths.proofs.Rounds.{Round, Usable}
 
@@ -42,30 +42,30 @@ nothing-either false = refl
 
 -- ---- questions
 
-pub asked-joins : (flat : FlatModule) (a b : List Question) → deep_asked flat (a ++ b) ≡ deep_asked flat a ++ deep_asked flat b
+pub asked-joins : (flat : FlatModule) (a b : List Question) → deep_answers flat (a ++ b) ≡ deep_answers flat a ++ deep_answers flat b
 asked-joins flat [] b = refl
-asked-joins flat (q ∷ a) b = ap (λ xs. deep_name flat q.asked ++ xs) (asked-joins flat a b) ∙ sym (append_assoc (deep_name flat q.asked) (deep_asked flat a) (deep_asked flat b))
+asked-joins flat (q ∷ a) b = ap (λ xs. deep_answer flat q.asked ++ xs) (asked-joins flat a b) ∙ sym (append_assoc (deep_answer flat q.asked) (deep_answers flat a) (deep_answers flat b))
 
-over-joins : (flat : FlatModule) (frame : List Meaning) (a b : List Asked) → deep_asked flat (over frame (a ++ b)) ≡ deep_asked flat (over frame a) ++ deep_asked flat (over frame b)
+over-joins : (flat : FlatModule) (frame : List Meaning) (a b : List Asked) → deep_answers flat (over frame (a ++ b)) ≡ deep_answers flat (over frame a) ++ deep_answers flat (over frame b)
 over-joins flat frame [] b = refl
-over-joins flat frame (q ∷ a) b = ap (λ xs. deep_name flat q ++ xs) (over-joins flat frame a b) ∙ sym (append_assoc (deep_name flat q) (deep_asked flat (over frame a)) (deep_asked flat (over frame b)))
+over-joins flat frame (q ∷ a) b = ap (λ xs. deep_answer flat q ++ xs) (over-joins flat frame a b) ∙ sym (append_assoc (deep_answer flat q) (deep_answers flat (over frame a)) (deep_answers flat (over frame b)))
 
 module _ (flat : FlatModule) (frame : List Meaning) (i : ℕ) where
-  path-none : (segments : Trees) → deep_asked flat (over frame (path_asks i segments)) ≡ []
+  path-none : (segments : Trees) → deep_answers flat (over frame (path_asks i segments)) ≡ []
   path-none Nil = refl
   path-none (Cons (Node (Form.Segment l) s arguments) Nil) = refl
   path-none (Cons (Node (Form.Segment l) s arguments) (Cons x rest)) = path-none (Cons x rest)
   path-none (Cons (Node form s arguments) rest) = path-none rest
 
-  symbol-none : (l : Lexeme) (which : Op.the_data → Op.the_data) (kind : LexKind.the_data) → deep_asked flat (over frame (symbol_asks i l which kind)) ≡ []
+  symbol-none : (l : Lexeme) (which : Op.the_data → Op.the_data) (kind : LexKind.the_data) → deep_answers flat (over frame (symbol_asks i l which kind)) ≡ []
   symbol-none l which (LexKind.Sym op) = by_free (is_free (which op))
     where
-      by_free : (b : Bool) → deep_asked flat (over frame (cond b (UseOf l i ∷ []) [])) ≡ []
+      by_free : (b : Bool) → deep_answers flat (over frame (cond b (UseOf l i ∷ []) [])) ≡ []
       by_free true = refl
       by_free false = refl
   symbol-none l which kind = refl
 
-  form-none : (form : Form.the_data) (parts : Trees) → deep_asked flat (over frame (form_asks i form parts)) ≡ []
+  form-none : (form : Form.the_data) (parts : Trees) → deep_answers flat (over frame (form_asks i form parts)) ≡ []
   form-none Form.Identifier parts = path-none parts
   form-none (Form.Symbol l) parts = symbol-none l as_spelled l.kind
   form-none (Form.Prefix l) parts = symbol-none l prefixed l.kind
@@ -74,13 +74,13 @@ module _ (flat : FlatModule) (frame : List Meaning) (i : ℕ) where
   form-none form parts = refl
 
   -- what is asked of a node itself is of no definition
-  pub asks-none : (form : Form.the_data) (s : Span) (parts : Trees) → deep_asked flat (over frame (asks_at i form s parts)) ≡ []
+  pub asks-none : (form : Form.the_data) (s : Span) (parts : Trees) → deep_answers flat (over frame (asks_at i form s parts)) ≡ []
   asks-none form s parts =
       over-joins flat frame (form_asks i form parts) (kind_asks i form s)
-      ∙ ap (λ xs. xs ++ deep_asked flat (over frame (kind_asks i form s))) (form-none form parts)
+      ∙ ap (λ xs. xs ++ deep_answers flat (over frame (kind_asks i form s))) (form-none form parts)
       ∙ by_judged (is_judged form)
     where
-      by_judged : (b : Bool) → deep_asked flat (over frame (cond b (HasKind s i ∷ []) [])) ≡ []
+      by_judged : (b : Bool) → deep_answers flat (over frame (cond b (HasKind s i ∷ []) [])) ≡ []
       by_judged true = refl
       by_judged false = refl
 
@@ -91,12 +91,12 @@ module _ (flat : FlatModule) (text : Text) (known : Known) (named : List ℕ →
   pub record TreeMatches (context : Context) (depths : Depths) (x : Tree) (i : ℕ) (asked : List Question) : Type 0 where
     pub deep : depth_at flat i ≡ depth text known named (beneath context depths) x
     pub places : places_of (slice_get flat.nodes i) ≡ places_at text known named context x
-    pub names : deep_asked flat asked ≡ deep_names text known named (beneath context depths) x
+    pub names : deep_answers flat asked ≡ deep_names text known named (beneath context depths) x
 
   -- nodes are the expressions that parts are made of, of which this is asked
   pub record PartsMatch (outside context : Context) (depths : Depths) (parts : Trees) (is : List ℕ) (asked : List Question) : Type 0 where
     pub deep : greatest (depth_at flat) is ≡ parts_depth text known named (beneath outside depths) (beneath context depths) parts
-    pub names : deep_asked flat asked ≡ deep_parts text known named (beneath outside depths) (beneath context depths) parts
+    pub names : deep_answers flat asked ≡ deep_parts text known named (beneath outside depths) (beneath context depths) parts
 
   -- wherever it can be read, a node is a tree where it is flattened
   abbrev pub TreeGood : Tree → Type 0
@@ -153,7 +153,7 @@ module _ (flat : FlatModule) (text : Text) (known : Known) (named : List ℕ →
   helper-names around form s parts e none = names-open around form s parts e ∙ ap (λ xs. xs ++ deep_parts text known named (written.before_scope text known named around form parts) (written.in_scope text known named around form parts) parts) (plain-names around form s parts none)
 
   -- a helper form that binds nothing is as deep as its parts
-  pub helper-matches : (context : Context) (depths : Depths) (form : Form.the_data) (s : Span) (parts : Trees) (is : List ℕ) (asked : List Question) → helps form ≡ true → BindsNothing form parts → PartsMatch context context depths parts is asked → (greatest (depth_at flat) is ≡ depth text known named (beneath context depths) (Node form s parts)) × (deep_asked flat asked ≡ deep_names text known named (beneath context depths) (Node form s parts))
+  pub helper-matches : (context : Context) (depths : Depths) (form : Form.the_data) (s : Span) (parts : Trees) (is : List ℕ) (asked : List Question) → helps form ≡ true → BindsNothing form parts → PartsMatch context context depths parts is asked → (greatest (depth_at flat) is ≡ depth text known named (beneath context depths) (Node form s parts)) × (deep_answers flat asked ≡ deep_names text known named (beneath context depths) (Node form s parts))
   helper-matches context depths form s parts is asked e none match = (
     match.deep ∙ sym (unbound-depth context depths form parts none) ∙ sym (helper-depth (beneath context depths) form s parts e),
     match.names ∙ sym (unbound-names context depths form parts none) ∙ sym (helper-names (beneath context depths) form s parts e none.0),

@@ -41,7 +41,7 @@ use Rattle.flattened_trees.specs.Flattened.{AreOperands, AreReplacing, AreRights
 use Rattle.flattened_trees.specs.Readable.{AreImplied, AreReadableRights, CanStandFor, IsReadable, IsReadableThrough, parameter_order}
 use Rattle.flattened_trees.specs.Agreeing.{TakesAs, lead_by}
 use Rattle.flattened_depths.specs.Arranged.{AreArranged, BindsNothing, IsArrangedInstance}
-use Rattle.flattened_depths.specs.Asking.{deep_asked}
+use Rattle.flattened_trees.specs.Answers.{deep_answers}
 use Rattle.flattened_depths.specs.Rounds.{LeadsAs, LeadsBehind, stands_in}
 use Rattle.flattened_depths.proofs.Arguments.{arranged-whole, flattened-whole, helper-new, whole-new}
 use Rattle.flattened_depths.proofs.Counting.{New, and_seen, inner_names, new-fewer, times, times-joins, whole-plain}
@@ -150,8 +150,8 @@ module _ (flat : FlatModule) (text : Text) (known : Known) (named : List ℕ →
     rights-good l parameters (Cons x rest) below before sides roots asked new arranged readable flattened = absurd readable
 
     -- each replacement is as deep as what replaces its symbol
-    pub replacing-good : (l : Lexeme) (rights : Trees) (sides : List Right) (roots : List ℕ) (before : List Named) (all : Exports) (asked_sides : List Question) → RightsGood all before rights sides roots asked_sides → (constant : Bool) (parameters : Exports) (symbols : List Meaning) (made : List Replacement) (b : List Question) → AreReplacing flat setting.leads setting.frame constant sides l parameters symbols made b → AreImplied context (left_sides text.source rights) parameters symbols → AreEachAsDeep flat text known named (beneath context depths) rights parameters made × (deep_asked flat b ≡ [])
-    replacing-good l rights sides roots before all asked_sides good constant [] symbols made b (none, empty) implied_by = (subst (λ xs. AreEachAsDeep flat text known named (beneath context depths) rights [] xs) (sym none) tt, ap (deep_asked flat) empty)
+    pub replacing-good : (l : Lexeme) (rights : Trees) (sides : List Right) (roots : List ℕ) (before : List Named) (all : Exports) (asked_sides : List Question) → RightsGood all before rights sides roots asked_sides → (constant : Bool) (parameters : Exports) (symbols : List Meaning) (made : List Replacement) (b : List Question) → AreReplacing flat setting.leads setting.frame constant sides l parameters symbols made b → AreImplied context (left_sides text.source rights) parameters symbols → AreEachAsDeep flat text known named (beneath context depths) rights parameters made × (deep_answers flat b ≡ [])
+    replacing-good l rights sides roots before all asked_sides good constant [] symbols made b (none, empty) implied_by = (subst (λ xs. AreEachAsDeep flat text known named (beneath context depths) rights [] xs) (sym none) tt, ap (deep_answers flat) empty)
     replacing-good l rights sides roots before all asked_sides good constant (parameter ∷ parameters) symbols [] b replacing implied_by = absurd replacing
     replacing-good l rights sides roots before all asked_sides good constant (parameter ∷ parameters) symbols (r ∷ made) b (rest, most, each) implied_by =
         by_right (right_for sides parameter.0) refl each (is_among (left_sides text.source rights) parameter.0) refl implied_by
@@ -169,11 +169,11 @@ module _ (flat : FlatModule) (text : Text) (known : Known) (named : List ℕ →
               | false ↦ (meaning : Meaning) × (slice_get symbols 0 ≡ Some meaning) × (meaning_of context parameter.0 ≡ Some meaning)
                   × CanStandFor parameter.1 meaning × AreImplied context (left_sides text.source rights) parameters (drop 1 symbols)
             ])
-            → ((others : List Meaning) → AreReplacing flat setting.leads setting.frame constant sides l parameters others made rest → AreImplied context (left_sides text.source rights) parameters others → AreEachAsDeep flat text known named (beneath context depths) rights parameters made × (deep_asked flat rest ≡ []))
-            → AreEachAsDeep flat text known named (beneath context depths) rights (parameter ∷ parameters) (r ∷ made) × (deep_asked flat b ≡ [])
+            → ((others : List Meaning) → AreReplacing flat setting.leads setting.frame constant sides l parameters others made rest → AreImplied context (left_sides text.source rights) parameters others → AreEachAsDeep flat text known named (beneath context depths) rights parameters made × (deep_answers flat rest ≡ []))
+            → AreEachAsDeep flat text known named (beneath context depths) rights (parameter ∷ parameters) (r ∷ made) × (deep_answers flat b ≡ [])
         by_right (Some right) e (root, joined, more) true among implied_now next =
             let later = next symbols more implied_now in
-            ((ap (depth_at flat) root ∙ (good.written_for parameter.0 right e).0, later.0), ap (deep_asked flat) joined ∙ later.1)
+            ((ap (depth_at flat) root ∙ (good.written_for parameter.0 right e).0, later.0), ap (deep_answers flat) joined ∙ later.1)
         by_right (Some right) e each false among implied_now next = absurd (both-tests (is_among (left_sides text.source rights) parameter.0) (good.written_for parameter.0 right e).1 among)
         by_right None e each true among implied_now next = absurd (both-tests (is_among (left_sides text.source rights) parameter.0) among (good.left_out parameter.0 e).1)
         by_right None e (there, joined, more) false among (meaning, symbol, known_as, stands_for, implied_rest) next =
@@ -190,7 +190,7 @@ module _ (flat : FlatModule) (text : Text) (known : Known) (named : List ℕ →
                     ∙ sym (good.left_out parameter.0 e).0,
                 later.0,
               ),
-              ap (deep_asked flat) joined ∙ later.1,
+              ap (deep_answers flat) joined ∙ later.1,
             )
 
   -- ---- the INSTANCE of a module definition
@@ -331,10 +331,10 @@ module _ (flat : FlatModule) (text : Text) (known : Known) (named : List ℕ →
               parameters = (ap flat_depth.parameters_of there ∙ parameter-count found.grouped, found.leads_behind.parameters);
               takes = module-takes j found.l (inside (spelled text.source found.l)) found.leads_behind;
               deep = instance_part.0 ∙ sym (found.deep (reserved text context (Form.ModuleDefinition own) parts) context_now depths) ∙ sym (helper-depth flat text known named means implied faces inside (beneath context depths) (Form.ModuleDefinition own) s parts refl);
-              names = ap (deep_asked flat) joined
-                  ∙ ap (λ xs. xs ++ deep_asked flat (a ++ b)) (own-name flat text known named means implied faces inside ordered context depths (Form.ModuleDefinition own) s parts own (instance_depth (depth_at flat) (slice_get flat.instances j)) refl (ap (λ r. r.depth) reached.0))
+              names = ap (deep_answers flat) joined
+                  ∙ ap (λ xs. xs ++ deep_answers flat (a ++ b)) (own-name flat text known named means implied faces inside ordered context depths (Form.ModuleDefinition own) s parts own (instance_depth (depth_at flat) (slice_get flat.instances j)) refl (ap (λ r. r.depth) reached.0))
                   ∙ ap (λ xs. written.deep_name text known named (beneath context depths) (Node (Form.ModuleDefinition own) s parts) ++ xs)
-                  (asked-joins flat a b ∙ ap (λ xs. deep_asked flat a ++ xs) each.1 ∙ append-nil (deep_asked flat a) ∙ instance_part.1 ∙ sym (found.names (reserved text context (Form.ModuleDefinition own) parts) context_now depths));
+                  (asked-joins flat a b ∙ ap (λ xs. deep_answers flat a ++ xs) each.1 ∙ append-nil (deep_answers flat a) ∙ instance_part.1 ∙ sym (found.names (reserved text context (Form.ModuleDefinition own) parts) context_now depths));
             }
           where
             module-leads : (j : ℕ) (l : Lexeme) (inner : Named → Stand) → ((name : Named) (names : List Named) → (faces (spelled text.source l)).leads (name ∷ names) ≡ lead_by (inner name) names) → lead ≡ behind_instance j (face_of text means implied faces flat l) → (names : List Named) → lead names ≡ lead_by (Through j (orders parts) inner) names

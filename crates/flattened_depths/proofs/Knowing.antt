@@ -33,7 +33,7 @@ use Rattle.flattened_trees.specs.Flattened.{AreReplacing, AreRights, IsDefined, 
 use Rattle.flattened_trees.specs.Readable.{IsReadable, IsReadableDefinition, IsReadableThrough}
 use Rattle.flattened_trees.specs.Agreeing.{AreNew, IsFresh, TakesAs, is_seen, lead_by, unsaid_stand}
 use Rattle.flattened_depths.specs.Arranged.{AreArranged, BindsNothing, IsArranged, IsArrangedDefinition}
-use Rattle.flattened_depths.specs.Asking.{deep_asked}
+use Rattle.flattened_trees.specs.Answers.{deep_answers}
 use Rattle.flattened_depths.specs.Rounds.{IsDefinedAs, IsKnownRound, LeadsBehind, PutsInAsDeep, TakesParameters, first_beneath, first_layout, first_setting, layout_at}
 use Rattle.flattened_depths.proofs.Chains.{definition-good}
 use Rattle.flattened_depths.proofs.Counting.{and_seen, inner_names, new-from, new-fewer, times-joins, within-counts}
@@ -219,7 +219,7 @@ module _ (flat : FlatModule) (text : Text) (known : Known) (named : List ℕ →
   pub tree-places : (x : Tree) (i : ℕ) (asked : List Question) → IsFresh text seen x → IsArranged (LeadsBehind flat text known named faces inside) x → IsReadable text known named means implied faces layout.context x → IsFlattened text means implied faces flat setting x i asked → places_of (slice_get flat.nodes i) ≡ places_at text known named layout.context x
   tree-places x i asked fresh arranged readable flattened = (tree-matches x i asked fresh arranged readable flattened).places
 
-  pub tree-asked : (x : Tree) (i : ℕ) (asked : List Question) → IsFresh text seen x → IsArranged (LeadsBehind flat text known named faces inside) x → IsReadable text known named means implied faces layout.context x → IsFlattened text means implied faces flat setting x i asked → deep_asked flat asked ≡ deep_names text known named around x
+  pub tree-asked : (x : Tree) (i : ℕ) (asked : List Question) → IsFresh text seen x → IsArranged (LeadsBehind flat text known named faces inside) x → IsReadable text known named means implied faces layout.context x → IsFlattened text means implied faces flat setting x i asked → deep_answers flat asked ≡ deep_names text known named around x
   tree-asked x i asked fresh arranged readable flattened =
       (tree-matches x i asked fresh arranged readable flattened).names ∙ ap (λ context. deep_names text known named (beneath_at context around.depths) x) (sym knows.agrees.context)
 
@@ -230,7 +230,7 @@ module _ (flat : FlatModule) (text : Text) (known : Known) (named : List ℕ →
       definition-good flat text known named means implied faces inside ordered seen layout.stands setting around.depths layout.context (round-of flat text known seen layout setting around knows) (usable-of flat text known seen layout setting around knows)
       form s parts lead roots asked (everywhere flat text known named means implied faces inside ordered parts) (new-from text (within (Node form s parts)) seen fresh) arranged readable flattened
 
-  pub definition-asked : (x : Tree) (lead : List Named → Lead) (roots : List ℕ) (asked : List Question) → IsFresh text seen x → IsArrangedDefinition (LeadsBehind flat text known named faces inside) x → IsReadableDefinition text known named means implied faces layout.context x → IsDefined text means implied faces flat setting x lead roots asked → deep_asked flat asked ≡ deep_names text known named around x
+  pub definition-asked : (x : Tree) (lead : List Named → Lead) (roots : List ℕ) (asked : List Question) → IsFresh text seen x → IsArrangedDefinition (LeadsBehind flat text known named faces inside) x → IsReadableDefinition text known named means implied faces layout.context x → IsDefined text means implied faces flat setting x lead roots asked → deep_answers flat asked ≡ deep_names text known named around x
   definition-asked (Node form s parts) lead roots asked fresh arranged readable flattened =
       (definition-matches form s parts lead roots asked fresh arranged readable flattened).names ∙ ap (λ context. deep_names text known named (beneath_at context around.depths) (Node form s parts)) (sym knows.agrees.context)
 
@@ -261,7 +261,7 @@ module _ (flat : FlatModule) (text : Text) (known : Known) (named : List ℕ →
         rights-good flat text known named means implied faces inside ordered seen layout.stands setting around.depths (round-of flat text known seen layout setting around knows) layout.context (usable-of flat text known seen layout setting around knows) l (module_of text known named l).view.parameters rights (everywhere flat text known named means implied faces inside ordered rights) [] sides roots a
         (new-fewer text (within (Node (Form.Instance l) s rights)) (inner_names text rights) seen (λ m. let e = within-counts text m (Form.Instance l) s rights in omega (arith, e)) (new-from text (within (Node (Form.Instance l) s rights)) seen fresh)) arranged readable.2 flattened
 
-    each-known : (sides : List Right) (roots : List ℕ) (a b : List Question) (made : List Replacement) → AreRights text means implied faces flat setting l rights sides roots a → AreReplacing flat setting.leads setting.frame (face_of text means implied faces flat l).is_constant sides l (face_of text means implied faces flat l).parameters (implied l.span.start) made b → AreEachAsDeep flat text known named (beneath_at layout.context around.depths) rights (module_of text known named l).view.parameters made × (deep_asked flat b ≡ [])
+    each-known : (sides : List Right) (roots : List ℕ) (a b : List Question) (made : List Replacement) → AreRights text means implied faces flat setting l rights sides roots a → AreReplacing flat setting.leads setting.frame (face_of text means implied faces flat l).is_constant sides l (face_of text means implied faces flat l).parameters (implied l.span.start) made b → AreEachAsDeep flat text known named (beneath_at layout.context around.depths) rights (module_of text known named l).view.parameters made × (deep_answers flat b ≡ [])
     each-known sides roots a b made flattened replacing =
         replacing-good flat text known named means implied faces inside ordered seen layout.stands setting around.depths (round-of flat text known seen layout setting around knows) layout.context (usable-of flat text known seen layout setting around knows) l rights sides roots [] (module_of text known named l).view.parameters a (rights-known sides roots a flattened) (face_of text means implied faces flat l).is_constant (module_of text known named l).view.parameters (implied l.span.start) made b
         (subst (λ parameters. AreReplacing flat setting.leads setting.frame (face_of text means implied faces flat l).is_constant sides l parameters (implied l.span.start) made b) readable.0.parameters replacing) readable.1
@@ -279,8 +279,8 @@ module _ (flat : FlatModule) (text : Text) (known : Known) (named : List ℕ →
               (each-together flat text known named (beneath_at layout.context around.depths) rights (module_of text known named l).view.parameters made (rights-known sides roots a flattened).placed (each-known sides roots a b made flattened replacing).0);
         }
 
-    pub instance-asked : (outer count : ℕ) (guards : Bool) (sides : List Right) (roots : List ℕ) (j : ℕ) (a b : List Question) → AreRights text means implied faces flat setting l rights sides roots a → IsInstance text means implied faces flat setting outer count guards l sides j b → deep_asked flat (a ++ b) ≡ deep_names text known named around (Node (Form.Instance l) s rights)
+    pub instance-asked : (outer count : ℕ) (guards : Bool) (sides : List Right) (roots : List ℕ) (j : ℕ) (a b : List Question) → AreRights text means implied faces flat setting l rights sides roots a → IsInstance text means implied faces flat setting outer count guards l sides j b → deep_answers flat (a ++ b) ≡ deep_names text known named around (Node (Form.Instance l) s rights)
     instance-asked outer count guards sides roots j a b flattened (staying, made, there, stay, replacing) =
-        asked-joins flat a b ∙ ap (λ xs. deep_asked flat a ++ xs) (each-known sides roots a b made flattened replacing).1 ∙ append-nil (deep_asked flat a)
+        asked-joins flat a b ∙ ap (λ xs. deep_answers flat a ++ xs) (each-known sides roots a b made flattened replacing).1 ∙ append-nil (deep_answers flat a)
         ∙ (helper-matches flat text known named means implied faces inside layout.context around.depths (Form.Instance l) s rights roots a refl none (rights-known sides roots a flattened).match).1
         ∙ ap (λ context. deep_names text known named (beneath_at context around.depths) (Node (Form.Instance l) s rights)) (sym knows.agrees.context)

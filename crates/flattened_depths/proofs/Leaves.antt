@@ -37,7 +37,7 @@ use Rattle.flattened_trees.specs.Flattened.{AreOperands, HasNode, IsFlattened, a
 use Rattle.flattened_trees.specs.Readable.{AreArguments, IsOperator, IsReadable, IsReadableBare, orders_of}
 use Rattle.flattened_trees.specs.Agreeing.{lead_by}
 use Rattle.flattened_depths.specs.Arranged.{BindsNothing}
-use Rattle.flattened_depths.specs.Asking.{deep_asked}
+use Rattle.flattened_trees.specs.Answers.{deep_answers}
 use Rattle.flattened_depths.proofs.Facts.{TreeMatches, asked-joins, asks-none, beneath, plain-names, unbound-depth, unbound-names}
 use Rattle.flattened_depths.proofs.Naming.{ArgumentsGood, SegmentsGood}
 use Rattle.flattened_depths.proofs.Rounds.{Round, Usable}
@@ -54,11 +54,11 @@ module _ (flat : FlatModule) (text : Text) (known : Known) (named : List ℕ →
 
   pub form-names : (context : Context) (depths : Depths) (setting : Setting) (i : ℕ) (form : Form.the_data) (s : Span) (parts : Trees) (asked a : List Question) → defines form ≡ Nothing → asked ≡ over setting.frame (asks_at i form s parts) ++ a
       → deep_names text known named (beneath context depths) (Node form s parts) ≡ written.deep_name text known named (beneath context depths) (Node form s parts) ++ deep_parts text known named (written.before_scope text known named (beneath context depths) form parts) (written.in_scope text known named (beneath context depths) form parts) parts
-      → deep_asked flat a ≡ deep_parts text known named (written.before_scope text known named (beneath context depths) form parts) (written.in_scope text known named (beneath context depths) form parts) parts
-      → deep_asked flat asked ≡ deep_names text known named (beneath context depths) (Node form s parts)
+      → deep_answers flat a ≡ deep_parts text known named (written.before_scope text known named (beneath context depths) form parts) (written.in_scope text known named (beneath context depths) form parts) parts
+      → deep_answers flat asked ≡ deep_names text known named (beneath context depths) (Node form s parts)
   form-names context depths setting i form s parts asked a none joined opens inner =
-      ap (deep_asked flat) joined ∙ asked-joins flat (over setting.frame (asks_at i form s parts)) a
-      ∙ ap (λ xs. xs ++ deep_asked flat a) (asks-none flat setting.frame i form s parts)
+      ap (deep_answers flat) joined ∙ asked-joins flat (over setting.frame (asks_at i form s parts)) a
+      ∙ ap (λ xs. xs ++ deep_answers flat a) (asks-none flat setting.frame i form s parts)
       ∙ inner
       ∙ ap (λ xs. xs ++ deep_parts text known named (written.before_scope text known named (beneath context depths) form parts) (written.in_scope text known named (beneath context depths) form parts) parts) (sym (plain-names flat text known named means implied faces inside (beneath context depths) form s parts none))
       ∙ sym opens
@@ -157,7 +157,7 @@ module _ (flat : FlatModule) (text : Text) (known : Known) (named : List ℕ →
         record {
           deep = depth-step flat i (bare_node text.source means setting l (bare_rule l.kind)) ordered there ∙ fits.deep;
           places = ap places_of there ∙ fits.placed;
-          names = form-names context depths setting i (Form.Symbol l) s Nil asked a refl joined refl (ap (deep_asked flat) operands.1);
+          names = form-names context depths setting i (Form.Symbol l) s Nil asked a refl joined refl (ap (deep_answers flat) operands.1);
         }
 
     -- a symbol on operands

@@ -29,7 +29,7 @@ use Rattle.flattened_trees.specs.Flattened.{AreOperands, all_parts}
 use Rattle.flattened_trees.specs.Readable.{AreArguments, IsInstanceOf, IsNoInstance, IsReadablePath, first_name, orders_of}
 use Rattle.flattened_trees.specs.Agreeing.{TakesBehind, lead_by}
 use Rattle.flattened_depths.specs.Arranged.{BindsNothing}
-use Rattle.flattened_depths.specs.Asking.{deep_asked}
+use Rattle.flattened_trees.specs.Answers.{deep_answers}
 use Rattle.flattened_depths.specs.Rounds.{TakesParameters}
 use Rattle.flattened_depths.proofs.Facts.{asked-joins, beneath, helper-names, unbound-names}
 
@@ -51,7 +51,7 @@ module _ (flat : FlatModule) (text : Text) (known : Known) (named : List ℕ →
       (orders is : List ℕ) (asked : List Question) → AreArguments text known named means implied faces context orders arguments
       → AreOperands text means implied faces flat all_parts setting arguments is asked
       → parts_of.AreArguments flat text known named (beneath context depths) arguments is × (length is ≡ length orders)
-      × (deep_asked flat asked ≡ deep_parts text known named (beneath context depths) (beneath context depths) arguments)
+      × (deep_answers flat asked ≡ deep_parts text known named (beneath context depths) (beneath context depths) arguments)
 
   -- the same of the arguments of all segments
   abbrev pub SegmentsGood : Trees → Type 0
@@ -70,9 +70,9 @@ module _ (flat : FlatModule) (text : Text) (known : Known) (named : List ℕ →
     pub split : is ≡ before ++ own
     pub on : AreOnPath flat text known named (beneath context depths) segments before own
     pub many : length before ≡ parameters_on flat (depth_at flat) path
-    pub names : deep_asked flat asked ≡ deep_parts text known named (beneath context depths) (beneath context depths) segments
+    pub names : deep_answers flat asked ≡ deep_parts text known named (beneath context depths) (beneath context depths) segments
 
-  segment-names : (l : Lexeme) (s : Span) (arguments : Trees) (asked : List Question) → BindsNothing (Form.Segment l) arguments → deep_asked flat asked ≡ deep_parts text known named (beneath context depths) (beneath context depths) arguments → deep_asked flat asked ≡ deep_names text known named (beneath context depths) (Node (Form.Segment l) s arguments)
+  segment-names : (l : Lexeme) (s : Span) (arguments : Trees) (asked : List Question) → BindsNothing (Form.Segment l) arguments → deep_answers flat asked ≡ deep_parts text known named (beneath context depths) (beneath context depths) arguments → deep_answers flat asked ≡ deep_names text known named (beneath context depths) (Node (Form.Segment l) s arguments)
   segment-names l s arguments asked none same =
       same ∙ sym (unbound-names flat text known named means implied faces inside context depths (Form.Segment l) arguments none) ∙ sym (helper-names flat text known named means implied faces inside (beneath context depths) (Form.Segment l) s arguments refl none.0)
 
@@ -91,12 +91,12 @@ module _ (flat : FlatModule) (text : Text) (known : Known) (named : List ℕ →
   instance-before held meaning l s (Cons y arguments) x rest readable = readable.0
 
   -- a definition, where the path ends
-  pub single-led : (l : Lexeme) (s : Span) (arguments : Trees) (orders is : List ℕ) (asked : List Question) → AreArguments text known named means implied faces context orders arguments → SegmentsGood (Cons (Node (Form.Segment l) s arguments) Nil) → AreOperands text means implied faces flat all_parts setting (Cons (Node (Form.Segment l) s arguments) Nil) is asked → AreOnPath flat text known named (beneath context depths) (Cons (Node (Form.Segment l) s arguments) Nil) [] is × (deep_asked flat asked ≡ deep_parts text known named (beneath context depths) (beneath context depths) (Cons (Node (Form.Segment l) s arguments) Nil))
+  pub single-led : (l : Lexeme) (s : Span) (arguments : Trees) (orders is : List ℕ) (asked : List Question) → AreArguments text known named means implied faces context orders arguments → SegmentsGood (Cons (Node (Form.Segment l) s arguments) Nil) → AreOperands text means implied faces flat all_parts setting (Cons (Node (Form.Segment l) s arguments) Nil) is asked → AreOnPath flat text known named (beneath context depths) (Cons (Node (Form.Segment l) s arguments) Nil) [] is × (deep_answers flat asked ≡ deep_parts text known named (beneath context depths) (beneath context depths) (Cons (Node (Form.Segment l) s arguments) Nil))
   single-led l s arguments orders is asked readable (good, none, more) (first, others, a, b, split, joined, one, rest) =
       let all = good orders first a readable one in
       let same : is ≡ first = split ∙ ap (λ xs. first ++ xs) rest.0 ∙ append-nil first in (
         (refl, subst (λ xs. parts_of.AreArguments flat text known named (beneath context depths) arguments xs) (sym same) all.0),
-        ap (deep_asked flat) joined ∙ asked-joins flat a b ∙ ap (λ xs. deep_asked flat a ++ xs) (ap (deep_asked flat) rest.1)
+        ap (deep_answers flat) joined ∙ asked-joins flat a b ∙ ap (λ xs. deep_answers flat a ++ xs) (ap (deep_answers flat) rest.1)
             ∙ ap (λ xs. xs ++ []) (segment-names l s arguments a none all.2),
       )
 
@@ -123,8 +123,8 @@ module _ (flat : FlatModule) (text : Text) (known : Known) (named : List ℕ →
         split = split ∙ ap (λ xs. first ++ xs) led.split ∙ sym (append_assoc first led.before led.own);
         on = (first, led.before, refl, all.0, led.on);
         many = length-append first led.before ∙ ap (λ k. k + length led.before) (all.1 ∙ ap length (instance-orders meaning orders is_instance) ∙ sym count) ∙ ap (λ k. parameters_of (slice_get flat.instances j) + k) led.many;
-        names = ap (deep_asked flat) joined ∙ asked-joins flat a b
-            ∙ ap (λ xs. xs ++ deep_asked flat b) (segment-names l s arguments a none all.2)
+        names = ap (deep_answers flat) joined ∙ asked-joins flat a b
+            ∙ ap (λ xs. xs ++ deep_answers flat b) (segment-names l s arguments a none all.2)
             ∙ ap (λ xs. deep_names text known named (beneath context depths) (Node (Form.Segment l) s arguments) ++ xs) led.names;
       }
 

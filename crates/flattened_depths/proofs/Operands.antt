@@ -25,7 +25,7 @@ use Rattle.flattened_trees.specs.Flattened.{AreOperands, IsFlattened, all_parts}
 use Rattle.flattened_trees.specs.Readable.{AreReadable, IsReadable}
 use Rattle.flattened_depths.specs.Arranged.{AreArranged, BindsNothing, IsArranged}
 use Rattle.flattened_depths.specs.Rounds.{LeadsBehind}
-use Rattle.flattened_depths.specs.Asking.{deep_asked}
+use Rattle.flattened_trees.specs.Answers.{deep_answers}
 use Rattle.flattened_depths.proofs.Counting.{New, inner_names, new-fewer, times, times-joins, whole-plain}
 use Rattle.flattened_depths.proofs.Facts.{Everywhere, PartsMatch, TreeGood, asked-joins, beneath, helper-matches}
 use Rattle.flattened_depths.proofs.Rounds.{Round, Usable}
@@ -76,7 +76,7 @@ module _ (flat : FlatModule) (text : Text) (known : Known) (named : List ℕ →
   abbrev pub PartMatches : Context → Context → Depths → Form.the_data → Span → Trees → List ℕ → List Question → Type 0
   PartMatches outside context depths form s parts is asked =
       (greatest (depth_at flat) is ≡ elim (has_set form) as (λ _. ℕ) [ true ↦ parts_depth text known named (beneath outside depths) (beneath outside depths) parts | false ↦ depth text known named (beneath context depths) (Node form s parts) ])
-      × (deep_asked flat asked ≡ elim (has_set form) as (λ _. List Lexeme) [ true ↦ deep_parts text known named (beneath outside depths) (beneath outside depths) parts | false ↦ deep_names text known named (beneath context depths) (Node form s parts) ])
+      × (deep_answers flat asked ≡ elim (has_set form) as (λ _. List Lexeme) [ true ↦ deep_parts text known named (beneath outside depths) (beneath outside depths) parts | false ↦ deep_names text known named (beneath context depths) (Node form s parts) ])
 
   pub parts-join : (outside context : Context) (depths : Depths) (form : Form.the_data) (s : Span) (parts rest : Trees) (is first others : List ℕ) (asked a b : List Question) → is ≡ first ++ others → asked ≡ a ++ b → PartMatches outside context depths form s parts first a → PartsMatch flat text known named means implied faces inside outside context depths rest others b → PartsMatch flat text known named means implied faces inside outside context depths (Cons (Node form s parts) rest) is asked
   parts-join outside context depths form s parts rest is first others asked a b split joined one later =
@@ -84,8 +84,8 @@ module _ (flat : FlatModule) (text : Text) (known : Known) (named : List ℕ →
         deep = ap (greatest (depth_at flat)) split ∙ greatest-joins (depth_at flat) first others
             ∙ ap (λ n. max n (greatest (depth_at flat) others)) one.0
             ∙ ap (max (elim (has_set form) as (λ _. ℕ) [ true ↦ parts_depth text known named (beneath outside depths) (beneath outside depths) parts | false ↦ depth text known named (beneath context depths) (Node form s parts) ])) later.deep;
-        names = ap (deep_asked flat) joined ∙ asked-joins flat a b
-            ∙ ap (λ xs. xs ++ deep_asked flat b) one.1
+        names = ap (deep_answers flat) joined ∙ asked-joins flat a b
+            ∙ ap (λ xs. xs ++ deep_answers flat b) one.1
             ∙ ap (λ xs. (elim (has_set form) as (λ _. List Lexeme) [ true ↦ deep_parts text known named (beneath outside depths) (beneath outside depths) parts | false ↦ deep_names text known named (beneath context depths) (Node form s parts) ]) ++ xs) later.names
             ∙ by_set (has_set form);
       }
@@ -95,7 +95,7 @@ module _ (flat : FlatModule) (text : Text) (known : Known) (named : List ℕ →
       by_set false = refl
 
   -- a part without a set
-  pub inside-matches : (outside context : Context) (depths : Depths) (form : Form.the_data) (s : Span) (parts : Trees) (is : List ℕ) (asked : List Question) → has_set form ≡ false → greatest (depth_at flat) is ≡ depth text known named (beneath context depths) (Node form s parts) → deep_asked flat asked ≡ deep_names text known named (beneath context depths) (Node form s parts) → PartMatches outside context depths form s parts is asked
+  pub inside-matches : (outside context : Context) (depths : Depths) (form : Form.the_data) (s : Span) (parts : Trees) (is : List ℕ) (asked : List Question) → has_set form ≡ false → greatest (depth_at flat) is ≡ depth text known named (beneath context depths) (Node form s parts) → deep_answers flat asked ≡ deep_names text known named (beneath context depths) (Node form s parts) → PartMatches outside context depths form s parts is asked
   inside-matches outside context depths form s parts is asked none deep names = (
     deep ∙ ap (λ b. elim b as (λ _. ℕ) [ true ↦ parts_depth text known named (beneath outside depths) (beneath outside depths) parts | false ↦ depth text known named (beneath context depths) (Node form s parts) ]) (sym none),
     names ∙ ap (λ b. elim b as (λ _. List Lexeme) [ true ↦ deep_parts text known named (beneath outside depths) (beneath outside depths) parts | false ↦ deep_names text known named (beneath context depths) (Node form s parts) ]) (sym none),
@@ -115,7 +115,7 @@ module _ (flat : FlatModule) (text : Text) (known : Known) (named : List ℕ →
       inside-matches outside context depths form s parts is asked none one.0 one.1
 
   pub none-match : (outside context : Context) (depths : Depths) (is : List ℕ) (asked : List Question) → is ≡ [] → asked ≡ [] → PartsMatch flat text known named means implied faces inside outside context depths Nil is asked
-  none-match outside context depths is asked none empty = record { deep = ap (greatest (depth_at flat)) none; names = ap (deep_asked flat) empty }
+  none-match outside context depths is asked none empty = record { deep = ap (greatest (depth_at flat)) none; names = ap (deep_answers flat) empty }
 
   -- ---- parts that are new
 

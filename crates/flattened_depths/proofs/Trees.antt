@@ -31,7 +31,7 @@ use Rattle.flattened_trees.specs.Questions.{Question, asks_at, over}
 use Rattle.flattened_trees.specs.Flattened.{AreOperands, AreUpdates, HasNode, IsFlattened, all_parts}
 use Rattle.flattened_trees.specs.Readable.{AreReadable, AreUpdatesWritten, IsReadable}
 use Rattle.flattened_depths.specs.Arranged.{AreArranged, BindsNothing}
-use Rattle.flattened_depths.specs.Asking.{deep_asked}
+use Rattle.flattened_trees.specs.Answers.{deep_answers}
 use Rattle.flattened_depths.specs.Rounds.{LeadsBehind}
 use Rattle.flattened_depths.proofs.Arguments.{arguments-good, arranged-whole, segments-good, updates-good, whole-new}
 use Rattle.flattened_depths.proofs.Chains.{ChainMatches, chain-good}
@@ -153,7 +153,7 @@ module _ (flat : FlatModule) (text : Text) (known : Known) (named : List ℕ →
         record {
           deep = depth-step flat i node ordered there ∙ deep ∙ sym opens;
           places = ap places_of there ∙ bare ∙ sym bare_not;
-          names = form-names flat text known named means implied faces inside ordered context depths setting i form s Nil asked a none joined names_open (ap (deep_asked flat) operands.1);
+          names = form-names flat text known named means implied faces inside ordered context depths setting i form s Nil asked a none joined names_open (ap (deep_answers flat) operands.1);
         }
 
     -- the body of a LET, and what stands in its definitions

@@ -34,7 +34,7 @@ use Rattle.flattened_trees.specs.Questions.{Question}
 use Rattle.flattened_trees.specs.Flattened.{AreOperands, all_parts}
 use Rattle.flattened_trees.specs.Readable.{AreArguments, IsNoInstance, IsReadablePath, orders_of}
 use Rattle.flattened_trees.specs.Agreeing.{TakesAs, TakesBehind, lead_by}
-use Rattle.flattened_depths.specs.Asking.{deep_asked}
+use Rattle.flattened_trees.specs.Answers.{deep_answers}
 use Rattle.flattened_depths.specs.Rounds.{TakesParameters}
 use Rattle.flattened_depths.proofs.Facts.{beneath}
 use Rattle.flattened_depths.proofs.Naming.{Led, SegmentsGood, instance-before, never-both, path-led, single-led}
@@ -157,7 +157,7 @@ module _ (flat : FlatModule) (text : Text) (known : Known) (named : List ℕ →
   call-fits place order form at ys more [] n all e = absurd all
   call-fits place order form at ys more (i ∷ is) n all e = record { deep = e; placed = refl }
 
-  led-fits : (stand : Stand) (meaning : Meaning) (s : Span) (segments rest : Trees) (is : List ℕ) (asked : List Question) → Led flat text known named means implied faces inside context depths setting stand 0 (depths meaning) segments rest is asked → Fits flat (name_node (path_places text.source means segments) (lead_by stand (path_names text.source rest)) is) (path_depth meaning segments rest) (path_places text.source means segments) × (deep_asked flat asked ≡ deep_parts text known named (beneath context depths) (beneath context depths) segments)
+  led-fits : (stand : Stand) (meaning : Meaning) (s : Span) (segments rest : Trees) (is : List ℕ) (asked : List Question) → Led flat text known named means implied faces inside context depths setting stand 0 (depths meaning) segments rest is asked → Fits flat (name_node (path_places text.source means segments) (lead_by stand (path_names text.source rest)) is) (path_depth meaning segments rest) (path_places text.source means segments) × (deep_answers flat asked ≡ deep_parts text known named (beneath context depths) (beneath context depths) segments)
   led-fits stand meaning s segments rest is asked led =
       let parts = subst (λ xs. HasParts flat text known named (beneath context depths) (Node Form.Identifier s segments) (NodeForm.Use led.path led.number) xs) (sym led.split) (path-parts flat text known named (beneath context depths) segments s (NodeForm.Use led.path led.number) led.before led.own led.on led.many) in
       let fits = use-fits flat (path_places text.source means segments) led.path led.number is (counted text known named (beneath context depths) segments) (depths meaning (path_names text.source rest)) led.reached parts.1 in (
@@ -176,7 +176,7 @@ module _ (flat : FlatModule) (text : Text) (known : Known) (named : List ℕ →
       → SegmentsGood flat text known named means implied faces inside context depths setting (Cons (Node (Form.Segment l) s arguments) rest)
       → AreOperands text means implied faces flat all_parts setting (Cons (Node (Form.Segment l) s arguments) rest) is asked
       → Fits flat (name_node (path_places text.source means (Cons (Node (Form.Segment l) s arguments) rest)) (lead_by stand (path_names text.source rest)) is) (path_depth meaning (Cons (Node (Form.Segment l) s arguments) rest) rest) (path_places text.source means (Cons (Node (Form.Segment l) s arguments) rest))
-      × (deep_asked flat asked ≡ deep_parts text known named (beneath context depths) (beneath context depths) (Cons (Node (Form.Segment l) s arguments) rest))
+      × (deep_answers flat asked ≡ deep_parts text known named (beneath context depths) (beneath context depths) (Cons (Node (Form.Segment l) s arguments) rest))
   identifier-fits Unsaid held meaning l s arguments rest is asked has count takes here readable good flattened = absurd takes
   identifier-fits (Leaf kind) held meaning l s arguments (Cons x rest) is asked has count takes here readable good flattened =
       absurd (never-both meaning (orders_of meaning) (instance-before flat text known named means implied faces inside context depths setting held meaning l s arguments x rest readable) takes.0)

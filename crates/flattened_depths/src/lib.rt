@@ -37,7 +37,7 @@ ghost use Rattle.flattened_trees.specs.Readable.{IsReadableThrough};
 ghost use Rattle.flattened_trees.specs.Agreeing.{AreNew, IsFresh, TakesAs, is_seen};
 ghost use Rattle.flattened_depths.specs.Arranged.{AreArranged, BindsNothing, IsArranged};
 ghost use Rattle.flattened_depths.specs.Arranged.{IsArrangedDefinition};
-ghost use Rattle.flattened_depths.specs.Asking.{deep_asked};
+ghost use Rattle.flattened_trees.specs.Answers.{deep_answers};
 ghost use Rattle.flattened_depths.specs.Rounds.{IsDefinedAs, IsKnownRound, LeadsBehind};
 ghost use Rattle.flattened_depths.specs.Rounds.{PutsInAsDeep, first_beneath, first_layout};
 ghost use Rattle.flattened_depths.specs.Rounds.{first_setting, layout_at};
@@ -96,7 +96,7 @@ pub fn deep_definitions_are_asked()
         → IsArranged (LeadsBehind flat text known named faces inside) x
         → IsReadable text known named means implied faces layout.context x
         → IsFlattened text means implied faces flat setting x i asked
-        → deep_asked flat asked ≡ deep_names text known named beneath x }
+        → deep_answers flat asked ≡ deep_names text known named beneath x }
     ensures definitions { (flat : FlatModule) (text : Text) (known : Known)
         (named : List ℕ → Outside) (means : ℕ → Option Meaning) (implied : ℕ → List Meaning)
         (faces : List ℕ → FlatFace) (inside : List ℕ → Named → Stand) (seen : List Meaning)
@@ -106,7 +106,7 @@ pub fn deep_definitions_are_asked()
         → IsArrangedDefinition (LeadsBehind flat text known named faces inside) x
         → IsReadableDefinition text known named means implied faces layout.context x
         → IsDefined text means implied faces flat setting x lead roots asked
-        → deep_asked flat asked ≡ deep_names text known named beneath x }
+        → deep_answers flat asked ≡ deep_names text known named beneath x }
 {}
 
 /// An instance puts in what is as deep as the replacements of its INSTANCE, with a name or without,
@@ -142,7 +142,7 @@ pub fn instances_are_as_deep()
         (tree.Cons (tree.Node (Form.Instance l) at rights) tree.Nil)
         → AreRights text means implied faces flat setting l rights sides roots a
         → IsInstance text means implied faces flat setting outer count guards l sides j b
-        → deep_asked flat (a ++ b)
+        → deep_answers flat (a ++ b)
         ≡ deep_names text known named beneath (tree.Node (Form.Instance l) at rights) }
 {}
 

@@ -81,7 +81,7 @@ module _ (flat : FlatModule) (text : Text) (known : Known) (named : List ℕ →
   operator-built which l (LexKind.Sym op) None (Cons x parts) orders is asked each made (free, (meaning, first, plain, same)) cans fresh =
       let fits = arguments-fit flat text known named means implied faces nameable layout setting seen knows frame more around agrees (Cons x parts) orders is asked each made cans fresh in
       subst (λ context. IsPath layout.stands context None (record { name = Symbol (which op); arguments = items text known named around (Cons x parts) } ∷ []) (name_node None (lead_of setting.leads (means l.span.start) []) is).form (items_at (text_at flat) (name_node None (lead_of setting.leads (means l.span.start) []) is).parts (frame ++ more))) (sym agrees.context)
-      (symbol-on l (Symbol (which op)) meaning x parts is first (plain, subst (λ os. Fits os (items_at (text_at flat) is (frame ++ more)) (items text known named around (Cons x parts))) same fits))
+      (symbol-on l (Symbol (which op)) meaning x parts is first (plain.0, subst (λ os. Fits os (items_at (text_at flat) is (frame ++ more)) (items text known named around (Cons x parts))) same fits))
   operator-built which l (LexKind.Sym op) None Nil orders is asked each made can cans fresh = absurd can
   operator-built which l kind None parts orders is asked each made can cans fresh = absurd can
 
@@ -141,7 +141,7 @@ module _ (flat : FlatModule) (text : Text) (known : Known) (named : List ℕ →
       let fits = arguments-fit flat text known named means implied faces nameable layout setting seen knows frame more around agrees (Cons x parts) orders is asked each made cans fresh in
       name-has-places None None l (Symbol (which op)) meaning [] is first refl
       (path-has-places text known named around (text_at flat) (frame ++ more) is (layout.stands meaning) None (behind_meaning known (Some meaning)) meaning l l.span (Cons x parts) Nil (knows.orders (Symbol (which op)) meaning first.there)
-      (plain, subst (λ os. Fits os (items_at (text_at flat) is (frame ++ more)) (items text known named around (Cons x parts))) same fits) refl)
+      (plain.0, subst (λ os. Fits os (items_at (text_at flat) is (frame ++ more)) (items text known named around (Cons x parts))) same fits) refl)
   operator-has-places which l (LexKind.Sym op) None Nil orders is asked each made can cans fresh = absurd can
   operator-has-places which l kind None parts orders is asked each made can cans fresh = absurd can
 

@@ -61,9 +61,9 @@ ruled_node None is = constant_node
 ruled_node (Some rule) is = plain_node (NodeForm.Operation rule) is
 
 -- the operands in the order of the rule: `WF_` and `SF_` are written with the subscript first
-abbrev pub in_order : Form.the_data → List ℕ → List ℕ
-in_order (Form.Fairness l) (subscript ∷ action ∷ []) = action ∷ subscript ∷ []
-in_order form is = is
+abbrev pub rule_order : Form.the_data → List ℕ → List ℕ
+rule_order (Form.Fairness l) (subscript ∷ action ∷ []) = action ∷ subscript ∷ []
+rule_order form is = is
 
 -- the last of these, and then the others
 abbrev pub last_first : List ℕ → List ℕ → List ℕ
@@ -130,4 +130,4 @@ module _ (source : List ℕ) (means : ℕ → Option Meaning) where
   form_node setting (Form.Postfix l) parts is = operator_node setting l (symbol_rule Postfix l.kind) is
   form_node setting Form.Parentheses parts is = inside_node is
   form_node setting (Form.BoundedQuantifier l) parts is = plain_node NodeForm.Bounded (last_first [] is)
-  form_node setting form parts is = ruled_node (form_rule form) (in_order form is)
+  form_node setting form parts is = ruled_node (form_rule form) (rule_order form is)
