@@ -1,0 +1,11 @@
+pub mod Found
+pub mod Parts
+pub mod Making
+pub mod Definitions
+pub mod Asking
+pub mod Worlds
+pub mod Steps
+pub mod Entering
+pub mod Flattens
+pub mod Replacing
+pub mod Righting
