@@ -107,7 +107,11 @@ fn add_use(
     definition: usize,
     arguments: Vec<usize>,
 ) -> Result<usize, Memory>
-    requires path { IsLeadWithin state.old.flat (record { path = path.items; end = end.Definition definition }) }
+    requires path { IsLeadWithin state.old.flat (record {
+      path = path.items;
+      end = end.Definition
+          definition;
+    }) }
     requires parts { AllByRecursion (λ i. i < length state.old.flat.nodes) arguments.items }
     ensures { IfOk result (λ i. Adds state.old state.new
         (node_forms.use_node places path.items definition arguments.items) i) }

@@ -42,9 +42,10 @@ pub fn flatten<N: Names>(
     node: u32,
 ) -> Result<usize, Memory>
     requires node { IsNode (world_of (N.leads names.now) (N.faces names.now) written.now) node }
-    requires ready { IsReady (world_of (N.leads names.now) (N.faces names.now) written.now) state.old frame olds.now }
-    ensures { IfOk result (λ i. Flattens (world_of (N.leads names.now) (N.faces names.now) written.now) state.old state.new frame olds.now
-        (tree_at written.now.tree.now node) i) }
+    requires ready { IsReady (world_of (N.leads names.now) (N.faces names.now) written.now)
+        state.old frame olds.now }
+    ensures { IfOk result (λ i. Flattens (world_of (N.leads names.now) (N.faces names.now)
+        written.now) state.old state.new frame olds.now (tree_at written.now.tree.now node) i) }
 {
     let form = form_of(written.tree, node);
     match shape_of(form, written.tree.children(node)) {
@@ -75,12 +76,13 @@ fn plain<N: Names>(
     node: u32,
 ) -> Result<usize, Memory>
     requires node { IsNode (world_of (N.leads names.now) (N.faces names.now) written.now) node }
-    requires ready { IsReady (world_of (N.leads names.now) (N.faces names.now) written.now) state.old frame olds.now }
+    requires ready { IsReady (world_of (N.leads names.now) (N.faces names.now) written.now)
+        state.old frame olds.now }
     requires whole { IsWhole written.now.tree.now node }
     requires shape { shape_of (form_at written.now.tree.now node)
         (node_at written.now.tree.now node).children ≡ shape.Plain }
-    ensures { IfOk result (λ i. Flattens (world_of (N.leads names.now) (N.faces names.now) written.now) state.old state.new frame olds.now
-        (tree_at written.now.tree.now node) i) }
+    ensures { IfOk result (λ i. Flattens (world_of (N.leads names.now) (N.faces names.now)
+        written.now) state.old state.new frame olds.now (tree_at written.now.tree.now node) i) }
 {
     let from = state.asked.len();
     ask_node(state, frame, written.tree, node)?;
@@ -116,9 +118,11 @@ fn operands<N: Names>(
     is: &mut Vec<usize>,
 ) -> Result<(), Memory>
     requires node { IsNode (world_of (N.leads names.now) (N.faces names.now) written.now) node }
-    requires ready { IsReady (world_of (N.leads names.now) (N.faces names.now) written.now) state.old frame olds.now }
-    ensures { OnOk result (ReadsAll (operands_of (world_of (N.leads names.now) (N.faces names.now) written.now) (setting_of (world_of (N.leads names.now) (N.faces names.now) written.now) state.old frame olds.now) which)
-        state.old state.new (parts_at written.now.tree.now node)
+    requires ready { IsReady (world_of (N.leads names.now) (N.faces names.now) written.now)
+        state.old frame olds.now }
+    ensures { OnOk result (ReadsAll (operands_of (world_of (N.leads names.now) (N.faces names.now)
+        written.now) (setting_of (world_of (N.leads names.now) (N.faces names.now) written.now)
+        state.old frame olds.now) which) state.old state.new (parts_at written.now.tree.now node)
         is.old.items is.new.items) }
 {
     let children = written.tree.children(node);
@@ -142,9 +146,12 @@ fn operand<N: Names>(
     is: &mut Vec<usize>,
 ) -> Result<(), Memory>
     requires node { IsNode (world_of (N.leads names.now) (N.faces names.now) written.now) child }
-    requires ready { IsReady (world_of (N.leads names.now) (N.faces names.now) written.now) state.old frame olds.now }
-    ensures { OnOk result (Reads (operands_of (world_of (N.leads names.now) (N.faces names.now) written.now) (setting_of (world_of (N.leads names.now) (N.faces names.now) written.now) state.old frame olds.now) which)
-        state.old state.new (tree_at written.now.tree.now child) is.old.items is.new.items) }
+    requires ready { IsReady (world_of (N.leads names.now) (N.faces names.now) written.now)
+        state.old frame olds.now }
+    ensures { OnOk result (Reads (operands_of (world_of (N.leads names.now) (N.faces names.now)
+        written.now) (setting_of (world_of (N.leads names.now) (N.faces names.now) written.now)
+        state.old frame olds.now) which) state.old state.new (tree_at written.now.tree.now child)
+        is.old.items is.new.items) }
 {
     let form = form_of(written.tree, child);
     if !is_taken(which, form) {
@@ -182,12 +189,13 @@ fn except<N: Names>(
     function: u32,
 ) -> Result<usize, Memory>
     requires node { IsNode (world_of (N.leads names.now) (N.faces names.now) written.now) node }
-    requires ready { IsReady (world_of (N.leads names.now) (N.faces names.now) written.now) state.old frame olds.now }
+    requires ready { IsReady (world_of (N.leads names.now) (N.faces names.now) written.now)
+        state.old frame olds.now }
     requires whole { IsWhole written.now.tree.now node }
     requires shape { shape_of (form_at written.now.tree.now node)
         (node_at written.now.tree.now node).children ≡ shape.Except function }
-    ensures { IfOk result (λ i. Flattens (world_of (N.leads names.now) (N.faces names.now) written.now) state.old state.new frame olds.now
-        (tree_at written.now.tree.now node) i) }
+    ensures { IfOk result (λ i. Flattens (world_of (N.leads names.now) (N.faces names.now)
+        written.now) state.old state.new frame olds.now (tree_at written.now.tree.now node) i) }
 {
     let children = written.tree.children(node);
     let from = state.asked.len();
@@ -221,10 +229,13 @@ fn change<N: Names>(
     is: &mut Vec<usize>,
 ) -> Result<(), Memory>
     requires node { IsNode (world_of (N.leads names.now) (N.faces names.now) written.now) update }
-    requires ready { IsReady (world_of (N.leads names.now) (N.faces names.now) written.now) state.old frame olds.now }
+    requires ready { IsReady (world_of (N.leads names.now) (N.faces names.now) written.now)
+        state.old frame olds.now }
     requires f { f < length state.old.flat.nodes }
-    ensures { OnOk result (Reads (updates_of (world_of (N.leads names.now) (N.faces names.now) written.now) (setting_of (world_of (N.leads names.now) (N.faces names.now) written.now) state.old frame olds.now) f)
-        state.old state.new (tree_at written.now.tree.now update) is.old.items is.new.items) }
+    ensures { OnOk result (Reads (updates_of (world_of (N.leads names.now) (N.faces names.now)
+        written.now) (setting_of (world_of (N.leads names.now) (N.faces names.now) written.now)
+        state.old frame olds.now) f) state.old state.new (tree_at written.now.tree.now update)
+        is.old.items is.new.items) }
 {
     let _form = form_of(written.tree, update);
     let mut indices = Vec::new(alloc);
@@ -267,12 +278,13 @@ fn chain<N: Names>(
     node: u32,
 ) -> Result<usize, Memory>
     requires node { IsNode (world_of (N.leads names.now) (N.faces names.now) written.now) node }
-    requires ready { IsReady (world_of (N.leads names.now) (N.faces names.now) written.now) state.old frame olds.now }
+    requires ready { IsReady (world_of (N.leads names.now) (N.faces names.now) written.now)
+        state.old frame olds.now }
     requires whole { IsWhole written.now.tree.now node }
     requires shape { shape_of (form_at written.now.tree.now node)
         (node_at written.now.tree.now node).children ≡ shape.Let }
-    ensures { IfOk result (λ i. Flattens (world_of (N.leads names.now) (N.faces names.now) written.now) state.old state.new frame olds.now
-        (tree_at written.now.tree.now node) i) }
+    ensures { IfOk result (λ i. Flattens (world_of (N.leads names.now) (N.faces names.now)
+        written.now) state.old state.new frame olds.now (tree_at written.now.tree.now node) i) }
 {
     let mark = state.locals.len();
     let mut body = None;
@@ -302,9 +314,11 @@ fn link<N: Names>(
     roots: &mut Vec<usize>,
 ) -> Result<(), Memory>
     requires node { IsNode (world_of (N.leads names.now) (N.faces names.now) written.now) child }
-    requires ready { IsReady (world_of (N.leads names.now) (N.faces names.now) written.now) state.old frame olds.now }
-    ensures { OnOk result (Links (world_of (N.leads names.now) (N.faces names.now) written.now) state.old state.new frame olds.now
-        (tree_at written.now.tree.now child) body.old body.new roots.old.items roots.new.items) }
+    requires ready { IsReady (world_of (N.leads names.now) (N.faces names.now) written.now)
+        state.old frame olds.now }
+    ensures { OnOk result (Links (world_of (N.leads names.now) (N.faces names.now) written.now)
+        state.old state.new frame olds.now (tree_at written.now.tree.now child) body.old body.new
+        roots.old.items roots.new.items) }
 {
     if helps(form_of(written.tree, child)) {
         definition(alloc, names, written, state, frame, olds, child, roots)?;
@@ -328,9 +342,11 @@ pub fn definition<N: Names>(
     roots: &mut Vec<usize>,
 ) -> Result<(), Memory>
     requires node { IsNode (world_of (N.leads names.now) (N.faces names.now) written.now) node }
-    requires ready { IsReady (world_of (N.leads names.now) (N.faces names.now) written.now) state.old frame olds.now }
-    ensures { OnOk result (IsMadeDefinition (world_of (N.leads names.now) (N.faces names.now) written.now) state.old state.new frame olds.now
-        (tree_at written.now.tree.now node) roots.old.items roots.new.items) }
+    requires ready { IsReady (world_of (N.leads names.now) (N.faces names.now) written.now)
+        state.old frame olds.now }
+    ensures { OnOk result (IsMadeDefinition (world_of (N.leads names.now) (N.faces names.now)
+        written.now) state.old state.new frame olds.now (tree_at written.now.tree.now node)
+        roots.old.items roots.new.items) }
 {
     match definition_of(form_of(written.tree, node)) {
         Definition::Nothing => Ok(()),
@@ -363,11 +379,14 @@ fn operator<N: Names>(
     roots: &mut Vec<usize>,
 ) -> Result<(), Memory>
     requires node { IsNode (world_of (N.leads names.now) (N.faces names.now) written.now) node }
-    requires ready { IsReady (world_of (N.leads names.now) (N.faces names.now) written.now) state.old frame olds.now }
+    requires ready { IsReady (world_of (N.leads names.now) (N.faces names.now) written.now)
+        state.old frame olds.now }
     requires whole { IsWhole written.now.tree.now node }
-    requires defines { entities.defines (form_at written.now.tree.now node) ≡ entities.Operator name }
-    ensures { OnOk result (IsMadeDefinition (world_of (N.leads names.now) (N.faces names.now) written.now) state.old state.new frame olds.now
-        (tree_at written.now.tree.now node) roots.old.items roots.new.items) }
+    requires defines { entities.defines (form_at written.now.tree.now node) ≡ entities.Operator
+        name }
+    ensures { OnOk result (IsMadeDefinition (world_of (N.leads names.now) (N.faces names.now)
+        written.now) state.old state.new frame olds.now (tree_at written.now.tree.now node)
+        roots.old.items roots.new.items) }
 {
     let from = state.asked.len();
     ask_definition(state, frame, name)?;
@@ -409,11 +428,14 @@ fn function<N: Names>(
     roots: &mut Vec<usize>,
 ) -> Result<(), Memory>
     requires node { IsNode (world_of (N.leads names.now) (N.faces names.now) written.now) node }
-    requires ready { IsReady (world_of (N.leads names.now) (N.faces names.now) written.now) state.old frame olds.now }
+    requires ready { IsReady (world_of (N.leads names.now) (N.faces names.now) written.now)
+        state.old frame olds.now }
     requires whole { IsWhole written.now.tree.now node }
-    requires defines { entities.defines (form_at written.now.tree.now node) ≡ entities.Function name }
-    ensures { OnOk result (IsMadeDefinition (world_of (N.leads names.now) (N.faces names.now) written.now) state.old state.new frame olds.now
-        (tree_at written.now.tree.now node) roots.old.items roots.new.items) }
+    requires defines { entities.defines (form_at written.now.tree.now node) ≡ entities.Function
+        name }
+    ensures { OnOk result (IsMadeDefinition (world_of (N.leads names.now) (N.faces names.now)
+        written.now) state.old state.new frame olds.now (tree_at written.now.tree.now node)
+        roots.old.items roots.new.items) }
 {
     let from = state.asked.len();
     ask_definition(state, frame, name)?;
@@ -455,11 +477,13 @@ fn module_definition<N: Names>(
     roots: &mut Vec<usize>,
 ) -> Result<(), Memory>
     requires node { IsNode (world_of (N.leads names.now) (N.faces names.now) written.now) node }
-    requires ready { IsReady (world_of (N.leads names.now) (N.faces names.now) written.now) state.old frame olds.now }
+    requires ready { IsReady (world_of (N.leads names.now) (N.faces names.now) written.now)
+        state.old frame olds.now }
     requires whole { IsWhole written.now.tree.now node }
     requires defines { entities.defines (form_at written.now.tree.now node) ≡ entities.Module name }
-    ensures { OnOk result (IsMadeDefinition (world_of (N.leads names.now) (N.faces names.now) written.now) state.old state.new frame olds.now
-        (tree_at written.now.tree.now node) roots.old.items roots.new.items) }
+    ensures { OnOk result (IsMadeDefinition (world_of (N.leads names.now) (N.faces names.now)
+        written.now) state.old state.new frame olds.now (tree_at written.now.tree.now node)
+        roots.old.items roots.new.items) }
 {
     let children = written.tree.children(node);
     match first_instance(written.tree, children) {
@@ -491,13 +515,15 @@ fn instance_definition<N: Names>(
     roots: &mut Vec<usize>,
 ) -> Result<(), Memory>
     requires node { IsNode (world_of (N.leads names.now) (N.faces names.now) written.now) node }
-    requires ready { IsReady (world_of (N.leads names.now) (N.faces names.now) written.now) state.old frame olds.now }
+    requires ready { IsReady (world_of (N.leads names.now) (N.faces names.now) written.now)
+        state.old frame olds.now }
     requires whole { IsWhole written.now.tree.now node }
     requires defines { entities.defines (form_at written.now.tree.now node) ≡ entities.Module name }
     requires placed { IsFirst written.now.tree.now (node_at written.now.tree.now node).children
         (Some placed) }
-    ensures { OnOk result (IsMadeDefinition (world_of (N.leads names.now) (N.faces names.now) written.now) state.old state.new frame olds.now
-        (tree_at written.now.tree.now node) roots.old.items roots.new.items) }
+    ensures { OnOk result (IsMadeDefinition (world_of (N.leads names.now) (N.faces names.now)
+        written.now) state.old state.new frame olds.now (tree_at written.now.tree.now node)
+        roots.old.items roots.new.items) }
 {
     let children = written.tree.children(node);
     let _form = form_of(written.tree, placed.node);
@@ -556,11 +582,13 @@ pub fn right_sides<'a, N: Names>(
     roots: &mut Vec<usize>,
 ) -> Result<(), Memory>
     requires node { IsNode (world_of (N.leads names.now) (N.faces names.now) written.now) node }
-    requires ready { IsReady (world_of (N.leads names.now) (N.faces names.now) written.now) state.old frame olds.now }
+    requires ready { IsReady (world_of (N.leads names.now) (N.faces names.now) written.now)
+        state.old frame olds.now }
     requires lies { LiesIn written.now.text.now.source «module» }
     requires none { found.old.items ≡ [] }
-    ensures { OnOk result (RightsAll (world_of (N.leads names.now) (N.faces names.now) written.now) state.old state.new frame olds.now «module»
-        (parts_at written.now.tree.now node) found.new.items roots.old.items roots.new.items) }
+    ensures { OnOk result (RightsAll (world_of (N.leads names.now) (N.faces names.now)
+        written.now) state.old state.new frame olds.now «module» (parts_at written.now.tree.now
+        node) found.new.items roots.old.items roots.new.items) }
 {
     let children = written.tree.children(node);
     for child in children {
@@ -586,11 +614,12 @@ fn right_side<'a, N: Names>(
     roots: &mut Vec<usize>,
 ) -> Result<(), Memory>
     requires node { IsNode (world_of (N.leads names.now) (N.faces names.now) written.now) child }
-    requires ready { IsReady (world_of (N.leads names.now) (N.faces names.now) written.now) state.old frame olds.now }
+    requires ready { IsReady (world_of (N.leads names.now) (N.faces names.now) written.now)
+        state.old frame olds.now }
     requires lies { LiesIn written.now.text.now.source «module» }
-    ensures { OnOk result (Rights (world_of (N.leads names.now) (N.faces names.now) written.now) state.old state.new frame olds.now «module»
-        (tree_at written.now.tree.now child) found.old.items found.new.items roots.old.items
-        roots.new.items) }
+    ensures { OnOk result (Rights (world_of (N.leads names.now) (N.faces names.now) written.now)
+        state.old state.new frame olds.now «module» (tree_at written.now.tree.now child)
+        found.old.items found.new.items roots.old.items roots.new.items) }
 {
     let form = form_of(written.tree, child);
     match left_of(form) {

@@ -79,11 +79,12 @@ fn add_path<N: Names>(
     is: Vec<usize>,
 ) -> Result<usize, Memory>
     requires node { IsNode (world_of (N.leads names.now) (N.faces names.now) written.now) node }
-    requires known { IsKnown (world_of (N.leads names.now) (N.faces names.now) written.now) state.old }
+    requires known { IsKnown (world_of (N.leads names.now) (N.faces names.now) written.now)
+        state.old }
     requires parts { AllByRecursion (λ i. i < length state.old.flat.nodes) is.items }
     ensures { IfOk result (λ i. (frame : ℕ) (olds : List ℕ) → Adds state.old state.new
-        (node_forms.path_node written.now.text.now.source
-        (means_of written.now) (setting_of (world_of (N.leads names.now) (N.faces names.now) written.now) state.old frame olds)
+        (node_forms.path_node written.now.text.now.source (means_of written.now) (setting_of
+        (world_of (N.leads names.now) (N.faces names.now) written.now) state.old frame olds)
         (parts_at written.now.tree.now node) is.items) i) }
 {
     let segments = written.tree.children(node);
@@ -113,9 +114,9 @@ fn add_bare<N: Names>(
 ) -> Result<usize, Memory>
     requires { IsKnown (world_of (N.leads names.now) (N.faces names.now) written.now) state.old }
     ensures { IfOk result (λ i. (frame : ℕ) (olds : List ℕ) → Adds state.old state.new
-        (node_forms.bare_node written.now.text.now.source
-        (means_of written.now) (setting_of (world_of (N.leads names.now) (N.faces names.now) written.now) state.old frame olds) symbol
-        (expanding.bare_rule symbol.kind)) i) }
+        (node_forms.bare_node written.now.text.now.source (means_of written.now) (setting_of
+        (world_of (N.leads names.now) (N.faces names.now) written.now) state.old frame olds)
+        symbol (expanding.bare_rule symbol.kind)) i) }
 {
     let places = bare_places(written, symbol);
     if let Some(rule) = bare_rule(symbol.kind) {
@@ -136,12 +137,13 @@ fn add_operator<N: Names>(
     rule: Option<Rule>,
     is: Vec<usize>,
 ) -> Result<usize, Memory>
-    requires known { IsKnown (world_of (N.leads names.now) (N.faces names.now) written.now) state.old }
+    requires known { IsKnown (world_of (N.leads names.now) (N.faces names.now) written.now)
+        state.old }
     requires parts { AllByRecursion (λ i. i < length state.old.flat.nodes) is.items }
     ensures { IfOk result (λ i. (frame : ℕ) (olds : List ℕ) → Adds state.old state.new
-        (node_forms.operator_node written.now.text.now.source
-        (means_of written.now) (setting_of (world_of (N.leads names.now) (N.faces names.now) written.now) state.old frame olds) symbol rule
-        is.items) i) }
+        (node_forms.operator_node written.now.text.now.source (means_of written.now) (setting_of
+        (world_of (N.leads names.now) (N.faces names.now) written.now) state.old frame olds)
+        symbol rule is.items) i) }
 {
     if let Some(rule) = rule {
         return add_plain(state, NodeForm::Operation(rule), is);
@@ -246,13 +248,14 @@ pub(crate) fn add_form<N: Names>(
     is: Vec<usize>,
 ) -> Result<usize, Memory>
     requires node { IsNode (world_of (N.leads names.now) (N.faces names.now) written.now) node }
-    requires known { IsKnown (world_of (N.leads names.now) (N.faces names.now) written.now) state.old }
+    requires known { IsKnown (world_of (N.leads names.now) (N.faces names.now) written.now)
+        state.old }
     requires olds { AllByRecursion (λ i. i < length state.old.flat.nodes) olds.now }
     requires parts { AllByRecursion (λ i. i < length state.old.flat.nodes) is.items }
-    ensures { IfOk result (λ i. (frame : ℕ) → Adds state.old state.new
-        (node_forms.form_node written.now.text.now.source
-        (means_of written.now) (setting_of (world_of (N.leads names.now) (N.faces names.now) written.now) state.old frame olds.now)
-        (form_at written.now.tree.now node) (parts_at written.now.tree.now node) is.items) i) }
+    ensures { IfOk result (λ i. (frame : ℕ) → Adds state.old state.new (node_forms.form_node
+        written.now.text.now.source (means_of written.now) (setting_of (world_of (N.leads
+        names.now) (N.faces names.now) written.now) state.old frame olds.now) (form_at
+        written.now.tree.now node) (parts_at written.now.tree.now node) is.items) i) }
 {
     let form = written.tree.form(node);
     match making_of(form) {

@@ -1,6 +1,6 @@
 // Instances with their replacements.
-ghost use Rattle.std.specs.Prelude.{◌≡◌, ◌∷◌, ◌++◌, ◌+◌, ◌<◌, [], drop, length, map, IfOk, OnOk, Some};
-ghost use Rattle.std.specs.Prelude.{if◌then◌else◌, nat_lt, slice_get};
+ghost use Rattle.std.specs.Prelude.{◌≡◌, ◌∷◌, ◌++◌, ◌+◌, ◌<◌, [], IfOk, OnOk, Some};
+ghost use Rattle.std.specs.Prelude.{if◌then◌else◌, drop, length, map, nat_lt, slice_get};
 ghost use Rattle.std.specs.List.{AllByRecursion};
 ghost use Rattle.std.specs.Option.{option_copied, option_map};
 ghost use Rattle.tla_tree.specs.Arena.{AreThere};
@@ -134,8 +134,8 @@ fn symbol_at(symbols: &[Meaning], next: usize) -> Option<&Meaning>
     }
 }
 
-// Replaces a parameter: by the first right side that is written for its name, or else by the next of the
-// symbols that stand in. Answers which symbol is the next one then.
+// Replaces a parameter: by the first right side that is written for its name, or else by the next
+// of the symbols that stand in. Answers which symbol is the next one then.
 fn replace_one<N: Names>(
     alloc: Global,
     names: &N,
@@ -149,12 +149,15 @@ fn replace_one<N: Names>(
     next: usize,
     made: &mut Vec<Replacement>,
 ) -> Result<usize, Memory>
-    requires ready { IsReady (world_of (N.leads names.now) (N.faces names.now) written.now) state.old frame [] }
-    requires rights { AllByRecursion (λ right. right.node < length state.old.flat.nodes) rights.now }
-    ensures { IfOk result (λ left. Replaces (setting_of (world_of (N.leads names.now) (N.faces names.now) written.now) state.old frame []) constant
-        (rights_in rights.now) «module» state.old state.new (entry_in parameter.now)
-        (drop next (implied_of written.now «module».span.start))
-        (drop left (implied_of written.now «module».span.start)) made.old.items made.new.items) }
+    requires ready { IsReady (world_of (N.leads names.now) (N.faces names.now) written.now)
+        state.old frame [] }
+    requires rights { AllByRecursion (λ right. right.node < length state.old.flat.nodes)
+        rights.now }
+    ensures { IfOk result (λ left. Replaces (setting_of (world_of (N.leads names.now) (N.faces
+        names.now) written.now) state.old frame []) constant (rights_in rights.now) «module»
+        state.old state.new (entry_in parameter.now) (drop next (implied_of written.now
+        «module».span.start)) (drop left (implied_of written.now «module».span.start))
+        made.old.items made.new.items) }
 {
     let most = greatest_level(constant, &parameter.meaning);
     match right_for(rights, parameter.name.named()) {
@@ -185,14 +188,17 @@ fn replace_all<N: Names>(
     rights: &[Right<'_>],
     made: &mut Vec<Replacement>,
 ) -> Result<(), Memory>
-    requires ready { IsReady (world_of (N.leads names.now) (N.faces names.now) written.now) state.old frame [] }
-    requires rights { AllByRecursion (λ right. right.node < length state.old.flat.nodes) rights.now }
+    requires ready { IsReady (world_of (N.leads names.now) (N.faces names.now) written.now)
+        state.old frame [] }
+    requires rights { AllByRecursion (λ right. right.node < length state.old.flat.nodes)
+        rights.now }
     requires lies { LiesIn written.now.text.now.source «module» }
-    ensures { OnOk result (ReplacesAll (setting_of (world_of (N.leads names.now) (N.faces names.now) written.now) state.old frame [])
-        (N.faces names.now (spelled written.now.text.now.source «module»)).is_constant
-        (rights_in rights.now) «module» state.old state.new
-        (N.faces names.now (spelled written.now.text.now.source «module»)).parameters
-        (implied_of written.now «module».span.start) made.old.items made.new.items) }
+    ensures { OnOk result (ReplacesAll (setting_of (world_of (N.leads names.now) (N.faces
+        names.now) written.now) state.old frame []) (N.faces names.now (spelled
+        written.now.text.now.source «module»)).is_constant (rights_in rights.now) «module»
+        state.old state.new (N.faces names.now (spelled written.now.text.now.source
+        «module»)).parameters (implied_of written.now «module».span.start) made.old.items
+        made.new.items) }
 {
     let name = written.text.spelled(module);
     let constant = names.is_constant(name);
@@ -207,8 +213,8 @@ fn replace_all<N: Names>(
     Ok(())
 }
 
-/// Makes an instance of a module over a frame, with so many parameters and all places of another frame
-/// round it.
+/// Makes an instance of a module over a frame, with so many parameters and all places of another
+/// frame round it, by the right sides that are written.
 pub fn instantiate<N: Names>(
     alloc: Global,
     names: &N,
@@ -221,13 +227,16 @@ pub fn instantiate<N: Names>(
     module: Lexeme,
     rights: &[Right<'_>],
 ) -> Result<usize, Memory>
-    requires ready { IsReady (world_of (N.leads names.now) (N.faces names.now) written.now) state.old frame [] }
+    requires ready { IsReady (world_of (N.leads names.now) (N.faces names.now) written.now)
+        state.old frame [] }
     requires outside { outside < length state.old.frames.items }
-    requires rights { AllByRecursion (λ right. right.node < length state.old.flat.nodes) rights.now }
+    requires rights { AllByRecursion (λ right. right.node < length state.old.flat.nodes)
+        rights.now }
     requires lies { LiesIn written.now.text.now.source «module» }
-    ensures { IfOk result (λ j. Instantiates (world_of (N.leads names.now) (N.faces names.now) written.now) (setting_of (world_of (N.leads names.now) (N.faces names.now) written.now) state.old frame [])
-        (length (frame_at state.old.frames.items outside)) count guards «module»
-        (rights_in rights.now) state.old state.new j) }
+    ensures { IfOk result (λ j. Instantiates (world_of (N.leads names.now) (N.faces names.now)
+        written.now) (setting_of (world_of (N.leads names.now) (N.faces names.now) written.now)
+        state.old frame []) (length (frame_at state.old.frames.items outside)) count guards
+        «module» (rights_in rights.now) state.old state.new j) }
 {
     let outer = frame_len(state, outside);
     let mut made = Vec::new(alloc);

@@ -7,7 +7,8 @@ ghost use Rattle.name_context.specs.AsTables.{meant_by};
 ghost use Rattle.flattened_trees.specs.NodeForms.{lead_of};
 ghost use Rattle.flattened_trees.specs.Leads as leading;
 ghost use Rattle.tree_flattener.specs.Found.{lead_in};
-ghost use Rattle.tree_flattener.specs.Worlds.{DoLie, DoesLie, is_none_of, lead_by, local_of, own_place, with_locals, world_of};
+ghost use Rattle.tree_flattener.specs.Worlds.{DoLie, DoesLie, is_none_of, lead_by, local_of};
+ghost use Rattle.tree_flattener.specs.Worlds.{own_place, with_locals, world_of};
 
 use crate::locals::{Entry, Local, local_at};
 use crate::names::{Lead, Names};
@@ -133,7 +134,8 @@ fn local_lead<N: Names>(
     }
 }
 
-// Where a meaning leads at the names that follow: a name of a scope, or one that is known elsewhere.
+// Where a meaning leads at the names that follow: that of a name in scope, or one that is known
+// elsewhere.
 fn meaning_lead<N: Names>(
     alloc: Global,
     names: &N,

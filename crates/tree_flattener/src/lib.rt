@@ -1,7 +1,7 @@
 //! Nodes of a flat module that are made of written trees.
 //!
-//! Makes the nodes, definitions and instances of expressions and definitions, and notes what is asked
-//! of them. Knows nothing of units, of how names are resolved, and of what the answers are.
+//! Makes the nodes, definitions and instances of expressions and definitions, and notes what is
+//! asked of them. Knows nothing of units, of how names are resolved, and of what the answers are.
 #![tactic(auto)]
 
 mod adding;

@@ -19,8 +19,7 @@ pub struct Lead {
     pub end: End,
 }
 
-/// What is known of names that the text of a tree does not declare inside of it, and of modules that
-/// INSTANCE names.
+/// What is known of names that a tree does not declare itself, and of modules that INSTANCE names.
 pub trait Names {
     /// Where meanings lead, by the names that follow on a path.
     ghost leads: { Self → Leads };

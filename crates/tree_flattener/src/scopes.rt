@@ -61,7 +61,8 @@ fn place_name(
     frame: &mut List<Meaning>,
     binder: Binder,
 ) -> Result<(), Memory>
-    ensures locals { OnOk result (locals.new.items ≡ locals.old.items ++ entry_of text.now (length frame.old) binder ∷ []) }
+    ensures locals { OnOk result (locals.new.items ≡ locals.old.items ++ entry_of text.now (length
+        frame.old) binder ∷ []) }
     ensures frame { OnOk result (frame.new ≡ frame.old ++ meant text.now binder ∷ []) }
 {
     let name = binder.name;
@@ -81,7 +82,8 @@ fn place_all(
     frame: &mut List<Meaning>,
     names: List<Binder>,
 ) -> Result<(), Memory>
-    ensures locals { OnOk result (locals.new.items ≡ locals.old.items ++ entries_of text.now (length frame.old) names) }
+    ensures locals { OnOk result (locals.new.items ≡ locals.old.items ++ entries_of text.now
+        (length frame.old) names) }
     ensures frame { OnOk result (frame.new ≡ frame.old ++ map (meant text.now) names) }
 {
     for binder in names.into_vec() {

@@ -16,8 +16,8 @@ pub struct Written<'a> {
     pub tree: &'a Tree,
     /// What names and symbols mean, by where these begin.
     pub means: &'a IndexMap<u32, Meaning>,
-    /// The symbols that stand in for parameters which an INSTANCE does not replace, in their order, by
-    /// where the name of its module begins.
+    /// The symbols that stand in for parameters which an INSTANCE does not replace, in their order,
+    /// by where the name of its module begins.
     pub implied: &'a IndexMap<u32, List<Meaning>>,
 }
 
