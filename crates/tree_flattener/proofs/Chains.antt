@@ -65,7 +65,7 @@ module _ (w : World) (frame : ℕ) (olds : List ℕ) where
   -- ---- one link
 
   module _ (form : Form.the_data) (s : Span) (parts rest : Trees) (more : FlatModule) (setting : Setting) where
-    abbrev Goes : Bool → Option ℕ → List ℕ → List Question → List Question → Type 0
+    abbrev pub Goes : Bool → Option ℕ → List ℕ → List Question → List Question → Type 0
     Goes help body roots a b = elim help [
       | true ↦ (lead : List Named → Lead) × (first others : List ℕ) × IsDefined w.text w.means w.implied w.faces more setting (Node form s parts) lead first a
           × IsChain w.text w.means w.implied w.faces more (behind w.text setting (Node form s parts) lead) rest body others b × (roots ≡ first ++ others)

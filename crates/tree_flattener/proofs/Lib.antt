@@ -18,3 +18,4 @@ mod ModuleDefinitions
 mod Instantiating
 mod Parameters
 mod Placing
+mod Growth

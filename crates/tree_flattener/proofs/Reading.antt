@@ -56,7 +56,7 @@ module _ (P : OfParts) where
 
 module _ (w : World) (setting : Setting) (form : Form.the_data) (s : Span) (parts : Trees) where
   -- what a part gives, by whether it is looked at and by what it is
-  abbrev Goes : FlatModule → Bool → Part → List ℕ → List Question → Type 0
+  abbrev pub Goes : FlatModule → Bool → Part → List ℕ → List Question → Type 0
   Goes more looked part first a = elim looked [
     | true ↦ elim part [
       | Outer ↦ AreOperands w.text w.means w.implied w.faces more all_parts setting parts first a
