@@ -1,9 +1,10 @@
 // Nodes of trees.
-ghost use Rattle.std.specs.Prelude.{◌≡◌, ◌<◌, [], Some, IfOk, OnOk, length};
+ghost use Rattle.std.specs.Prelude.{◌≡◌, ◌<◌, [], Some, IfOk, OnOk, length, map};
 ghost use Rattle.tla_tree.specs.Arena.{node_at, tree_at};
 ghost use Rattle.tla_model.specs.Entities as entities;
-ghost use Rattle.tla_model.specs.Lexemes.{LiesIn};
+ghost use Rattle.tla_model.specs.Lexemes.{LiesIn, spelled};
 ghost use Rattle.declared_names.specs.Nodes.{IsWhole, form_at, parts_at};
+ghost use Rattle.tree_names.specs.Parameters.{entry_in};
 ghost use Rattle.tree_flattener.specs.declared.shapes.Shape.TheVariants as shape;
 ghost use Rattle.tree_flattener.specs.Flattens.{Flattens, IsMadeDefinition, Links, Reads, ReadsAll};
 ghost use Rattle.tree_flattener.specs.Flattens.{operands_of, updates_of};
@@ -29,6 +30,7 @@ use std::alloc::Global;
 use tla_symbols::{Lexeme, Rule};
 use tla_tree::helps;
 use tool_list::Memory;
+use tree_names::Parameter;
 
 /// Makes the node of an expression, and answers its number.
 #[cycle(flatten)]
@@ -590,10 +592,12 @@ pub fn right_sides<'a, N: Names>(
         written.now) state.old state.new frame olds.now «module» (parts_at written.now.tree.now
         node) found.new.items roots.old.items roots.new.items) }
 {
+    let parameters = names.parameters(alloc, written.text.spelled(module))?;
+    let items = parameters.as_slice();
     let children = written.tree.children(node);
     for child in children {
         right_side(
-            alloc, names, written, state, frame, olds, *child, module, found, roots,
+            alloc, names, written, state, frame, olds, *child, module, items, found, roots,
         )?;
     }
     Ok(())
@@ -610,13 +614,15 @@ fn right_side<'a, N: Names>(
     olds: &[usize],
     child: u32,
     module: Lexeme,
+    parameters: &[Parameter],
     found: &mut Vec<Right<'a>>,
     roots: &mut Vec<usize>,
 ) -> Result<(), Memory>
     requires node { IsNode (world_of (N.leads names.now) (N.faces names.now) written.now) child }
     requires ready { IsReady (world_of (N.leads names.now) (N.faces names.now) written.now)
         state.old frame olds.now }
-    requires lies { LiesIn written.now.text.now.source «module» }
+    requires parameters { map entry_in parameters.now ≡ (N.faces names.now
+        (spelled written.now.text.now.source «module»)).parameters }
     ensures { OnOk result (Rights (world_of (N.leads names.now) (N.faces names.now) written.now)
         state.old state.new frame olds.now «module» (tree_at written.now.tree.now child)
         found.old.items found.new.items roots.old.items roots.new.items) }
@@ -625,7 +631,7 @@ fn right_side<'a, N: Names>(
     match left_of(form) {
         None => Ok(()),
         Some(left) => {
-            ask_left(alloc, names, written, state, frame, module, left)?;
+            ask_left(written, state, frame, parameters, left)?;
             let mut is = Vec::new(alloc);
             operands(
                 alloc,

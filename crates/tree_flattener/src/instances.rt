@@ -272,24 +272,19 @@ fn level_among(parameters: &[Parameter], name: Named<'_>) -> Level
 }
 
 /// Asks for the left side of a replacement, by the parameters of the module.
-pub(crate) fn ask_left<N: Names>(
-    alloc: Global,
-    names: &N,
+pub(crate) fn ask_left(
     written: &Written<'_>,
     state: &mut Flattening,
     frame: usize,
-    module: Lexeme,
+    parameters: &[Parameter],
     left: Lexeme,
 ) -> Result<(), Memory>
-    requires lies { LiesIn written.now.text.now.source «module» }
-    requires left { LiesIn written.now.text.now.source left }
+    requires { LiesIn written.now.text.now.source left }
     ensures { OnOk result (Asks state.old state.new frame (questions.UseAs left
-        (declared_level (entry_of
-        (N.faces names.now (spelled written.now.text.now.source «module»)).parameters
+        (declared_level (entry_of (map entry_in parameters.now)
         (name_of written.now.text.now.source left))) ∷ [])) }
 {
-    let parameters = names.parameters(alloc, written.text.spelled(module))?;
-    let level = level_among(parameters.as_slice(), written.text.name_of(left));
+    let level = level_among(parameters, written.text.name_of(left));
     ask(&mut state.asked, frame, Asked::UseAs { name: left, level })?;
     Ok(())
 }

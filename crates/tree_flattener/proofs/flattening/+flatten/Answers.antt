@@ -1,4 +1,4 @@
-use Rattle.std.proofs.Common.{◌≡◌, Some, true, ◌<◌, [], ◌∷◌, ◌++◌, None, arith, refl, sym, ap, ◌∙◌, subst, drop, length}
+use Rattle.std.proofs.Common.{◌≡◌, Some, true, ◌<◌, [], ◌∷◌, ◌++◌, None, arith, refl, sym, ap, ◌∙◌, subst, drop, length, map}
 use Rattle.std.specs.List.{AllByRecursion}
 use Rattle.tla_tree.specs.Arena.{node_at, tree_at}
 use Rattle.tla_tree.specs.Forms.{helps}
@@ -10,7 +10,11 @@ use Rattle.declared_names.specs.Nodes.{form_at, parts_at}
 use Rattle.tree_flattener.specs.declared.rules.Taken.TheVariants as taken
 use Rattle.tree_flattener.specs.Flattens.{Flattens, IsMadeDefinition, Links, LinksSome, Reads, ReadsAll, operands_of, updates_of}
 use Rattle.tree_flattener.specs.Parts.{is_whole, taken_by}
-use Rattle.tree_flattener.specs.Steps.{IsRootMade}
+use Rattle.module_model.specs.Exports.{entry_of}
+use Rattle.tree_kinds.specs.TreeLevels.{declared_level}
+use Rattle.tree_names.specs.Parameters.{entry_in}
+use Rattle.flattened_trees.specs.Questions.{UseAs}
+use Rattle.tree_flattener.specs.Steps.{Asks, IsRootMade}
 use Rattle.tla_tree.specs.Arena.{AreThere}
 use Rattle.tla_model.specs.Entities.{name_of}
 use Rattle.flattened_trees.specs.Flattened.{right_of}
@@ -358,7 +362,7 @@ right_sides-right_side-requires g t c =
     let w = world_of (g.N.Names.leads c.args.names.now) (g.N.Names.faces c.args.names.now) c.args.written.now in
     let lt = all-at (λ child. child < c.args.node) c.children-children.result.now c.loop-child.child-index 0 c.children-children.ensures.before c.loop-child-test.true in
     let inv = c.loop-child.invariant in
-    λ κs lives. (omega (arith, lt), (lives, (kid-node w c.args.node c.children-children.result.now c.loop-child.child-index c.requires.node c.children-children.ensures.children c.children-children.ensures.before c.loop-child-test.true, (ready-on w c.args.state.now c.loop-child.state c.args.frame c.args.olds.now inv.steps.extends inv.steps.frames inv.locals c.requires.ready, c.requires.lies))))
+    λ κs lives. (omega (arith, lt), (lives, (kid-node w c.args.node c.children-children.result.now c.loop-child.child-index c.requires.node c.children-children.ensures.children c.children-children.ensures.before c.loop-child-test.true, (ready-on w c.args.state.now c.loop-child.state c.args.frame c.args.olds.now inv.steps.extends inv.steps.frames inv.locals c.requires.ready, ap (map entry_in) c.as_slice-items.ensures ∙ c.in_ok-parameters.ensures ∙ ap (λ z. (w.faces z).parameters) c.spelled.ensures))))
 
 pub right_sides-loop-child-preserved : goal.right_sides-loop-child-preserved
 right_sides-loop-child-preserved g t c =
@@ -377,8 +381,8 @@ right_side-returns-in-None g t c =
     subst (λ x. Rights w c.args.state.now c.args.state.now c.args.frame c.args.olds.now c.args.«module» x c.args.found.now.items c.args.found.now.items c.args.roots.now.items c.args.roots.now.items) (sym c.form_of-form.ensures.whole)
     (not-righted w c.args.state.now c.args.frame c.args.olds.now c.args.«module» (form_at w.nodes c.args.child) (node_at w.nodes c.args.child).span (parts_at w.nodes c.args.child) c.args.found.now.items c.args.roots.now.items (c.in-None.ensures ∙ ap left_of c.form_of-form.ensures.form))
 
-pub right_side-ask_left-requires-clause-left : goal.right_side-ask_left-requires-clause-left
-right_side-ask_left-requires-clause-left g t c =
+pub right_side-ask_left-requires : goal.right_side-ask_left-requires
+right_side-ask_left-requires g t c =
     let w = world_of (g.N.Names.leads c.args.names.now) (g.N.Names.faces c.args.names.now) c.args.written.now in
     left-lies w c.args.child c.in-Some.left c.requires.node (sym (c.in-Some.ensures ∙ ap left_of c.form_of-form.ensures.form))
 
@@ -397,6 +401,6 @@ right_side-returns-in_ok-extend_from_slice-in-Some g t c =
     let w = world_of (g.N.Names.leads c.args.names.now) (g.N.Names.faces c.args.names.now) c.args.written.now in
     subst (λ x. Rights w c.args.state.now c.operands.new.state c.args.frame c.args.olds.now c.args.«module» x c.args.found.now.items c.push_right.new.rights.items c.args.roots.now.items c.extend_from_slice.new.self.items) (sym c.form_of-form.ensures.whole)
     (righted w c.args.state.now c.ask_left.new.state c.operands.new.state c.args.frame c.args.olds.now c.args.«module» c.in-Some.left (form_at w.nodes c.args.child) (node_at w.nodes c.args.child).span (parts_at w.nodes c.args.child) c.args.found.now.items c.push_right.new.rights.items c.operands.new.is.items c.args.roots.now.items c.extend_from_slice.new.self.items
-    (c.in-Some.ensures ∙ ap left_of c.form_of-form.ensures.form) c.requires.ready.framed c.in_ok-ask_left-in-Some.ensures (subst (λ z. ReadsAll (operands_of w (setting_of w c.ask_left.new.state c.args.frame c.args.olds.now) taken.All) c.ask_left.new.state c.operands.new.state (parts_at w.nodes c.args.child) z c.operands.new.is.items) c.new-is.ensures.items c.in_ok-operands-in-Some.ensures)
+    (c.in-Some.ensures ∙ ap left_of c.form_of-form.ensures.form) c.requires.ready.framed (subst (λ z. Asks c.args.state.now c.ask_left.new.state c.args.frame (UseAs c.in-Some.left (declared_level (entry_of z (name_of w.text.source c.in-Some.left))) ∷ [])) c.requires.parameters c.in_ok-ask_left-in-Some.ensures) (subst (λ z. ReadsAll (operands_of w (setting_of w c.ask_left.new.state c.args.frame c.args.olds.now) taken.All) c.ask_left.new.state c.operands.new.state (parts_at w.nodes c.args.child) z c.operands.new.is.items) c.new-is.ensures.items c.in_ok-operands-in-Some.ensures)
     (subst (λ z. IsRighted c.args.found.now.items c.push_right.new.rights.items (right_of (name_of w.text.source c.in-Some.left) (parts_at w.nodes c.args.child) z)) c.as_slice.ensures.value c.in_ok-push_right-in-Some.ensures)
     (c.in_ok-extend_from_slice-in-Some.ensures.items ∙ ap (λ z. c.args.roots.now.items ++ z) c.as_slice-in-Some.ensures.value))
