@@ -189,6 +189,6 @@ module _ (flat : FlatModule) (means : ℕ → Option Meaning) (implied : ℕ →
   IsModuleMade symbols last asked =
       (leads : Leads)
       × AreExtended flat (text_of source units) means implied files outsides (words_of units) (first_scope (text_of source units).file) (first_scope (text_of source units).file)
-        (symbol_setting symbols) (symbol_setting symbols).leads units.extends leads
+      (symbol_setting symbols) (symbol_setting symbols).leads units.extends leads
       × AreUnitsMade flat (text_of source units) means implied files outsides (words_of units) (first outsides source units)
-        (record { setting = record { leads = leads; frame = symbols; olds = [] }; round = []; faces = first_scope (text_of source units).file }) units.units last asked
+      (record { setting = record { leads = leads; frame = symbols; olds = [] }; round = []; faces = first_scope (text_of source units).file }) units.units last asked

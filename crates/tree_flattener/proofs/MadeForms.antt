@@ -13,7 +13,7 @@ use Rattle.tla_model.specs.Entities.{Meaning}
 use Rattle.tla_model.specs.Lexemes.{LiesIn, all_lexemes, lexemes}
 use Rattle.tree_kinds.specs.TreeDepths.{path_names}
 use Rattle.flattened_trees.specs.Leads.{Setting}
-use Rattle.flattened_trees.specs.NodeForms.{constant_node, form_node, in_order, last_first, lead_of, name_node, path_node, path_places}
+use Rattle.flattened_trees.specs.NodeForms.{constant_node, form_node, rule_order, last_first, lead_of, name_node, path_node, path_places}
 use Rattle.tree_flattener.specs.declared.shapes.Making.TheVariants as making
 use Rattle.tree_flattener.specs.Making.{head_of, made_node, making_of, segment_of}
 use Rattle.tree_flattener.specs.Worlds.{AreNodes}
@@ -87,7 +87,7 @@ last-first-all P before [] all more = all
 last-first-all P before (i ∷ []) all more = (more.0, all)
 last-first-all P before (i ∷ (j ∷ is)) all more = last-first-all P (before ++ i ∷ []) (j ∷ is) (all-both P before (i ∷ []) all (more.0, tt)) more.1
 
-pub in-order-all : (P : ℕ → Type 0) (form : Form.the_data) (is : List ℕ) → AllByRecursion P is → AllByRecursion P (in_order form is)
+pub in-order-all : (P : ℕ → Type 0) (form : Form.the_data) (is : List ℕ) → AllByRecursion P is → AllByRecursion P (rule_order form is)
 in-order-all P (Form.Fairness l) [] all = all
 in-order-all P (Form.Fairness l) (i ∷ []) all = all
 in-order-all P (Form.Fairness l) (i ∷ (j ∷ [])) all = (all.1.0, (all.0, tt))

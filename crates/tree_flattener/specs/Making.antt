@@ -10,7 +10,7 @@ use Rattle.kind_text.specs.FlatModule.{Form as NodeForm, Node as FlatNode}
 use Rattle.level_text.specs.FormRules.{form_rule, symbol_rule}
 use Rattle.tree_kinds.specs.Expanding.{bare_rule}
 use Rattle.flattened_trees.specs.Leads.{Setting}
-use Rattle.flattened_trees.specs.NodeForms.{bare_node, constant_node, in_order, inside_node, last_first, operator_node, path_node, plain_node, ruled_node}
+use Rattle.flattened_trees.specs.NodeForms.{bare_node, constant_node, rule_order, inside_node, last_first, operator_node, path_node, plain_node, ruled_node}
 use Rattle.tree_flattener.specs.declared.shapes.Making.TheVariants as making
 use Rattle.tree_flattener.specs.declared.shapes.Shape.TheVariants as shape
 
@@ -37,7 +37,7 @@ made_node source means setting (making.Bare l) form parts is = bare_node source 
 made_node source means setting (making.Operator at l) form parts is = operator_node source means setting l (symbol_rule at l.kind) is
 made_node source means setting making.Inside form parts is = inside_node is
 made_node source means setting making.Bounded form parts is = plain_node NodeForm.Bounded (last_first [] is)
-made_node source means setting making.Ruled form parts is = ruled_node (form_rule form) (in_order form is)
+made_node source means setting making.Ruled form parts is = ruled_node (form_rule form) (rule_order form is)
 
 -- which trees are walked in a way of their own: LET, and an EXCEPT with a function
 abbrev pub shape_of : Form.the_data → List ℕ → shape.the_data

@@ -20,6 +20,8 @@ asked_of (asking.HasKind at node) = asked.HasKind at node
 asked_of (asking.IsAtMost at node most) = asked.IsAtMost at node most
 asked_of (asking.IsShallow name definition) = asked.IsShallow name definition
 asked_of (asking.IsShallowInstance name instance) = asked.IsShallowInstance name instance
+asked_of (asking.IsShallowNode word node) = asked.IsShallowNode word node
+asked_of (asking.IsConstant at node) = asked.IsConstant at node
 
 -- all of these over a frame
 abbrev pub noted : ℕ → List asking.Asked → List Question
@@ -33,6 +35,8 @@ about number (asked.HasKind at node) = asked.HasKind at number
 about number (asked.IsAtMost at node most) = asked.IsAtMost at number most
 about number (asked.IsShallow name definition) = asked.IsShallow name number
 about number (asked.IsShallowInstance name instance) = asked.IsShallowInstance name number
+about number (asked.IsShallowNode word node) = asked.IsShallowNode word number
+about number (asked.IsConstant at node) = asked.IsConstant at number
 
 -- the same over its frame
 abbrev pub question_about : ℕ → Question → Question

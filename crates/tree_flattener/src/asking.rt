@@ -167,6 +167,8 @@ fn about(what: Asked, number: usize) -> Asked
             name,
             instance: number,
         },
+        Asked::IsShallowNode { word, .. } => Asked::IsShallowNode { word, node: number },
+        Asked::IsConstant { at, .. } => Asked::IsConstant { at, node: number },
     }
 }
 

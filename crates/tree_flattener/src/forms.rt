@@ -167,8 +167,8 @@ fn swapped(alloc: Global, is: Vec<usize>) -> Result<Vec<usize>, Memory>
 }
 
 // The operands in the order of the rule of their form.
-fn in_order(alloc: Global, form: Form, is: Vec<usize>) -> Result<Vec<usize>, Memory>
-    ensures { IfOk result (λ ordered. ordered.items ≡ node_forms.in_order form is.items) }
+fn rule_order(alloc: Global, form: Form, is: Vec<usize>) -> Result<Vec<usize>, Memory>
+    ensures { IfOk result (λ ordered. ordered.items ≡ node_forms.rule_order form is.items) }
 {
     match form {
         Form::Fairness(_) => swapped(alloc, is),
@@ -231,9 +231,9 @@ fn add_form_ruled(
 ) -> Result<usize, Memory>
     requires parts { AllByRecursion (λ i. i < length state.old.flat.nodes) is.items }
     ensures { IfOk result (λ i. Adds state.old state.new
-        (node_forms.ruled_node (form_rules.form_rule form) (node_forms.in_order form is.items)) i) }
+        (node_forms.ruled_node (form_rules.form_rule form) (node_forms.rule_order form is.items)) i) }
 {
-    let ordered = in_order(alloc, form, is)?;
+    let ordered = rule_order(alloc, form, is)?;
     add_ruled(alloc, state, form_rule(form), ordered)
 }
 

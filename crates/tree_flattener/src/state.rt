@@ -24,6 +24,10 @@ pub enum Asked {
     IsShallow { name: Lexeme, definition: usize },
     /// The same of a module definition, by its instance.
     IsShallowInstance { name: Lexeme, instance: usize },
+    /// The same of an assumption or a theorem, by its first word.
+    IsShallowNode { word: Lexeme, node: usize },
+    /// Whether an assumption is constant, or has no kind.
+    IsConstant { at: Span, node: usize },
 }
 
 /// A question about what stands over a frame, by the number of the frame.
