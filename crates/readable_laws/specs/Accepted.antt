@@ -1,0 +1,60 @@
+-- What is asked of what stands round a tree of an accepted text, and of the INSTANCEs in it.
+use Rattle.std.specs.Prelude.{◌≡◌, ◌⊎◌, ℕ, List, [], ◌∷◌, ◌++◌, Some, replicate, Contains}
+use Rattle.std.specs.List.{AllByRecursion}
+use Rattle.tla_symbols.specs.declared.lexeme.Lexeme.{Lexeme}
+use Rattle.tla_symbols.specs.declared.op.Op.{Op}
+use Rattle.tla_tree.specs.declared.form.Form.TheVariants as Form
+use Rattle.tla_tree.specs.Syntax.{Tree, Trees, Node, Nil, Cons}
+use Rattle.tla_model.specs.declared.ids.DeclId.{DeclId}
+use Rattle.tla_model.specs.Tables.{Named, Symbol}
+use Rattle.tla_model.specs.Entities.{Meaning, Text}
+use Rattle.tla_model.specs.Contexts.{Context, meaning_of}
+use Rattle.tla_model.specs.Scopes.{Finding}
+use Rattle.module_model.specs.Exports.{Behind, Known, Path, entry_of}
+use Rattle.module_model.specs.Instances.{implied, left_sides}
+use Rattle.tree_kinds.specs.Standing.{Outside}
+use Rattle.tree_kinds.specs.Expanding.{built_in_places, module_of}
+use Rattle.flattened_trees.specs.Leads.{FlatFace}
+use Rattle.flattened_trees.specs.Readable.{AreImplied, IsFaceFor, IsInstanceOf, IsKnownBehind, IsNoInstance, orders_of}
+use Rattle.readable_laws.specs.Uses.{implied_by, means_by}
+
+-- each symbol that can be used takes as many expressions as it has places
+abbrev pub TakePlaces : Context → Type 0
+TakePlaces context = (op : Op) (meaning : Meaning) → meaning_of context (Symbol op) ≡ Some meaning → IsNoInstance meaning × (orders_of meaning ≡ replicate (built_in_places op) 0)
+
+-- names stand behind instances alone
+abbrev pub IsBehindInstances : Behind → Type 0
+IsBehindInstances held = (path : Path) (name : Named) (meaning : Meaning) → entry_of (held path) name ≡ Some meaning → IsInstanceOf meaning (orders_of meaning) ⊎ (held (path ++ name ∷ []) ≡ [])
+
+-- the same of all that is known to stand behind instances
+abbrev pub AreBehindInstances : Known → Type 0
+AreBehindInstances known = (decl : DeclId) (held : Behind) → known decl ≡ Some held → IsBehindInstances held
+
+module _ (text : Text) (known : Known) (named : List ℕ → Outside) (found : List Finding) (faces : List ℕ → FlatFace) where
+  -- of the INSTANCE of a module with a name: what its module is to it is known, and the symbols that were found to stand in for the
+  -- parameters that it does not write are those that do so in a context where they were found
+  pub record IsAcceptedInstance (l : Lexeme) (rights : Trees) : Type 0 where
+    pub face : IsFaceFor text known named (means_by found) (implied_by found) faces l
+    pub stand_in : (context : Context) → AllByRecursion (Contains found) (implied context l (left_sides text.source rights) (module_of text known named l).view.parameters)
+        → AreImplied context (left_sides text.source rights) (module_of text known named l).view.parameters (implied_by found l.span.start)
+
+  -- the first INSTANCE among these is such a one, and what stands behind the name that is given to it is known
+  abbrev pub IsAcceptedAmong : Lexeme → Trees → Type 0
+  IsAcceptedAmong own Nil = Unit {0}
+  IsAcceptedAmong own (Cons (Node (Form.Instance l) s rights) rest) = IsKnownBehind text known named (means_by found) (implied_by found) faces own (Some l) × IsAcceptedInstance l rights
+  IsAcceptedAmong own (Cons x rest) = IsAcceptedAmong own rest
+
+  -- a form names such an INSTANCE, if it names one
+  abbrev pub IsAcceptedForm : Form.the_data → Trees → Type 0
+  IsAcceptedForm (Form.ModuleDefinition own) parts = IsAcceptedAmong own parts
+  IsAcceptedForm form parts = Unit {0}
+
+  abbrev mutual
+    -- all INSTANCEs that have names in a tree are such
+    pub AreAcceptedIn : Tree → Type 0
+    AreAcceptedIn (Node form s parts) = IsAcceptedForm form parts × AreAcceptedAmong parts
+
+    -- the same of several trees
+    pub AreAcceptedAmong : Trees → Type 0
+    AreAcceptedAmong Nil = Unit {0}
+    AreAcceptedAmong (Cons x rest) = AreAcceptedIn x × AreAcceptedAmong rest
