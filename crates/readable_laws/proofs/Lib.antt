@@ -6,3 +6,6 @@ mod Paths
 mod Shapes
 mod Reading
 mod Names
+mod Forms
+mod Parts
+mod Definitions

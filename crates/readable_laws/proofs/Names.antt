@@ -62,7 +62,7 @@ can-stand m order bare =
     let takes : orders_of m ≡ expressions order = meaning-orders m ∙ bare.takes in
     (no-instance m bare.apart, takes ∙ ap expressions (sym (ap length takes ∙ length-replicate order)))
 
-order-places : (order : ℕ) → order_by (places_by order) ≡ order
+pub order-places : (order : ℕ) → order_by (places_by order) ≡ order
 order-places zero = refl
 order-places (suc order) = refl
 
@@ -88,11 +88,11 @@ module _ (text : Text) (known : Known) (named : List ℕ → Outside) (paths : L
   abbrev Found : List Finding → Type 0
   Found fs = Met text known named paths found faces fs
 
-  abbrev Whole_ : Tree → Type 0
-  Whole_ x = Expression text known named paths found faces x
+  abbrev AsExpression : Tree → Type 0
+  AsExpression x = Expression text known named paths found faces x
 
-  abbrev Wholes : Trees → Type 0
-  Wholes xs = Expressions text known named paths found faces xs
+  abbrev AsExpressions : Trees → Type 0
+  AsExpressions xs = Expressions text known named paths found faces xs
 
   abbrev first : {a : List Finding} (b : List Finding) → Found (a ++ b) → Found a
   first {a} b h = left text known named paths found faces b h
@@ -140,7 +140,7 @@ module _ (text : Text) (known : Known) (named : List ℕ → Outside) (paths : L
 
   -- ---- arguments
 
-  pub arguments-read : (xs : Trees) → Wholes xs → (context : Context) (r : Role) (inside : Bool) (index : ℕ) (orders : List ℕ)
+  pub arguments-read : (xs : Trees) → AsExpressions xs → (context : Context) (r : Role) (inside : Bool) (index : ℕ) (orders : List ℕ)
       → ((i order : ℕ) (w : Span) → slice_get orders i ≡ Some order → part_due (found_entity found) r (i + index) w ≡ due_by (Some order) w)
       → count xs ≡ length orders → TakePlaces context → Found (walk_each text here context xs) → part_faults (found_entity found) r inside index xs ≡ [] → are_accepted xs → reads_arguments context orders xs
   arguments-read Nil es context r inside index [] dues counted u met none accepted = tt
@@ -165,7 +165,7 @@ module _ (text : Text) (known : Known) (named : List ℕ → Outside) (paths : L
       later dues i o w at = let e : i + suc index ≡ suc i + index = omega arith in ap (λ k. part_due (found_entity found) r k w) e ∙ dues (suc i) o w at
 
   -- operands are expressions
-  pub operands-read : (xs : Trees) → Wholes xs → (context : Context) (inside : Bool) (n : ℕ) → count xs ≡ n → TakePlaces context → Found (walk_each text here context xs) → part_faults (found_entity found) role.Other inside 0 xs ≡ [] → are_accepted xs
+  pub operands-read : (xs : Trees) → AsExpressions xs → (context : Context) (inside : Bool) (n : ℕ) → count xs ≡ n → TakePlaces context → Found (walk_each text here context xs) → part_faults (found_entity found) role.Other inside 0 xs ≡ [] → are_accepted xs
       → reads_arguments context (expressions n) xs
   operands-read xs es context inside n counted u met none accepted =
       arguments-read xs es context role.Other inside 0 (expressions n) (λ i order w at. ap (λ o. due_by (Some o) w) (sym (replicate-only n i order at))) (counted ∙ sym (length-replicate n)) u met none accepted
@@ -182,7 +182,7 @@ module _ (text : Text) (known : Known) (named : List ℕ → Outside) (paths : L
   pub symbol-use : (context : Context) (which : Op.the_data → Op.the_data) (l : Lexeme) (op : Op.the_data) → is_free (which op) ≡ true → Found (symbol_findings context which l (LexKind.Sym op)) → IsUse l (meaning_of context (Symbol (which op)))
   symbol-use context which l op free met = use-met l (meaning_of context (Symbol (which op))) (subst (λ b. Found (if b then use_findings l (meaning_of context (Symbol (which op))) else [])) free met)
 
-  abbrev Operates : Context → Lexeme → (Op.the_data → Op.the_data) → LexKind.the_data → Option Rule → Trees → List ℕ → Type 0
+  abbrev pub Operates : Context → Lexeme → (Op.the_data → Op.the_data) → LexKind.the_data → Option Rule → Trees → List ℕ → Type 0
   Operates context l which kind rule parts orders = IsOperator text known named (means_by found) (implied_by found) faces context l which kind rule parts orders
 
   pub operator-read : (context : Context) (l : Lexeme) (which : Op.the_data → Op.the_data) (op : Op.the_data) (rule : Option Rule) (x : Tree) (xs : Trees) (n : ℕ) → (rule ≡ None → IsFreeFor (which op) n) → written (Cons x xs) ≡ n → TakePlaces context
@@ -205,7 +205,7 @@ module _ (text : Text) (known : Known) (named : List ℕ → Outside) (paths : L
   used-places : (l : Lexeme) (m : Meaning) → IsUsed found l m → operator_places (means_by found l.span.start) ≡ operator_places (Some m)
   used-places l m used = ap operator_places used.means ∙ (meaning-places used.meant ∙ (ap (λ e. places_by (arity e)) used.same ∙ sym (meaning-places m)))
 
-  last-read : (l : Lexeme) (s : Span) (args : Trees) → Wholes args → (context : Context) (m : Meaning) (held : Behind) (order : ℕ) (whole : Span) (inside : Bool) → IsUsed found l m → TakePlaces context → Found (walk_each text here context args)
+  last-read : (l : Lexeme) (s : Span) (args : Trees) → AsExpressions args → (context : Context) (m : Meaning) (held : Behind) (order : ℕ) (whole : Span) (inside : Bool) → IsUsed found l m → TakePlaces context → Found (walk_each text here context args)
       → tree_faults (found_entity found) (due_by (Some order) whole) inside (Node (Form.Segment l) s args) ≡ [] → are_accepted args → PathRead context m held order l s args Nil
   last-read l s Nil es context m held order whole inside used u met none accepted =
       let own = use_faults (due_by (Some order) whole) l.span 0 (found_entity found l.span.start) in
@@ -233,10 +233,10 @@ module _ (text : Text) (known : Known) (named : List ℕ → Outside) (paths : L
   -- segments with arguments that are expressions
   abbrev pub Segments : Trees → Type 0
   Segments Nil = Unit {0}
-  Segments (Cons (Node (Form.Segment l) s args) rest) = Wholes args × Segments rest
+  Segments (Cons (Node (Form.Segment l) s args) rest) = AsExpressions args × Segments rest
   Segments (Cons x rest) = ⊥
 
-  path-read : (l : Lexeme) (s : Span) (args rest : Trees) → Wholes args → Segments rest → (context : Context) (number : ℕ) (m : Meaning) (held : Behind) (order : ℕ) (whole : Span) (inside : Bool) → IsUsed found l m → Leads m held → TakePlaces context
+  path-read : (l : Lexeme) (s : Span) (args rest : Trees) → AsExpressions args → Segments rest → (context : Context) (number : ℕ) (m : Meaning) (held : Behind) (order : ℕ) (whole : Span) (inside : Bool) → IsUsed found l m → Leads m held → TakePlaces context
       → Found (walk_each text here context args) → Found (path text here context number held rest) → path_faults (found_entity found) (due_by (Some order) whole) inside (Cons (Node (Form.Segment l) s args) rest) ≡ [] → are_accepted args → are_accepted rest
       → PathRead context m held order l s args rest
   path-read l s args Nil es more context number m held order whole inside used leads u met further none accepted others =
@@ -266,7 +266,7 @@ module _ (text : Text) (known : Known) (named : List ℕ → Outside) (paths : L
       }
   path-read l s args (Cons x rest) es more context number m held order whole inside used leads u met further none accepted others = absurd more
 
-  identifier-at : (s : Span) (l : Lexeme) (t : Span) (args rest : Trees) → Wholes args → Segments rest → AreBehindInstances known → (context : Context) (order : ℕ) (whole : Span) (inside : Bool) → TakePlaces context
+  identifier-at : (s : Span) (l : Lexeme) (t : Span) (args rest : Trees) → AsExpressions args → Segments rest → AreBehindInstances known → (context : Context) (order : ℕ) (whole : Span) (inside : Bool) → TakePlaces context
       → Found (segments text here context (Cons (Node (Form.Segment l) t args) rest)) → path_faults (found_entity found) (due_by (Some order) whole) inside (Cons (Node (Form.Segment l) t args) rest) ≡ [] → are_accepted args → are_accepted rest
       → Reads text known named paths found faces context (Node Form.Identifier s (Cons (Node (Form.Segment l) t args) rest)) × (places text known named paths found faces context (Node Form.Identifier s (Cons (Node (Form.Segment l) t args) rest)) ≡ places_by order)
   identifier-at s l t args rest es more behind context order whole inside u met none accepted others =
@@ -285,7 +285,7 @@ module _ (text : Text) (known : Known) (named : List ℕ → Outside) (paths : L
       )
 
   -- a path of names
-  pub identifier-read : (s : Span) (l : Lexeme) (t : Span) (args rest : Trees) → Wholes args → Segments rest → AreBehindInstances known → Whole_ (Node Form.Identifier s (Cons (Node (Form.Segment l) t args) rest))
+  pub identifier-read : (s : Span) (l : Lexeme) (t : Span) (args rest : Trees) → AsExpressions args → Segments rest → AreBehindInstances known → AsExpression (Node Form.Identifier s (Cons (Node (Form.Segment l) t args) rest))
   identifier-read s l t args rest es more behind = record {
     shape = record { part = refl; set = refl; outside = refl; helper = refl; names = refl; group = refl; definition = refl };
     reads = λ context order whole inside u met none accepted. identifier-at s l t args rest es more behind context order whole inside u met none accepted.1.0.1 accepted.1.1;
@@ -343,7 +343,7 @@ module _ (text : Text) (known : Known) (named : List ℕ → Outside) (paths : L
       by true free = free-read context order whole l op free u (symbol-use context itself l op free met) (subst (λ b. use_faults (due_by (Some order) whole) l.span 0 (if b then found_entity found l.span.start else Some (entity.Constant (built_in_places op))) ≡ []) free none)
       by false free = built-in-read context order whole l op free (subst (λ b. use_faults (due_by (Some order) whole) l.span 0 (if b then found_entity found l.span.start else Some (entity.Constant (built_in_places op))) ≡ []) free none)
 
-  pub symbol-read : (l : Lexeme) (s : Span) (op : Op.the_data) → l.kind ≡ LexKind.Sym op → Whole_ (Node (Form.Symbol l) s Nil)
+  pub symbol-read : (l : Lexeme) (s : Span) (op : Op.the_data) → l.kind ≡ LexKind.Sym op → AsExpression (Node (Form.Symbol l) s Nil)
   symbol-read l s op is = record {
     shape = symbol-whole l;
     reads = λ context order whole inside u met none accepted.

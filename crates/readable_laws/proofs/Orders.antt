@@ -112,7 +112,7 @@ order-at (entity.Instance orders) i = refl
 order-at _ i = replicate-at 0 i
 
 -- the places of an operator, by what it takes
-places-arity : (e : Entity) → places e ≡ arity e
+pub places-arity : (e : Entity) → places e ≡ arity e
 places-arity (entity.Constant n) = refl
 places-arity _ = refl
 

@@ -24,7 +24,7 @@ use Rattle.arity_rules.specs.declared.place.Due.TheVariants as due
 use Rattle.arity_rules.specs.declared.place.Role.TheVariants as role
 use Rattle.arity_rules.specs.Arities.{Due, Role, count, due_by, is_part_inside, is_path, meaning, other_faults, own_faults, part_due, part_faults, path_faults, role_of, tree_faults}
 use Rattle.flattened_trees.specs.Leads.{FlatFace}
-use Rattle.flattened_trees.specs.Readable.{AreArguments, AreReadable, IsReadable}
+use Rattle.flattened_trees.specs.Readable.{AreArguments, AreReadable, EndsWhole, IsReadable}
 use Rattle.readable_laws.specs.Uses.{implied_by, means_by}
 use Rattle.readable_laws.specs.Accepted.{AreAcceptedAmong, AreAcceptedIn, TakePlaces}
 use Rattle.readable_laws.proofs.FoundMeanings.{entity_in}
@@ -43,6 +43,10 @@ bound-fit b (name ∷ names) fits = (fits.0, bound-fit b names fits.1)
 -- what a part binds fits
 abbrev pub BindsFit : Binding → Tree → Type 0
 BindsFit b (Node f s parts) = AllByRecursion (FitsAs b) (placed f) × AllByRecursion (FitsAs b) (names_in (is_group f) parts)
+
+abbrev pub BindEach : Binding → Trees → Type 0
+BindEach b Nil = Unit {0}
+BindEach b (Cons x rest) = BindsFit b x × BindEach b rest
 
 -- what is found at a name means this where it begins, but for the path that it is called through
 pub record IsUsed (found : List Finding) (l : Lexeme) (m : Meaning) : Type 0 where
@@ -132,11 +136,15 @@ module _ (text : Text) (known : Known) (named : List ℕ → Outside) (paths : L
         parts-read b rest parts.1 outside context r inside (suc index) plain u v (right _ sets) (right _ others) later accepted.1,
       )
 
-  pub parts-fit : (b : Binding) (xs : Trees) → PartsOf b xs → AllByRecursion (FitsAs b) (all_placed xs) × AllByRecursion (FitsAs b) (all_grouped xs)
+  pub parts-bind : (b : Binding) (xs : Trees) → PartsOf b xs → BindEach b xs
+  parts-bind b Nil parts = tt
+  parts-bind b (Cons x rest) parts = (parts.0.binds, parts-bind b rest parts.1)
+
+  pub parts-fit : (b : Binding) (xs : Trees) → BindEach b xs → AllByRecursion (FitsAs b) (all_placed xs) × AllByRecursion (FitsAs b) (all_grouped xs)
   parts-fit b Nil parts = (tt, tt)
   parts-fit b (Cons (Node f s ps) rest) parts =
       let others = parts-fit b rest parts.1 in
-      (all-both (FitsAs b) (placed f) (all_placed rest) parts.0.binds.0 others.0, all-both (FitsAs b) (names_in (is_group f) ps) (all_grouped rest) parts.0.binds.1 others.1)
+      (all-both (FitsAs b) (placed f) (all_placed rest) parts.0.0 others.0, all-both (FitsAs b) (names_in (is_group f) ps) (all_grouped rest) parts.0.1 others.1)
 
   -- an expression as a part
   whole-reads : (f : Form.the_data) (s : Span) (ps : Trees) (outside context : Context) → part_of f ≡ Whole → (places context (Node f s ps) ≡ None) × Reads context (Node f s ps) → ReadEach outside context (Cons (Node f s ps) Nil)
@@ -150,7 +158,7 @@ module _ (text : Text) (known : Known) (named : List ℕ → Outside) (paths : L
         | Whole ↦ (places context (Node f s ps) ≡ None) × Reads context (Node f s ps)
       ]) whole reads.0
 
-  other-walk : (b : Bool) (one two : List Finding) → b ≡ false → Met ((if b then one else two) ++ []) → Met two
+  pub other-walk : (b : Bool) (one two : List Finding) → b ≡ false → Met ((if b then one else two) ++ []) → Met two
   other-walk true one two e h = absurd (cc)
   other-walk false one two e h = left _ h
 
@@ -215,12 +223,49 @@ module _ (text : Text) (known : Known) (named : List ℕ → Outside) (paths : L
   pub silent-scope : (b : Binding) (xs : Trees) (context : Context) → Silent xs → bind_all text context (bound_as b (all_placed xs ++ all_grouped xs)) ≡ context
   silent-scope b xs context silent = ap (bind_all text context) (silent-names b xs silent)
 
-  pub inner-read : (b : Binding) (xs : Trees) → PartsOf b xs → Silent xs → (context : Context) (r : Role) (inside : Bool) → ((i : ℕ) (w : Span) → part_due (meaning found) r i w ≡ due.Expression) → TakePlaces context
-      → Met (walk_sets text around context xs ++ all_refused text context (bound_as b (all_placed xs ++ all_grouped xs)) ++ walk_rest text around (bind_all text context (bound_as b (all_placed xs ++ all_grouped xs))) xs)
+  -- a part that is read where the form stands
+  pub record InnerOf (x : Tree) : Type 0 where
+    pub reads : (context : Context) (inside : Bool) → TakePlaces context → Met (walk_sets text around context (Cons x Nil)) → Met (walk_rest text around context (Cons x Nil)) → tree_faults (meaning found) due.Expression inside x ≡ [] → Accepted x → ReadEach context context (Cons x Nil)
+
+  abbrev pub InnersOf : Trees → Type 0
+  InnersOf Nil = Unit {0}
+  InnersOf (Cons x rest) = InnerOf x × InnersOf rest
+
+  pub part-inner : (b : Binding) (x : Tree) → PartOf b x → InnerOf x
+  part-inner b x part = record { reads = λ context inside u sets others none accepted. part.reads context context inside u u sets others none accepted }
+
+  pub inners-then : (xs : Trees) (x : Tree) → InnersOf xs → InnerOf x → InnersOf ((then) xs x)
+  inners-then Nil x parts part = (part, tt)
+  inners-then (Cons y xs) x parts part = (parts.0, inners-then xs x parts.1 part)
+
+  pub expression-inners : (xs : Trees) → Expressions xs → InnersOf xs
+  expression-inners Nil es = tt
+  expression-inners (Cons x rest) es = (part-inner (as_binding.Bound false) x (expression-part (as_binding.Bound false) x es.0), expression-inners rest es.1)
+
+  inners-read : (xs : Trees) → InnersOf xs → (context : Context) (r : Role) (inside : Bool) (index : ℕ) → ((i : ℕ) (w : Span) → part_due (meaning found) r i w ≡ due.Expression)
+      → TakePlaces context → Met (walk_sets text around context xs) → Met (walk_rest text around context xs) → part_faults (meaning found) r inside index xs ≡ [] → AcceptedEach xs → ReadEach context context xs
+  inners-read Nil parts context r inside index plain u sets others none accepted = tt
+  inners-read (Cons (Node f s ps) rest) parts context r inside index plain u sets others none accepted =
+      let first = first-empty (tree_faults (meaning found) (part_due (meaning found) r index s) (is_part_inside r inside f) (Node f s ps)) (part_faults (meaning found) r inside (suc index) rest) none in
+      let later = rest-empty (tree_faults (meaning found) (part_due (meaning found) r index s) (is_part_inside r inside f) (Node f s ps)) (part_faults (meaning found) r inside (suc index) rest) none in
+      let plainly : tree_faults (meaning found) due.Expression (is_part_inside r inside f) (Node f s ps) ≡ [] = subst (λ d. tree_faults (meaning found) d (is_part_inside r inside f) (Node f s ps) ≡ []) (plain index s) first in
+      (
+        (parts.0.reads context (is_part_inside r inside f) u (alone (left _ sets)) (alone (left _ others)) plainly accepted.0).0,
+        inners-read rest parts.1 context r inside (suc index) plain u (right _ sets) (right _ others) later accepted.1,
+      )
+
+  pub inner-read : (xs : Trees) → InnersOf xs → Silent xs → (context : Context) (r : Role) (inside : Bool) → ((i : ℕ) (w : Span) → part_due (meaning found) r i w ≡ due.Expression) → TakePlaces context
+      → Met (walk_sets text around context xs ++ all_refused text context (bound_as (as_binding.Bound false) (all_placed xs ++ all_grouped xs)) ++ walk_rest text around (bind_all text context (bound_as (as_binding.Bound false) (all_placed xs ++ all_grouped xs))) xs)
       → part_faults (meaning found) r inside 0 xs ≡ [] → AcceptedEach xs → ReadEach context context xs
-  inner-read b xs parts silent context r inside plain u met none accepted =
+  inner-read xs parts silent context r inside plain u met none accepted =
+      let b : Binding = as_binding.Bound false in
       let walked = silent-walk xs context (bound_as b (all_placed xs ++ all_grouped xs)) (silent-names b xs silent) met in
-      parts-read b xs parts context context r inside 0 plain u u walked.0 walked.1 none accepted
+      inners-read xs parts context r inside 0 plain u walked.0 walked.1 none accepted
+
+  -- updates, as parts
+  abbrev pub Updates : Trees → Type 0
+  Updates Nil = Unit {0}
+  Updates (Cons (Node f s parts) rest) = (f ≡ Form.Update) × EndsWhole parts × PartOf (as_binding.Bound false) (Node f s parts) × Updates rest
 
   -- ---- forms
 
@@ -240,7 +285,14 @@ module _ (text : Text) (known : Known) (named : List ℕ → Outside) (paths : L
       let rest = walk_rest text around (scope text context f parts) parts in
       (right own (left names (left rest met)), right (own ++ sets ++ names) met)
 
-  other-role : (r : Role) (d : Due) (inside : Bool) (parts : Trees) → r ≡ role.Other
+  pub binders-fit : (f : Form.the_data) (parts : Trees) → BindEach (binding_of f) parts → AllByRecursion Fits (binders f parts)
+  binders-fit f parts each = by (is_group f)
+    where
+      by : (b : Bool) → AllByRecursion Fits (if b then [] else bound_as (binding_of f) (all_placed parts ++ all_grouped parts))
+      by true = tt
+      by false = let fits = parts-fit (binding_of f) parts each in bound-fit (binding_of f) (all_placed parts ++ all_grouped parts) (all-both (FitsAs (binding_of f)) (all_placed parts) (all_grouped parts) fits.0 fits.1)
+
+  pub other-role : (r : Role) (d : Due) (inside : Bool) (parts : Trees) → r ≡ role.Other
       → own_faults (meaning found) d inside r (count parts) ++ (if is_path r then path_faults (meaning found) d inside parts else part_faults (meaning found) r inside 0 parts) ≡ []
       → (other_faults d ≡ []) × (part_faults (meaning found) role.Other inside 0 parts ≡ [])
   other-role r d inside parts e none = by (subst (λ r. own_faults (meaning found) d inside r (count parts) ++ (if is_path r then path_faults (meaning found) d inside parts else part_faults (meaning found) r inside 0 parts) ≡ []) e none)
@@ -257,19 +309,17 @@ module _ (text : Text) (known : Known) (named : List ℕ → Outside) (paths : L
   pub form-expression : (f : Form.the_data) (s : Span) (parts : Trees) → IsWholeForm f → role_of f ≡ role.Other → ((context : Context) → places context (Node f s parts) ≡ None)
       → ((context : Context) → Met (walk text around context (Node f s parts)) → Met (walk_sets text around (reserved text context f parts) parts) × Met (walk_rest text around (scope text context f parts) parts))
       → ((context : Context) → ReadEach (reserved text context f parts) (scope text context f parts) parts → Reads context (Node f s parts))
-      → AllByRecursion Fits (binders f parts) → (b : Binding) → PartsOf b parts → Expression (Node f s parts)
-  form-expression f s parts shape other bare walked read fits b all = record {
+      → PartsOf (binding_of f) parts → Expression (Node f s parts)
+  form-expression f s parts shape other bare walked read all = record {
     shape = shape;
-    reads = λ context order whole inside u met none accepted.
-        let faults = other-role (role_of f) (due_by (Some order) whole) inside parts other none in
+    reads = λ context order whole within u met none accepted.
+        let faults = other-role (role_of f) (due_by (Some order) whole) within parts other none in
         let w = walked context met in
         let v : TakePlaces (reserved text context f parts) = reserve-all-keeps text context (defined f parts) u in
-        let within : TakePlaces (inside_of f context parts) = subst TakePlaces (sym (inside-reserved f shape.definition context parts)) v in
+        let u_inside : TakePlaces (inside text context f parts) = subst TakePlaces (sym (inside-reserved f shape.definition context parts)) v in
+        let u_scope : TakePlaces (scope text context f parts) = bind-all-keeps text (inside text context f parts) (binders f parts) (binders-fit f parts (parts-bind (binding_of f) parts all)) u_inside in
         (
-          read context (parts-read b parts all (reserved text context f parts) (scope text context f parts) role.Other inside 0 (λ i w. refl) v (bind-all-keeps text (inside_of f context parts) (binders f parts) fits within) w.0 w.1 faults.1 accepted.1),
+          read context (parts-read (binding_of f) parts all (reserved text context f parts) (scope text context f parts) role.Other within 0 (λ i w. refl) v u_scope w.0 w.1 faults.1 accepted.1),
           bare context ∙ ap places_by (sym (other-plain order whole faults.0)),
         );
   }
-    where
-      inside_of : Form.the_data → Context → Trees → Context
-      inside_of f context parts = inside text context f parts
