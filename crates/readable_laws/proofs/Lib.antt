@@ -9,3 +9,4 @@ mod Names
 mod Forms
 mod Parts
 mod Definitions
+mod ReadTrees
