@@ -1,18 +1,15 @@
 -- In contexts symbols take as many expressions as they have places.
-use Rattle.std.proofs.Common.{◌≡◌, ℕ, Bool, true, false, cond, List, [], ◌∷◌, ◌++◌, ◌⊎◌, inl, inr, Option, Some, None, is_some, if◌then◌else◌, refl, sym, ap, subst, ◌∙◌, map}
+use Rattle.std.proofs.Common.{◌≡◌, ℕ, Bool, true, false, cond, List, [], ◌∷◌, ◌++◌, ◌⊎◌, inl, inr, Option, Some, None, is_some, refl, sym, ap, subst, ◌∙◌}
 use Rattle.std.specs.Prelude.{replicate}
-use Rattle.std.specs.Str.{bytes_eq}
 use Rattle.std.specs.List.{AllByRecursion}
-use Rattle.list_laws.proofs.Lists.{all-both}
 use denote.Enum.Bare.{same_true}
 use Rattle.tla_symbols.specs.declared.lexeme.LexKind.{LexKind}
 use Rattle.tla_symbols.specs.declared.lexeme.Lexeme.{Lexeme}
 use Rattle.tla_symbols.specs.declared.op.Op.{Op}
 use Rattle.tla_symbols.specs.contracts.op.Op as symbol_enum
-use Rattle.tla_model.specs.declared.entity.Entity.TheVariants as entity
 use Rattle.tla_model.specs.declared.names.Binder.{Binder}
-use Rattle.tla_model.specs.Tables.{Table, Named, Word, Symbol, added, find, lookup, put, same_symbol}
-use Rattle.tla_model.specs.Entities.{Binding, Entity, Meaning, Text, bound_as, entity_of, meant, name_by, name_of}
+use Rattle.tla_model.specs.Tables.{Named, Word, Symbol, added, lookup, put, same_symbol}
+use Rattle.tla_model.specs.Entities.{Entity, Meaning, Text, meant, name_by, name_of}
 use Rattle.tla_model.specs.Contexts.{Context, bind, bind_all, meaning_of, reserve_all, usable}
 use Rattle.tla_model.specs.Lexemes.{spelled}
 use Rattle.tree_kinds.specs.Expanding.{built_in_places}

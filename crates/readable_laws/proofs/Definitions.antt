@@ -1,6 +1,6 @@
 -- Definitions and instances can be read if their bodies and right sides can.
-use Rattle.std.proofs.Common.{◌≡◌, ◌+◌, ℕ, zero, suc, List, [], ◌∷◌, ◌++◌, Bool, true, false, Option, Some, None, refl, sym, ap, subst, ◌∙◌, map}
-use Rattle.std.specs.Prelude.{Contains, replicate}
+use Rattle.std.proofs.Common.{◌≡◌, ℕ, suc, List, [], ◌∷◌, ◌++◌, Bool, true, false, Option, Some, None, refl, sym, ap, subst, ◌∙◌}
+use Rattle.std.specs.Prelude.{Contains}
 use Rattle.std.specs.List.{AllByRecursion}
 use Rattle.tla_symbols.specs.declared.lexeme.LexKind.TheVariants as LexKind
 use Rattle.tla_symbols.specs.declared.lexeme.Lexeme.{Lexeme}
@@ -8,37 +8,36 @@ use Rattle.tla_symbols.specs.declared.lexeme.Span.{Span}
 use Rattle.tla_symbols.specs.declared.op.Op.{Op}
 use Rattle.tla_tree.specs.declared.form.Form.TheVariants as Form
 use Rattle.tla_tree.specs.Forms.{helps}
-use Rattle.tla_tree.specs.Lexemes.{one, then, two}
+use Rattle.tla_tree.specs.Lexemes.{one, then}
 use Rattle.tla_tree.specs.Syntax.{Tree, Trees, Node, Nil, Cons, form}
 use Rattle.tla_model.specs.declared.entity.Entity.TheVariants as entity
-use Rattle.tla_model.specs.declared.names.Binder.{Binder}
 use Rattle.tla_model.specs.declared.names.Binding.TheVariants as as_binding
 use Rattle.tla_model.specs.declared.names.Finding.TheVariants.{Means, NotReplaceable, ReplacedTwice}
 use Rattle.tla_model.specs.declared.names.Meaning.TheVariants.{BuiltIn, Declared}
 use Rattle.tla_model.specs.Tables.{Named, is_among}
-use Rattle.tla_model.specs.Entities.{Binding, Entity, Meaning, Nothing, Text, all_placed, binding_of, defined, defines, is_group, name_of, orders, placed}
-use Rattle.tla_model.specs.Contexts.{Context, bind_all}
-use Rattle.tla_model.specs.Scopes.{Finding, all_grouped, all_refused, behind, binders, definition, has_set, inside, names_in, reserved, scope}
+use Rattle.tla_model.specs.Entities.{Binding, Entity, Meaning, Nothing, Text, binding_of, defined, defines, is_group, name_of, placed}
+use Rattle.tla_model.specs.Contexts.{Context}
+use Rattle.tla_model.specs.Scopes.{Finding, all_grouped, behind, binders, definition, inside, names_in, reserved, scope}
 use Rattle.module_model.specs.Exports.{Exports, Known, entry_of}
-use Rattle.module_model.specs.Instances.{implied, instance_among, left_sides, replaced_as}
-use Rattle.module_model.specs.TreeFindings.{Surroundings, replaceable, replaced, walk, walk_chain, walk_each, walk_rest, walk_sets}
+use Rattle.module_model.specs.Instances.{instance_among, replaced_as}
+use Rattle.module_model.specs.TreeFindings.{Surroundings, replaceable, replaced, walk, walk_chain, walk_rest}
 use Rattle.tree_kinds.specs.Standing.{Outside}
-use Rattle.tree_kinds.specs.Expanding.{Helper, Outer, Part, Whole, built_in_places, module_of, part_of, stands_outside}
+use Rattle.tree_kinds.specs.Expanding.{Helper, Outer, Whole, part_of, stands_outside}
 use Rattle.flat_trees.specs.Layouts.{order_of}
 use Rattle.flat_trees.specs.Names.{order_by, places_by}
 use Rattle.arity_rules.specs.declared.place.Due.TheVariants as due
 use Rattle.arity_rules.specs.declared.place.Role.TheVariants as role
 use Rattle.arity_rules.specs.Arities.{arity, due_by, meaning as found_entity, part_due, part_faults, replacing_order, role_of, tree_faults}
 use Rattle.flattened_trees.specs.Leads.{FlatFace}
-use Rattle.flattened_trees.specs.Readable.{AreReadableRights, EndsWhole, IsKnownBehind, IsReadableChain, IsReadableDefinition, IsReadableThrough, entity_orders, parameter_order}
+use Rattle.flattened_trees.specs.Readable.{AreReadableRights, IsKnownBehind, IsReadableChain, IsReadableDefinition, IsReadableThrough, parameter_order}
 use Rattle.readable_laws.specs.Uses.{implied_by, means_by}
 use Rattle.readable_laws.specs.Accepted.{IsAcceptedAmong, IsAcceptedInstance, TakePlaces}
 use Rattle.readable_laws.proofs.Contexts.{Fits, TakesPlaces, bind-all-keeps, reserve-all-keeps}
 use Rattle.readable_laws.proofs.FoundMeanings.{IsAgreed, entity_in}
-use Rattle.readable_laws.proofs.Forms.{AllBefore, AllInside, ends-then, helper, inside-then, outer}
+use Rattle.readable_laws.proofs.Forms.{AllBefore, AllInside, ends-then, helper, inside-then}
 use Rattle.readable_laws.proofs.Names.{order-places}
 use Rattle.readable_laws.proofs.Orders.{first-empty, other-plain, places-arity, rest-empty}
-use Rattle.readable_laws.proofs.Reading.{Accepted, AcceptedEach, BindEach, Expression, FitsAs, Met, PartOf, PartsOf, ReadEach, Reads, around, binders-fit, bound-fit, expression-part, form_walk, left, other-role, other-walk, parts-bind, parts-read, parts-then, places, right, walk-parts}
+use Rattle.readable_laws.proofs.Reading.{Accepted, AcceptedEach, BindEach, Expression, FitsAs, Met, PartOf, PartsOf, ReadEach, Reads, around, binders-fit, expression-part, form_walk, left, other-role, parts-bind, parts-read, parts-then, places, right, walk-parts}
 use Rattle.readable_laws.proofs.Shapes.{IsWholeForm}
 
 -- the INSTANCE of a module
@@ -166,12 +165,14 @@ module _ (text : Text) (known : Known) (named : List ℕ → Outside) (paths : L
   head-part : (f : Form.the_data) (s : Span) → IsHead f → PartOf text known named paths found faces as_binding.Parameter (Node f s Nil)
   head-part f s head = record {
     binds = (head.fits, subst (λ b. AllByRecursion (FitsAs as_binding.Parameter) (names_in b Nil)) (sym head.group) tt);
-    reads = λ outside context inside u v sets others none accepted.
-        (subst (λ p. elim p as (λ _. Type 0) [
-          | Outer ↦ are_read outside outside Nil
-          | Helper ↦ are_read context context Nil
-          | Whole ↦ (bare context (Node f s Nil) ≡ None) × is_read context (Node f s Nil)
-        ]) (sym head.part) tt, tt);
+    reads = λ outside context inside u v sets others none accepted. (
+      subst (λ p. elim p as (λ _. Type 0) [
+        | Outer ↦ are_read outside outside Nil
+        | Helper ↦ are_read context context Nil
+        | Whole ↦ (bare context (Node f s Nil) ≡ None) × is_read context (Node f s Nil)
+      ]) (sym head.part) tt,
+      tt,
+    );
   }
 
   heads-parts : (xs : Trees) → AllHeads xs → Parts as_binding.Parameter xs
@@ -276,8 +277,7 @@ module _ (text : Text) (known : Known) (named : List ℕ → Outside) (paths : L
       let later = part_faults (found_entity found) role.Other within (suc index) rest in
       let none_right : at_right ≡ [] = first-empty at_right [] (first-empty (at_right ++ []) later none) in
       let is_due : part_due (found_entity found) (role.Replacement l) 0 at ≡ due_by (Some (arity (entity_in own.parameter))) at = ap (λ e. due_by (replacing_order e) at) own.entity in
-      let read = rs.0.reads context (arity (entity_in own.parameter)) at within u (first _ (last _ (first _ met))) (subst (λ d. tree_faults (found_entity found) d within right_side ≡ []) is_due none_right) accepted.0.1.0 in
-      (
+      let read = rs.0.reads context (arity (entity_in own.parameter)) at within u (first _ (last _ (first _ met))) (subst (λ d. tree_faults (found_entity found) d within right_side ≡ []) is_due none_right) accepted.0.1.0 in (
         rs.0.shape.part,
         own.once,
         ap parameter_order own.there ∙ ap Some (order-arity own.parameter ∙ sym (ap order_by read.1 ∙ order-places (arity (entity_in own.parameter)))),
@@ -349,11 +349,10 @@ module _ (text : Text) (known : Known) (named : List ℕ → Outside) (paths : L
         let w = walk-parts text known named paths found faces context f parts met in
         let v : TakePlaces (reserved text context f parts) = reserve-all-keeps text context (defined f parts) u in
         let u_scope : TakePlaces (scope text context f parts) = bind-all-keeps text (inside text context f parts) (binders f parts) (binders-fit text known named paths found faces f parts (heads-bind xs (Form.Instance m) t rights heads refl refl)) v in
-        let is = accepted-heads l xs heads instance accepted.0 in
-        (
+        let is = accepted-heads l xs heads instance accepted.0 in (
           heads-grouped xs (Form.Instance m) t rights heads refl,
           subst (λ o. IsKnownBehind text known named (means_by found) (implied_by found) faces l o) (sym (among-heads xs heads instance)) is.0,
           through-heads xs heads instance (scope text context f parts)
-          (instance-read m t rights Nil rs is.1 (scope text context f parts) within u_scope (last-walk xs m t rights (scope text context f parts) w.1) (last-faults xs m t rights within 0 none) (last-accepted xs instance accepted.1).1),
+              (instance-read m t rights Nil rs is.1 (scope text context f parts) within u_scope (last-walk xs m t rights (scope text context f parts) w.1) (last-faults xs m t rights within 0 none) (last-accepted xs instance accepted.1).1),
         );
   }

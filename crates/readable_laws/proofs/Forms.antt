@@ -1,7 +1,6 @@
 -- Forms can be read if their parts can.
-use Rattle.std.proofs.Common.{◌≡◌, ◌+◌, ℕ, zero, suc, List, [], ◌∷◌, ◌++◌, Bool, true, false, not, ◌⊎◌, Option, Some, None, refl, sym, ap, subst, ◌∙◌}
+use Rattle.std.proofs.Common.{◌≡◌, ℕ, List, [], ◌++◌, Bool, false, not, Option, Some, None, refl, sym, ap, subst, ◌∙◌}
 use Rattle.std.specs.Prelude.{Contains}
-use Rattle.std.specs.List.{AllByRecursion}
 use Rattle.list_laws.proofs.Lists.{all-both}
 use Rattle.tla_symbols.specs.declared.lexeme.LexKind.TheVariants as LexKind
 use Rattle.tla_symbols.specs.declared.lexeme.Lexeme.{Lexeme}
@@ -9,32 +8,29 @@ use Rattle.tla_symbols.specs.declared.lexeme.Span.{Span}
 use Rattle.tla_symbols.specs.declared.level.Rule.{Rule}
 use Rattle.tla_symbols.specs.declared.op.Op.TheVariants as Op
 use Rattle.tla_symbols.specs.declared.place.Fix.TheVariants.{Prefix, Infix, Postfix}
-use Rattle.tla_symbols.specs.Symbols.{rule_of}
 use Rattle.tla_tree.specs.declared.form.Form.TheVariants as Form
-use Rattle.tla_tree.specs.Forms.{helps}
 use Rattle.tla_tree.specs.Lexemes.{Applies, one, then, two}
 use Rattle.tla_tree.specs.Syntax.{Tree, Trees, Node, Nil, Cons, form}
 use Rattle.tla_model.specs.declared.names.Binding.TheVariants as as_binding
 use Rattle.tla_model.specs.Entities.{Binding, Nothing, Text, all_placed, binding_of, bound_as, defines, is_group, placed}
 use Rattle.tla_model.specs.Contexts.{Context, bind_all}
-use Rattle.tla_model.specs.Scopes.{Finding, all_grouped, all_refused, binders, has_set, itself, prefixed, reserved, scope, symbol_findings}
+use Rattle.tla_model.specs.Scopes.{Finding, all_grouped, itself, prefixed, reserved, scope, symbol_findings}
 use Rattle.module_model.specs.Exports.{Known}
-use Rattle.module_model.specs.TreeFindings.{Surroundings, walk, walk_each, walk_rest, walk_sets}
+use Rattle.module_model.specs.TreeFindings.{Surroundings, walk, walk_each}
 use Rattle.level_text.specs.FormRules.{symbol_rule}
 use Rattle.tree_kinds.specs.Standing.{Outside}
 use Rattle.tree_kinds.specs.Expanding.{Helper, Outer, Part, Whole, part_of, stands_outside}
 use Rattle.flat_trees.specs.Names.{places_by}
-use Rattle.arity_rules.specs.declared.place.Due.TheVariants as due
 use Rattle.arity_rules.specs.declared.place.Role.TheVariants as role
-use Rattle.arity_rules.specs.Arities.{count, due_by, fault_if, meaning as found_entity, other_faults, part_faults, role_of, tree_faults}
+use Rattle.arity_rules.specs.Arities.{count, due_by, fault_if, meaning as found_entity, other_faults, part_faults, role_of}
 use Rattle.flattened_trees.specs.Leads.{FlatFace}
 use Rattle.flattened_trees.specs.Readable.{AreInside, AreUpdatesWritten, EndsWhole, count as written}
-use Rattle.readable_laws.specs.Uses.{implied_by, means_by}
+use Rattle.readable_laws.specs.Uses.{means_by}
 use Rattle.readable_laws.specs.Accepted.{TakePlaces}
 use Rattle.readable_laws.proofs.FoundMeanings.{IsAgreed}
 use Rattle.readable_laws.proofs.Orders.{expressions, first-empty, other-plain}
 use Rattle.readable_laws.proofs.Names.{Operates, operands-read, operator-read}
-use Rattle.readable_laws.proofs.Reading.{AcceptedEach, Silent, Updates, Expression, Expressions, Met, PartOf, PartsOf, ReadArguments, ReadEach, Reads, around, expression-part, expression-parts, expressions-silent, form-expression, form_walk, left, parts-then, silent-none, silent-with, other-role, places, right, silent-scope, silent-then, walk-parts, whole-of}
+use Rattle.readable_laws.proofs.Reading.{AcceptedEach, Silent, Updates, Expression, Expressions, Met, PartsOf, ReadArguments, ReadEach, Reads, around, expression-part, expressions-silent, form-expression, form_walk, left, parts-then, silent-none, silent-with, other-role, places, right, silent-scope, walk-parts, whole-of}
 use Rattle.readable_laws.proofs.Shapes.{IsWholeForm}
 use Rattle.readable_laws.proofs.Symbols.{IsFreeFor, infix-free, postfix-free, prefix-free}
 
@@ -225,9 +221,8 @@ module _ (text : Text) (known : Known) (named : List ℕ → Outside) (paths : L
   except-read s (Node f at ps) xs shape e all =
       form-read Form.Except s (Cons (Node f at ps) xs) shape refl (λ context. refl) (λ context met. met)
       (λ context read.
-        let silent = silent-with text known named paths found faces f at ps xs e.shape.names e.shape.group (updates-silent xs all) in
-        let same = subst (λ c. are_read context c (Cons (Node f at ps) xs)) (silent-scope text known named paths found faces (as_binding.Bound false) (Cons (Node f at ps) xs) context silent) read in
-        let first = whole-of text known named paths found faces f at ps xs context context e.shape.part same in
-        (e.shape.helper, first.0, first.1, updates-written xs all, same.1))
+      let silent = silent-with text known named paths found faces f at ps xs e.shape.names e.shape.group (updates-silent xs all) in
+      let same = subst (λ c. are_read context c (Cons (Node f at ps) xs)) (silent-scope text known named paths found faces (as_binding.Bound false) (Cons (Node f at ps) xs) context silent) read in
+      let first = whole-of text known named paths found faces f at ps xs context context e.shape.part same in
+      (e.shape.helper, first.0, first.1, updates-written xs all, same.1))
       (expression-part text known named paths found faces (as_binding.Bound false) (Node f at ps) e, updates-parts xs all)
-

@@ -10,3 +10,4 @@ mod Forms
 mod Parts
 mod Definitions
 mod ReadTrees
+mod Accepting

@@ -1,40 +1,37 @@
 -- Names, symbols and paths can be read where they were found, with the arguments that they take.
 use Rattle.std.proofs.Common.{◌≡◌, ◌+◌, ℕ, zero, suc, List, [], ◌∷◌, ◌++◌, Bool, true, false, Option, Some, None, is_some, refl, sym, ap, subst, ◌∙◌, length, if◌then◌else◌, arith}
-use Rattle.std.specs.Prelude.{Contains, nat_eq, replicate, slice_get}
-use Rattle.std.specs.List.{AllByRecursion}
+use Rattle.std.specs.Prelude.{Contains, nat_eq, slice_get}
 use Rattle.tla_symbols.specs.declared.lexeme.LexKind.TheVariants as LexKind
 use Rattle.tla_symbols.specs.declared.lexeme.Lexeme.{Lexeme}
 use Rattle.tla_symbols.specs.declared.lexeme.Span.{Span}
 use Rattle.tla_symbols.specs.declared.level.Rule.{Rule}
 use Rattle.tla_symbols.specs.declared.op.Op.TheVariants as Op
-use Rattle.tla_symbols.specs.declared.place.Fix.TheVariants.{Prefix, Infix, Postfix}
 use Rattle.tla_tree.specs.declared.form.Form.TheVariants as Form
-use Rattle.tla_tree.specs.Syntax.{Tree, Trees, Node, Nil, Cons, form}
+use Rattle.tla_tree.specs.Syntax.{Tree, Trees, Node, Nil, Cons}
 use Rattle.tla_model.specs.declared.names.Finding.TheVariants.{Means, Unknown}
 use Rattle.tla_model.specs.declared.names.Meaning.TheVariants.{BuiltIn, Declared}
-use Rattle.tla_model.specs.Tables.{Named, Symbol}
+use Rattle.tla_model.specs.Tables.{Symbol}
 use Rattle.tla_model.specs.Entities.{Meaning, Text, name_of}
 use Rattle.tla_model.specs.Contexts.{Context, meaning_of}
-use Rattle.tla_model.specs.Scopes.{Finding, is_free, itself, prefixed, symbol_findings, use_findings}
+use Rattle.tla_model.specs.Scopes.{Finding, is_free, itself, symbol_findings, use_findings}
 use Rattle.module_model.specs.Exports.{Behind, Known, behind_meaning, entry_of, onward}
 use Rattle.module_model.specs.Instances.{called_by}
-use Rattle.module_model.specs.TreeFindings.{Surroundings, path, path_number, segments, walk, walk_each}
-use Rattle.level_text.specs.FormRules.{symbol_rule}
+use Rattle.module_model.specs.TreeFindings.{Surroundings, path, path_number, segments, walk_each}
 use Rattle.tree_kinds.specs.Standing.{Outside, operator_places}
-use Rattle.tree_kinds.specs.Expanding.{Whole, bare_rule, built_in_places, called_behind, is_bare, part_of, symbol_places}
+use Rattle.tree_kinds.specs.Expanding.{bare_rule, built_in_places, called_behind, is_bare, symbol_places}
 use Rattle.flat_trees.specs.Names.{order_by, places_by}
 use Rattle.arity_rules.specs.declared.place.Due.TheVariants as due
 use Rattle.arity_rules.specs.declared.place.Role.TheVariants as role
-use Rattle.arity_rules.specs.Arities.{Due, Role, argument_order, arity, count, due_by, is_known, is_part_inside, order_at, meaning as found_entity, part_due, part_faults, path_faults, segment_due, symbol_meaning, tree_faults, use_faults}
+use Rattle.arity_rules.specs.Arities.{Role, argument_order, arity, count, due_by, is_known, is_part_inside, order_at, meaning as found_entity, part_due, part_faults, path_faults, symbol_meaning, tree_faults, use_faults}
 use Rattle.flattened_trees.specs.Leads.{FlatFace}
-use Rattle.flattened_trees.specs.NodeForms.{bare_places, last_segment, meant_at, path_places}
-use Rattle.flattened_trees.specs.Readable.{CanStandBare, IsInstanceOf, IsMeaning, IsNoInstance, IsOperator, IsReadableBare, IsReadablePath, count as written, orders_of, entity_orders}
+use Rattle.flattened_trees.specs.NodeForms.{bare_places, last_segment, meant_at}
+use Rattle.flattened_trees.specs.Readable.{CanStandBare, IsInstanceOf, IsMeaning, IsOperator, IsReadableBare, IsReadablePath, count as written, orders_of}
 use Rattle.readable_laws.specs.Uses.{implied_by, means_by}
 use Rattle.readable_laws.specs.Accepted.{AreBehindInstances, TakePlaces}
 use Rattle.readable_laws.proofs.FoundMeanings.{IsAgreed, entity_in}
-use Rattle.readable_laws.proofs.Orders.{StandsApplied, StandsBare, applied-use, arity-length, bare-use, expressions, first-empty, instance-entity, length-replicate, meaning-orders, meaning-places, no-instance, order-at, other-plain, qualifier-use, replicate-only, rest-empty}
+use Rattle.readable_laws.proofs.Orders.{StandsBare, applied-use, arity-length, bare-use, expressions, first-empty, instance-entity, length-replicate, meaning-orders, meaning-places, no-instance, order-at, qualifier-use, replicate-only, rest-empty}
 use Rattle.readable_laws.proofs.Paths.{Leads, first-leads, next-leads}
-use Rattle.readable_laws.proofs.Reading.{Accepted, AcceptedEach, Expression, Expressions, IsUsed, Met, ReadArguments, Reads, around, left, places, right}
+use Rattle.readable_laws.proofs.Reading.{AcceptedEach, Expression, Expressions, IsUsed, Met, ReadArguments, Reads, around, left, places, right}
 use Rattle.readable_laws.proofs.Symbols.{IsFreeFor, bare-free, places-some}
 use Rattle.readable_laws.proofs.Shapes.{symbol-whole}
 use Rattle.std.proofs.lemmas.Bool.{false≢true}
@@ -152,8 +149,7 @@ module _ (text : Text) (known : Known) (named : List ℕ → Outside) (paths : L
       let index-is : zero + index ≡ index = omega arith in
       let is-due : part_due (found_entity found) r index s ≡ due_by (Some order) s = ap (λ k. part_due (found_entity found) r k s) (sym index-is) ∙ dues zero order s refl in
       let faults = subst (λ d. tree_faults (found_entity found) d (is_part_inside r inside f) (Node f s ps) ≡ []) is-due (first-empty own others none) in
-      let read = es.0.reads context order s (is_part_inside r inside f) u (first _ met) faults accepted.0 in
-      (
+      let read = es.0.reads context order s (is_part_inside r inside f) u (first _ met) faults accepted.0 in (
         es.0.shape.part,
         ap order_by read.1 ∙ order-places order,
         read.0,
@@ -275,8 +271,7 @@ module _ (text : Text) (known : Known) (named : List ℕ → Outside) (paths : L
       let further = subst (λ o. Found (if is_some o then path text here context (path_number text here l) (behind_meaning known o) rest else [])) own.there (last _ met) in
       let read = path-read l t args rest es more context (path_number text here l) own.meant (behind_meaning known (Some own.meant)) order whole inside (record { meant = own.meant; means = own.means; same = refl; entity = own.entity }) (first-leads known behind own.meant) u (last _ (first _ met)) further none accepted others in
       let meets = λ (o : Option Meaning). operator_places (called_behind text known named (behind_meaning known o) o rest) in
-      let is_so = is_bare false (Cons (Node (Form.Segment l) t args) rest) in
-      (
+      let is_so = is_bare false (Cons (Node (Form.Segment l) t args) rest) in (
         (
           (own.meant, record { here = own.means; there = own.there }, read.path),
           ap (λ (o : Option ℕ). if is_so then o else None) (read.end ∙ ap meets (sym own.there)),

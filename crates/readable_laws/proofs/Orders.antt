@@ -1,16 +1,15 @@
 -- What names take, by what is no fault of arity at them.
-use Rattle.std.proofs.Common.{◌≡◌, ◌≤◌, ◌<◌, ◌+◌, ℕ, zero, suc, List, [], ◌∷◌, ◌++◌, Bool, true, false, Option, Some, None, not, refl, sym, ap, ◌∙◌, subst, length, if◌then◌else◌, arith}
+use Rattle.std.proofs.Common.{◌≡◌, ◌≤◌, ◌<◌, ℕ, zero, suc, List, [], ◌∷◌, ◌++◌, Bool, true, false, Option, Some, None, not, refl, sym, ap, ◌∙◌, subst, length, if◌then◌else◌, arith}
 use Rattle.std.specs.Prelude.{nat_eq, nat_lt, replicate, slice_get, ◌&&◌, ◌||◌}
 use Rattle.std.specs.List.{list_all}
-use Rattle.std.proofs.lemmas.Bool.{eqb-true, eqb-false, false≢true, ltb-true, ltb-false}
+use Rattle.std.proofs.lemmas.Bool.{eqb-true, false≢true, ltb-true, ltb-false}
 use Rattle.tla_symbols.specs.declared.lexeme.Span.{Span}
-use Rattle.tla_model.specs.declared.Diagnostic.{Diagnostic}
 use Rattle.tla_model.specs.declared.entity.Entity.TheVariants as entity
 use Rattle.tla_model.specs.declared.names.Meaning.TheVariants.{BuiltIn, Declared}
 use Rattle.tla_model.specs.Entities.{Entity, Meaning}
 use Rattle.tree_kinds.specs.Standing.{operator_places, places}
 use Rattle.arity_rules.specs.declared.place.Due.TheVariants as due
-use Rattle.arity_rules.specs.Arities.{Due, arity, due_by, fault_if, is_instance, is_miscounted, is_no_expression, is_operator, order_at, other_faults, takes_expressions, use_faults}
+use Rattle.arity_rules.specs.Arities.{arity, due_by, fault_if, is_instance, is_miscounted, is_no_expression, is_operator, order_at, other_faults, takes_expressions, use_faults}
 use Rattle.flat_trees.specs.Names.{places_by}
 use Rattle.flattened_trees.specs.Readable.{IsInstanceOf, IsNoInstance, entity_orders, orders_of}
 use Rattle.readable_laws.proofs.FoundMeanings.{entity_in}

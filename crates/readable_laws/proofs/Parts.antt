@@ -1,12 +1,12 @@
 -- Helper forms can be read as parts if their own parts can.
-use Rattle.std.proofs.Common.{◌≡◌, ◌+◌, ℕ, zero, suc, List, [], ◌∷◌, ◌++◌, Bool, true, false, Option, Some, None, refl, sym, ap, subst, ◌∙◌}
+use Rattle.std.proofs.Common.{◌≡◌, ℕ, List, [], ◌++◌, Bool, false, refl, sym, ◌∙◌}
 use Rattle.std.specs.List.{AllByRecursion}
 use Rattle.tla_symbols.specs.declared.lexeme.LexKind.TheVariants as LexKind
 use Rattle.tla_symbols.specs.declared.lexeme.Lexeme.{Lexeme}
 use Rattle.tla_symbols.specs.declared.lexeme.Span.{Span}
 use Rattle.tla_tree.specs.declared.form.Form.TheVariants as Form
-use Rattle.tla_tree.specs.Lexemes.{one, then, two}
-use Rattle.tla_tree.specs.Syntax.{Tree, Trees, Node, Nil, Cons, form}
+use Rattle.tla_tree.specs.Lexemes.{one, then}
+use Rattle.tla_tree.specs.Syntax.{Tree, Trees, Node, Nil, Cons}
 use Rattle.tla_model.specs.declared.names.Binding.TheVariants as as_binding
 use Rattle.tla_model.specs.Entities.{Binding, Text, all_placed, bound_as, is_group, placed}
 use Rattle.tla_model.specs.Contexts.{Context, bind_all}
@@ -18,7 +18,6 @@ use Rattle.arity_rules.specs.declared.place.Due.TheVariants as due
 use Rattle.arity_rules.specs.declared.place.Role.TheVariants as role
 use Rattle.arity_rules.specs.Arities.{Role, meaning as found_entity, part_due, part_faults, tree_faults}
 use Rattle.flattened_trees.specs.Leads.{FlatFace}
-use Rattle.readable_laws.proofs.Contexts.{Fits}
 use Rattle.readable_laws.proofs.Forms.{AllBefore, StandsBefore, ends-then}
 use Rattle.readable_laws.proofs.Reading.{BindsFit, Expression, Expressions, FitsAs, InnerOf, InnersOf, Met, PartOf, PartsOf, ReadEach, Silent, Updates, around, expression-inners, expression-part, expressions-silent, inner-read, inners-then, left, other-walk, part-inner, parts-bind, parts-fit, parts-read, parts-then, right, silent-none, silent-then, silent-with}
 
@@ -180,6 +179,6 @@ module _ (text : Text) (known : Known) (named : List ℕ → Outside) (paths : L
   pub update-part : (s : Span) (xs : Trees) (x : Tree) → Steps xs → AsExpression x → Updates text known named paths found faces (one (Node Form.Update s (then xs x)))
   update-part s xs x all e =
       let part = inner-part (as_binding.Bound false) Form.Update s (then xs x) role.Update (tt, tt) refl (λ inside none. none) (λ i w. refl) (λ outside context read. (read, tt)) (λ context met. met)
-          (inners-then text known named paths found faces xs x (steps-inners xs all) (part-inner text known named paths found faces (as_binding.Bound false) x (as_part (as_binding.Bound false) x e)))
-          (silent-then text known named paths found faces xs x (steps-silent xs all) e) in
+      (inners-then text known named paths found faces xs x (steps-inners xs all) (part-inner text known named paths found faces (as_binding.Bound false) x (as_part (as_binding.Bound false) x e)))
+      (silent-then text known named paths found faces xs x (steps-silent xs all) e) in
       (refl, ends-then xs x (steps-before xs all) e.shape, part, tt)

@@ -1,7 +1,6 @@
 -- Trees that derive lexemes can be read: a line for each rule.
-use Rattle.std.proofs.Common.{◌≡◌, ◌+◌, ℕ, zero, suc, List, [], ◌∷◌, ◌++◌, Bool, true, false, Option, Some, None, refl, sym, ap, subst, ◌∙◌, map}
+use Rattle.std.proofs.Common.{◌≡◌, ℕ, List, [], ◌∷◌, ◌++◌, true, false, Option, None, refl, sym, ap, ◌∙◌, map}
 use Rattle.std.specs.Prelude.{Contains}
-use Rattle.std.specs.List.{AllByRecursion}
 use Rattle.tla_symbols.specs.declared.lexeme.LexKind.TheVariants as LexKind
 use Rattle.tla_symbols.specs.declared.lexeme.Lexeme.{Lexeme}
 use Rattle.tla_symbols.specs.declared.lexeme.Mark.{Mark}
@@ -16,7 +15,7 @@ use Rattle.tla_tree.specs.Headings as h
 use Rattle.tla_tree.specs.Derivation as d
 use Rattle.tla_model.specs.declared.entity.Entity.TheVariants as entity
 use Rattle.tla_model.specs.declared.names.Binding.TheVariants as as_binding
-use Rattle.tla_model.specs.Entities.{Binding, Entity, Text, all_placed, binding_of, defined, orders}
+use Rattle.tla_model.specs.Entities.{Binding, Entity, Text, all_placed, binding_of, orders}
 use Rattle.tla_model.specs.Contexts.{Context}
 use Rattle.tla_model.specs.Scopes.{Finding, reserved, scope}
 use Rattle.module_model.specs.TreeFindings.{Surroundings, walk}
@@ -35,8 +34,8 @@ use Rattle.readable_laws.proofs.FoundMeanings.{IsAgreed}
 use Rattle.readable_laws.proofs.Names.{Segments, identifier-read, symbol-read}
 use Rattle.readable_laws.proofs.Orders.{expressions}
 use Rattle.readable_laws.proofs.Parts.{AllNames, Steps, arm-part, bound-part, field-part, field-step, group-part, index-step, other-arm-part, tuple-bound-part, tuple-part, update-part}
-use Rattle.readable_laws.proofs.Reading.{Expression, Expressions, FitsAs, InnerOf, Met, PartOf, PartsOf, ReadEach, Reads, Updates, around, expression-part, expression-parts, form_walk, parts-then}
-use Rattle.readable_laws.proofs.Shapes.{IsWholeForm, spelled-whole, symbol-whole}
+use Rattle.readable_laws.proofs.Reading.{Expression, Expressions, Met, PartOf, PartsOf, ReadEach, Reads, Updates, around, expression-part, expression-parts, form_walk, parts-then}
+use Rattle.readable_laws.proofs.Shapes.{IsWholeForm, spelled-whole}
 use Rattle.readable_laws.proofs.Symbols.{infix-defined, postfix-defined}
 
 -- ---- names and parameters

@@ -1,25 +1,23 @@
 -- Trees can be read where their names were found and nothing is used as what it is not, if their parts can.
-use Rattle.std.proofs.Common.{◌≡◌, ◌+◌, ℕ, zero, suc, List, [], ◌∷◌, ◌++◌, ◌⊎◌, inl, inr, Bool, true, false, Option, Some, None, is_some, refl, sym, ap, subst, ◌∙◌, map, length, if◌then◌else◌, arith}
-use Rattle.std.specs.Prelude.{Contains, slice_get}
+use Rattle.std.proofs.Common.{◌≡◌, ℕ, suc, List, [], ◌∷◌, ◌++◌, Bool, true, false, Option, Some, None, refl, sym, ap, subst, ◌∙◌, if◌then◌else◌}
+use Rattle.std.specs.Prelude.{Contains}
 use Rattle.std.specs.List.{AllByRecursion}
 use Rattle.list_laws.proofs.Lists.{all-both, all-left, all-right}
 use Rattle.tla_symbols.specs.declared.lexeme.Lexeme.{Lexeme}
 use Rattle.tla_symbols.specs.declared.lexeme.Span.{Span}
 use Rattle.tla_tree.specs.declared.form.Form.TheVariants as Form
-use Rattle.tla_tree.specs.Forms.{helps}
 use Rattle.tla_tree.specs.Lexemes.{then}
 use Rattle.tla_tree.specs.Syntax.{Tree, Trees, Node, Nil, Cons, form}
 use Rattle.tla_model.specs.declared.names.Binder.{Binder}
 use Rattle.tla_model.specs.declared.names.Binding.TheVariants as as_binding
-use Rattle.tla_model.specs.declared.names.Finding.TheVariants.{Means, Unknown}
 use Rattle.tla_model.specs.Entities.{Binding, Meaning, Nothing, Text, all_placed, binding_of, bound_as, defined, defines, entity_of, is_group, placed}
-use Rattle.tla_model.specs.Contexts.{Context, bind_all, meaning_of}
-use Rattle.tla_model.specs.Scopes.{Finding, all_grouped, all_refused, binders, has_set, inside, names_in, reserved, scope, use_findings}
-use Rattle.module_model.specs.Exports.{Behind, Known}
-use Rattle.module_model.specs.TreeFindings.{Surroundings, walk, walk_each, walk_rest, walk_sets}
+use Rattle.tla_model.specs.Contexts.{Context, bind_all}
+use Rattle.tla_model.specs.Scopes.{Finding, all_grouped, all_refused, binders, has_set, inside, names_in, reserved, scope}
+use Rattle.module_model.specs.Exports.{Known}
+use Rattle.module_model.specs.TreeFindings.{Surroundings, walk, walk_rest, walk_sets}
 use Rattle.tree_kinds.specs.Standing.{Outside}
-use Rattle.tree_kinds.specs.Expanding.{Outer, Helper, Whole, Part, part_of, places_at}
-use Rattle.flat_trees.specs.Names.{order_by, places_by}
+use Rattle.tree_kinds.specs.Expanding.{Outer, Helper, Whole, part_of, places_at}
+use Rattle.flat_trees.specs.Names.{places_by}
 use Rattle.arity_rules.specs.declared.place.Due.TheVariants as due
 use Rattle.arity_rules.specs.declared.place.Role.TheVariants as role
 use Rattle.arity_rules.specs.Arities.{Due, Role, count, due_by, is_part_inside, is_path, meaning, other_faults, own_faults, part_due, part_faults, path_faults, role_of, tree_faults}
@@ -130,8 +128,7 @@ module _ (text : Text) (known : Known) (named : List ℕ → Outside) (paths : L
   parts-read b (Cons (Node f s ps) rest) parts outside context r inside index plain u v sets others none accepted =
       let first = first-empty (tree_faults (meaning found) (part_due (meaning found) r index s) (is_part_inside r inside f) (Node f s ps)) (part_faults (meaning found) r inside (suc index) rest) none in
       let later = rest-empty (tree_faults (meaning found) (part_due (meaning found) r index s) (is_part_inside r inside f) (Node f s ps)) (part_faults (meaning found) r inside (suc index) rest) none in
-      let plainly : tree_faults (meaning found) due.Expression (is_part_inside r inside f) (Node f s ps) ≡ [] = subst (λ d. tree_faults (meaning found) d (is_part_inside r inside f) (Node f s ps) ≡ []) (plain index s) first in
-      (
+      let plainly : tree_faults (meaning found) due.Expression (is_part_inside r inside f) (Node f s ps) ≡ [] = subst (λ d. tree_faults (meaning found) d (is_part_inside r inside f) (Node f s ps) ≡ []) (plain index s) first in (
         (parts.0.reads outside context (is_part_inside r inside f) u v (alone (left _ sets)) (alone (left _ others)) plainly accepted.0).0,
         parts-read b rest parts.1 outside context r inside (suc index) plain u v (right _ sets) (right _ others) later accepted.1,
       )
@@ -248,8 +245,7 @@ module _ (text : Text) (known : Known) (named : List ℕ → Outside) (paths : L
   inners-read (Cons (Node f s ps) rest) parts context r inside index plain u sets others none accepted =
       let first = first-empty (tree_faults (meaning found) (part_due (meaning found) r index s) (is_part_inside r inside f) (Node f s ps)) (part_faults (meaning found) r inside (suc index) rest) none in
       let later = rest-empty (tree_faults (meaning found) (part_due (meaning found) r index s) (is_part_inside r inside f) (Node f s ps)) (part_faults (meaning found) r inside (suc index) rest) none in
-      let plainly : tree_faults (meaning found) due.Expression (is_part_inside r inside f) (Node f s ps) ≡ [] = subst (λ d. tree_faults (meaning found) d (is_part_inside r inside f) (Node f s ps) ≡ []) (plain index s) first in
-      (
+      let plainly : tree_faults (meaning found) due.Expression (is_part_inside r inside f) (Node f s ps) ≡ [] = subst (λ d. tree_faults (meaning found) d (is_part_inside r inside f) (Node f s ps) ≡ []) (plain index s) first in (
         (parts.0.reads context (is_part_inside r inside f) u (alone (left _ sets)) (alone (left _ others)) plainly accepted.0).0,
         inners-read rest parts.1 context r inside (suc index) plain u (right _ sets) (right _ others) later accepted.1,
       )
@@ -317,8 +313,7 @@ module _ (text : Text) (known : Known) (named : List ℕ → Outside) (paths : L
         let w = walked context met in
         let v : TakePlaces (reserved text context f parts) = reserve-all-keeps text context (defined f parts) u in
         let u_inside : TakePlaces (inside text context f parts) = subst TakePlaces (sym (inside-reserved f shape.definition context parts)) v in
-        let u_scope : TakePlaces (scope text context f parts) = bind-all-keeps text (inside text context f parts) (binders f parts) (binders-fit f parts (parts-bind (binding_of f) parts all)) u_inside in
-        (
+        let u_scope : TakePlaces (scope text context f parts) = bind-all-keeps text (inside text context f parts) (binders f parts) (binders-fit f parts (parts-bind (binding_of f) parts all)) u_inside in (
           read context (parts-read (binding_of f) parts all (reserved text context f parts) (scope text context f parts) role.Other within 0 (λ i w. refl) v u_scope w.0 w.1 faults.1 accepted.1),
           bare context ∙ ap places_by (sym (other-plain order whole faults.0)),
         );

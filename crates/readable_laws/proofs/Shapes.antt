@@ -1,5 +1,5 @@
 -- What expressions are as parts.
-use Rattle.std.proofs.Common.{◌≡◌, ℕ, List, [], ◌∷◌, Bool, true, false, Option, refl}
+use Rattle.std.proofs.Common.{◌≡◌, ℕ, List, [], false, Option, refl}
 use Rattle.tla_symbols.specs.declared.lexeme.Lexeme.{Lexeme}
 use Rattle.tla_tree.specs.declared.form.Form.{Form}
 use Rattle.tla_tree.specs.declared.form.Form.TheVariants as form

@@ -4,11 +4,9 @@ use Rattle.std.specs.Prelude.{IsTrue, nat_eq, ◌&&◌, ◌||◌}
 use Rattle.std.proofs.Common.{if◌then◌else◌}
 use Rattle.std.proofs.lemmas.Bool.{eqb-true}
 use Rattle.tla_symbols.specs.declared.op.Op.TheVariants as Op
-use Rattle.tla_symbols.specs.declared.level.Rule.{Rule}
 use Rattle.tla_symbols.specs.declared.place.Fix.TheVariants.{Prefix, Infix, Postfix}
 use Rattle.tla_symbols.specs.declared.lexeme.LexKind.TheVariants as LexKind
 use Rattle.tla_symbols.specs.Symbols.{is_definable, range_of, rule_of}
-use Rattle.tla_tree.specs.Lexemes.{is_given, is_passed}
 use Rattle.tla_model.specs.Scopes.{is_free, prefixed}
 use Rattle.tree_kinds.specs.Expanding.{bare_rule, built_in_places}
 

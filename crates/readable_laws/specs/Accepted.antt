@@ -1,5 +1,5 @@
 -- What is asked of what stands round a tree of an accepted text, and of the INSTANCEs in it.
-use Rattle.std.specs.Prelude.{◌≡◌, ◌⊎◌, ℕ, List, [], ◌∷◌, ◌++◌, Some, replicate, Contains}
+use Rattle.std.specs.Prelude.{◌≡◌, ◌⊎◌, ℕ, Bool, List, [], ◌∷◌, ◌++◌, Some, replicate, Contains}
 use Rattle.std.specs.List.{AllByRecursion}
 use Rattle.tla_symbols.specs.declared.lexeme.Lexeme.{Lexeme}
 use Rattle.tla_symbols.specs.declared.op.Op.{Op}
@@ -12,11 +12,14 @@ use Rattle.tla_model.specs.Contexts.{Context, meaning_of}
 use Rattle.tla_model.specs.Scopes.{Finding}
 use Rattle.module_model.specs.Exports.{Behind, Known, Path, entry_of}
 use Rattle.module_model.specs.Instances.{implied, left_sides}
+use Rattle.module_model.specs.TreeFindings.{Surroundings, walk}
+use Rattle.arity_rules.specs.Arities.{Due, meaning, tree_faults}
+use Rattle.lexeme_laws.specs.Apart.{BeginApart}
 use Rattle.tree_kinds.specs.Standing.{Outside}
 use Rattle.tree_kinds.specs.Expanding.{built_in_places, module_of}
 use Rattle.flattened_trees.specs.Leads.{FlatFace}
 use Rattle.flattened_trees.specs.Readable.{AreImplied, IsFaceFor, IsInstanceOf, IsKnownBehind, IsNoInstance, orders_of}
-use Rattle.readable_laws.specs.Uses.{implied_by, means_by}
+use Rattle.readable_laws.specs.Uses.{IsSound, implied_by, means_by, used_lexemes}
 
 -- each symbol that can be used takes as many expressions as it has places
 abbrev pub TakePlaces : Context → Type 0
@@ -29,6 +32,12 @@ IsBehindInstances held = (path : Path) (name : Named) (meaning : Meaning) → en
 -- the same of all that is known to stand behind instances
 abbrev pub AreBehindInstances : Known → Type 0
 AreBehindInstances known = (decl : DeclId) (held : Behind) → known decl ≡ Some held → IsBehindInstances held
+
+-- what was found of names is no fault, each at a place of its own, and names stand behind instances alone
+pub record AreSound (known : Known) (found : List Finding) : Type 0 where
+  pub sound : AllByRecursion IsSound found
+  pub apart : BeginApart (used_lexemes found)
+  pub behind : AreBehindInstances known
 
 module _ (text : Text) (known : Known) (named : List ℕ → Outside) (found : List Finding) (faces : List ℕ → FlatFace) where
   -- of the INSTANCE of a module with a name: what its module is to it is known, and the symbols that were found to stand in for the
@@ -49,6 +58,11 @@ module _ (text : Text) (known : Known) (named : List ℕ → Outside) (found : L
   IsAcceptedForm (Form.ModuleDefinition own) parts = IsAcceptedAmong own parts
   IsAcceptedForm form parts = Unit {0}
 
+  -- an INSTANCE is accepted, if this is one
+  abbrev pub IsAcceptedUnit : Tree → Type 0
+  IsAcceptedUnit (Node (Form.Instance l) s rights) = IsAcceptedInstance l rights
+  IsAcceptedUnit x = Unit {0}
+
   abbrev mutual
     -- all INSTANCEs that have names in a tree are such
     pub AreAcceptedIn : Tree → Type 0
@@ -58,3 +72,17 @@ module _ (text : Text) (known : Known) (named : List ℕ → Outside) (found : L
     pub AreAcceptedAmong : Trees → Type 0
     AreAcceptedAmong Nil = Unit {0}
     AreAcceptedAmong (Cons x rest) = AreAcceptedIn x × AreAcceptedAmong rest
+
+  -- where paths begin
+  module _ (paths : List ℕ) where
+    -- what is known round a tree
+    abbrev pub around : Surroundings
+    around = record { named = λ n. (named n).view; known = known; paths = paths }
+
+    -- a tree is accepted where this is due, in a right side of EXCEPT or not: what is found in it was found, and nothing in it is used
+    -- as what it is not
+    pub record IsAccepted (context : Context) (d : Due) (inside : Bool) (x : Tree) : Type 0 where
+      pub places : TakePlaces context
+      pub found_in : (f : Finding) → Contains (walk text around context x) f → Contains found f
+      pub orderly : tree_faults (meaning found) d inside x ≡ []
+      pub instances : AreAcceptedIn x

@@ -2,3 +2,62 @@
 //!
 //! No code: each function states a law. Knows nothing of how nodes are built.
 #![tactic(auto)]
+
+ghost use Rattle.std.specs.Prelude.{◌≡◌, ℕ, Bool, List, Option, Some};
+ghost use Rattle.tla_symbols.specs.declared.lexeme.Lexeme.{Lexeme};
+ghost use Rattle.tla_symbols.specs.declared.lexeme.Span.{Span};
+ghost use Rattle.tla_tree.specs.Derivation.{Derives, DerivesDefinition, DerivesInstance};
+ghost use Rattle.tla_tree.specs.Lexemes.{one};
+ghost use Rattle.tla_tree.specs.Syntax.{Tree};
+ghost use Rattle.tla_model.specs.Contexts.{Context};
+ghost use Rattle.tla_model.specs.Entities.{Text};
+ghost use Rattle.tla_model.specs.Scopes.{Finding};
+ghost use Rattle.module_model.specs.Exports.{Known};
+ghost use Rattle.tree_kinds.specs.Standing.{Outside};
+ghost use Rattle.tree_kinds.specs.Expanding.{places_at};
+ghost use Rattle.flat_trees.specs.Names.{places_by};
+ghost use Rattle.arity_rules.specs.Arities.{due_by};
+ghost use Rattle.arity_rules.specs.declared.place.Due.TheVariants.{Expression};
+ghost use Rattle.flattened_trees.specs.Leads.{FlatFace};
+ghost use Rattle.flattened_trees.specs.Readable.{IsReadable, IsReadableDefinition, IsReadableThrough};
+ghost use Rattle.readable_laws.specs.Uses.{implied_by, means_by};
+ghost use Rattle.readable_laws.specs.Accepted.{AreSound, IsAccepted, IsAcceptedUnit};
+
+/// An expression that is accepted where an argument of this order is due can be read, where what
+/// names mean is taken from what was found of them; it is an operator with so many places, or none.
+pub fn accepted_expressions_are_read()
+    ensures read { (text : Text) (known : Known) (named : List ℕ → Outside) (paths : List ℕ)
+        (found : List Finding) (faces : List ℕ → FlatFace) (context : Context) (order : ℕ)
+        (whole : Span) (inside : Bool) (x : Tree) (a : List Lexeme) (i : ℕ) (o : Option Lexeme)
+        → Derives x a i o → AreSound known found
+        → IsAccepted text known named found faces paths context (due_by (Some order) whole) inside x
+        → IsReadable text known named (means_by found) (implied_by found) faces context x }
+    ensures places { (text : Text) (known : Known) (named : List ℕ → Outside) (paths : List ℕ)
+        (found : List Finding) (faces : List ℕ → FlatFace) (context : Context) (order : ℕ)
+        (whole : Span) (inside : Bool) (x : Tree) (a : List Lexeme) (i : ℕ) (o : Option Lexeme)
+        → Derives x a i o → AreSound known found
+        → IsAccepted text known named found faces paths context (due_by (Some order) whole) inside x
+        → places_at text known named context x ≡ places_by order }
+{}
+
+/// A definition that is accepted can be read.
+pub fn accepted_definitions_are_read()
+    ensures { (text : Text) (known : Known) (named : List ℕ → Outside) (paths : List ℕ)
+        (found : List Finding) (faces : List ℕ → FlatFace) (context : Context) (inside : Bool)
+        (x : Tree) (a : List Lexeme) (i : ℕ) (o : Option Lexeme)
+        → DerivesDefinition x a i o → AreSound known found
+        → IsAccepted text known named found faces paths context Expression inside x
+        → IsReadableDefinition text known named (means_by found) (implied_by found) faces context x }
+{}
+
+/// An INSTANCE without a name that is accepted can be read.
+pub fn accepted_instances_are_read()
+    ensures { (text : Text) (known : Known) (named : List ℕ → Outside) (paths : List ℕ)
+        (found : List Finding) (faces : List ℕ → FlatFace) (context : Context) (inside : Bool)
+        (x : Tree) (a : List Lexeme) (i : ℕ) (o : Option Lexeme)
+        → DerivesInstance x a i o → AreSound known found
+        → IsAccepted text known named found faces paths context Expression inside x
+        → IsAcceptedUnit text known named found faces x
+        → IsReadableThrough text known named (means_by found) (implied_by found) faces context
+        (one x) }
+{}
