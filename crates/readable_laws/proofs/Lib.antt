@@ -11,3 +11,4 @@ mod Parts
 mod Definitions
 mod ReadTrees
 mod Accepting
+mod Counts

@@ -3,16 +3,22 @@
 //! No code: each function states a law. Knows nothing of how nodes are built.
 #![tactic(auto)]
 
-ghost use Rattle.std.specs.Prelude.{◌≡◌, ℕ, Bool, List, Option, Some};
+ghost use Rattle.std.specs.Prelude.{◌≡◌, ℕ, ◌≤◌, Bool, List, Option, Some};
 ghost use Rattle.tla_symbols.specs.declared.lexeme.Lexeme.{Lexeme};
 ghost use Rattle.tla_symbols.specs.declared.lexeme.Span.{Span};
+ghost use Rattle.unit_grammar.specs.Units.{ModuleUnits};
+ghost use Rattle.front_laws.specs.Fronts.{IsFront, Tree as TreeFront};
+ghost use Rattle.tla_model.specs.Lexemes.{lexemes, module_lexemes};
+ghost use Rattle.module_model.specs.Resolution.{findings};
+ghost use Rattle.module_model.specs.TreeFindings.{Surroundings, walk};
+ghost use Rattle.lexeme_laws.specs.Apart.{BeginApart, counted};
 ghost use Rattle.tla_tree.specs.Derivation.{Derives, DerivesDefinition, DerivesInstance};
 ghost use Rattle.tla_tree.specs.Lexemes.{one};
 ghost use Rattle.tla_tree.specs.Syntax.{Tree};
 ghost use Rattle.tla_model.specs.Contexts.{Context};
 ghost use Rattle.tla_model.specs.Entities.{Text};
 ghost use Rattle.tla_model.specs.Scopes.{Finding};
-ghost use Rattle.module_model.specs.Exports.{Known};
+ghost use Rattle.module_model.specs.Exports.{Known, ModuleView};
 ghost use Rattle.tree_kinds.specs.Standing.{Outside};
 ghost use Rattle.tree_kinds.specs.Expanding.{places_at};
 ghost use Rattle.flat_trees.specs.Names.{places_by};
@@ -20,8 +26,10 @@ ghost use Rattle.arity_rules.specs.Arities.{due_by};
 ghost use Rattle.arity_rules.specs.declared.place.Due.TheVariants.{Expression};
 ghost use Rattle.flattened_trees.specs.Leads.{FlatFace};
 ghost use Rattle.flattened_trees.specs.Readable.{IsReadable, IsReadableDefinition, IsReadableThrough};
-ghost use Rattle.readable_laws.specs.Uses.{implied_by, means_by};
+ghost use Rattle.readable_laws.specs.Uses.{implied_by, means_by, used_lexemes};
 ghost use Rattle.readable_laws.specs.Accepted.{AreSound, IsAccepted, IsAcceptedUnit};
+
+use lexeme_laws::names_begin_apart;
 
 /// An expression that is accepted where an argument of this order is due can be read, where what
 /// names mean is taken from what was found of them; it is an operator with so many places, or none.
@@ -61,3 +69,22 @@ pub fn accepted_instances_are_read()
         → IsReadableThrough text known named (means_by found) (implied_by found) faces context
         (one x) }
 {}
+
+/// Of the lexemes at which names of a tree are found to mean something no more pass a test than of
+/// those that the tree holds; and of those of a module no more than of all that it holds.
+pub fn uses_are_held_once()
+    ensures trees { (p : Lexeme → Bool) (text : Text) (around : Surroundings) (context : Context)
+        (x : Tree) → counted p (used_lexemes (walk text around context x)) ≤ counted p (lexemes x) }
+    ensures modules { (p : Lexeme → Bool) (files : List ℕ → ModuleView) (source : List ℕ)
+        (units : ModuleUnits)
+        → counted p (used_lexemes (findings files source units)) ≤ counted p (module_lexemes units) }
+{}
+
+/// No two names of a module that is the front of some bytes are found to mean something at one place.
+pub fn uses_begin_apart()
+    ensures { (name bytes : List ℕ) (units : ModuleUnits) (files : List ℕ → ModuleView)
+        → IsFront name bytes (TreeFront units)
+        → BeginApart (used_lexemes (findings files bytes units)) }
+{
+    names_begin_apart();
+}
