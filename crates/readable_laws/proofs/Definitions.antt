@@ -19,7 +19,7 @@ use Rattle.tla_model.specs.Entities.{Binding, Entity, Meaning, Nothing, Text, bi
 use Rattle.tla_model.specs.Contexts.{Context}
 use Rattle.tla_model.specs.Scopes.{Finding, all_grouped, behind, binders, definition, inside, names_in, reserved, scope}
 use Rattle.module_model.specs.Exports.{Exports, Known, entry_of}
-use Rattle.module_model.specs.Instances.{instance_among, replaced_as}
+use Rattle.module_model.specs.Instances.{instance_among, left_sides, replaced_as}
 use Rattle.module_model.specs.TreeFindings.{Surroundings, replaceable, replaced, walk, walk_chain, walk_rest}
 use Rattle.tree_kinds.specs.Standing.{Outside}
 use Rattle.tree_kinds.specs.Expanding.{Helper, Outer, Whole, part_of, stands_outside}
@@ -37,7 +37,8 @@ use Rattle.readable_laws.proofs.FoundMeanings.{IsAgreed, entity_in}
 use Rattle.readable_laws.proofs.Forms.{AllBefore, AllInside, ends-then, helper, inside-then}
 use Rattle.readable_laws.proofs.Names.{order-places}
 use Rattle.readable_laws.proofs.Orders.{first-empty, other-plain, places-arity, rest-empty}
-use Rattle.readable_laws.proofs.Reading.{Accepted, AcceptedEach, BindEach, Expression, FitsAs, Met, PartOf, PartsOf, ReadEach, Reads, around, binders-fit, expression-part, form_walk, left, other-role, parts-bind, parts-read, parts-then, places, right, walk-parts}
+use Rattle.readable_laws.proofs.Reading.{Accepted, AcceptedEach, BindEach, Expression, FitsAs, Met, PartOf, PartsOf, ReadEach, Reads, around, binders-fit, expression-part, form_walk, left, met-first, other-role, parts-bind, parts-read, parts-then, places, right, walk-parts}
+use Rattle.readable_laws.proofs.StandIns.{symbols-read}
 use Rattle.readable_laws.proofs.Shapes.{IsWholeForm}
 
 -- the INSTANCE of a module
@@ -257,10 +258,13 @@ module _ (text : Text) (known : Known) (named : List ℕ → Outside) (paths : L
     pub once : again ≡ false
     pub entity : found_entity found l.span.start ≡ Some (entity_in parameter)
 
+  found_first : (f : Finding) (fs : List Finding) → Found (f ∷ fs) → Contains found f
+  found_first f fs met = met-first text known named paths found faces f fs met
+
   left-side : (l : Lexeme) (again : Bool) (o : Option Meaning) → Found (replaced_as l again o) → IsLeftSide l again o
-  left-side l again None met = absurd (agrees (NotReplaceable l) met.all.0)
-  left-side l true (Some parameter) met = absurd (agrees (ReplacedTwice l) met.all.1.0)
-  left-side l false (Some parameter) met = record { parameter = parameter; there = refl; once = refl; entity = (agrees (Means l parameter) met.all.0).1 }
+  left-side l again None met = absurd (agrees (NotReplaceable l) (found_first (NotReplaceable l) [] met))
+  left-side l true (Some parameter) met = absurd (agrees (ReplacedTwice l) (found_first (ReplacedTwice l) [] (last (Means l parameter ∷ []) met)))
+  left-side l false (Some parameter) met = record { parameter = parameter; there = refl; once = refl; entity = (agrees (Means l parameter) (found_first (Means l parameter) [] met)).1 }
 
   order-arity : (m : Meaning) → order_of m ≡ arity (entity_in m)
   order-arity BuiltIn = refl
@@ -292,7 +296,7 @@ module _ (text : Text) (known : Known) (named : List ℕ → Outside) (paths : L
       → tree_faults (found_entity found) due.Expression within (Node (Form.Instance m) s rights) ≡ [] → are_accepted rights → ReadThrough context (Cons (Node (Form.Instance m) s rights) others)
   instance-read m s rights others rs is context within u met none accepted =
       let stands = last (replaced text here context (replaceable text here m) [] rights) met in
-      (is.face, is.stand_in context stands.all, rights-read rights rs context (replaceable text here m) [] within 0 u (first _ met) none accepted)
+      (is.face, symbols-read text known named paths found faces agrees context m (left_sides text.source rights) (replaceable text here m) is.stand_in stands, rights-read rights rs context (replaceable text here m) [] within 0 u (first _ met) none accepted)
 
   -- what stands before an INSTANCE is none
   through-next : (f : Form.the_data) (s : Span) (ps rest : Trees) (context : Context) → is_instance_form f ≡ false → ReadThrough context rest → ReadThrough context (Cons (Node f s ps) rest)

@@ -1,7 +1,6 @@
 -- Forms can be read if their parts can.
 use Rattle.std.proofs.Common.{◌≡◌, ℕ, List, [], ◌++◌, Bool, false, not, Option, Some, None, refl, sym, ap, subst, ◌∙◌}
 use Rattle.std.specs.Prelude.{Contains}
-use Rattle.list_laws.proofs.Lists.{all-both}
 use Rattle.tla_symbols.specs.declared.lexeme.LexKind.TheVariants as LexKind
 use Rattle.tla_symbols.specs.declared.lexeme.Lexeme.{Lexeme}
 use Rattle.tla_symbols.specs.declared.lexeme.Span.{Span}
@@ -29,7 +28,7 @@ use Rattle.readable_laws.specs.Uses.{means_by}
 use Rattle.readable_laws.specs.Accepted.{TakePlaces}
 use Rattle.readable_laws.proofs.FoundMeanings.{IsAgreed}
 use Rattle.readable_laws.proofs.Orders.{expressions, first-empty, other-plain}
-use Rattle.readable_laws.proofs.Names.{Operates, operands-read, operator-read}
+use Rattle.readable_laws.proofs.Names.{FoundEach, Operates, found-each, operands-read, operator-read}
 use Rattle.readable_laws.proofs.Reading.{AcceptedEach, Silent, Updates, Expression, Expressions, Met, PartsOf, ReadArguments, ReadEach, Reads, around, expression-part, expressions-silent, form-expression, form_walk, left, parts-then, silent-none, silent-with, other-role, places, right, silent-scope, walk-parts, whole-of}
 use Rattle.readable_laws.proofs.Shapes.{IsWholeForm}
 use Rattle.readable_laws.proofs.Symbols.{IsFreeFor, infix-free, postfix-free, prefix-free}
@@ -94,9 +93,6 @@ module _ (text : Text) (known : Known) (named : List ℕ → Outside) (paths : L
   abbrev last : (a : List Finding) {b : List Finding} → Found (a ++ b) → Found b
   last a {b} h = right text known named paths found faces a h
 
-  pub both : {a b : List Finding} → Found a → Found b → Found (a ++ b)
-  both {a} {b} h k = record { all = all-both (Contains found) a b h.all k.all }
-
   abbrev are_accepted : Trees → Type 0
   are_accepted xs = AcceptedEach text known named paths found faces xs
 
@@ -131,7 +127,10 @@ module _ (text : Text) (known : Known) (named : List ℕ → Outside) (paths : L
       subst (λ k. operates context l which k (rule k) (Cons x xs) (expressions n)) (sym is)
       (operator-read text known named paths found faces agrees context l which op (rule (LexKind.Sym op)) x xs n free counted u (subst (λ k. Found (symbol_findings context which l k)) is met))
 
-  operands : (xs : Trees) → AsExpressions xs → (context : Context) (inside : Bool) (n : ℕ) → count xs ≡ n → TakePlaces context → Found (walk_each text here context xs) → part_faults (found_entity found) role.Other inside 0 xs ≡ [] → are_accepted xs
+  each : (xs : Trees) (context : Context) → Found (walk_each text here context xs) → FoundEach text known named paths found faces agrees context xs
+  each xs context met = found-each text known named paths found faces agrees xs context met
+
+  operands : (xs : Trees) → AsExpressions xs → (context : Context) (inside : Bool) (n : ℕ) → count xs ≡ n → TakePlaces context → FoundEach text known named paths found faces agrees context xs → part_faults (found_entity found) role.Other inside 0 xs ≡ [] → are_accepted xs
       → ReadArguments text known named paths found faces context (expressions n) xs
   operands xs es context inside n counted u met none accepted = operands-read text known named paths found faces agrees xs es context inside n counted u met none accepted
 
@@ -140,18 +139,15 @@ module _ (text : Text) (known : Known) (named : List ℕ → Outside) (paths : L
       operator-form (Form.Prefix l) s (one x) shape refl (λ context. refl) (λ context inside u met none accepted. (
         expressions 1,
         operator-here context l prefixed op (symbol_rule Prefix) x Nil 1 is (prefix-free op applies) refl u (first _ met),
-        operands (one x) (e, tt) context inside 1 refl u (last _ met) none accepted,
+        operands (one x) (e, tt) context inside 1 refl u (each (one x) context (last _ met)) none accepted,
       ))
-
-  in_order : (context : Context) (x y : Tree) → Found (walk text here context x) → Found (walk_each text here context (one y)) → Found (walk_each text here context (two x y))
-  in_order context x y h k = both h k
 
   pub infix-read : (l : Lexeme) (s : Span) (op : Op.the_data) (x y : Tree) → IsWholeForm (Form.Infix l) → l.kind ≡ LexKind.Sym op → Applies op Infix → AsExpression x → AsExpression y → AsExpression (Node (Form.Infix l) s (two x y))
   infix-read l s op x y shape is applies e f =
       operator-form (Form.Infix l) s (two x y) shape refl (λ context. refl) (λ context inside u met none accepted. (
         expressions 2,
         operator-here context l itself op (symbol_rule Infix) x (one y) 2 is (infix-free op applies) refl u (last _ (first _ met)),
-        operands (two x y) (e, (f, tt)) context inside 2 refl u (in_order context x y (first _ (first _ met)) (last _ met)) none accepted,
+        operands (two x y) (e, (f, tt)) context inside 2 refl u (first _ (first _ met), each (one y) context (last _ met)) none accepted,
       ))
 
   pub postfix-read : (l : Lexeme) (s : Span) (op : Op.the_data) (x : Tree) → IsWholeForm (Form.Postfix l) → l.kind ≡ LexKind.Sym op → Applies op Postfix → AsExpression x → AsExpression (Node (Form.Postfix l) s (one x))
@@ -159,7 +155,7 @@ module _ (text : Text) (known : Known) (named : List ℕ → Outside) (paths : L
       operator-form (Form.Postfix l) s (one x) shape refl (λ context. refl) (λ context inside u met none accepted. (
         expressions 1,
         operator-here context l itself op (symbol_rule Postfix) x Nil 1 is (postfix-free op applies) refl u (last _ met),
-        operands (one x) (e, tt) context inside 1 refl u (first _ met) none accepted,
+        operands (one x) (e, tt) context inside 1 refl u (each (one x) context (first _ met)) none accepted,
       ))
 
   -- ---- forms over parts

@@ -13,6 +13,7 @@ use Rattle.tla_model.specs.Entities.{Entity, Meaning}
 use Rattle.tla_model.specs.Scopes.{Finding}
 use Rattle.module_model.specs.Bindings.{faults as name_faults}
 use Rattle.arity_rules.specs.Arities.{declared, is_unknown, meaning, or_built_in}
+use Rattle.flattened_trees.specs.Readable.{CanStandFor}
 use Rattle.lexeme_laws.specs.Apart.{BeginApart, begins_at, counted, weight}
 use Rattle.readable_laws.specs.Uses.{IsSound, means_by, used_lexemes}
 
@@ -41,7 +42,7 @@ other-start start l w = by (nat_eq start l.span.start) (begins_at start l) refl 
         counts : begins_at start l ≡ true → weight (begins_at start) l ≡ 1
         counts k = rw k refl
 
-own-start : (start : ℕ) → nat_eq start start ≡ true
+pub own-start : (start : ℕ) → nat_eq start start ≡ true
 own-start start = by (nat_eq start start) refl
   where
     by : (b : Bool) → nat_eq start start ≡ b → nat_eq start start ≡ true
@@ -98,7 +99,7 @@ meant-entity (Declared e callee) = refl
 -- a finding of no fault is what is known where its lexeme begins
 abbrev pub IsAgreed : (ℕ → Option Meaning) → (ℕ → Option Entity) → Finding → Type 0
 IsAgreed means entities (Means l m) = (means l.span.start ≡ Some m) × (entities l.span.start ≡ Some (entity_in m))
-IsAgreed means entities (Implied l p m) = Unit {0}
+IsAgreed means entities (Implied l p m) = CanStandFor p m
 IsAgreed means entities finding = ⊥
 
 sound-at : (found : List Finding) (k : ℕ) (f : Finding) → AllByRecursion IsSound found → slice_get found k ≡ Some f → IsSound f
@@ -107,8 +108,8 @@ sound-at [] (suc k) f sound at = absurd (cc)
 sound-at (g ∷ rest) zero f sound at = let same : g ≡ f = cc in subst IsSound same sound.0
 sound-at (g ∷ rest) (suc k) f sound at = sound-at rest k f sound.1 at
 
-pub all-agreed : (found : List Finding) → AllByRecursion IsSound found → BeginApart (used_lexemes found) → (f : Finding) → Contains found f → IsAgreed (means_by found) (meaning found) f
-all-agreed found sound apart f there =
+pub all-agreed : (found : List Finding) → AllByRecursion IsSound found → BeginApart (used_lexemes found) → ((l : Lexeme) (p m : Meaning) (k : ℕ) → slice_get found k ≡ Some (Implied l p m) → CanStandFor p m) → (f : Finding) → Contains found f → IsAgreed (means_by found) (meaning found) f
+all-agreed found sound apart stands f there =
     by f (sound-at found there.0 f sound (slice_get-get_or found there.0 f there.1 ∙ ap Some there.2)) (slice_get-get_or found there.0 f there.1 ∙ ap Some there.2)
   where
     by : (f : Finding) → IsSound f → slice_get found there.0 ≡ Some f → IsAgreed (means_by found) (meaning found) f
@@ -116,5 +117,5 @@ all-agreed found sound apart f there =
         let says = found-says l m found there.0 (apart l.span.start) at in
         let known : is_unknown (name_faults found) l.span.start ≡ false = ap (λ faults. is_unknown faults l.span.start) (no-faults found sound) in
         (says.0, ap (λ here. or_built_in here (is_unknown (name_faults found) l.span.start)) says.1 ∙ (ap (or_built_in (declared_in m)) known ∙ meant-entity m))
-    by (Implied l p m) s at = tt
+    by (Implied l p m) s at = stands l p m there.0 at
     by _ s at = absurd s

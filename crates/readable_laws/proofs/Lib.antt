@@ -8,6 +8,7 @@ mod Reading
 mod Names
 mod Forms
 mod Parts
+mod StandIns
 mod Definitions
 mod ReadTrees
 mod Accepting

@@ -16,7 +16,7 @@ use Rattle.tla_model.specs.Contexts.{Context, meaning_of}
 use Rattle.tla_model.specs.Scopes.{Finding, is_free, itself, symbol_findings, use_findings}
 use Rattle.module_model.specs.Exports.{Behind, Known, behind_meaning, entry_of, onward}
 use Rattle.module_model.specs.Instances.{called_by}
-use Rattle.module_model.specs.TreeFindings.{Surroundings, path, path_number, segments, walk_each}
+use Rattle.module_model.specs.TreeFindings.{Surroundings, path, path_number, segments, walk, walk_each}
 use Rattle.tree_kinds.specs.Standing.{Outside, operator_places}
 use Rattle.tree_kinds.specs.Expanding.{bare_rule, built_in_places, called_behind, is_bare, symbol_places}
 use Rattle.flat_trees.specs.Names.{order_by, places_by}
@@ -31,7 +31,7 @@ use Rattle.readable_laws.specs.Accepted.{AreBehindInstances, TakePlaces}
 use Rattle.readable_laws.proofs.FoundMeanings.{IsAgreed, entity_in}
 use Rattle.readable_laws.proofs.Orders.{StandsBare, applied-use, arity-length, bare-use, expressions, first-empty, instance-entity, length-replicate, meaning-orders, meaning-places, no-instance, order-at, qualifier-use, replicate-only, rest-empty}
 use Rattle.readable_laws.proofs.Paths.{Leads, first-leads, next-leads}
-use Rattle.readable_laws.proofs.Reading.{AcceptedEach, Expression, Expressions, IsUsed, Met, ReadArguments, Reads, around, left, places, right}
+use Rattle.readable_laws.proofs.Reading.{AcceptedEach, Expression, Expressions, IsUsed, Met, ReadArguments, Reads, around, left, met-first, places, right}
 use Rattle.readable_laws.proofs.Symbols.{IsFreeFor, bare-free, places-some}
 use Rattle.readable_laws.proofs.Shapes.{symbol-whole}
 use Rattle.std.proofs.lemmas.Bool.{false≢true}
@@ -54,7 +54,7 @@ called-some number (Cons x rest) m = (m, refl, refl)
 bare-places : (m : Meaning) (order : ℕ) → StandsBare (entity_in m) order → operator_places (Some m) ≡ places_by order
 bare-places m order bare = meaning-places m ∙ ap places_by (arity-length (entity_in m) ∙ (ap length bare.takes ∙ length-replicate order))
 
-can-stand : (m : Meaning) (order : ℕ) → StandsBare (entity_in m) order → CanStandBare m
+pub can-stand : (m : Meaning) (order : ℕ) → StandsBare (entity_in m) order → CanStandBare m
 can-stand m order bare =
     let takes : orders_of m ≡ expressions order = meaning-orders m ∙ bare.takes in
     (no-instance m bare.apart, takes ∙ ap expressions (sym (ap length takes ∙ length-replicate order)))
@@ -106,6 +106,9 @@ module _ (text : Text) (known : Known) (named : List ℕ → Outside) (paths : L
   abbrev reads_path : Context → Option Meaning → Behind → Trees → Type 0
   reads_path context m held xs = IsReadablePath text known named (means_by found) (implied_by found) faces context m held xs
 
+  found_first : (f : Finding) (fs : List Finding) → Found (f ∷ fs) → Contains found f
+  found_first f fs met = met-first text known named paths found faces f fs met
+
   -- ---- uses
 
   -- a use means what stands there
@@ -116,8 +119,8 @@ module _ (text : Text) (known : Known) (named : List ℕ → Outside) (paths : L
     pub entity : found_entity found l.span.start ≡ Some (entity_in meant)
 
   pub use-met : (l : Lexeme) (o : Option Meaning) → Found (use_findings l o) → IsUse l o
-  use-met l None met = absurd (agrees (Unknown l) met.all.0)
-  use-met l (Some m) met = let agreed = agrees (Means l m) met.all.0 in record { meant = m; there = refl; means = agreed.0; entity = agreed.1 }
+  use-met l None met = absurd (agrees (Unknown l) (found_first (Unknown l) [] met))
+  use-met l (Some m) met = let agreed = agrees (Means l m) (found_first (Means l m) [] met) in record { meant = m; there = refl; means = agreed.0; entity = agreed.1 }
 
   abbrev Further : Lexeme → Option Meaning → Type 0
   Further l o = (m : Meaning) × (o ≡ Some m) × IsUsed found l m
@@ -137,9 +140,18 @@ module _ (text : Text) (known : Known) (named : List ℕ → Outside) (paths : L
 
   -- ---- arguments
 
+  -- what is found in each of these stands in a row
+  abbrev pub FoundEach : Context → Trees → Type 0
+  FoundEach context Nil = Unit {0}
+  FoundEach context (Cons x rest) = Found (walk text here context x) × FoundEach context rest
+
+  pub found-each : (xs : Trees) (context : Context) → Found (walk_each text here context xs) → FoundEach context xs
+  found-each Nil context met = tt
+  found-each (Cons x rest) context met = (first _ met, found-each rest context (last _ met))
+
   pub arguments-read : (xs : Trees) → AsExpressions xs → (context : Context) (r : Role) (inside : Bool) (index : ℕ) (orders : List ℕ)
       → ((i order : ℕ) (w : Span) → slice_get orders i ≡ Some order → part_due (found_entity found) r (i + index) w ≡ due_by (Some order) w)
-      → count xs ≡ length orders → TakePlaces context → Found (walk_each text here context xs) → part_faults (found_entity found) r inside index xs ≡ [] → are_accepted xs → reads_arguments context orders xs
+      → count xs ≡ length orders → TakePlaces context → FoundEach context xs → part_faults (found_entity found) r inside index xs ≡ [] → are_accepted xs → reads_arguments context orders xs
   arguments-read Nil es context r inside index [] dues counted u met none accepted = tt
   arguments-read Nil es context r inside index (order ∷ orders) dues counted u met none accepted = absurd (omega arith)
   arguments-read (Cons x rest) es context r inside index [] dues counted u met none accepted = absurd (omega arith)
@@ -149,11 +161,11 @@ module _ (text : Text) (known : Known) (named : List ℕ → Outside) (paths : L
       let index-is : zero + index ≡ index = omega arith in
       let is-due : part_due (found_entity found) r index s ≡ due_by (Some order) s = ap (λ k. part_due (found_entity found) r k s) (sym index-is) ∙ dues zero order s refl in
       let faults = subst (λ d. tree_faults (found_entity found) d (is_part_inside r inside f) (Node f s ps) ≡ []) is-due (first-empty own others none) in
-      let read = es.0.reads context order s (is_part_inside r inside f) u (first _ met) faults accepted.0 in (
+      let read = es.0.reads context order s (is_part_inside r inside f) u met.0 faults accepted.0 in (
         es.0.shape.part,
         ap order_by read.1 ∙ order-places order,
         read.0,
-        arguments-read rest es.1 context r inside (suc index) orders (later dues) (omega arith) u (last _ met) (rest-empty own others none) accepted.1,
+        arguments-read rest es.1 context r inside (suc index) orders (later dues) (omega arith) u met.1 (rest-empty own others none) accepted.1,
       )
     where
       later : ((i o : ℕ) (w : Span) → slice_get (order ∷ orders) i ≡ Some o → part_due (found_entity found) r (i + index) w ≡ due_by (Some o) w)
@@ -161,7 +173,7 @@ module _ (text : Text) (known : Known) (named : List ℕ → Outside) (paths : L
       later dues i o w at = let e : i + suc index ≡ suc i + index = omega arith in ap (λ k. part_due (found_entity found) r k w) e ∙ dues (suc i) o w at
 
   -- operands are expressions
-  pub operands-read : (xs : Trees) → AsExpressions xs → (context : Context) (inside : Bool) (n : ℕ) → count xs ≡ n → TakePlaces context → Found (walk_each text here context xs) → part_faults (found_entity found) role.Other inside 0 xs ≡ [] → are_accepted xs
+  pub operands-read : (xs : Trees) → AsExpressions xs → (context : Context) (inside : Bool) (n : ℕ) → count xs ≡ n → TakePlaces context → FoundEach context xs → part_faults (found_entity found) role.Other inside 0 xs ≡ [] → are_accepted xs
       → reads_arguments context (expressions n) xs
   operands-read xs es context inside n counted u met none accepted =
       arguments-read xs es context role.Other inside 0 (expressions n) (λ i order w at. ap (λ o. due_by (Some o) w) (sym (replicate-only n i order at))) (counted ∙ sym (length-replicate n)) u met none accepted
@@ -214,7 +226,7 @@ module _ (text : Text) (known : Known) (named : List ℕ → Outside) (paths : L
       record {
         path = (
           no-instance m applied.apart,
-          arguments-read (Cons x xs) es context (role.Segment l) inside 0 (orders_of m) (segment-dues l m used.entity) (applied.takes ∙ (arity-length (entity_in m) ∙ ap length (sym (meaning-orders m)))) u met (rest-empty own others none) accepted,
+          arguments-read (Cons x xs) es context (role.Segment l) inside 0 (orders_of m) (segment-dues l m used.entity) (applied.takes ∙ (arity-length (entity_in m) ∙ ap length (sym (meaning-orders m)))) u (found-each (Cons x xs) context met) (rest-empty own others none) accepted,
         );
         bare = sym (ap places_by applied.plain);
         end = used-places l m used;
@@ -252,7 +264,7 @@ module _ (text : Text) (known : Known) (named : List ℕ → Outside) (paths : L
       let faults_behind : later ≡ [] = subst (λ o. (if is_some o then later else []) ≡ []) used.entity (rest-empty own (if is_known (found_entity found) (Form.Segment l) then later else []) none) in
       let counted = qualifier-use (count args) l.span (entity_in m) (instance-entity m is) (subst (λ e. use_faults due.Qualifier l.span (count args) e ≡ []) used.entity (first-empty at_name at_args faults)) in
       let inner = path-read next t xs rest more.0 more.1 context number used_as.0 (onward held name) order whole inside used_as.2 (next-leads m held name used_as.0 leads used_as.1) u (last _ (first _ further)) behind faults_behind others.0.1 others.1 in
-      let arguments = arguments-read args es context (role.Segment l) inside 0 (orders_of m) (segment-dues l m used.entity) (counted ∙ (arity-length (entity_in m) ∙ ap length (sym (meaning-orders m)))) u met (rest-empty at_name at_args faults) accepted in
+      let arguments = arguments-read args es context (role.Segment l) inside 0 (orders_of m) (segment-dues l m used.entity) (counted ∙ (arity-length (entity_in m) ∙ ap length (sym (meaning-orders m)))) u (found-each args context met) (rest-empty at_name at_args faults) accepted in
       record {
         path = qualified context m held l next s t args xs rest is arguments (subst (λ o. reads_path context o (onward held name) (Cons (Node (Form.Segment next) t xs) rest)) (sym used_as.1) inner.path);
         bare =

@@ -1,8 +1,9 @@
 -- Trees can be read where their names were found and nothing is used as what it is not, if their parts can.
-use Rattle.std.proofs.Common.{◌≡◌, ℕ, suc, List, [], ◌∷◌, ◌++◌, Bool, true, false, Option, Some, None, refl, sym, ap, subst, ◌∙◌, if◌then◌else◌}
+use Rattle.std.proofs.Common.{◌≡◌, ℕ, suc, List, [], ◌∷◌, ◌++◌, Bool, true, false, Option, Some, None, refl, sym, ap, subst, ◌∙◌, if◌then◌else◌, append_assoc, arith}
+use Rattle.std.proofs.lemmas.List.{append-nil}
 use Rattle.std.specs.Prelude.{Contains}
 use Rattle.std.specs.List.{AllByRecursion}
-use Rattle.list_laws.proofs.Lists.{all-both, all-left, all-right}
+use Rattle.list_laws.proofs.Lists.{all-both, first-there}
 use Rattle.tla_symbols.specs.declared.lexeme.Lexeme.{Lexeme}
 use Rattle.tla_symbols.specs.declared.lexeme.Span.{Span}
 use Rattle.tla_tree.specs.declared.form.Form.TheVariants as Form
@@ -77,18 +78,31 @@ module _ (text : Text) (known : Known) (named : List ℕ → Outside) (paths : L
   abbrev pub AcceptedEach : Trees → Type 0
   AcceptedEach xs = AreAcceptedAmong text known named found faces xs
 
-  -- what is found is among this
+  -- what is found stands in a row in this
   pub record Met (fs : List Finding) : Type 0 where
-    pub all : AllByRecursion (Contains found) fs
+    pub before : List Finding
+    pub behind : List Finding
+    pub whole : found ≡ before ++ fs ++ behind
+
+  parted : (h : List Finding) (a b k : List Finding) → h ++ (a ++ b) ++ k ≡ h ++ a ++ b ++ k
+  parted h a b k = ap (λ fs. fs ++ k) (sym (append_assoc h a b))
 
   pub left : {a : List Finding} (b : List Finding) → Met (a ++ b) → Met a
-  left {a} b h = record { all = all-left (Contains found) a b h.all }
+  left {a} b h = record { before = h.before; behind = b ++ h.behind; whole = h.whole ∙ (parted h.before a b h.behind ∙ append_assoc (h.before ++ a) b h.behind) }
 
   pub right : (a : List Finding) {b : List Finding} → Met (a ++ b) → Met b
-  right a {b} h = record { all = all-right (Contains found) a b h.all }
+  right a {b} h = record { before = h.before ++ a; behind = h.behind; whole = h.whole ∙ parted h.before a b h.behind }
 
   pub alone : {a : List Finding} → Met a → Met (a ++ [])
-  alone {a} h = record { all = all-both (Contains found) a [] h.all tt }
+  alone {a} h = record { before = h.before; behind = h.behind; whole = h.whole ∙ ap (λ fs. h.before ++ fs ++ h.behind) (sym (append-nil a)) }
+
+  -- the first of these was found
+  contained : (h : List Finding) (f : Finding) (k : List Finding) → Contains (h ++ f ∷ k) f
+  contained [] f k = first-there f k
+  contained (g ∷ h) f k = let there = contained h f k in (suc there.0, omega (arith, there.1), there.2)
+
+  pub met-first : (f : Finding) (fs : List Finding) → Met (f ∷ fs) → Contains found f
+  met-first f fs h = subst (λ all. Contains all f) (sym (h.whole ∙ append_assoc h.before (f ∷ fs) h.behind)) (contained h.before f (fs ++ h.behind))
 
   -- ---- what is known of parts
 
