@@ -47,7 +47,7 @@ usable-found None meaning e = absurd (cc)
 usable-found (Some m) meaning e = ap Some e
 
 -- what is meant under a symbol, with a name more, was so before, or it is that name
-put-meant : (context : Context) (name : Named) (value : Option Meaning) (op : Op) (meaning : Meaning) → Stands (put context name value) op meaning → Stands context op meaning ⊎ ((name ≡ Symbol op) × (value ≡ Some meaning))
+pub put-meant : (context : Context) (name : Named) (value : Option Meaning) (op : Op) (meaning : Meaning) → Stands (put context name value) op meaning → Stands context op meaning ⊎ ((name ≡ Symbol op) × (value ≡ Some meaning))
 put-meant context (Word bytes) value op meaning at = inl at
 put-meant context (Symbol key) value op meaning at = by (put-found same_symbol context.symbols key value op (Some meaning) (usable-found (lookup same_symbol (added same_symbol context.symbols key value) op) meaning at))
   where

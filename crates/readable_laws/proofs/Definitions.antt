@@ -2,10 +2,8 @@
 use Rattle.std.proofs.Common.{◌≡◌, ℕ, suc, List, [], ◌∷◌, ◌++◌, Bool, true, false, Option, Some, None, refl, sym, ap, subst, ◌∙◌}
 use Rattle.std.specs.Prelude.{Contains}
 use Rattle.std.specs.List.{AllByRecursion}
-use Rattle.tla_symbols.specs.declared.lexeme.LexKind.TheVariants as LexKind
 use Rattle.tla_symbols.specs.declared.lexeme.Lexeme.{Lexeme}
 use Rattle.tla_symbols.specs.declared.lexeme.Span.{Span}
-use Rattle.tla_symbols.specs.declared.op.Op.{Op}
 use Rattle.tla_tree.specs.declared.form.Form.TheVariants as Form
 use Rattle.tla_tree.specs.Forms.{helps}
 use Rattle.tla_tree.specs.Lexemes.{one, then}
@@ -15,7 +13,7 @@ use Rattle.tla_model.specs.declared.names.Binding.TheVariants as as_binding
 use Rattle.tla_model.specs.declared.names.Finding.TheVariants.{Means, NotReplaceable, ReplacedTwice}
 use Rattle.tla_model.specs.declared.names.Meaning.TheVariants.{BuiltIn, Declared}
 use Rattle.tla_model.specs.Tables.{Named, is_among}
-use Rattle.tla_model.specs.Entities.{Binding, Entity, Meaning, Nothing, Text, binding_of, defined, defines, is_group, name_of, placed}
+use Rattle.tla_model.specs.Entities.{Binding, Meaning, Nothing, Text, binding_of, defined, defines, is_group, name_of, placed}
 use Rattle.tla_model.specs.Contexts.{Context}
 use Rattle.tla_model.specs.Scopes.{Finding, all_grouped, behind, binders, definition, inside, names_in, reserved, scope}
 use Rattle.module_model.specs.Exports.{Exports, Known, entry_of}
@@ -32,7 +30,7 @@ use Rattle.flattened_trees.specs.Leads.{FlatFace}
 use Rattle.flattened_trees.specs.Readable.{AreReadableRights, IsKnownBehind, IsReadableChain, IsReadableDefinition, IsReadableThrough, parameter_order}
 use Rattle.readable_laws.specs.Uses.{implied_by, means_by}
 use Rattle.readable_laws.specs.Accepted.{IsAcceptedAmong, IsAcceptedInstance, TakePlaces}
-use Rattle.readable_laws.proofs.Contexts.{Fits, TakesPlaces, bind-all-keeps, reserve-all-keeps}
+use Rattle.readable_laws.proofs.Contexts.{Fits, bind-all-keeps, reserve-all-keeps}
 use Rattle.readable_laws.proofs.FoundMeanings.{IsAgreed, entity_in}
 use Rattle.readable_laws.proofs.Forms.{AllBefore, AllInside, ends-then, helper, inside-then}
 use Rattle.readable_laws.proofs.Names.{order-places}
@@ -80,14 +78,6 @@ heads-bind Nil f s ps all names group = ((subst (AllByRecursion (FitsAs as_bindi
 heads-bind (Cons (Node g t Nil) rest) f s ps all names group =
     ((all.0.fits, subst (λ b. AllByRecursion (FitsAs as_binding.Parameter) (names_in b Nil)) (sym all.0.group) tt), heads-bind rest f s ps all.1 names group)
 heads-bind (Cons (Node g t (Cons y ys)) rest) f s ps all names group = absurd all
-
--- ---- symbols that are defined or declared
-
-pub symbol-fits : (l : Lexeme) (e : Entity) (op : Op) (n : ℕ) → l.kind ≡ LexKind.Sym op → TakesPlaces e op → Fits (record { name = l; entity = e })
-symbol-fits l e op n is takes = record { fit = λ other k. let same : LexKind.Sym op ≡ LexKind.Sym other = sym is ∙ k in subst (TakesPlaces e) (by other same) takes }
-  where
-    by : (other : Op) → LexKind.Sym op ≡ LexKind.Sym other → op ≡ other
-    by other same = cc
 
 module _ (text : Text) (known : Known) (named : List ℕ → Outside) (paths : List ℕ) (found : List Finding) (faces : List ℕ → FlatFace)
     (agrees : (f : Finding) → Contains found f → IsAgreed (means_by found) (found_entity found) f) where

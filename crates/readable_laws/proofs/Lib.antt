@@ -13,3 +13,5 @@ mod Definitions
 mod ReadTrees
 mod Accepting
 mod Counts
+mod Steadiness
+mod Fitting

@@ -1,57 +1,43 @@
 -- Trees that derive lexemes can be read: a line for each rule.
-use Rattle.std.proofs.Common.{◌≡◌, ℕ, List, [], ◌∷◌, ◌++◌, true, false, Option, None, refl, sym, ap, ◌∙◌, map}
+use Rattle.std.proofs.Common.{◌≡◌, ℕ, List, [], ◌∷◌, ◌++◌, true, false, Option, None, refl}
 use Rattle.std.specs.Prelude.{Contains}
-use Rattle.tla_symbols.specs.declared.lexeme.LexKind.TheVariants as LexKind
+use Rattle.std.specs.List.{AllByRecursion}
 use Rattle.tla_symbols.specs.declared.lexeme.Lexeme.{Lexeme}
 use Rattle.tla_symbols.specs.declared.lexeme.Mark.{Mark}
 use Rattle.tla_symbols.specs.declared.lexeme.Span.{Span}
-use Rattle.tla_symbols.specs.declared.op.Op.{Op}
 use Rattle.tla_symbols.specs.declared.op.Op.TheVariants as op_names
 use Rattle.tla_tree.specs.declared.form.Form.{Form as AnyForm}
 use Rattle.tla_tree.specs.declared.form.Form.TheVariants as Form
 use Rattle.tla_tree.specs.Lexemes.{IsName, one, place, then, two}
-use Rattle.tla_tree.specs.Syntax.{Tree, Trees, Node, Nil, Cons, form}
+use Rattle.tla_tree.specs.Syntax.{Tree, Trees, Node, Nil, Cons}
 use Rattle.tla_tree.specs.Headings as h
 use Rattle.tla_tree.specs.Derivation as d
 use Rattle.tla_model.specs.declared.entity.Entity.TheVariants as entity
 use Rattle.tla_model.specs.declared.names.Binding.TheVariants as as_binding
-use Rattle.tla_model.specs.Entities.{Binding, Entity, Text, all_placed, binding_of, orders}
+use Rattle.tla_model.specs.Entities.{Binding, Text, binding_of, defined}
 use Rattle.tla_model.specs.Contexts.{Context}
-use Rattle.tla_model.specs.Scopes.{Finding, reserved, scope}
+use Rattle.tla_model.specs.Scopes.{Finding, definition, reserved, scope}
 use Rattle.module_model.specs.TreeFindings.{Surroundings, walk}
 use Rattle.module_model.specs.Exports.{Known}
 use Rattle.tree_kinds.specs.Standing.{Outside}
-use Rattle.tree_kinds.specs.Expanding.{built_in_places, places_at}
+use Rattle.tree_kinds.specs.Expanding.{places_at}
 use Rattle.arity_rules.specs.Arities.{meaning as found_entity, role_of}
 use Rattle.arity_rules.specs.declared.place.Role.TheVariants as role
 use Rattle.flattened_trees.specs.Leads.{FlatFace}
 use Rattle.readable_laws.specs.Uses.{means_by}
 use Rattle.readable_laws.specs.Accepted.{AreBehindInstances}
-use Rattle.readable_laws.proofs.Contexts.{Fits, TakesPlaces}
-use Rattle.readable_laws.proofs.Definitions.{AllHeads, Definition, Definitions, IsHead, Replacements, function-definition, infix-definition, let-read, module-definition, operator-definition, postfix-definition, prefix-definition, symbol-fits}
+use Rattle.readable_laws.proofs.Contexts.{Fits}
+use Rattle.readable_laws.proofs.Definitions.{AllHeads, Definition, Definitions, IsHead, Replacements, function-definition, infix-definition, let-read, module-definition, operator-definition, postfix-definition, prefix-definition}
+use Rattle.readable_laws.proofs.Fitting.{definition-fits, parameter-takes, symbol-fits, word-fits}
 use Rattle.readable_laws.proofs.Forms.{AllBefore, at-read, atom-read, bounded-read, except-read, form-read, helper, image-read, infix-read, outer, parentheses-read, postfix-read, prefix-read}
 use Rattle.readable_laws.proofs.FoundMeanings.{IsAgreed}
 use Rattle.readable_laws.proofs.Names.{Segments, identifier-read, symbol-read}
-use Rattle.readable_laws.proofs.Orders.{expressions}
 use Rattle.readable_laws.proofs.Parts.{AllNames, Steps, arm-part, bound-part, field-part, field-step, group-part, index-step, other-arm-part, tuple-bound-part, tuple-part, update-part}
 use Rattle.readable_laws.proofs.Reading.{Expression, Expressions, Met, PartOf, PartsOf, ReadEach, Reads, Updates, around, expression-part, expression-parts, form_walk, parts-then}
 use Rattle.readable_laws.proofs.Shapes.{IsWholeForm, spelled-whole}
 use Rattle.readable_laws.proofs.Symbols.{infix-defined, postfix-defined}
 
 -- ---- names and parameters
-
--- a name is no symbol
-word-fits : (l : Lexeme) (e : Entity) → IsName l → Fits (record { name = l; entity = e })
-word-fits l e is = record { fit = λ op k. absurd (by op k) }
-  where
-    by : (op : Op) → l.kind ≡ LexKind.Sym op → ⊥
-    by op k = let clash : LexKind.Name ≡ LexKind.Sym op = sym is ∙ k in absurd (cc clash)
-
-parameter-takes : (op : Op) (n : ℕ) → built_in_places op ≡ n → TakesPlaces (entity.Parameter n) op
-parameter-takes op n is = record { apart = λ l text. tt; takes = ap expressions (sym is) }
-
-definition-takes : (op : Op) (n : ℕ) (os : List ℕ) → built_in_places op ≡ n → os ≡ expressions n → TakesPlaces (entity.Definition os) op
-definition-takes op n os is all = record { apart = λ l text. tt; takes = all ∙ ap expressions (sym is) }
 
 name-head : (n : Lexeme) → IsName n → IsHead (Form.Name n)
 name-head n k = record { part = refl; outside = refl; group = refl; nothing = refl; other = refl; fits = (word-fits n (entity.Parameter 0) k, tt) }
@@ -60,11 +46,11 @@ parameter-heads : {x : Tree} {a : List Lexeme} → h.DerivesParameter x a → Al
 parameter-heads (h.plain {n = n} k) = (name-head n k, tt)
 parameter-heads (h.of_places {n = n} {places = places} u k l m ds) = (record { part = refl; outside = refl; group = refl; nothing = refl; other = refl; fits = (word-fits n (entity.Parameter places) k, tt) }, tt)
 parameter-heads (h.prefix_symbol {t = t} k l) =
-    (record { part = refl; outside = refl; group = refl; nothing = refl; other = refl; fits = (symbol-fits t (entity.Parameter 1) op_names.Negative 1 k (parameter-takes op_names.Negative 1 refl), tt) }, tt)
+    (record { part = refl; outside = refl; group = refl; nothing = refl; other = refl; fits = (symbol-fits t (entity.Parameter 1) op_names.Negative k (parameter-takes op_names.Negative 1 refl), tt) }, tt)
 parameter-heads (h.infix_symbol {op = op} {t = t} k l m o) =
-    (record { part = refl; outside = refl; group = refl; nothing = refl; other = refl; fits = (symbol-fits t (entity.Parameter 2) op 2 l (parameter-takes op 2 (infix-defined op m)), tt) }, tt)
+    (record { part = refl; outside = refl; group = refl; nothing = refl; other = refl; fits = (symbol-fits t (entity.Parameter 2) op l (parameter-takes op 2 (infix-defined op m)), tt) }, tt)
 parameter-heads (h.postfix_symbol {op = op} {t = t} k l m) =
-    (record { part = refl; outside = refl; group = refl; nothing = refl; other = refl; fits = (symbol-fits t (entity.Parameter 1) op 1 l (parameter-takes op 1 (postfix-defined op m)), tt) }, tt)
+    (record { part = refl; outside = refl; group = refl; nothing = refl; other = refl; fits = (symbol-fits t (entity.Parameter 1) op l (parameter-takes op 1 (postfix-defined op m)), tt) }, tt)
 
 heads-with : (x : Tree) (xs : Trees) → AllHeads (one x) → AllHeads xs → AllHeads (Cons x xs)
 heads-with (Node f s Nil) xs head all = (head.0, all)
@@ -78,26 +64,12 @@ heads-in : {n : Lexeme} {xs : Trees} {a : List Lexeme} → h.DerivesHead n xs a 
 heads-in (h.constant k) = tt
 heads-in (h.with_parameters u k l v xs) = parameters-heads xs
 
-head-name : {n : Lexeme} {xs : Trees} {a : List Lexeme} → h.DerivesHead n xs a → IsName n
-head-name (h.constant k) = k
-head-name (h.with_parameters u k l v xs) = k
-
 names-in : {xs : Trees} {a : List Lexeme} → h.DerivesNameList xs a → AllNames xs
 names-in (h.last_name k) = (k, tt)
 names-in (h.more_names k l ds) = (k, names-in ds)
 
 tuple-names-in : {xs : Trees} {a : List Lexeme} → h.DerivesTupleNames xs a → AllNames xs
 tuple-names-in (h.tuple_names t u k l ds) = names-in ds
-
--- the orders of the names before a body
-placed-one : (x : Tree) → IsWholeForm (form x) → all_placed (one x) ≡ []
-placed-one (Node f s ps) shape = ap (λ ns. ns ++ []) shape.names
-
-one-order : (n : Lexeme) (s : Span) (x : Tree) → IsWholeForm (form x) → orders (Cons (Node (Form.Name n) s Nil) (one x)) ≡ expressions 1
-one-order n s x shape = ap (λ (ns : List (Lexeme × ℕ)). 0 ∷ map (λ (name : Lexeme × ℕ). name.1) ns) (placed-one x shape)
-
-two-orders : (m n : Lexeme) (s t : Span) (x : Tree) → IsWholeForm (form x) → orders (Cons (Node (Form.Name m) s Nil) (Cons (Node (Form.Name n) t Nil) (one x))) ≡ expressions 2
-two-orders m n s t x shape = ap (λ (ns : List (Lexeme × ℕ)). 0 ∷ 0 ∷ map (λ (name : Lexeme × ℕ). name.1) ns) (placed-one x shape)
 
 module _ (text : Text) (known : Known) (named : List ℕ → Outside) (paths : List ℕ) (found : List Finding) (faces : List ℕ → FlatFace)
     (agrees : (f : Finding) → Contains found f → IsAgreed (means_by found) (found_entity found) f) (behind : AreBehindInstances known) where
@@ -290,39 +262,25 @@ module _ (text : Text) (known : Known) (named : List ℕ → Outside) (paths : L
     items-in (d.more_items u k l x xs) = (expression-in x, items-in xs)
 
     definitions-in : {xs : Trees} {a : List Lexeme} {i : ℕ} {o : Option Lexeme} → d.DerivesDefinitions xs a i o → Definitions text known named paths found faces agrees xs
-    definitions-in (d.last_definition x) = (definition-in x, tt)
-    definitions-in (d.more_definitions t x xs) = (definition-in x, definitions-in xs)
+    definitions-in (d.last_definition x) = (definition-by x (definition-fits x), tt)
+    definitions-in (d.more_definitions t x xs) = (definition-by x (definition-fits x), definitions-in xs)
 
-    pub definition-in : {x : Tree} {a : List Lexeme} {i : ℕ} {o : Option Lexeme} → d.DerivesDefinition x a i o → AsDefinition x
-    definition-in (d.operator {n = n} {xs = xs} {x = x} {a = a} {b = b} m head k y) =
-        operator-definition text known named paths found faces agrees n (place (a ++ m ∷ b)) xs x (heads-in head) (expression-in y) (word-fits n (entity.Definition (orders (then xs x))) (head-name head), tt)
-    definition-in (d.prefix_operator {t = t} {n = n} {d = m} {x = x} {a = a} k l o y) =
-        let s = place (n ∷ []) in
-        let e = expression-in y in
-        prefix-definition text known named paths found faces agrees t (place (t ∷ n ∷ m ∷ a)) (one (Node (Form.Name n) s Nil)) x (name-head n l, tt) e
-        (symbol-fits t (entity.Definition (orders (Cons (Node (Form.Name n) s Nil) (one x)))) op_names.Negative 1 k (definition-takes op_names.Negative 1 (orders (Cons (Node (Form.Name n) s Nil) (one x))) refl (one-order n s x e.shape)), tt)
-    definition-in (d.infix_operator {op = op} {m = m} {t = t} {n = n} {d = v} {x = x} {a = a} k l o q r y) =
-        let s = place (m ∷ []) in
-        let u = place (n ∷ []) in
-        let e = expression-in y in
-        let all = orders (Cons (Node (Form.Name m) s Nil) (Cons (Node (Form.Name n) u Nil) (one x))) in
-        infix-definition text known named paths found faces agrees t (place (m ∷ t ∷ n ∷ v ∷ a)) (two (Node (Form.Name m) s Nil) (Node (Form.Name n) u Nil)) x (name-head m k, (name-head n q, tt)) e
-        (symbol-fits t (entity.Definition all) op 2 l (definition-takes op 2 all (infix-defined op o) (two-orders m n s u x e.shape)), tt)
-    definition-in (d.postfix_operator {op = op} {m = m} {t = t} {d = v} {x = x} {a = a} k l o q y) =
-        let s = place (m ∷ []) in
-        let e = expression-in y in
-        let all = orders (Cons (Node (Form.Name m) s Nil) (one x)) in
-        postfix-definition text known named paths found faces agrees t (place (m ∷ t ∷ v ∷ a)) (one (Node (Form.Name m) s Nil)) x (name-head m k, tt) e
-        (symbol-fits t (entity.Definition all) op 1 l (definition-takes op 1 all (postfix-defined op o) (one-order m s x e.shape)), tt)
-    definition-in (d.function_of {n = n} {t = t} {bounds = bounds} {x = x} {a = a} {b = b} u v k l m o bs y) =
-        function-definition text known named paths found faces agrees n (place (n ∷ t ∷ (a ++ u ∷ v ∷ b))) bounds x (bounds-in unbound bs) (expression-in y) (word-fits n (entity.Bound false) k) (word-fits n (entity.Definition []) k, tt)
-    definition-in (d.module_of {n = n} {xs = xs} {x = x} {a = a} {b = b} m head k y) = module-in n (place (a ++ m ∷ b)) xs (heads-in head) (head-name head) y
+    definition-by : {x : Tree} {a : List Lexeme} {i : ℕ} {o : Option Lexeme} → d.DerivesDefinition x a i o → AllByRecursion Fits (definition x) → AsDefinition x
+    definition-by (d.operator {n = n} {xs = xs} {x = x} {a = a} {b = b} m head k y) fits = operator-definition text known named paths found faces agrees n (place (a ++ m ∷ b)) xs x (heads-in head) (expression-in y) fits
+    definition-by (d.prefix_operator {t = t} {n = n} {d = m} {x = x} {a = a} k l o y) fits =
+        prefix-definition text known named paths found faces agrees t (place (t ∷ n ∷ m ∷ a)) (one (Node (Form.Name n) (place (n ∷ [])) Nil)) x (name-head n l, tt) (expression-in y) fits
+    definition-by (d.infix_operator {m = m} {t = t} {n = n} {d = v} {x = x} {a = a} k l o q r y) fits =
+        infix-definition text known named paths found faces agrees t (place (m ∷ t ∷ n ∷ v ∷ a)) (two (Node (Form.Name m) (place (m ∷ [])) Nil) (Node (Form.Name n) (place (n ∷ [])) Nil)) x (name-head m k, (name-head n q, tt)) (expression-in y) fits
+    definition-by (d.postfix_operator {m = m} {t = t} {d = v} {x = x} {a = a} k l o q y) fits =
+        postfix-definition text known named paths found faces agrees t (place (m ∷ t ∷ v ∷ a)) (one (Node (Form.Name m) (place (m ∷ [])) Nil)) x (name-head m k, tt) (expression-in y) fits
+    definition-by (d.function_of {n = n} {t = t} {bounds = bounds} {x = x} {a = a} {b = b} u v k l m o bs y) fits =
+        function-definition text known named paths found faces agrees n (place (n ∷ t ∷ (a ++ u ∷ v ∷ b))) bounds x (bounds-in unbound bs) (expression-in y) (word-fits n (entity.Bound false) k) fits
+    definition-by (d.module_of {n = n} {xs = xs} {x = x} {a = a} {b = b} m head k y) fits = module-in n (place (a ++ m ∷ b)) xs (heads-in head) y fits
 
-    module-in : (n : Lexeme) (s : Span) (xs : Trees) → AllHeads xs → IsName n → {x : Tree} {a : List Lexeme} {i : ℕ} {o : Option Lexeme} → d.DerivesInstance x a i o → AsDefinition (Node (Form.ModuleDefinition n) s (then xs x))
-    module-in n s xs heads is (d.without {w = w} {m = m} k l) =
-        module-definition text known named paths found faces agrees n s xs m (place (w ∷ m ∷ [])) Nil heads tt (word-fits n (entity.Instance (orders (then xs (Node (Form.Instance m) (place (w ∷ m ∷ [])) Nil)))) is, tt)
-    module-in n s xs heads is (d.with_replacements {w = w} {m = m} {t = t} {xs = rights} {a = a} k l v ys) =
-        module-definition text known named paths found faces agrees n s xs m (place (w ∷ m ∷ t ∷ a)) rights heads (replacements-in ys) (word-fits n (entity.Instance (orders (then xs (Node (Form.Instance m) (place (w ∷ m ∷ t ∷ a)) rights)))) is, tt)
+    module-in : (n : Lexeme) (s : Span) (xs : Trees) → AllHeads xs → {x : Tree} {a : List Lexeme} {i : ℕ} {o : Option Lexeme} → d.DerivesInstance x a i o → AllByRecursion Fits (defined (Form.ModuleDefinition n) (then xs x)) → AsDefinition (Node (Form.ModuleDefinition n) s (then xs x))
+    module-in n s xs heads (d.without {w = w} {m = m} k l) fits = module-definition text known named paths found faces agrees n s xs m (place (w ∷ m ∷ [])) Nil heads tt fits
+    module-in n s xs heads (d.with_replacements {w = w} {m = m} {t = t} {xs = rights} {a = a} k l v ys) fits =
+        module-definition text known named paths found faces agrees n s xs m (place (w ∷ m ∷ t ∷ a)) rights heads (replacements-in ys) fits
 
     pub replacements-in : {xs : Trees} {a : List Lexeme} {i : ℕ} {o : Option Lexeme} → d.DerivesReplacements xs a i o → Replacements text known named paths found faces agrees xs
     replacements-in (d.last_replacement x) = replacement-in x
@@ -331,3 +289,6 @@ module _ (text : Text) (known : Known) (named : List ℕ → Outside) (paths : L
     replacement-in : {x : Tree} {a : List Lexeme} {i : ℕ} {o : Option Lexeme} → d.DerivesReplacement x a i o → Replacements text known named paths found faces agrees (one x)
     replacement-in (d.replaced k l x) = (expression-in x, tt)
     replacement-in (d.replaced_by_symbol {op = op} {s = s} k l m n) = (symbol-read text known named paths found faces agrees s (place (s ∷ [])) op m, tt)
+
+  pub definition-in : {x : Tree} {a : List Lexeme} {i : ℕ} {o : Option Lexeme} → d.DerivesDefinition x a i o → AsDefinition x
+  definition-in x = definition-by x (definition-fits x)

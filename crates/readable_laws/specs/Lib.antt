@@ -1,2 +1,3 @@
 pub mod Uses
 pub mod Accepted
+pub mod Steady

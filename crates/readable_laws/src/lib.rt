@@ -3,13 +3,15 @@
 //! No code: each function states a law. Knows nothing of how nodes are built.
 #![tactic(auto)]
 
-ghost use Rattle.std.specs.Prelude.{◌≡◌, ℕ, ◌≤◌, Bool, List, Option, Some};
+ghost use Rattle.std.specs.Prelude.{◌≡◌, ℕ, ◌≤◌, ◌++◌, Bool, List, Option, Some};
 ghost use Rattle.tla_symbols.specs.declared.lexeme.Lexeme.{Lexeme};
 ghost use Rattle.tla_symbols.specs.declared.lexeme.Span.{Span};
-ghost use Rattle.unit_grammar.specs.Units.{ModuleUnits};
+ghost use Rattle.unit_grammar.specs.Units.{ModuleUnits, UnitTree};
+ghost use Rattle.unit_grammar.specs.Derivation.{DerivesModule};
 ghost use Rattle.front_laws.specs.Fronts.{IsFront, Tree as TreeFront};
 ghost use Rattle.tla_model.specs.Lexemes.{lexemes, module_lexemes};
-ghost use Rattle.module_model.specs.Resolution.{findings};
+ghost use Rattle.module_model.specs.Resolution.{ReadState, findings, first, known_in, outside_in, read_all, words_of};
+ghost use Rattle.module_model.specs.Modules.{text_of};
 ghost use Rattle.module_model.specs.TreeFindings.{Surroundings, walk};
 ghost use Rattle.lexeme_laws.specs.Apart.{BeginApart, counted};
 ghost use Rattle.tla_tree.specs.Derivation.{Derives, DerivesDefinition, DerivesInstance};
@@ -27,7 +29,8 @@ ghost use Rattle.arity_rules.specs.declared.place.Due.TheVariants.{Expression};
 ghost use Rattle.flattened_trees.specs.Leads.{FlatFace};
 ghost use Rattle.flattened_trees.specs.Readable.{IsReadable, IsReadableDefinition, IsReadableThrough};
 ghost use Rattle.readable_laws.specs.Uses.{implied_by, means_by, used_lexemes};
-ghost use Rattle.readable_laws.specs.Accepted.{AreSound, IsAccepted, IsAcceptedUnit};
+ghost use Rattle.readable_laws.specs.Accepted.{AreBehindInstances, AreSound, IsAccepted, IsAcceptedUnit};
+ghost use Rattle.readable_laws.specs.Steady.{IsSteady, IsSteadyView};
 
 use lexeme_laws::names_begin_apart;
 
@@ -88,3 +91,20 @@ pub fn uses_begin_apart()
 {
     names_begin_apart();
 }
+
+/// While a module is read, each symbol that can be used takes as many expressions as it has places,
+/// and names stand behind instances alone, if that is so of the files that its names mean; then it is
+/// so of what can be named in a unit, and of the module for those that name it.
+pub fn modules_stay_steady()
+    ensures read { (files : List ℕ → ModuleView) (source : List ℕ) (units : ModuleUnits)
+        (a : List Lexeme) (before behind : List UnitTree) → DerivesModule units a
+        → ((name : List ℕ) → IsSteadyView (files name)) → units.units ≡ before ++ behind
+        → IsSteady (read_all (text_of source units) files (words_of units)
+        (first files source units) before) }
+    ensures known { (files : List ℕ → ModuleView) (text : Text) (words : List ℕ)
+        (state : ReadState) (unit : UnitTree) → ((name : List ℕ) → IsSteadyView (files name))
+        → IsSteady state → AreBehindInstances (known_in text files words state unit) }
+    ensures outside { (files : List ℕ → ModuleView) (source : List ℕ) (units : ModuleUnits)
+        (a : List Lexeme) → DerivesModule units a → ((name : List ℕ) → IsSteadyView (files name))
+        → IsSteadyView (outside_in files source units) }
+{}
