@@ -49,7 +49,7 @@ own-start start = by (nat_eq start start) refl
     by true e = e
     by false e = absurd (eqb-false start start e refl)
 
-own-counts : (l : Lexeme) → weight (begins_at l.span.start) l ≡ 1
+pub own-counts : (l : Lexeme) → weight (begins_at l.span.start) l ≡ 1
 own-counts l = rw (own-start l.span.start) refl
 
 none-here : (start : ℕ) (found : List Finding) → uses start found ≡ 0 → lookup (nat_eq start) (declared found) ≡ None

@@ -15,3 +15,4 @@ mod Accepting
 mod Counts
 mod Steadiness
 mod Fitting
+mod Filling

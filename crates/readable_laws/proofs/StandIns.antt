@@ -50,7 +50,7 @@ stands-at (f ∷ rest) (suc k) l p m declared none at = stands-at rest k l p m d
 
 -- ---- which symbols stand in
 
-implied-append : (start : ℕ) (a b : List Finding) → implied_by (a ++ b) start ≡ implied_by a start ++ implied_by b start
+pub implied-append : (start : ℕ) (a b : List Finding) → implied_by (a ++ b) start ≡ implied_by a start ++ implied_by b start
 implied-append start [] b = refl
 implied-append start (f ∷ a) b = ap (λ ms. implied_at start f ++ ms) (implied-append start a b) ∙ sym (append_assoc (implied_at start f) (implied_by a start) (implied_by b start))
 

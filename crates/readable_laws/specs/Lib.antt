@@ -1,3 +1,4 @@
 pub mod Uses
 pub mod Accepted
 pub mod Steady
+pub mod StandIns

@@ -3,15 +3,16 @@
 //! No code: each function states a law. Knows nothing of how nodes are built.
 #![tactic(auto)]
 
-ghost use Rattle.std.specs.Prelude.{◌≡◌, ℕ, ◌≤◌, ◌++◌, Bool, List, Option, Some};
+ghost use Rattle.std.specs.Prelude.{◌≡◌, ℕ, ◌≤◌, ◌∷◌, ◌++◌, Bool, List, Option, Some};
 ghost use Rattle.tla_symbols.specs.declared.lexeme.Lexeme.{Lexeme};
 ghost use Rattle.tla_symbols.specs.declared.lexeme.Span.{Span};
 ghost use Rattle.unit_grammar.specs.Units.{ModuleUnits, UnitTree};
 ghost use Rattle.unit_grammar.specs.Derivation.{DerivesModule};
 ghost use Rattle.front_laws.specs.Fronts.{IsFront, Tree as TreeFront};
 ghost use Rattle.tla_model.specs.Lexemes.{lexemes, module_lexemes};
-ghost use Rattle.module_model.specs.Resolution.{ReadState, findings, first, known_in, outside_in, read_all, words_of};
+ghost use Rattle.module_model.specs.Resolution.{ReadState, findings, first, known_in, module_named, outside_in, read_all, words_of};
 ghost use Rattle.module_model.specs.Modules.{text_of};
+ghost use Rattle.module_model.specs.Instances.{unit_trees};
 ghost use Rattle.module_model.specs.TreeFindings.{Surroundings, walk};
 ghost use Rattle.lexeme_laws.specs.Apart.{BeginApart, counted};
 ghost use Rattle.tla_tree.specs.Derivation.{Derives, DerivesDefinition, DerivesInstance};
@@ -30,6 +31,7 @@ ghost use Rattle.flattened_trees.specs.Leads.{FlatFace};
 ghost use Rattle.flattened_trees.specs.Readable.{IsReadable, IsReadableDefinition, IsReadableThrough};
 ghost use Rattle.readable_laws.specs.Uses.{implied_by, means_by, used_lexemes};
 ghost use Rattle.readable_laws.specs.Accepted.{AreBehindInstances, AreSound, IsAccepted, IsAcceptedUnit};
+ghost use Rattle.readable_laws.specs.StandIns.{AreAllFilled};
 ghost use Rattle.readable_laws.specs.Steady.{IsSteady, IsSteadyView};
 
 use lexeme_laws::names_begin_apart;
@@ -88,6 +90,21 @@ pub fn uses_begin_apart()
     ensures { (name bytes : List ℕ) (units : ModuleUnits) (files : List ℕ → ModuleView)
         → IsFront name bytes (TreeFront units)
         → BeginApart (used_lexemes (findings files bytes units)) }
+{
+    names_begin_apart();
+}
+
+/// No more symbols are found to stand in at an INSTANCE of a module that is the front of some bytes
+/// than the module that it names has parameters which it does not write.
+pub fn symbols_stand_in_once()
+    ensures { (name bytes : List ℕ) (units : ModuleUnits) (files : List ℕ → ModuleView)
+        (before : List UnitTree) (unit : UnitTree) (behind : List UnitTree)
+        → IsFront name bytes (TreeFront units) → units.units ≡ before ++ unit ∷ behind
+        → AreAllFilled (text_of bytes units)
+        (module_named (text_of bytes units) files (words_of units)
+        (read_all (text_of bytes units) files (words_of units)
+        (first files bytes units) before))
+        (findings files bytes units) (unit_trees unit) }
 {
     names_begin_apart();
 }
