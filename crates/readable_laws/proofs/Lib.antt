@@ -16,3 +16,4 @@ mod Counts
 mod Steadiness
 mod Fitting
 mod Filling
+mod Units

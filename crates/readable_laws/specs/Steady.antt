@@ -1,11 +1,12 @@
 -- What stays true while a module is read: symbols take as many expressions as they have places, and names stand behind instances alone.
 use Rattle.std.specs.Prelude.{◌≡◌, ℕ, List, Option, Some, None, replicate}
 use Rattle.std.specs.List.{AllByRecursion}
+use Rattle.unit_grammar.specs.Units.{ModuleUnits, UnitTree}
 use Rattle.tla_model.specs.Tables.{Named, Symbol, Word}
 use Rattle.tla_model.specs.Entities.{Meaning}
 use Rattle.module_model.specs.Exports.{ModuleView, exported, exports_of}
-use Rattle.module_model.specs.Modules.{Reading}
-use Rattle.module_model.specs.Resolution.{ReadState}
+use Rattle.module_model.specs.Modules.{Reading, text_of}
+use Rattle.module_model.specs.Resolution.{ReadState, first, read_all, words_of}
 use Rattle.tree_kinds.specs.Expanding.{built_in_places}
 use Rattle.flattened_trees.specs.Readable.{IsNoInstance, orders_of}
 use Rattle.readable_laws.specs.Accepted.{AreBehindInstances, IsBehindInstances, TakePlaces}
@@ -40,3 +41,7 @@ pub record IsSteady (state : ReadState) : Type 0 where
   pub known : AreBehindInstances state.known
   pub here : IsSteadyReading state.place.here
   pub round : AllByRecursion IsSteadyReading state.place.round
+
+-- where a unit is read, behind these
+abbrev pub state_behind : (List ℕ → ModuleView) → List ℕ → ModuleUnits → List UnitTree → ReadState
+state_behind files source units before = read_all (text_of source units) files (words_of units) (first files source units) before

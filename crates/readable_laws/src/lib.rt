@@ -10,7 +10,7 @@ ghost use Rattle.unit_grammar.specs.Units.{ModuleUnits, UnitTree};
 ghost use Rattle.unit_grammar.specs.Derivation.{DerivesModule};
 ghost use Rattle.front_laws.specs.Fronts.{IsFront, Tree as TreeFront};
 ghost use Rattle.tla_model.specs.Lexemes.{lexemes, module_lexemes};
-ghost use Rattle.module_model.specs.Resolution.{ReadState, findings, first, known_in, module_named, outside_in, read_all, words_of};
+ghost use Rattle.module_model.specs.Resolution.{ReadState, findings, known_in, module_named, outside_in, words_of};
 ghost use Rattle.module_model.specs.Modules.{text_of};
 ghost use Rattle.module_model.specs.Instances.{unit_trees};
 ghost use Rattle.module_model.specs.TreeFindings.{Surroundings, walk};
@@ -31,8 +31,9 @@ ghost use Rattle.flattened_trees.specs.Leads.{FlatFace};
 ghost use Rattle.flattened_trees.specs.Readable.{IsReadable, IsReadableDefinition, IsReadableThrough};
 ghost use Rattle.readable_laws.specs.Uses.{implied_by, means_by, used_lexemes};
 ghost use Rattle.readable_laws.specs.Accepted.{AreBehindInstances, AreSound, IsAccepted, IsAcceptedUnit};
+ghost use Rattle.readable_laws.specs.ReadUnits.{AreKnownAmong, IsAcceptedModule, IsReadableUnit};
 ghost use Rattle.readable_laws.specs.StandIns.{AreAllFilled};
-ghost use Rattle.readable_laws.specs.Steady.{IsSteady, IsSteadyView};
+ghost use Rattle.readable_laws.specs.Steady.{IsSteady, IsSteadyView, state_behind};
 
 use lexeme_laws::names_begin_apart;
 
@@ -102,8 +103,7 @@ pub fn symbols_stand_in_once()
         → IsFront name bytes (TreeFront units) → units.units ≡ before ++ unit ∷ behind
         → AreAllFilled (text_of bytes units)
         (module_named (text_of bytes units) files (words_of units)
-        (read_all (text_of bytes units) files (words_of units)
-        (first files bytes units) before))
+        (state_behind files bytes units before))
         (findings files bytes units) (unit_trees unit) }
 {
     names_begin_apart();
@@ -116,8 +116,7 @@ pub fn modules_stay_steady()
     ensures read { (files : List ℕ → ModuleView) (source : List ℕ) (units : ModuleUnits)
         (a : List Lexeme) (before behind : List UnitTree) → DerivesModule units a
         → ((name : List ℕ) → IsSteadyView (files name)) → units.units ≡ before ++ behind
-        → IsSteady (read_all (text_of source units) files (words_of units)
-        (first files source units) before) }
+        → IsSteady (state_behind files source units before) }
     ensures known { (files : List ℕ → ModuleView) (text : Text) (words : List ℕ)
         (state : ReadState) (unit : UnitTree) → ((name : List ℕ) → IsSteadyView (files name))
         → IsSteady state → AreBehindInstances (known_in text files words state unit) }
@@ -125,3 +124,29 @@ pub fn modules_stay_steady()
         (a : List Lexeme) → DerivesModule units a → ((name : List ℕ) → IsSteadyView (files name))
         → IsSteadyView (outside_in files source units) }
 {}
+
+/// Each unit of an accepted module can be read, behind the units before it, if the modules that its
+/// INSTANCEs name are to these what they are to those that name them, and if it is known what stands
+/// behind the names of its instances.
+pub fn accepted_units_are_read()
+    ensures { (name bytes : List ℕ) (units : ModuleUnits) (files : List ℕ → ModuleView)
+        (named : List ℕ → Outside) (faces : List ℕ → FlatFace) (before : List UnitTree)
+        (unit : UnitTree) (behind : List UnitTree)
+        → IsFront name bytes (TreeFront units) → IsAcceptedModule files bytes units
+        → units.units ≡ before ++ unit ∷ behind
+        → ((n : List ℕ) → (named n).view ≡ module_named (text_of bytes units) files
+        (words_of units) (state_behind files bytes units before) n)
+        → AreKnownAmong (text_of bytes units)
+        (known_in (text_of bytes units) files (words_of units)
+        (state_behind files bytes units before) unit)
+        named (means_by (findings files bytes units))
+        (implied_by (findings files bytes units)) faces (unit_trees unit)
+        → IsReadableUnit (text_of bytes units)
+        (known_in (text_of bytes units) files (words_of units)
+        (state_behind files bytes units before) unit)
+        named (means_by (findings files bytes units))
+        (implied_by (findings files bytes units)) faces
+        (state_behind files bytes units before).place.here.context unit }
+{
+    names_begin_apart();
+}
