@@ -32,8 +32,9 @@ module _ (text : Text) (named : List ℕ → ModuleView) where
       all_stand_ins Nil = 0
       all_stand_ins (Cons x rest) = stand_ins x + all_stand_ins rest
 
-  -- no more symbols were found to stand in at a form than it has parameters that are not written
+  -- by what was found
   module _ (found : List Finding) where
+    -- no more symbols were found to stand in at a form than it has parameters that are not written
     abbrev pub IsFilledForm : Form.the_data → Trees → Type 0
     IsFilledForm (Form.Instance l) rights = length (implied_by found l.span.start) ≤ left_out l rights
     IsFilledForm form parts = Unit {0}

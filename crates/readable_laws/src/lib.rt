@@ -10,7 +10,8 @@ ghost use Rattle.unit_grammar.specs.Units.{ModuleUnits, UnitTree};
 ghost use Rattle.unit_grammar.specs.Derivation.{DerivesModule};
 ghost use Rattle.front_laws.specs.Fronts.{IsFront, Tree as TreeFront};
 ghost use Rattle.tla_model.specs.Lexemes.{lexemes, module_lexemes};
-ghost use Rattle.module_model.specs.Resolution.{ReadState, findings, known_in, module_named, outside_in, words_of};
+ghost use Rattle.module_model.specs.Resolution.{ReadState, findings, known_in, module_named};
+ghost use Rattle.module_model.specs.Resolution.{outside_in, words_of};
 ghost use Rattle.module_model.specs.Modules.{text_of};
 ghost use Rattle.module_model.specs.Instances.{unit_trees};
 ghost use Rattle.module_model.specs.TreeFindings.{Surroundings, walk};
@@ -28,9 +29,11 @@ ghost use Rattle.flat_trees.specs.Names.{places_by};
 ghost use Rattle.arity_rules.specs.Arities.{due_by};
 ghost use Rattle.arity_rules.specs.declared.place.Due.TheVariants.{Expression};
 ghost use Rattle.flattened_trees.specs.Leads.{FlatFace};
-ghost use Rattle.flattened_trees.specs.Readable.{IsReadable, IsReadableDefinition, IsReadableThrough};
+ghost use Rattle.flattened_trees.specs.Readable.{IsReadable, IsReadableDefinition};
+ghost use Rattle.flattened_trees.specs.Readable.{IsReadableThrough};
 ghost use Rattle.readable_laws.specs.Uses.{implied_by, means_by, used_lexemes};
-ghost use Rattle.readable_laws.specs.Accepted.{AreBehindInstances, AreSound, IsAccepted, IsAcceptedUnit};
+ghost use Rattle.readable_laws.specs.Accepted.{AreBehindInstances, AreSound, IsAccepted};
+ghost use Rattle.readable_laws.specs.Accepted.{IsAcceptedUnit};
 ghost use Rattle.readable_laws.specs.ReadUnits.{AreKnownAmong, IsAcceptedModule, IsReadableUnit};
 ghost use Rattle.readable_laws.specs.StandIns.{AreAllFilled};
 ghost use Rattle.readable_laws.specs.Steady.{IsSteady, IsSteadyView, state_behind};
@@ -61,7 +64,8 @@ pub fn accepted_definitions_are_read()
         (x : Tree) (a : List Lexeme) (i : ℕ) (o : Option Lexeme)
         → DerivesDefinition x a i o → AreSound known found
         → IsAccepted text known named found faces paths context Expression inside x
-        → IsReadableDefinition text known named (means_by found) (implied_by found) faces context x }
+        → IsReadableDefinition text known named (means_by found) (implied_by found) faces
+        context x }
 {}
 
 /// An INSTANCE without a name that is accepted can be read.
@@ -83,10 +87,12 @@ pub fn uses_are_held_once()
         (x : Tree) → counted p (used_lexemes (walk text around context x)) ≤ counted p (lexemes x) }
     ensures modules { (p : Lexeme → Bool) (files : List ℕ → ModuleView) (source : List ℕ)
         (units : ModuleUnits)
-        → counted p (used_lexemes (findings files source units)) ≤ counted p (module_lexemes units) }
+        → counted p (used_lexemes (findings files source units))
+        ≤ counted p (module_lexemes units) }
 {}
 
-/// No two names of a module that is the front of some bytes are found to mean something at one place.
+/// No two names of a module that is the front of some bytes are found to mean something at one
+/// place.
 pub fn uses_begin_apart()
     ensures { (name bytes : List ℕ) (units : ModuleUnits) (files : List ℕ → ModuleView)
         → IsFront name bytes (TreeFront units)
@@ -110,8 +116,8 @@ pub fn symbols_stand_in_once()
 }
 
 /// While a module is read, each symbol that can be used takes as many expressions as it has places,
-/// and names stand behind instances alone, if that is so of the files that its names mean; then it is
-/// so of what can be named in a unit, and of the module for those that name it.
+/// and names stand behind instances alone, if that is so of the files that its names mean; then it
+/// is so of what can be named in a unit, and of the module for those that name it.
 pub fn modules_stay_steady()
     ensures read { (files : List ℕ → ModuleView) (source : List ℕ) (units : ModuleUnits)
         (a : List Lexeme) (before behind : List UnitTree) → DerivesModule units a
@@ -126,8 +132,8 @@ pub fn modules_stay_steady()
 {}
 
 /// Each unit of an accepted module can be read, behind the units before it, if the modules that its
-/// INSTANCEs name are to these what they are to those that name them, and if it is known what stands
-/// behind the names of its instances.
+/// INSTANCEs name are to these what they are to those that name them, and if it is known what
+/// stands behind the names of its instances.
 pub fn accepted_units_are_read()
     ensures { (name bytes : List ℕ) (units : ModuleUnits) (files : List ℕ → ModuleView)
         (named : List ℕ → Outside) (faces : List ℕ → FlatFace) (before : List UnitTree)
