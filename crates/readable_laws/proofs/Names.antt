@@ -200,7 +200,8 @@ module _ (text : Text) (known : Known) (named : List ℕ → Outside) (paths : L
       let is = free refl in
       let used_as = symbol-use context which l op is.free met in
       let takes = u (which op) used_as.meant used_as.there in
-      (is.free, (used_as.meant, record { here = used_as.means; there = used_as.there }, takes.0, sym (takes.1 ∙ ap expressions is.places_are)))
+      let stands_bare : CanStandBare used_as.meant = (takes.0, takes.1 ∙ ap expressions (sym (ap length takes.1 ∙ length-replicate (built_in_places (which op))))) in
+      (is.free, (used_as.meant, record { here = used_as.means; there = used_as.there }, stands_bare, sym (takes.1 ∙ ap expressions is.places_are)))
 
   -- ---- paths
 
