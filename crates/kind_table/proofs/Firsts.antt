@@ -3,16 +3,17 @@ use Rattle.std.proofs.Common.{Vec, Global, ◌≡◌, ℕ, zero, suc, ◌<◌, �
 use Rattle.std.specs.Prelude.{◌⊎◌, nat_lt, option_map, slice_get}
 use Rattle.std.specs.List.{AllByRecursion}
 use Rattle.std.proofs.lemmas.Bool.{cases_lt, ltb-true, ltb-false}
-use Rattle.std.proofs.lemmas.Option.{slice_get_read}
+use Rattle.std.proofs.lemmas.Option.{slice_get_read, slice_get_within}
+use Rattle.list_laws.proofs.Lists.{item-at}
 use mathlib.Core.Path.{fun_ext}
 use Rattle.order_rec.specs.Earlier.{before}
-use Rattle.order_rec.proofs.Order.{along-step, before-lt}
-use Rattle.kind_text.specs.FlatModule.{FlatModule, Form, IsOrdered, Node}
+use Rattle.order_rec.proofs.Order.{along-same, along-step, before-lt}
+use Rattle.kind_text.specs.FlatModule.{Extends, FlatModule, Form, IsOrdered, Node}
 use Rattle.kind_table.specs.declared.flat.Form as table
 use Rattle.kind_table.specs.declared.flat.Form.TheVariants as variant
 use Rattle.kind_table.specs.declared.flat.Node as node
 use Rattle.kind_table.specs.declared.flat.FlatModule as tables
-use Rattle.kind_table.specs.Flattened.{IsFirsts, first_node, first_of, flat_of, form_of, least_among, least_at, least_of, node_of, number_in}
+use Rattle.kind_table.specs.Flattened.{AreFirsts, IsFirsts, first_node, first_of, flat_of, form_of, least_among, least_at, least_of, node_of, number_in}
 use Rattle.kind_table.proofs.TableEntries.{node-at, nodes-long}
 
 -- the parts that a node's kind is made of
@@ -84,10 +85,6 @@ get_or-past [] k d l = refl
 get_or-past (y ∷ xs) zero d l = absurd (omega arith)
 get_or-past (y ∷ xs) (suc k) d l = get_or-past xs k d (omega arith)
 
--- the first nodes of the nodes before one are known
-abbrev pub AreFirsts : FlatModule → List ℕ → Type 0
-AreFirsts flat firsts = (k : ℕ) → k < length firsts → number_in firsts k ≡ first_node flat k
-
 known-before : (flat : FlatModule) (firsts : List ℕ) → AreFirsts flat firsts → number_in firsts ≡ before 0 (first_node flat) (length firsts)
 known-before flat firsts h = fun_ext (λ k. by_place k (nat_lt k (length firsts)) refl)
   where
@@ -144,3 +141,26 @@ at-below f i (Some n) = (of-below f i n.form n.parts).0
 pub first-below : (flat : FlatModule) (i : ℕ) → first_node flat i ≤ i
 first-below flat i =
     subst (λ x. x ≤ i) (sym (along-step 0 (λ j f. least_at f j (slice_get flat.nodes j)) i)) (at-below (before 0 (first_node flat) i) i (slice_get flat.nodes i))
+
+-- ---- more nodes
+
+pub keeps-longer : (flat more : FlatModule) → Extends flat more → length flat.nodes ≤ length more.nodes
+keeps-longer flat more extends = by_place (cases_lt (length more.nodes) (length flat.nodes))
+  where
+    by_place : (length more.nodes < length flat.nodes) ⊎ (length flat.nodes ≤ length more.nodes) → length flat.nodes ≤ length more.nodes
+    by_place (inl l) =
+        let read = item-at flat.nodes (length more.nodes) l in
+        let w = slice_get_within more.nodes (length more.nodes) read.0 (extends.nodes (length more.nodes) read.0 read.1) in
+        absurd (omega (arith, w))
+    by_place (inr l) = l
+
+-- further nodes change no first node
+pub first-kept : (flat more : FlatModule) → Extends flat more → (i : ℕ) → i < length flat.nodes → first_node flat i ≡ first_node more i
+first-kept flat more extends i here =
+    along-same 0 (λ j f. least_at f j (slice_get flat.nodes j)) (λ j f. least_at f j (slice_get more.nodes j)) (length flat.nodes)
+    (λ j l f. let read = item-at flat.nodes j l in ap (least_at f j) (read.1 ∙ sym (extends.nodes j read.0 read.1))) i here
+
+-- the first nodes of some nodes, where there are more of these
+pub firsts-kept : (flat more : FlatModule) (firsts : List ℕ) → Extends flat more → IsFirsts flat firsts → (length firsts ≤ length more.nodes) × AreFirsts more firsts
+firsts-kept flat more firsts extends h =
+    (omega (arith, h.long, keeps-longer flat more extends), λ i l. h.each i l ∙ first-kept flat more extends i (omega (arith, l, h.long)))

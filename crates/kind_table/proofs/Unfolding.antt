@@ -2,7 +2,6 @@
 use Rattle.std.proofs.Common.{◌≡◌, ℕ, zero, suc, ◌<◌, List, [], ◌∷◌, ◌++◌, Option, Some, None, refl, ap, ◌∙◌, map, length, arith}
 use Rattle.std.specs.Prelude.{slice_get}
 use Rattle.std.specs.List.{AllByRecursion}
-use Rattle.tla_symbols.specs.declared.level.Rule.TheVariants.{Boolean}
 use Rattle.order_rec.specs.Earlier.{before}
 use Rattle.order_rec.proofs.Order.{along-step, along-same, along-holds, before-lt}
 use Rattle.kind_text.proofs.Zips.{zip-append}
@@ -12,7 +11,7 @@ use Rattle.kind_text.specs.FlatModule.{Definition, FlatModule}
 use Rattle.kind_text.specs.Expansion.{body, text, text_of}
 use Rattle.kind_text.proofs.Likeness.{text-same}
 use Rattle.kind_table.specs.declared.argument.Arg.{Arg}
-use Rattle.kind_table.specs.declared.argument.Arg.TheVariants.{Value, Parameter, BuiltIn, Operator}
+use Rattle.kind_table.specs.declared.argument.Arg.TheVariants.{Value, Stays, BuiltIn, Operator}
 use Rattle.kind_table.specs.Table.{IsArg, IsTable, arg_item, meaning, meanings, value_of, value_at}
 use Rattle.kind_table.specs.Weights.{heaviest, arg_weight, weight}
 
@@ -33,7 +32,7 @@ meaning-step flat table i arg h e =
   where
     by_arg : (a : Arg) → IsArg i a → arg_item flat (before (expression (Given None)) (meaning flat table) i) (Some a) ≡ arg_item flat (meaning flat table) (Some a)
     by_arg (Value k) u = refl
-    by_arg Parameter u = refl
+    by_arg (Stays r) u = refl
     by_arg (BuiltIn r) u = refl
     by_arg (Operator d ns) u = ap (λ x. operator (λ ts. text_of flat d (x ++ expressions ts))) (map-before (expression (Given None)) (meaning flat table) i ns.items u)
 
@@ -46,7 +45,7 @@ weight-step flat table i arg h e =
   where
     by_arg : (a : Arg) → IsArg i a → arg_weight flat (before 0 (weight flat table) i) (Some a) ≡ arg_weight flat (weight flat table) (Some a)
     by_arg (Value k) u = refl
-    by_arg Parameter u = refl
+    by_arg (Stays r) u = refl
     by_arg (BuiltIn r) u = refl
     by_arg (Operator d ns) u = let same = heaviest-before (weight flat table) i ns.items u in cc
 
@@ -95,7 +94,7 @@ same-meaning flat table i = along-holds (λ x. Same x x) (expression (Given None
     by_arg : (f : ℕ → Item) → ((j : ℕ) → Same (f j) (f j)) → (o : Option Arg) → Same (arg_item flat f o) (arg_item flat f o)
     by_arg f h None = same-expression _ _ refl
     by_arg f h (Some (Value k)) = same-expression _ _ refl
-    by_arg f h (Some Parameter) = record { text = refl; call = λ ts us e. ap (ruled Boolean) e }
+    by_arg f h (Some (Stays r)) = record { text = refl; call = λ ts us e. ap (ruled r) e }
     by_arg f h (Some (BuiltIn r)) = same-operator _ _ (λ ts us e. ap (ruled r) e)
     by_arg f h (Some (Operator d ns)) = same-operator _ _ (λ ts us e.
         same-body flat (slice_get flat.definitions d) _ _ (λ n. zip-append Same _ _ _ _ (reflexive f h ns.items) (alike-expressions ts us e)))
@@ -110,6 +109,6 @@ kind-meaning flat table i = ap (λ (x : Item). kind x.text) (along-step (express
     by_arg : (o : Option Arg) → kind (arg_item flat (before (expression (Given None)) (meaning flat table) i) o).text ≡ value_of o
     by_arg None = refl
     by_arg (Some (Value k)) = refl
-    by_arg (Some Parameter) = refl
+    by_arg (Some (Stays r)) = refl
     by_arg (Some (BuiltIn r)) = refl
     by_arg (Some (Operator d ns)) = refl

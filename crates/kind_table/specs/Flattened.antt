@@ -1,6 +1,6 @@
 -- What the tables of a flat module are as definitions, and where the nodes that a node's kind is made of begin.
 use Rattle.std.specs.Global.{Global}
-use Rattle.std.specs.Prelude.{Vec, ◌≡◌, ℕ, ◌<◌, List, [], ◌∷◌, Option, Some, None, fold, length, map, min, slice_get, slice_index_or}
+use Rattle.std.specs.Prelude.{Vec, ◌≡◌, ℕ, ◌<◌, ◌≤◌, List, [], ◌∷◌, Option, Some, None, fold, length, map, min, slice_get, slice_index_or}
 use Rattle.order_rec.specs.Earlier.{along}
 use Rattle.kind_text.specs.FlatModule as flat
 use Rattle.kind_text.specs.FlatModule.{Definition, FlatModule, Instance, Node, Replacement}
@@ -104,7 +104,15 @@ abbrev pub first_of : List ℕ → ℕ → Form → List ℕ → ℕ
 first_of firsts i variant.Let parts = first_inner firsts i parts
 first_of firsts i other parts = first_among firsts i parts
 
+-- these are first nodes, as far as they go
+abbrev pub AreFirsts : FlatModule → List ℕ → Type 0
+AreFirsts m firsts = (i : ℕ) → i < length firsts → number_in firsts i ≡ first_node m i
+
 -- these are the first nodes of all nodes
 pub record IsFirsts (m : FlatModule) (firsts : List ℕ) : Type 0 where
   pub long : length firsts ≡ length m.nodes
-  pub each : (i : ℕ) → i < length firsts → number_in firsts i ≡ first_node m i
+  pub each : AreFirsts m firsts
+
+-- those of some nodes become those of all
+abbrev pub GivesFirsts : FlatModule → List ℕ → List ℕ → Type 0
+GivesFirsts m some all = length some ≤ length m.nodes → AreFirsts m some → IsFirsts m all

@@ -1,9 +1,10 @@
 -- What arguments mean, and what is said of tables of them.
 use Rattle.std.specs.Global.{Global}
-use Rattle.std.specs.Prelude.{Vec, ◌≡◌, ℕ, ◌-◌, ◌<◌, List, [], ◌∷◌, ◌++◌, Option, Some, None, length, map, slice_get, slice_index_or}
+use Rattle.std.specs.Prelude.{Vec, ◌≡◌, ℕ, ◌-◌, ◌<◌, ◌≤◌, List, [], ◌∷◌, ◌++◌, Option, Some, None, length, map, slice_get, slice_index_or}
 use Rattle.std.specs.List.{AllByRecursion}
 use Rattle.tla_symbols.specs.declared.level.Kind.{Kind}
 use Rattle.tla_symbols.specs.declared.level.Kind.TheVariants.{Const}
+use Rattle.tla_symbols.specs.declared.level.Rule.{Rule}
 use Rattle.tla_symbols.specs.declared.level.Rule.TheVariants.{Plain, Boolean}
 use Rattle.order_rec.specs.Earlier.{along}
 use Rattle.kind_text.specs.ExpandedKind.{Given, Ruled, ruled}
@@ -12,19 +13,19 @@ use Rattle.kind_text.specs.FlatModule.{FlatModule}
 use Rattle.kind_text.specs.Expansion.{text_of}
 use Rattle.kind_table.specs.declared.argument.Arg.{Arg}
 use Rattle.kind_table.specs.Weights.{load}
-use Rattle.kind_table.specs.declared.argument.Arg.TheVariants.{Value, Parameter, BuiltIn, Operator}
+use Rattle.kind_table.specs.declared.argument.Arg.TheVariants.{Value, Stays, BuiltIn, Operator}
 
 -- ---- what arguments mean
 
--- a parameter that stays: a constant, or an operator of the greatest kind of its operands
-abbrev pub parameter : Item
-parameter = record { text = Given (Some Const); call = Ruled Boolean }
+-- a symbol or a parameter that stays: a constant, and an operator by a rule
+abbrev pub staying : Rule → Item
+staying rule = record { text = Given (Some Const); call = Ruled rule }
 
 -- an argument as an item, by those of the entries before it
 abbrev pub arg_item : FlatModule → (ℕ → Item) → Option Arg → Item
 arg_item flat f None = expression (Given None)
 arg_item flat f (Some (Value k)) = expression (Given k)
-arg_item flat f (Some Parameter) = parameter
+arg_item flat f (Some (Stays rule)) = staying rule
 arg_item flat f (Some (BuiltIn rule)) = operator (Ruled rule)
 arg_item flat f (Some (Operator d ns)) = operator (λ ts. text_of flat d (map f ns.items ++ expressions ts))
 
@@ -40,7 +41,7 @@ meanings flat table = map (meaning flat table)
 abbrev pub value_of : Option Arg → Option Kind
 value_of None = None
 value_of (Some (Value k)) = k
-value_of (Some Parameter) = Some Const
+value_of (Some (Stays rule)) = Some Const
 value_of (Some (BuiltIn rule)) = None
 value_of (Some (Operator d ns)) = None
 
@@ -73,6 +74,15 @@ AllWithin table = AllByRecursion (λ n. n < length table)
 abbrev pub IsStored : List Arg → ℕ → Arg → Type 0
 IsStored table n (Operator d ns) = (ms : Vec ℕ Global) × (slice_get table n ≡ Some (Operator d ms)) × (ms.items ≡ ns.items)
 IsStored table n arg = slice_get table n ≡ Some arg
+
+-- what is added to a table is such
+abbrev pub AddsOnly : (Arg → Type 0) → List Arg → List Arg → Type 0
+AddsOnly P old new = (i : ℕ) (arg : Arg) → length old ≤ i → slice_get new i ≡ Some arg → P arg
+
+-- an argument that is an expression
+abbrev pub IsValue : Arg → Type 0
+IsValue (Value k) = Unit {0}
+IsValue arg = ⊥
 
 -- expressions of these kinds come behind what stands in a frame
 pub record AddsValues (old new : List Arg) (frame longer : List ℕ) (kinds : List (Option Kind)) : Type 0 where

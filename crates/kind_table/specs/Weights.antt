@@ -3,7 +3,7 @@ use Rattle.std.specs.Prelude.{ℕ, zero, suc, ◌+◌, ◌*◌, List, [], ◌∷
 use Rattle.order_rec.specs.Earlier.{along}
 use Rattle.kind_text.specs.FlatModule.{Definition, FlatModule, Form, Node}
 use Rattle.kind_table.specs.declared.argument.Arg.{Arg}
-use Rattle.kind_table.specs.declared.argument.Arg.TheVariants.{Value, Parameter, BuiltIn, Operator}
+use Rattle.kind_table.specs.declared.argument.Arg.TheVariants.{Value, Stays, BuiltIn, Operator}
 
 -- the number of instances on a form's path
 abbrev pub path_length : Form → ℕ
@@ -49,7 +49,7 @@ heaviest f (n ∷ ns) = max (f n) (heaviest f ns)
 abbrev pub arg_weight : FlatModule → (ℕ → ℕ) → Option Arg → ℕ
 arg_weight flat f None = 0
 arg_weight flat f (Some (Value k)) = 0
-arg_weight flat f (Some Parameter) = 0
+arg_weight flat f (Some (Stays rule)) = 0
 arg_weight flat f (Some (BuiltIn rule)) = 0
 arg_weight flat f (Some (Operator d ns)) = heaviest f ns.items + body_cost flat (slice_get flat.definitions d)
 

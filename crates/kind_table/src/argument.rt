@@ -3,7 +3,7 @@ ghost use Rattle.std.specs.Prelude.{◌≡◌, IfOk, OnOk, length, map};
 ghost use Rattle.std.specs.Cmp.Rules.{hashing};
 ghost use Rattle.std.proofs.Common.{rules};
 ghost use Rattle.kind_table.specs.Input.{arg_input};
-ghost use Rattle.kind_table.specs.Table.{AddsValues, AllWithin, Grows, IsArg, IsStored, IsTable, value_at};
+ghost use Rattle.kind_table.specs.Table.{AddsOnly, AddsValues, AllWithin, Grows, IsArg, IsStored, IsTable, IsValue, value_at};
 
 use indexmap::IndexSet;
 use std::alloc::{AllocError, Global};
@@ -15,8 +15,8 @@ use tla_symbols::{Kind, Rule};
 pub enum Arg {
     /// An expression of a kind, or without one.
     Value(Option<Kind>),
-    /// A parameter that stays, an expression or an operator.
-    Parameter,
+    /// A symbol or a parameter that stays: a constant, and an operator by this rule.
+    Stays(Rule),
     /// An operator that is built in or declared.
     BuiltIn(Rule),
     /// A definition as an operator, with what stands round it.
@@ -42,6 +42,7 @@ pub fn number(arguments: &mut IndexSet<Arg>, arg: Arg) -> Result<usize, AllocErr
     requires arg { IsArg (length arguments.old.keys) arg }
     ensures stored { IfOk result (λ n. IsStored arguments.new.keys n arg) }
     ensures grows { Grows arguments.old.keys arguments.new.keys }
+    ensures only { AddsOnly (λ other. other ≡ arg) arguments.old.keys arguments.new.keys }
 {
     let (n, _) = arguments.insert_full(arg)?;
     Ok(n)
@@ -53,7 +54,7 @@ pub fn value(arguments: &IndexSet<Arg>, n: usize) -> Option<Kind>
 {
     match arguments.get_index(n) {
         Some(Arg::Value(kind)) => *kind,
-        Some(Arg::Parameter) => Some(Kind::Const),
+        Some(Arg::Stays(_)) => Some(Kind::Const),
         _ => None,
     }
 }
@@ -82,6 +83,7 @@ pub fn add_values(
     requires table { IsTable arguments.old.keys }
     requires frame { AllWithin arguments.old.keys frame.old.items }
     ensures grows { Grows arguments.old.keys arguments.new.keys }
+    ensures only { AddsOnly IsValue arguments.old.keys arguments.new.keys }
     ensures added { OnOk result (AddsValues arguments.old.keys arguments.new.keys frame.old.items
         frame.new.items kinds.now) }
 {

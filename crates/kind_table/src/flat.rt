@@ -1,6 +1,6 @@
 // Definitions with their names resolved, as lists in the order of declarations.
-ghost use Rattle.std.specs.Prelude.{◌≡◌, IfOk};
-ghost use Rattle.kind_table.specs.Flattened.{IsFirsts, first_among, first_inner, first_of, flat_of, path_at};
+ghost use Rattle.std.specs.Prelude.{◌≡◌, IfOk, OnErr, OnOk, length, take};
+ghost use Rattle.kind_table.specs.Flattened.{GivesFirsts, IsFirsts, first_among, first_inner, first_of, flat_of, path_at};
 
 use crate::numbers::number_at;
 use std::alloc::{AllocError, Global};
@@ -99,11 +99,36 @@ pub fn first_nodes(alloc: Global, flat: &FlatModule) -> Result<Vec<usize>, Alloc
     ensures { IfOk result (λ firsts. IsFirsts (flat_of flat.now) firsts.items) }
 {
     let mut firsts = Vec::new(alloc);
-    for node in &flat.nodes {
-        let first = first_of_node(&firsts, firsts.len(), node);
+    add_first_nodes(&mut firsts, flat)?;
+    Ok(firsts)
+}
+
+/// The same where nodes were added: what is known of the others stays. After an error all is as
+/// before.
+pub fn extend_first_nodes(firsts: &mut Vec<usize>, flat: &FlatModule) -> Result<(), AllocError>
+    ensures firsts { OnOk result (GivesFirsts (flat_of flat.now) firsts.old.items firsts.new.items) }
+    ensures kept { OnErr result (firsts.new.items ≡ firsts.old.items) }
+{
+    let known = firsts.len();
+    match add_first_nodes(firsts, flat) {
+        Ok(()) => Ok(()),
+        Err(error) => {
+            firsts.truncate(known);
+            Err(error)
+        }
+    }
+}
+
+// Appends the first nodes of further nodes. After an error some may be missing.
+fn add_first_nodes(firsts: &mut Vec<usize>, flat: &FlatModule) -> Result<(), AllocError>
+    ensures firsts { OnOk result (GivesFirsts (flat_of flat.now) firsts.old.items firsts.new.items) }
+    ensures kept { take (length firsts.old.items) firsts.new.items ≡ firsts.old.items }
+{
+    for number in firsts.len()..flat.nodes.len() {
+        let first = first_of_node(firsts, number, &flat.nodes[number]);
         firsts.push(first)?;
     }
-    Ok(firsts)
+    Ok(())
 }
 
 // The first node that a node's kind is made of, by those of the nodes before it.

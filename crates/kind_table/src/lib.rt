@@ -10,6 +10,8 @@ mod kinds;
 mod numbers;
 
 pub use argument::{Arg, add_values, number, value, values};
-pub use flat::{Definition, FlatModule, Form, Instance, Node, Replacement, first_nodes};
+pub use flat::{
+    Definition, FlatModule, Form, Instance, Node, Replacement, extend_first_nodes, first_nodes,
+};
 pub use kinds::{bounded_kind, is_at_most, ruled_kind};
 pub use numbers::{after, behind, constants, copied, first, number_at, pick};

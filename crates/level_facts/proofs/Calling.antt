@@ -4,17 +4,17 @@ use Rattle.std.specs.Prelude.{slice_get}
 use Rattle.std.proofs.lemmas.List.Elements.{AllZip-push}
 use Rattle.tla_symbols.specs.declared.level.Kind.{Kind}
 use Rattle.tla_symbols.specs.declared.level.Rule.{Rule}
-use Rattle.tla_symbols.specs.declared.level.Rule.TheVariants.{Boolean}
 use Rattle.kind_text.specs.ExpandedKind.{kind, ruled}
 use Rattle.kind_text.specs.Substitution.{Alike, Item, Same, expressions, leaves, operator}
 use Rattle.kind_text.specs.FlatModule.{Definition, FlatModule}
 use Rattle.kind_text.specs.Expansion.{body, items, text, text_of}
 use Rattle.kind_table.specs.declared.argument.Arg.{Arg}
-use Rattle.kind_table.specs.declared.argument.Arg.TheVariants.{Value, Parameter, BuiltIn, Operator}
+use Rattle.kind_table.specs.declared.argument.Arg.TheVariants.{Value, Stays, BuiltIn, Operator}
 use Rattle.kind_table.specs.Table.{AddsValues, AllWithin, Grows, IsTable, meaning, meanings, value_at}
 use Rattle.kind_table.specs.Weights.{node_cost, weight}
 use Rattle.kind_table.proofs.Unfolding.{kind-meaning, meaning-step}
 use Rattle.kind_table.proofs.Growth.{grows_on, heaviest-push, kinds-leaves, load_on, meaning_on, meanings-push, meanings_on, within-push, within_on}
+use Rattle.level_facts.specs.Facts.{HasNoBody}
 use Rattle.level_facts.specs.Judged.{Evaluates, EvaluatesAll, IsFound}
 use Rattle.level_facts.proofs.Likes.{items-push}
 
@@ -24,8 +24,8 @@ module _ (flat : FlatModule) where
   body_kind {new} d n frame x at_d h =
       sym (kind-meaning flat new n) ∙ h.same.text ∙ sym (ap (λ o. kind (body (text flat) o (λ outer. meanings flat new frame))) at_d)
 
-  pub no_body_kind : (new : List Arg) (d : ℕ) (frame : List ℕ) → slice_get flat.definitions d ≡ None → None ≡ kind (text_of flat d (meanings flat new frame))
-  no_body_kind new d frame none = sym (ap (λ o. kind (body (text flat) o (λ outer. meanings flat new frame))) none)
+  pub no_body_kind : (new : List Arg) (d : ℕ) (frame : List ℕ) → HasNoBody flat d → None ≡ kind (text_of flat d (meanings flat new frame))
+  no_body_kind new d frame none = sym (ap kind (none (λ outer. meanings flat new frame)))
 
   -- what operators give on operands
   pub operator_kind : {old mid new : List Arg} (n d : ℕ) (ns : Vec ℕ Global) (frame : List ℕ) (ks : List (Option Kind)) (k : Option Kind) → IsTable old → n < length old → slice_get old n ≡ Some (Operator d ns) → AddsValues old mid ns.items frame ks → Grows mid new → k ≡ kind (text_of flat d (meanings flat new frame)) → k ≡ kind ((meaning flat new n).call (leaves ks))
@@ -36,8 +36,8 @@ module _ (flat : FlatModule) where
   pub built_in_kind : {table : List Arg} (n : ℕ) (rule : Rule) (ks : List (Option Kind)) → IsTable table → slice_get table n ≡ Some (BuiltIn rule) → ruled rule ks ≡ kind ((meaning flat table n).call (leaves ks))
   built_in_kind {table} n rule ks t at_n = ap (ruled rule) (sym (kinds-leaves ks)) ∙ sym (ap (λ (x : Item). kind (x.call (leaves ks))) (meaning-step flat table n (BuiltIn rule) t at_n))
 
-  pub parameter_kind : {table : List Arg} (n : ℕ) (ks : List (Option Kind)) → IsTable table → slice_get table n ≡ Some Parameter → ruled Boolean ks ≡ kind ((meaning flat table n).call (leaves ks))
-  parameter_kind {table} n ks t at_n = ap (ruled Boolean) (sym (kinds-leaves ks)) ∙ sym (ap (λ (x : Item). kind (x.call (leaves ks))) (meaning-step flat table n Parameter t at_n))
+  pub staying_kind : {table : List Arg} (n : ℕ) (rule : Rule) (ks : List (Option Kind)) → IsTable table → slice_get table n ≡ Some (Stays rule) → ruled rule ks ≡ kind ((meaning flat table n).call (leaves ks))
+  staying_kind {table} n rule ks t at_n = ap (ruled rule) (sym (kinds-leaves ks)) ∙ sym (ap (λ (x : Item). kind (x.call (leaves ks))) (meaning-step flat table n (Stays rule) t at_n))
 
   pub no_operator_kind : {table : List Arg} (n : ℕ) (o : Option Kind) (ks : List (Option Kind)) → IsTable table → slice_get table n ≡ Some (Value o) → None ≡ kind ((meaning flat table n).call (leaves ks))
   no_operator_kind {table} n o ks t at_n = sym (ap (λ (x : Item). kind (x.call (leaves ks))) (meaning-step flat table n (Value o) t at_n))

@@ -8,3 +8,4 @@ pub mod Calling
 pub mod Guards
 pub mod Paths
 pub mod Keeping
+pub mod Extending

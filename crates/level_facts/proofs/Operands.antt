@@ -15,6 +15,7 @@ use Rattle.kind_table.specs.Weights.{body_cost, load, weight}
 use Rattle.kind_table.proofs.Unfolding.{alike-expressions, alike-meanings, meaning-step, same-body, same-operator, weight-step}
 use Rattle.kind_table.proofs.Growth.{grows_not}
 use Rattle.kind_table.proofs.Weighing.{at-map, at-past, load-at, load-take, lower-at, map-take}
+use Rattle.level_facts.specs.Facts.{HasNoBody}
 use Rattle.level_facts.specs.Judged.{IsClosure, IsOperand}
 
 module _ (flat : FlatModule) where
@@ -60,7 +61,7 @@ module _ (flat : FlatModule) where
       }
 
   -- where no definition is, no operator has a kind
-  pub closure_missing : {old new : List Arg} (d : ℕ) (frame : List ℕ) (n : ℕ) → slice_get flat.definitions d ≡ None → Grows old new → slice_get new n ≡ Some (Value None) → IsClosure flat old new d frame n
+  pub closure_missing : {old new : List Arg} (d : ℕ) (frame : List ℕ) (n : ℕ) → HasNoBody flat d → Grows old new → slice_get new n ≡ Some (Value None) → IsClosure flat old new d frame n
   closure_missing {old} {new} d frame n none g at_n =
       let m : meaning flat new n ≡ expression (Given None) = meaning-step flat new n (Value None) g.table at_n in
       let v : weight flat new n ≡ 0 = weight-step flat new n (Value None) g.table at_n in
@@ -69,7 +70,7 @@ module _ (flat : FlatModule) where
         within = slice_get_within new n _ at_n;
         same = subst (λ y. Same y (operator (λ ts. body (text flat) (slice_get flat.definitions d) (λ outer. take outer (meanings flat new frame) ++ expressions ts)))) (sym m) (record {
           text = refl;
-          call = λ ts us q. sym (ap (λ o. kind (body (text flat) o (λ outer. take outer (meanings flat new frame) ++ expressions us))) none);
+          call = λ ts us q. sym (ap kind (none (λ outer. take outer (meanings flat new frame) ++ expressions us)));
         });
         light = omega (arith, v);
       }

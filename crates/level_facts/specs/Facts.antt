@@ -1,28 +1,57 @@
 -- What is kept of kinds that were found.
-use Rattle.std.specs.Prelude.{◌≡◌, ℕ, List, Option, map}
+use Rattle.std.specs.Prelude.{◌≡◌, ℕ, ◌<◌, List, Option, Some, None, length, map, slice_get}
 use Rattle.std.specs.List.{AllByRecursion}
 use Rattle.tla_symbols.specs.declared.level.Kind.{Kind}
 use Rattle.kind_text.specs.ExpandedKind.{Given, Ruled, kind}
 use Rattle.kind_text.specs.Substitution.{Item, expression, expressions, operator}
-use Rattle.kind_text.specs.FlatModule.{FlatModule}
-use Rattle.kind_text.specs.Expansion.{text_of}
+use Rattle.kind_text.specs.FlatModule.{FlatModule, UsesDefinition}
+use Rattle.kind_text.specs.Expansion.{body, text, text_of}
 use Rattle.kind_table.specs.declared.argument.Arg.{Arg}
-use Rattle.kind_table.specs.Flattened.{IsFirsts}
-use Rattle.kind_table.specs.Table.{AllWithin, Grows, IsTable, meanings, parameter}
+use Rattle.kind_table.specs.declared.argument.Arg.TheVariants as arg
+use Rattle.kind_table.specs.declared.flat.Definition.{Definition}
+use Rattle.kind_table.specs.Flattened.{IsFirsts, definition_of}
+use Rattle.kind_table.specs.Table.{AllWithin, Grows, IsTable, meanings, staying}
 use Rattle.level_facts.specs.declared.facts.Argument.{Argument}
-use Rattle.level_facts.specs.declared.facts.Argument.TheVariants.{Value, Parameter, BuiltIn, Operator}
+use Rattle.level_facts.specs.declared.facts.Argument.TheVariants.{Value, Stays, BuiltIn, Operator}
 use Rattle.level_facts.specs.declared.facts.Key.{Key}
 use Rattle.level_facts.specs.declared.facts.KindFacts.{KindFacts}
 
 -- what a caller puts in for a parameter
 abbrev pub argument_item : FlatModule → Argument → Item
 argument_item flat (Value k) = expression (Given k)
-argument_item flat Parameter = parameter
+argument_item flat (Stays rule) = staying rule
 argument_item flat (BuiltIn rule) = operator (Ruled rule)
 argument_item flat (Operator d) = operator (λ ts. text_of flat d (expressions ts))
 
+-- ---- definitions whose bodies are there
+
+-- a definition is there, and so is the node of its body
+abbrev pub HasBody : FlatModule → ℕ → Type 0
+HasBody flat d = UsesDefinition flat (length flat.nodes) d
+
+-- this is the definition of a number, and its body is there
+pub record IsBody (flat : FlatModule) (d : ℕ) (x : Definition) : Type 0 where
+  pub here : slice_get flat.definitions d ≡ Some (definition_of x)
+  pub root : x.root < length flat.nodes
+
+-- a definition has no kind, since it is not there, or its body is not
+abbrev pub HasNoBody : FlatModule → ℕ → Type 0
+HasNoBody flat d = (frame : ℕ → List Item) → body (text flat) (slice_get flat.definitions d) frame ≡ Given None
+
+-- a definition that is an argument has a body
+abbrev pub NamesBody : FlatModule → Arg → Type 0
+NamesBody flat (arg.Operator d ns) = HasBody flat d
+NamesBody flat other = Unit {0}
+
+-- each does
+abbrev pub NameBodies : FlatModule → List Arg → Type 0
+NameBodies flat table = (i : ℕ) (a : Arg) → slice_get table i ≡ Some a → NamesBody flat a
+
+-- ---- what is kept
+
 -- a kept kind is that of the definition's expansion on its frame
 pub record IsKept (flat : FlatModule) (table : List Arg) (key : Key) (k : Option Kind) : Type 0 where
+  pub there : HasBody flat key.definition
   pub within : AllWithin table key.frame.items
   pub value : k ≡ kind (text_of flat key.definition (meanings flat table key.frame.items))
 
@@ -34,6 +63,7 @@ Remembers flat table = AllByRecursion (λ e. IsKept flat table e.0 e.1)
 pub record IsFacts (flat : FlatModule) (facts : KindFacts) : Type 0 where
   pub firsts : IsFirsts flat facts.firsts.items
   pub table : IsTable facts.arguments.keys
+  pub bodies : NameBodies flat facts.arguments.keys
   pub kept : Remembers flat facts.arguments.keys facts.kept.entries
 
 -- what callers put in has these numbers

@@ -1,15 +1,17 @@
 // What was found of kinds, and how callers ask for more.
-ghost use Rattle.std.specs.Prelude.{◌≡◌, ◌∷◌, [], IfOk, OnOk, length, map};
+ghost use Rattle.std.specs.Prelude.{◌≡◌, ◌∷◌, [], IfOk, OnErr, OnOk, length, map};
 ghost use Rattle.kind_text.specs.ExpandedKind.{kind};
 ghost use Rattle.kind_text.specs.Expansion.{text_of};
-ghost use Rattle.kind_text.specs.FlatModule.{IsOrdered};
+ghost use Rattle.kind_text.specs.FlatModule.{Extends, IsOrdered};
+ghost use Rattle.kind_text.specs.FlatModule as text;
 ghost use Rattle.kind_table.specs.Flattened.{flat_of};
 ghost use Rattle.kind_table.specs.Table.{Grows, IsArg, IsStored};
-ghost use Rattle.level_facts.specs.Facts.{AddsArguments, IsFacts, IsKept, argument_item};
+ghost use Rattle.level_facts.specs.Facts.{AddsArguments, IsFacts, IsKept, NamesBody, argument_item};
 
 use crate::judging::kind_on;
+use crate::steps::body_of;
 use indexmap::{IndexMap, IndexSet};
-use kind_table::{Arg, FlatModule, first_nodes};
+use kind_table::{Arg, FlatModule, extend_first_nodes, first_nodes};
 use std::alloc::{AllocError, Global};
 use tla_symbols::{Kind, Rule};
 
@@ -18,8 +20,8 @@ use tla_symbols::{Kind, Rule};
 pub enum Argument {
     /// An expression of a kind, or without one.
     Value(Option<Kind>),
-    /// A parameter that stays, an expression or an operator.
-    Parameter,
+    /// A symbol or a parameter that stays: a constant, and an operator by this rule.
+    Stays(Rule),
     /// An operator that is built in or declared.
     BuiltIn(Rule),
     /// A definition that stands in no other one, as an operator.
@@ -63,6 +65,18 @@ impl KindFacts {
         })
     }
 
+    /// The tables have grown: what was found stays right. After an error it is right for the
+    /// tables of before.
+    pub fn extend(&mut self, flat: &FlatModule) -> Result<(), AllocError>
+        ensures extended { OnOk result ((before : text.FlatModule) → Extends before (flat_of flat.now)
+            → IsOrdered before → IsFacts before self.old → IsFacts (flat_of flat.now) self.new) }
+        ensures kept { OnErr result ((before : text.FlatModule) → IsFacts before self.old
+            → IsFacts before self.new) }
+    {
+        extend_first_nodes(&mut self.firsts, flat)?;
+        Ok(())
+    }
+
     /// The kind of a definition's expansion with these put in, for what stands round it and for
     /// its parameters: none exactly where the expansion has none. Nothing is expanded. What was
     /// found is kept, also where memory runs out.
@@ -85,8 +99,8 @@ impl KindFacts {
     }
 }
 
-// The numbers of these arguments.
-fn numbers_of(
+/// The numbers of these arguments.
+pub(crate) fn numbers_of(
     alloc: Global,
     flat: &FlatModule,
     facts: &mut KindFacts,
@@ -122,18 +136,24 @@ fn number_of(
             let n = number(flat, facts, Arg::Value(kind))?;
             Ok(n)
         }
-        Argument::Parameter => {
-            let n = number(flat, facts, Arg::Parameter)?;
+        Argument::Stays(rule) => {
+            let n = number(flat, facts, Arg::Stays(rule))?;
             Ok(n)
         }
         Argument::BuiltIn(rule) => {
             let n = number(flat, facts, Arg::BuiltIn(rule))?;
             Ok(n)
         }
-        Argument::Operator(definition) => {
-            let n = number(flat, facts, Arg::Operator(definition, Vec::new(alloc)))?;
-            Ok(n)
-        }
+        Argument::Operator(definition) => match body_of(flat, definition) {
+            None => {
+                let n = number(flat, facts, Arg::Value(None))?;
+                Ok(n)
+            }
+            Some(_) => {
+                let n = number(flat, facts, Arg::Operator(definition, Vec::new(alloc)))?;
+                Ok(n)
+            }
+        },
     }
 }
 
@@ -145,6 +165,7 @@ pub(crate) fn number(
 ) -> Result<usize, AllocError>
     requires facts { IsFacts (flat_of flat.now) facts.old }
     requires arg { IsArg (length facts.old.arguments.keys) arg }
+    requires body { NamesBody (flat_of flat.now) arg }
     ensures facts { IsFacts (flat_of flat.now) facts.new }
     ensures stored { IfOk result (λ n. IsStored facts.new.arguments.keys n arg) }
     ensures grows { OnOk result (Grows facts.old.arguments.keys facts.new.arguments.keys) }

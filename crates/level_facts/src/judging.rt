@@ -12,7 +12,8 @@ ghost use Rattle.level_facts.specs.Judged.{Evaluates, EvaluatesAll, Found, IsRea
 
 use crate::facts::{Key, KindFacts, keep, number};
 use crate::steps::{
-    Reached, add_operands, around, closure, operand, operation_kind, places, quantifier_kind, start,
+    Reached, add_operands, around, body_of, closure, operand, operation_kind, places,
+    quantifier_kind, start,
 };
 use kind_table::{
     Arg, FlatModule, Form, Instance, Replacement, after, behind, constants, copied, is_at_most,
@@ -45,7 +46,7 @@ pub(crate) fn kind_on(
     if let Some(kind) = facts.kept.get(&key) {
         return Ok(*kind);
     }
-    match flat.definitions.get(definition) {
+    match body_of(flat, definition) {
         None => Ok(None),
         Some(body) => {
             let n = judge(alloc, flat, facts, body.root, frame)?;
@@ -76,8 +77,8 @@ fn called(
     match facts.arguments.get_index(operator) {
         None => Ok(None),
         Some(Arg::Value(_)) => Ok(None),
-        Some(Arg::Parameter) => {
-            let kind = ruled_kind(alloc, Rule::Boolean, operands)?;
+        Some(Arg::Stays(rule)) => {
+            let kind = ruled_kind(alloc, *rule, operands)?;
             Ok(kind)
         }
         Some(Arg::BuiltIn(rule)) => {
@@ -96,7 +97,7 @@ fn called(
 
 /// The kind that is judged of an argument: of an operator, what it gives on constants.
 #[cycle(judge)]
-fn judged_kind(
+pub(crate) fn judged_kind(
     alloc: Global,
     flat: &FlatModule,
     facts: &mut KindFacts,
@@ -303,7 +304,7 @@ fn use_kind(
 /// The number of what a node stands for, where those before it from start on were found. One that
 /// begins before start is of another body, and has no number.
 #[cycle(judge)]
-fn step(
+pub(crate) fn step(
     alloc: Global,
     flat: &FlatModule,
     facts: &mut KindFacts,

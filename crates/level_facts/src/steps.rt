@@ -1,16 +1,17 @@
 // What of a node needs no other body.
-ghost use Rattle.std.specs.Prelude.{◌≡◌, IfOk, OnOk, true, map, slice_get};
+ghost use Rattle.std.specs.Prelude.{◌≡◌, ◌<◌, ◌≤◌, IfOk, MatchOption, OnOk, true, length, map, slice_get};
 ghost use Rattle.kind_text.specs.ExpandedKind.{ruled};
 ghost use Rattle.kind_text.specs.FlatModule.{places_of};
 ghost use Rattle.kind_table.specs.Flattened.{flat_of};
 ghost use Rattle.kind_table.specs.Table.{AddsValues, AllWithin, bounded_kind as kind_over_sets, value_at};
-ghost use Rattle.level_facts.specs.Facts.{IsFacts};
+ghost use Rattle.level_facts.specs.Facts.{HasNoBody, IsBody, IsFacts};
 ghost use Rattle.level_facts.specs.Judged.{IsClosure, IsOperand, around_of};
 
 use crate::facts::{KindFacts, number};
 use indexmap::IndexSet;
 use kind_table::{
-    Arg, FlatModule, Instance, add_values, behind, bounded_kind, copied, first, ruled_kind, values,
+    Arg, Definition, FlatModule, Instance, add_values, behind, bounded_kind, copied, first,
+    ruled_kind, values,
 };
 use std::alloc::{AllocError, Global};
 use tla_symbols::{Kind, Rule};
@@ -128,7 +129,7 @@ pub(crate) fn closure(
     ensures found { IfOk result (λ n. IsClosure (flat_of flat.now) facts.old.arguments.keys
         facts.new.arguments.keys definition frame.now n) }
 {
-    match flat.definitions.get(definition) {
+    match body_of(flat, definition) {
         None => {
             let n = number(flat, facts, Arg::Value(None))?;
             Ok(n)
@@ -139,6 +140,28 @@ pub(crate) fn closure(
             Ok(n)
         }
     }
+}
+
+/// The definition of a number, if its body is there.
+pub(crate) fn body_of(flat: &FlatModule, definition: usize) -> Option<Definition>
+    ensures { MatchOption result (HasNoBody (flat_of flat.now) definition)
+        (IsBody (flat_of flat.now) definition) }
+{
+    match flat.definitions.get(definition) {
+        None => None,
+        Some(body) => there(flat, *body),
+    }
+}
+
+// A definition, if its body is there.
+fn there(flat: &FlatModule, body: Definition) -> Option<Definition>
+    ensures { MatchOption result (length (flat_of flat.now).nodes ≤ body.root)
+        (λ x. (x ≡ body) × (body.root < length (flat_of flat.now).nodes)) }
+{
+    if body.root < flat.nodes.len() {
+        return Some(body);
+    }
+    None
 }
 
 /// The number of places of the bare operator that a node is.

@@ -1,7 +1,7 @@
-use Rattle.std.proofs.Common.{sym, subst}
-use Rattle.kind_table.specs.Table.{Grows}
+use Rattle.std.proofs.Common.{◌≡◌, sym, subst}
+use Rattle.kind_table.specs.Table.{AddsOnly, Grows}
 use Rattle.kind_table.proofs.Growth.{grows_not}
-use Rattle.kind_table.proofs.Equality.{arg-exact, grows-insert}
+use Rattle.kind_table.proofs.Equality.{adds-insert, adds-nothing, arg-exact, grows-insert}
 use Rattle.kind_table.proofs.argument.number.Goals as goal
 
 pub returns-clause-stored : goal.returns-clause-stored
@@ -12,3 +12,9 @@ returns-clause-grows c = grows-insert c.args.arguments.now.keys _ c.args.arg c.r
 
 pub returns-in_err-n-clause-grows : goal.returns-in_err-n-clause-grows
 returns-in_err-n-clause-grows c = subst (λ x. Grows c.args.arguments.now.keys x) (sym c.in_err-n.ensures.err) (grows_not c.args.arguments.now.keys c.requires.table)
+
+pub returns-clause-only : goal.returns-clause-only
+returns-clause-only c = adds-insert c.args.arguments.now.keys _ c.args.arg c.in_ok-n.ensures.keys
+
+pub returns-in_err-n-clause-only : goal.returns-in_err-n-clause-only
+returns-in_err-n-clause-only c = subst (AddsOnly (λ x. x ≡ c.args.arg) c.args.arguments.now.keys) (sym c.in_err-n.ensures.err) (adds-nothing (λ x. x ≡ c.args.arg) c.args.arguments.now.keys)

@@ -8,6 +8,7 @@ pub returns-clause-facts : goal.returns-clause-facts
 returns-clause-facts c = record {
   firsts = c.requires.facts.firsts;
   table = c.requires.facts.table;
+  bodies = c.requires.facts.bodies;
   kept = subst (λ es. Remembers (flat_of c.args.flat.now) c.args.facts.now.arguments.keys es) (sym c.in_ok-insert.ensures.entries)
       (kept-insert (flat_of c.args.flat.now) c.args.facts.now.arguments.keys c.args.facts.now.kept.entries c.args.key c.args.kind c.requires.facts.kept c.requires.kept);
 }

@@ -16,9 +16,9 @@ use Rattle.kind_table.proofs.Unfolding.{kind-meaning, weight-step}
 use Rattle.kind_table.proofs.Growth.{grows_not, grows_on, load_on, within_on}
 use Rattle.kind_table.proofs.Weighing.{all-lower, cost-split, load-at, lower-at}
 use Rattle.level_facts.specs.Judged.{EvaluatesAll, Found, IsClosure, LeadsThrough, MeetsGuards, ReachesPath, is_within, use_kind_of}
-use Rattle.level_facts.proofs.Lookups.{definition_gone, definition_got, node_gone}
+use Rattle.level_facts.proofs.Lookups.{definition_got, node_gone}
 use Rattle.level_facts.proofs.Keeping.{kept-lookup}
-use Rattle.level_facts.proofs.Calling.{body_kind, built_in_kind, evaluates_more, no_body_kind, no_operator_kind, operator_kind, parameter_kind}
+use Rattle.level_facts.proofs.Calling.{body_kind, built_in_kind, evaluates_more, no_body_kind, no_operator_kind, operator_kind, staying_kind}
 use Rattle.level_facts.proofs.Finding.{call_kind, lambda_found, missing_found, name_met, name_not_met, parameter_found, part_kinds, parts_bounded, reads-below, symbol_found, use_found}
 use Rattle.level_facts.proofs.Picking.{begins_at, found_more, left_out, let_body, let_missing}
 use Rattle.level_facts.proofs.Stepping.{step_at, step_parts, step_reads, uses_light, value_steps}
@@ -38,29 +38,30 @@ kind_on-returns-in-Some-clause-kind t c =
 pub kind_on-returns-in-None-clause-kind : goal.kind_on-returns-in-None-clause-kind
 kind_on-returns-in-None-clause-kind t c =
     no_body_kind (flat_of c.args.flat.now) c.args.facts.now.arguments.keys c.args.definition c.args.frame.now
-    (definition_gone c.args.flat.now c.deref.result.now c.args.definition c.deref.ensures.value c.in-None.ensures.lookup.3)
+    c.in-None.ensures
 
 pub kind_on-judge-requires : goal.kind_on-judge-requires
 kind_on-judge-requires t c =
-    let at_d = definition_got c.args.flat.now c.deref.result.now c.args.definition c.in-Some-get.body.now c.deref.ensures.value c.in-Some-get.ensures.lookup.3.0 c.in-Some-get.ensures.lookup.1 in
+    let at_d = c.in-Some-body_of.ensures.here in
     let b = ap (body_cost (flat_of c.args.flat.now)) at_d in
     (omega (arith, b), (c.requires.ordered, (c.requires.facts, c.requires.frame)))
 
 pub kind_on-keep-requires-clause-kept : goal.kind_on-keep-requires-clause-kept
 kind_on-keep-requires-clause-kept t c =
     let m = flat_of c.args.flat.now in
-    let at_d = definition_got c.args.flat.now c.deref.result.now c.args.definition c.in-Some-get.body.now c.deref.ensures.value c.in-Some-get.ensures.lookup.3.0 c.in-Some-get.ensures.lookup.1 in
-    let g = c.in_ok-n-in-Some-get.ensures.found.grows in let k = c.value-kind.ensures ∙ body_kind m c.args.definition c.in_ok-n-in-Some-get.n c.args.frame.now (definition_of c.in-Some-get.body.now) at_d c.in_ok-n-in-Some-get.ensures.found.found in
+    let at_d = c.in-Some-body_of.ensures.here in
+    let g = c.in_ok-n-in-Some-body_of.ensures.found.grows in let k = c.value-kind.ensures ∙ body_kind m c.args.definition c.in_ok-n-in-Some-body_of.n c.args.frame.now (definition_of c.in-Some-body_of.body) at_d c.in_ok-n-in-Some-body_of.ensures.found.found in
     record {
+      there = (definition_of c.in-Some-body_of.body, at_d, c.in-Some-body_of.ensures.root);
       within = subst (AllWithin c.judge.new.facts.arguments.keys) (sym c.in_ok-copied.ensures) (within_on g c.args.frame.now c.requires.frame);
       value = k ∙ ap (λ x. kind (text_of m c.args.definition (meanings m c.judge.new.facts.arguments.keys x))) (sym c.in_ok-copied.ensures);
     }
 
-pub kind_on-returns-in_ok-keep-in-Some-get-clause-kind : goal.kind_on-returns-in_ok-keep-in-Some-get-clause-kind
-kind_on-returns-in_ok-keep-in-Some-get-clause-kind t c =
+pub kind_on-returns-in_ok-keep-in-Some-body_of-clause-kind : goal.kind_on-returns-in_ok-keep-in-Some-body_of-clause-kind
+kind_on-returns-in_ok-keep-in-Some-body_of-clause-kind t c =
     let m = flat_of c.args.flat.now in
-    let at_d = definition_got c.args.flat.now c.deref.result.now c.args.definition c.in-Some-get.body.now c.deref.ensures.value c.in-Some-get.ensures.lookup.3.0 c.in-Some-get.ensures.lookup.1 in
-    c.value-kind.ensures ∙ body_kind m c.args.definition c.in_ok-n-in-Some-get.n c.args.frame.now (definition_of c.in-Some-get.body.now) at_d c.in_ok-n-in-Some-get.ensures.found.found
+    let at_d = c.in-Some-body_of.ensures.here in
+    c.value-kind.ensures ∙ body_kind m c.args.definition c.in_ok-n-in-Some-body_of.n c.args.frame.now (definition_of c.in-Some-body_of.body) at_d c.in_ok-n-in-Some-body_of.ensures.found.found
     ∙ ap (λ x. kind (text_of m c.args.definition (meanings m x c.args.frame.now))) (sym c.keep.ensures.arguments)
 
 -- called
@@ -69,9 +70,9 @@ pub called-returns-in-Some-Value-clause-kind : goal.called-returns-in-Some-Value
 called-returns-in-Some-Value-clause-kind t c =
     no_operator_kind (flat_of c.args.flat.now) c.args.operator _ c.args.operands.now c.requires.facts.table (sym c.in-Some-Value.ensures.key ∙ ap Some c.in-Some-Value.field-0-is)
 
-pub called-returns-in_ok-kind-in-Some-Parameter-clause-kind : goal.called-returns-in_ok-kind-in-Some-Parameter-clause-kind
-called-returns-in_ok-kind-in-Some-Parameter-clause-kind t c =
-    c.in_ok-kind-in-Some-Parameter.ensures ∙ parameter_kind (flat_of c.args.flat.now) c.args.operator c.args.operands.now c.requires.facts.table (sym c.in-Some-Parameter.ensures.key ∙ ap Some c.in-Some-Parameter.field-0-is)
+pub called-returns-in_ok-kind-in-Some-Stays-clause-kind : goal.called-returns-in_ok-kind-in-Some-Stays-clause-kind
+called-returns-in_ok-kind-in-Some-Stays-clause-kind t c =
+    c.in_ok-kind-in-Some-Stays.ensures ∙ staying_kind (flat_of c.args.flat.now) c.args.operator _ c.args.operands.now c.requires.facts.table (sym c.in-Some-Stays.ensures.key ∙ ap Some c.in-Some-Stays.field-0-is)
 
 pub called-returns-in_ok-kind-in-Some-BuiltIn-clause-kind : goal.called-returns-in_ok-kind-in-Some-BuiltIn-clause-kind
 called-returns-in_ok-kind-in-Some-BuiltIn-clause-kind t c =
