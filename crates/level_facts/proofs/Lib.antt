@@ -9,3 +9,4 @@ pub mod Guards
 pub mod Paths
 pub mod Keeping
 pub mod Extending
+pub mod Answering

@@ -1,15 +1,15 @@
 -- What is kept of kinds that were found.
-use Rattle.std.specs.Prelude.{◌≡◌, ℕ, ◌<◌, List, Option, Some, None, length, map, slice_get}
+use Rattle.std.specs.Prelude.{◌≡◌, ℕ, ◌+◌, ◌-◌, ◌<◌, ◌≤◌, List, Option, Some, None, length, map, slice_get}
 use Rattle.std.specs.List.{AllByRecursion}
 use Rattle.tla_symbols.specs.declared.level.Kind.{Kind}
 use Rattle.kind_text.specs.ExpandedKind.{Given, Ruled, kind}
-use Rattle.kind_text.specs.Substitution.{Item, expression, expressions, operator}
-use Rattle.kind_text.specs.FlatModule.{FlatModule, UsesDefinition}
+use Rattle.kind_text.specs.Substitution.{Item, expression, expressions, judged, operator}
+use Rattle.kind_text.specs.FlatModule.{FlatModule, UsesDefinition, places_of}
 use Rattle.kind_text.specs.Expansion.{body, text, text_of}
 use Rattle.kind_table.specs.declared.argument.Arg.{Arg}
 use Rattle.kind_table.specs.declared.argument.Arg.TheVariants as arg
 use Rattle.kind_table.specs.declared.flat.Definition.{Definition}
-use Rattle.kind_table.specs.Flattened.{IsFirsts, definition_of}
+use Rattle.kind_table.specs.Flattened.{IsFirsts, definition_of, first_node}
 use Rattle.kind_table.specs.Table.{AllWithin, Grows, IsTable, meanings, staying}
 use Rattle.level_facts.specs.declared.facts.Argument.{Argument}
 use Rattle.level_facts.specs.declared.facts.Argument.TheVariants.{Value, Stays, BuiltIn, Operator}
@@ -71,3 +71,9 @@ pub record AddsArguments (flat : FlatModule) (old new : List Arg) (ns : List ℕ
   pub grows : Grows old new
   pub within : AllWithin new ns
   pub meant : meanings flat new ns ≡ map (argument_item flat) arguments
+
+-- the kinds of the nodes from one on, before another one, with these items put in; of a bare operator, that on constants;
+-- nothing is said of nodes that are made of earlier ones
+pub record AreKinds (flat : FlatModule) (s : List Item) (start end : ℕ) (kinds : List (Option Kind)) : Type 0 where
+  pub long : length kinds ≡ end - start
+  pub each : (k : ℕ) → k < length kinds → start ≤ first_node flat (start + k) → slice_get kinds k ≡ Some (kind (judged (places_of (slice_get flat.nodes (start + k))) (text flat (start + k) s)))

@@ -6,6 +6,7 @@
 
 mod facts;
 mod judging;
+mod nodes;
 mod steps;
 
 pub use facts::{Argument, KindFacts};
