@@ -71,16 +71,16 @@ first-parts flat i node ordered e =
 
 -- ---- the list of first nodes, one node after another
 
-get_or-left : (xs : List ℕ) (x k d : ℕ) → k < length xs → get_or (xs ++ x ∷ []) k d ≡ get_or xs k d
+pub get_or-left : (xs : List ℕ) (x k d : ℕ) → k < length xs → get_or (xs ++ x ∷ []) k d ≡ get_or xs k d
 get_or-left [] x k d l = absurd (omega arith)
 get_or-left (y ∷ xs) x zero d l = refl
 get_or-left (y ∷ xs) x (suc k) d l = get_or-left xs x k d (omega arith)
 
-get_or-end : (xs : List ℕ) (x d : ℕ) → get_or (xs ++ x ∷ []) (length xs) d ≡ x
+pub get_or-end : (xs : List ℕ) (x d : ℕ) → get_or (xs ++ x ∷ []) (length xs) d ≡ x
 get_or-end [] x d = refl
 get_or-end (y ∷ xs) x d = get_or-end xs x d
 
-get_or-past : (xs : List ℕ) (k d : ℕ) → length xs ≤ k → get_or xs k d ≡ d
+pub get_or-past : (xs : List ℕ) (k d : ℕ) → length xs ≤ k → get_or xs k d ≡ d
 get_or-past [] k d l = refl
 get_or-past (y ∷ xs) zero d l = absurd (omega arith)
 get_or-past (y ∷ xs) (suc k) d l = get_or-past xs k d (omega arith)

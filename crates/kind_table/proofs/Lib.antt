@@ -5,3 +5,4 @@ pub mod Weighing
 pub mod TableEntries
 pub mod Firsts
 pub mod KindLists
+pub mod Lookups

@@ -1,6 +1,6 @@
 pub mod Likes
 pub mod Finding
-pub mod Lookups
+pub mod Bodies
 pub mod Operands
 pub mod Picking
 pub mod Stepping

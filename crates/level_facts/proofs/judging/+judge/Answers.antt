@@ -16,7 +16,7 @@ use Rattle.kind_table.proofs.Unfolding.{kind-meaning, weight-step}
 use Rattle.kind_table.proofs.Growth.{grows_not, grows_on, load_on, within_on}
 use Rattle.kind_table.proofs.Weighing.{all-lower, cost-split, load-at, lower-at}
 use Rattle.level_facts.specs.Judged.{EvaluatesAll, Found, IsClosure, LeadsThrough, MeetsGuards, ReachesPath, is_within, use_kind_of}
-use Rattle.level_facts.proofs.Lookups.{definition_got, node_gone}
+use Rattle.kind_table.proofs.Lookups.{definition_got, node_gone}
 use Rattle.level_facts.proofs.Keeping.{kept-lookup}
 use Rattle.level_facts.proofs.Calling.{body_kind, built_in_kind, evaluates_more, no_body_kind, no_operator_kind, operator_kind, staying_kind}
 use Rattle.level_facts.proofs.Finding.{call_kind, lambda_found, missing_found, name_met, name_not_met, parameter_found, part_kinds, parts_bounded, reads-below, symbol_found, use_found}

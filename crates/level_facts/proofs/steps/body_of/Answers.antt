@@ -1,5 +1,6 @@
 use Rattle.kind_table.specs.Flattened.{flat_of}
-use Rattle.level_facts.proofs.Lookups.{body_found, definition_gone, definition_got, no_definition}
+use Rattle.kind_table.proofs.Lookups.{definition_gone, definition_got}
+use Rattle.level_facts.proofs.Bodies.{body_found, no_definition}
 use Rattle.level_facts.proofs.steps.body_of.Goals as goal
 
 pub returns-in-None : goal.returns-in-None

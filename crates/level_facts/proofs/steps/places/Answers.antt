@@ -1,6 +1,6 @@
 use Rattle.std.proofs.Common.{sym, ap}
 use Rattle.kind_text.specs.FlatModule.{places_of}
-use Rattle.level_facts.proofs.Lookups.{node_gone, node_got}
+use Rattle.kind_table.proofs.Lookups.{node_gone, node_got}
 use Rattle.level_facts.proofs.steps.places.Goals as goal
 
 pub returns-in-None : goal.returns-in-None

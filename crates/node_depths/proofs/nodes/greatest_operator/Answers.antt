@@ -1,0 +1,9 @@
+use Rattle.kind_table.specs.Flattened.{flat_of, number_in}
+use Rattle.level_text.specs.Depth as text
+use Rattle.node_depths.proofs.Greatest.{greatest-push, most_more}
+use Rattle.node_depths.proofs.nodes.greatest_operator.Goals as goal
+
+pub loop-node-preserved : goal.loop-node-preserved
+loop-node-preserved c =
+    let f = text.operator_depth (flat_of c.args.flat.now) (number_in c.args.depths.now) in
+    most_more (text.greatest f) f (greatest-push f) c.args.nodes.now c.loop-node.node-index 0 c.loop-node.most c.operator_depth.result c.max-most.result c.loop-node-test.true c.loop-node.invariant c.operator_depth.ensures.value c.operator_depth.ensures.small c.max-most.ensures
