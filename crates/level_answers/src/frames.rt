@@ -27,7 +27,7 @@ pub fn kinds_over_frame(
     requires ordered { IsOrdered (flat_of flat.now) }
     requires facts { IsFacts (flat_of flat.now) facts.old }
     requires start { start ≤ end }
-    requires end { end ≤ length flat.now.nodes.items }
+    requires end { end ≤ length (flat_of flat.now).nodes }
     ensures facts { IsFacts (flat_of flat.now) facts.new }
     ensures kinds { IfOk result (λ kinds. AreKinds (flat_of flat.now) (items_of frame.now) start end
         kinds.items) }

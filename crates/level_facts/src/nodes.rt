@@ -29,7 +29,7 @@ impl KindFacts {
         requires ordered { IsOrdered (flat_of flat.now) }
         requires facts { IsFacts (flat_of flat.now) self.old }
         requires start { start ≤ end }
-        requires end { end ≤ length flat.now.nodes.items }
+        requires end { end ≤ length (flat_of flat.now).nodes }
         ensures facts { IsFacts (flat_of flat.now) self.new }
         ensures kinds { IfOk result (λ kinds. AreKinds (flat_of flat.now)
             (map (argument_item (flat_of flat.now)) arguments.now) start end kinds.items) }

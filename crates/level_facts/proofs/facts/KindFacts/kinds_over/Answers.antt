@@ -1,6 +1,7 @@
 use Rattle.std.proofs.Common.{◌+◌, ◌∙◌, arith, map, subst, sym}
 use Rattle.kind_table.specs.Flattened.{flat_of}
 use Rattle.kind_table.specs.Table.{AllWithin}
+use Rattle.kind_table.proofs.TableEntries.{nodes-long}
 use Rattle.kind_table.proofs.Growth.{grows_on, meanings_on, within_on}
 use Rattle.level_facts.specs.Facts.{argument_item}
 use Rattle.level_facts.specs.Judged.{Found, Steps}
@@ -24,7 +25,7 @@ step-requires c =
     let frame = c.in_ok-frame.frame.items in let is = sym c.deref-in-loop-node.ensures.value in record {
       ordered = c.requires.ordered;
       facts = inv.facts;
-      node = omega (arith, c.loop-node-test.true, c.requires.end);
+      node = let n = nodes-long c.args.flat.now in omega (arith, c.loop-node-test.true, c.requires.end, n);
       frame = subst (AllWithin keys) is inv.within;
       found = subst (λ x. Found m keys c.args.start c.loop-node.node x c.deref.result.now) is
           (subst (λ x. Found m keys c.args.start c.loop-node.node frame x) (sym c.deref.ensures.value) inv.found);
