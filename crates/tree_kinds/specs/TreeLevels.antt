@@ -1,6 +1,6 @@
 -- The kinds of what is written in a tree, and what is found of levels there. The parameters of the definitions round it stand
 -- for themselves, and count as constant.
-use Rattle.std.specs.Prelude.{ℕ, Bool, true, false, ◌&&◌, ◌++◌, List, [], ◌∷◌, Option, Some, None, if◌then◌else◌, is_some, nat_lt, not}
+use Rattle.std.specs.Prelude.{ℕ, Bool, true, false, ◌&&◌, ◌++◌, List, [], ◌∷◌, Option, Some, None, if◌then◌else◌, is_some, map, nat_lt, not}
 use Rattle.tla_symbols.specs.declared.level.Kind.{Kind}
 use Rattle.tla_symbols.specs.declared.lexeme.LexKind.TheVariants as LexKind
 use Rattle.tla_symbols.specs.declared.lexeme.Lexeme.{Lexeme}
@@ -11,15 +11,16 @@ use Rattle.tla_tree.specs.Forms.{helps}
 use Rattle.tla_tree.specs.Syntax.{Tree, Trees, Node, Nil, Cons}
 use Rattle.tla_model.specs.declared.entity.Entity.TheVariants as entity
 use Rattle.tla_model.specs.declared.entity.Level.{Level}
-use Rattle.tla_model.specs.declared.names.Meaning.TheVariants.{Declared}
-use Rattle.tla_model.specs.Entities.{Meaning, Text, name_of}
-use Rattle.tla_model.specs.Scopes.{is_free, itself as as_spelled, prefixed}
+use Rattle.tla_model.specs.declared.names.Binding.TheVariants as as_binding
+use Rattle.tla_model.specs.declared.names.Meaning.TheVariants.{BuiltIn, Declared}
+use Rattle.tla_model.specs.Entities.{Meaning, Text, binding_of, meant, name_of}
+use Rattle.tla_model.specs.Scopes.{binders, is_free, itself as as_spelled, prefixed}
 use Rattle.module_model.specs.Exports.{Known, entry_of}
 use Rattle.level_rules.specs.Kinds.{level}
-use Rattle.kind_text.specs.ExpandedKind.{Expanded, all_kinds, kind, kinds}
-use Rattle.kind_text.specs.Substitution.{judged}
-use Rattle.tree_kinds.specs.Standing.{Outside}
-use Rattle.tree_kinds.specs.Expanding.{Around, Replaced, before_scope, behind_tree, expand, greatest_level, in_scope, in_update, made_of, module_of, places_at, replaced_text, replacements, right_sides, stands_outside}
+use Rattle.kind_text.specs.ExpandedKind.{Expanded, Given, all_kinds, kind, kinds}
+use Rattle.kind_text.specs.Substitution.{Item, expression, judged}
+use Rattle.tree_kinds.specs.Standing.{Outside, itself}
+use Rattle.tree_kinds.specs.Expanding.{Around, Replaced, before_scope, behind_tree, expand, greatest_level, in_scope, in_update, made_of, module_of, places_at, replaced_text, replacements, right_sides, stands_outside, with_parameters}
 
 -- what is found of levels: a node whose parts have kinds and that has none, an assumption that is not constant, a
 -- replacement of a higher level than it may have, and the level of a use
@@ -94,6 +95,11 @@ high_replacements constant (r ∷ rest) = high_replacement constant r ++ high_re
 
 -- ---- trees
 
+-- a name by itself
+abbrev pub by_itself : Meaning → Item
+by_itself BuiltIn = expression (Given (Some Kind.Const))
+by_itself (Declared e callee) = itself e
+
 module _ (text : Text) (known : Known) (named : List ℕ → Outside) where
   -- the kind of what is written; of a bare operator, that on constants
   abbrev pub kind_at : Around → Tree → Option Kind
@@ -115,6 +121,14 @@ module _ (text : Text) (known : Known) (named : List ℕ → Outside) where
   abbrev pub high_in : Around → Lexeme → Trees → List LevelFinding
   high_in around l parts = high_replacements (module_of text known named l).is_constant (replacements text known named around l (right_sides text known named around parts))
 
+  -- in the scope of a form's names, its parameters by themselves
+  abbrev pub in_body : Around → Form.the_data → Trees → Around
+  in_body around form parts = elim (binding_of form) [
+    | as_binding.Constant ↦ in_scope text known named around form parts
+    | as_binding.Parameter ↦ with_parameters text known named around form parts (map by_itself (map (meant text) (binders form parts)))
+    | as_binding.Bound state ↦ in_scope text known named around form parts
+  ]
+
   -- the function of an EXCEPT
   abbrev pub function_text : Around → Tree → Expanded
   function_text around x = (expand text known named around x).text
@@ -127,7 +141,7 @@ module _ (text : Text) (known : Known) (named : List ℕ → Outside) where
         at_node around Form.Except s (Cons function updates) ++ levels around function ++ levels_updates around (function_text around function) updates
     levels around (Node (Form.Instance l) s parts) = levels_replaced around l parts ++ high_in around l parts
     levels around (Node form s parts) =
-        at_node around form s parts ++ levels_parts (before_scope text known named around form parts) (in_scope text known named around form parts) parts
+        at_node around form s parts ++ levels_parts (before_scope text known named around form parts) (in_body around form parts) parts
 
     -- the same of parts, by what stands round those outside and those inside of a scope
     pub levels_parts : Around → Around → Trees → List LevelFinding
