@@ -60,7 +60,7 @@ pub part-outer : (form : Form.the_data) → stands_outside form ≡ true → par
 part-outer form e = ap (λ a. part-by a (helps form)) e
 
 -- what stands outside helps, and defines nothing
-outer-helps : (form : Form.the_data) → stands_outside form ≡ true → (helps form ≡ true) × (defines form ≡ Nothing)
+pub outer-helps : (form : Form.the_data) → stands_outside form ≡ true → (helps form ≡ true) × (defines form ≡ Nothing)
 outer-helps Form.IndexStep e = (refl, refl)
 outer-helps Form.Bound e = (refl, refl)
 outer-helps Form.TupleBound e = (refl, refl)

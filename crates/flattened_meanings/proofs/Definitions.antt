@@ -40,14 +40,14 @@ use Rattle.flattened_meanings.proofs.Forms.{names-fresh, scope-fresh}
 -- ---- parameters
 
 -- what defines an operator binds parameters
-operator-binds : (form : Form.the_data) (l : Lexeme) → defines form ≡ Operator l → (binding_of form ≡ as_binding.Parameter) × (is_group form ≡ false)
+pub operator-binds : (form : Form.the_data) (l : Lexeme) → defines form ≡ Operator l → (binding_of form ≡ as_binding.Parameter) × (is_group form ≡ false)
 operator-binds (Form.OperatorDefinition l) k e = (refl, refl)
 operator-binds (Form.PrefixDefinition l) k e = (refl, refl)
 operator-binds (Form.InfixDefinition l) k e = (refl, refl)
 operator-binds (Form.PostfixDefinition l) k e = (refl, refl)
 operator-binds form k e = cc
 
-function-form : (form : Form.the_data) (l : Lexeme) → defines form ≡ Function l → form ≡ Form.FunctionDefinition l
+pub function-form : (form : Form.the_data) (l : Lexeme) → defines form ≡ Function l → form ≡ Form.FunctionDefinition l
 function-form (Form.FunctionDefinition l) k e = cc
 function-form form k e = cc
 
@@ -104,7 +104,7 @@ module _ (text : Text) where
 
 module _ (flat : FlatModule) (text : Text) (known : Known) (named : List ℕ → Outside) (means : ℕ → Option Meaning) (implied : ℕ → List Meaning) (faces : List ℕ → FlatFace) (nameable : List ℕ → Bool) where
   -- a part can be read in these contexts, by what it is
-  abbrev IsReadBy : Context → Context → Form.the_data → Span → Trees → Part → Type 0
+  abbrev pub IsReadBy : Context → Context → Form.the_data → Span → Trees → Part → Type 0
   IsReadBy outside inside form s parts p = elim p [
     | Outer ↦ AreReadable text known named means implied faces outside outside parts
     | Helper ↦ AreReadable text known named means implied faces inside inside parts
@@ -112,7 +112,7 @@ module _ (flat : FlatModule) (text : Text) (known : Known) (named : List ℕ →
   ]
 
   -- where no part stands outside, it does not matter what is known there
-  inside-read : (parts : Trees) (outside inside : Context) → AreInside parts → AreReadable text known named means implied faces outside inside parts → AreReadable text known named means implied faces inside inside parts
+  pub inside-read : (parts : Trees) (outside inside : Context) → AreInside parts → AreReadable text known named means implied faces outside inside parts → AreReadable text known named means implied faces inside inside parts
   inside-read Nil outside inside only can = tt
   inside-read (Cons (Node form s parts) rest) outside inside only can = (by_part (part_of form) refl can.0, inside-read rest outside inside only.1 can.1)
     where

@@ -34,7 +34,7 @@ use Rattle.flattened_meanings.proofs.Bodies.{ends, nodes-apart}
 -- ---- forms
 
 -- what has a rule binds no parameters
-bound-form : (form : Form.the_data) → is_some (form_rule form) ≡ true → (state : Bool) × (binding_of form ≡ as_binding.Bound state)
+pub bound-form : (form : Form.the_data) → is_some (form_rule form) ≡ true → (state : Bool) × (binding_of form ≡ as_binding.Bound state)
 bound-form (Form.TemporalQuantifier l) e = (true, refl)
 bound-form (Form.OperatorDefinition l) e = cc
 bound-form (Form.PrefixDefinition l) e = cc

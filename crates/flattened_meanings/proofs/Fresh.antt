@@ -242,7 +242,7 @@ module _ (text : Text) where
       (elim (part_of form) [ Outer ↦ whole-names parts | Helper ↦ whole-names parts | Whole ↦ declared_in as_binding.Constant (Node form s parts) ]) ++ whole-names rest
 
   -- an expression binds no name as a part
-  whole-plain : (form : Form.the_data) → part_of form ≡ Whole → (placed form ≡ []) × (is_group form ≡ false)
+  pub whole-plain : (form : Form.the_data) → part_of form ≡ Whole → (placed form ≡ []) × (is_group form ≡ false)
   whole-plain (Form.Name l) e = cc
   whole-plain (Form.OperatorParameter l n) e = cc
   whole-plain (Form.PrefixParameter l) e = cc

@@ -47,26 +47,26 @@ use Rattle.flattened_meanings.proofs.Instances.{instance-put, module-for}
 
 module _ (text : Text) (seen : Meaning → Bool) where
   -- what is declared among parts is new, where what their node declares is
-  parts-fresh : (form : Form.the_data) (s : Span) (parts : Trees) → Fresh text seen (declared_in as_binding.Constant (Node form s parts)) → Fresh text seen (declared_among as_binding.Constant parts)
+  pub parts-fresh : (form : Form.the_data) (s : Span) (parts : Trees) → Fresh text seen (declared_in as_binding.Constant (Node form s parts)) → Fresh text seen (declared_among as_binding.Constant parts)
   parts-fresh form s parts fresh =
       fresh-less text seen (declared_in as_binding.Constant (Node form s parts)) (declared_among as_binding.Constant parts) fresh (λ m. let a = node-names text m form s parts in omega (arith, a))
 
-  first-fresh : (x : Tree) (rest : Trees) → Fresh text seen (declared_among as_binding.Constant (Cons x rest)) → Fresh text seen (declared_in as_binding.Constant x)
+  pub first-fresh : (x : Tree) (rest : Trees) → Fresh text seen (declared_among as_binding.Constant (Cons x rest)) → Fresh text seen (declared_in as_binding.Constant x)
   first-fresh x rest fresh =
       fresh-less text seen (declared_among as_binding.Constant (Cons x rest)) (declared_in as_binding.Constant x) fresh (λ m. let a = among-next text m x rest in omega (arith, a))
 
-  own-fresh : (form : Form.the_data) (s : Span) (parts : Trees) → Fresh text seen (declared_in as_binding.Constant (Node form s parts)) → Fresh text seen (defined form parts)
+  pub own-fresh : (form : Form.the_data) (s : Span) (parts : Trees) → Fresh text seen (declared_in as_binding.Constant (Node form s parts)) → Fresh text seen (defined form parts)
   own-fresh form s parts fresh =
       fresh-less text seen (declared_in as_binding.Constant (Node form s parts)) (defined form parts) fresh (λ m. let a = node-names text m form s parts in omega (arith, a))
 
-  rest-fresh : (form : Form.the_data) (s : Span) (parts rest : Trees) → Fresh text seen (declared_among as_binding.Constant (Cons (Node form s parts) rest)) → Fresh text (seen-with text (defined form parts) seen) (declared_among as_binding.Constant rest)
+  pub rest-fresh : (form : Form.the_data) (s : Span) (parts rest : Trees) → Fresh text seen (declared_among as_binding.Constant (Cons (Node form s parts) rest)) → Fresh text (seen-with text (defined form parts) seen) (declared_among as_binding.Constant rest)
   rest-fresh form s parts rest fresh =
       fresh-among text seen (declared_among as_binding.Constant (Cons (Node form s parts) rest)) (defined form parts) (declared_among as_binding.Constant rest) fresh
       (λ m. let a = among-next text m (Node form s parts) rest in let b = node-names text m form s parts in omega (arith, a, b))
 
 module _ (flat : FlatModule) (text : Text) (known : Known) (named : List ℕ → Outside) (means : ℕ → Option Meaning) (implied : ℕ → List Meaning) (faces : List ℕ → FlatFace) (nameable : List ℕ → Bool) (ordered : IsOrdered flat) where
   -- where a name leads, by what its definition defines
-  abbrev IsDefinedBy : Layout → Setting → Form.the_data → Span → Trees → (List Named → Lead) → List ℕ → List Question → Defines → Type 0
+  abbrev pub IsDefinedBy : Layout → Setting → Form.the_data → Span → Trees → (List Named → Lead) → List ℕ → List Question → Defines → Type 0
   IsDefinedBy layout setting form s parts lead roots asked d = elim d [
     | Nothing ↦ (roots ≡ []) × (asked ≡ [])
     | Operator l ↦ (is : List ℕ) × (root d : ℕ) × (a : List Question)
@@ -83,7 +83,7 @@ module _ (flat : FlatModule) (text : Text) (known : Known) (named : List ℕ →
   ]
 
   -- a definition can be read, by what it defines
-  abbrev IsReadBy : Layout → Form.the_data → Trees → Defines → Type 0
+  abbrev pub IsReadBy : Layout → Form.the_data → Trees → Defines → Type 0
   IsReadBy layout form parts d = elim d [
     | Nothing ↦ ⊥
     | Operator l ↦ EndsWhole parts × AreInside parts × AreReadable text known named means implied faces (reserved text layout.context form parts) (scope text layout.context form parts) parts
@@ -111,7 +111,7 @@ module _ (flat : FlatModule) (text : Text) (known : Known) (named : List ℕ →
   IsChainMeant layout parts body = (i : ℕ) × (body ≡ Some i) × IsBody flat text known named layout i parts
 
   -- the first of a chain, by whether it is a definition
-  abbrev IsLinkedBy : Setting → Form.the_data → Span → Trees → Trees → Option ℕ → List ℕ → List Question → List Question → Bool → Type 0
+  abbrev pub IsLinkedBy : Setting → Form.the_data → Span → Trees → Trees → Option ℕ → List ℕ → List Question → List Question → Bool → Type 0
   IsLinkedBy setting form s parts rest body roots a b help = elim help [
     | true ↦ (lead : List Named → Lead) × (first others : List ℕ) × IsDefined text means implied faces flat setting (Node form s parts) lead first a
         × IsChain text means implied faces flat (behind text setting (Node form s parts) lead) rest body others b × (roots ≡ first ++ others)
@@ -119,7 +119,7 @@ module _ (flat : FlatModule) (text : Text) (known : Known) (named : List ℕ →
   ]
 
   -- the first of a chain can be read, by whether it is a definition
-  abbrev IsLinkRead : Layout → Form.the_data → Span → Trees → Trees → Bool → Type 0
+  abbrev pub IsLinkRead : Layout → Form.the_data → Span → Trees → Trees → Bool → Type 0
   IsLinkRead layout form s parts rest help = elim help [
     | true ↦ IsReadableDefinition text known named means implied faces layout.context (Node form s parts) × IsReadableChain text known named means implied faces (behind_context text layout.context (Node form s parts)) rest
     | false ↦ (part_of form ≡ Whole) × (places_at text known named layout.context (Node form s parts) ≡ None) × IsReadable text known named means implied faces layout.context (Node form s parts) × (rest ≡ Nil)

@@ -39,7 +39,7 @@ order-again : (n : ℕ) → places_by (order_by (places_by n)) ≡ places_by n
 order-again zero = refl
 order-again (suc n) = refl
 
-operator-again : (found : Option Meaning) → places_by (order_by (operator_places found)) ≡ operator_places found
+pub operator-again : (found : Option Meaning) → places_by (order_by (operator_places found)) ≡ operator_places found
 operator-again None = refl
 operator-again (Some m) = ap (λ o. places_by (order_by o)) (places-order m) ∙ order-again (order_of m) ∙ sym (places-order m)
 

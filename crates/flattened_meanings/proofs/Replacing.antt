@@ -99,7 +99,7 @@ module _ (flat : FlatModule) (text : Text) (known : Known) (named : List ℕ →
   implied-places : (parameter meaning : Meaning) → CanStandFor parameter meaning → operator_places (Some parameter) ≡ operator_places (Some meaning)
   implied-places parameter meaning can = places-order parameter ∙ ap places_by (sym can.1 ∙ orders-length meaning) ∙ sym (places-order meaning)
 
-  operator-order : (parameter : Meaning) → order_by (operator_places (Some parameter)) ≡ order_of parameter
+  pub operator-order : (parameter : Meaning) → order_by (operator_places (Some parameter)) ≡ order_of parameter
   operator-order parameter = ap order_by (places-order parameter) ∙ by_order (order_of parameter)
     where
       by_order : (n : ℕ) → order_by (places_by n) ≡ n

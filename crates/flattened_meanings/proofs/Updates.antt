@@ -24,11 +24,11 @@ use Rattle.flattened_meanings.proofs.Bodies.{AreOuters, EndsAs, and-apart, both-
 
 module _ (flat : FlatModule) (text : Text) (known : Known) (named : List ℕ → Outside) (means : ℕ → Option Meaning) (implied : ℕ → List Meaning) (faces : List ℕ → FlatFace) (nameable : List ℕ → Bool) where
   -- a part is looked at, or it has no nodes
-  abbrev IsTakenAs : Bool → Setting → Form.the_data → Span → Trees → List ℕ → List Question → Part → Type 0
+  abbrev pub IsTakenAs : Bool → Setting → Form.the_data → Span → Trees → List ℕ → List Question → Part → Type 0
   IsTakenAs taken setting form s parts first b p = elim taken [ true ↦ IsMadeAs flat text known named means implied faces nameable setting form s parts first b p | false ↦ (first ≡ []) × (b ≡ []) ]
 
   -- the indices
-  outers-given : (parts : Trees) (outside inside : Layout) (setting : Setting) (seen : Meaning → Bool) (is : List ℕ) (asked : List Question) → Each flat text known named means implied faces nameable parts → Knows flat text known named faces nameable outside setting seen → AreOperands text means implied faces flat stands_outside setting parts is asked → AreReadable text known named means implied faces outside.context inside.context parts → Fresh text seen (whole-names text parts) → AreOuters flat text known named means implied faces nameable outside is parts
+  pub outers-given : (parts : Trees) (outside inside : Layout) (setting : Setting) (seen : Meaning → Bool) (is : List ℕ) (asked : List Question) → Each flat text known named means implied faces nameable parts → Knows flat text known named faces nameable outside setting seen → AreOperands text means implied faces flat stands_outside setting parts is asked → AreReadable text known named means implied faces outside.context inside.context parts → Fresh text seen (whole-names text parts) → AreOuters flat text known named means implied faces nameable outside is parts
   outers-given Nil outside inside setting seen is asked each knows made can fresh frame more o agrees = ap (λ js. given flat text known named means implied faces nameable js (frame ++ more)) made.0
   outers-given (Cons (Node form s parts) rest) outside inside setting seen is asked each knows (first, others, b, c, parted, asks, one, rest-made) can fresh frame more o agrees =
       outers-next flat text known named means implied faces nameable outside first others is form s parts rest parted
