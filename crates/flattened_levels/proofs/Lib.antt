@@ -1,0 +1,8 @@
+pub mod NodeKinds
+pub mod AtNode
+pub mod Helpers
+pub mod Operands
+pub mod Arguments
+pub mod Alike
+pub mod FormsAnswered
+pub mod UpdatesAnswered
