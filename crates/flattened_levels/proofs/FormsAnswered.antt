@@ -58,7 +58,7 @@ module _ (flat : FlatModule) (text : Text) (known : Known) (named : List ℕ →
 
   module _ (ordered : IsOrdered flat) (layout : Layout) (setting : Setting) (seen : Meaning → Bool) (around : Around) (round : Round flat text known named means implied faces nameable layout setting seen around) where
     -- questions of a node and of its parts
-    joined : (form : Form.the_data) (s : Span) (parts : Trees) (i : ℕ) (asked a : List Question) → IsOrdinary form → kind_in flat setting.frame i ≡ kind_at text known named around (Node form s parts) → asked ≡ asked_at text means implied faces flat setting i form s parts ++ a → (is_judged form ≡ true → AreAlike flat text known named setting.frame i around (Node form s parts)) → level_answers flat a ≡ levels_parts text known named (before_scope text known named around form parts) (in_body text known named around form parts) parts → level_answers flat asked ≡ levels text known named around (Node form s parts)
+    pub joined : (form : Form.the_data) (s : Span) (parts : Trees) (i : ℕ) (asked a : List Question) → IsOrdinary form → kind_in flat setting.frame i ≡ kind_at text known named around (Node form s parts) → asked ≡ asked_at text means implied faces flat setting i form s parts ++ a → (is_judged form ≡ true → AreAlike flat text known named setting.frame i around (Node form s parts)) → level_answers flat a ≡ levels_parts text known named (before_scope text known named around form parts) (in_body text known named around form parts) parts → level_answers flat asked ≡ levels text known named around (Node form s parts)
     joined form s parts i asked a is same asks alike found =
         answers-parted flat asked (asked_at text means implied faces flat setting i form s parts) a _ _ asks (node-asked flat text known named setting.frame i around form s parts same alike) found
         ∙ sym (levels-ordinary text known named around form s parts is)
@@ -84,7 +84,7 @@ module _ (flat : FlatModule) (text : Text) (known : Known) (named : List ℕ →
     no-parts (Cons x rest) is asked o a e made = cc
 
     -- operands in the scope of a form with a rule
-    scope-answered : (form : Form.the_data) (s : Span) (parts : Trees) (is : List ℕ) (asked : List Question) (state : Bool) → binding_of form ≡ as_binding.Bound state → EachAnswered flat text known named means implied faces nameable parts → NameModules text.source nameable parts → AreOperands text means implied faces flat all_parts setting parts is asked → AreReadable text known named means implied faces (reserved text layout.context form parts) (scope text layout.context form parts) parts → AreShaped parts → Fresh text seen (declared_in as_binding.Constant (Node form s parts)) → AreAnswered flat text known named means implied faces nameable setting (before_scope text known named around form parts) (in_scope text known named around form parts) is asked parts
+    pub scope-answered : (form : Form.the_data) (s : Span) (parts : Trees) (is : List ℕ) (asked : List Question) (state : Bool) → binding_of form ≡ as_binding.Bound state → EachAnswered flat text known named means implied faces nameable parts → NameModules text.source nameable parts → AreOperands text means implied faces flat all_parts setting parts is asked → AreReadable text known named means implied faces (reserved text layout.context form parts) (scope text layout.context form parts) parts → AreShaped parts → Fresh text seen (declared_in as_binding.Constant (Node form s parts)) → AreAnswered flat text known named means implied faces nameable setting (before_scope text known named around form parts) (in_scope text known named around form parts) is asked parts
     scope-answered form s parts is asked state binding each names made can shaped fresh =
         let new = names-fresh text seen form s parts fresh in
         operands-answered flat text known named means implied faces nameable ordered parts (layout_before text layout form parts) (layout_in text layout form parts) setting (seen-with text (defined form parts ++ binders form parts) seen) is asked

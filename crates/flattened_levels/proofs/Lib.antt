@@ -6,3 +6,6 @@ pub mod Arguments
 pub mod Alike
 pub mod FormsAnswered
 pub mod UpdatesAnswered
+pub mod RightsAnswered
+pub mod DefinitionsAnswered
+pub mod TreesAnswered

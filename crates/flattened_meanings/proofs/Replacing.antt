@@ -56,7 +56,7 @@ module _ (flat : FlatModule) (text : Text) (known : Known) (named : List ℕ →
   found-here parameters name a b left more others among right equal false e rest = rest
 
   -- the node of a right side
-  right-node : (form : Form.the_data) (at : Span) (parts : Trees) (is : List ℕ) (asked : List Question) → Each flat text known named means implied faces nameable (Cons (Node form at parts) Nil) → AreOperands text means implied faces flat all_parts setting (Cons (Node form at parts) Nil) is asked → part_of form ≡ Whole → Fresh text seen (whole-names text (Cons (Node form at parts) Nil)) → (i : ℕ) × (a : List Question) × (is ≡ i ∷ []) × IsFlattened text means implied faces flat setting (Node form at parts) i a × Fresh text seen (declared_in as_binding.Constant (Node form at parts))
+  pub right-node : (form : Form.the_data) (at : Span) (parts : Trees) (is : List ℕ) (asked : List Question) → Each flat text known named means implied faces nameable (Cons (Node form at parts) Nil) → AreOperands text means implied faces flat all_parts setting (Cons (Node form at parts) Nil) is asked → part_of form ≡ Whole → Fresh text seen (whole-names text (Cons (Node form at parts) Nil)) → (i : ℕ) × (a : List Question) × (is ≡ i ∷ []) × IsFlattened text means implied faces flat setting (Node form at parts) i a × Fresh text seen (declared_in as_binding.Constant (Node form at parts))
   right-node form at parts is asked each (first, others, b, c, parted, asks, one, rest-made) whole fresh =
       by_part (part_of form) whole one (fresh-left text seen _ [] fresh)
     where
@@ -99,7 +99,7 @@ module _ (flat : FlatModule) (text : Text) (known : Known) (named : List ℕ →
   implied-places : (parameter meaning : Meaning) → CanStandFor parameter meaning → operator_places (Some parameter) ≡ operator_places (Some meaning)
   implied-places parameter meaning can = places-order parameter ∙ ap places_by (sym can.1 ∙ orders-length meaning) ∙ sym (places-order meaning)
 
-  pub operator-order : (parameter : Meaning) → order_by (operator_places (Some parameter)) ≡ order_of parameter
+  operator-order : (parameter : Meaning) → order_by (operator_places (Some parameter)) ≡ order_of parameter
   operator-order parameter = ap order_by (places-order parameter) ∙ by_order (order_of parameter)
     where
       by_order : (n : ℕ) → order_by (places_by n) ≡ n
