@@ -1,5 +1,6 @@
 -- The questions of LET, and so of all trees, are answered.
 use Rattle.std.proofs.Common.{◌≡◌, ℕ, Bool, true, false, List, [], ◌∷◌, ◌++◌, Option, Some, refl, sym, ap, ◌∙◌}
+use Rattle.tla_symbols.specs.declared.lexeme.Lexeme.{Lexeme}
 use Rattle.tla_symbols.specs.declared.lexeme.Span.{Span}
 use Rattle.tla_tree.specs.declared.form.Form.TheVariants as Form
 use Rattle.tla_tree.specs.Forms.{helps}
@@ -11,27 +12,31 @@ use Rattle.module_model.specs.Exports.{Known, behind_meaning}
 use Rattle.kind_text.specs.FlatModule.{FlatModule, IsOrdered}
 use Rattle.tree_kinds.specs.Standing.{Outside}
 use Rattle.tree_kinds.specs.Expanding.{Around, behind_tree, defined_value}
-use Rattle.tree_kinds.specs.TreeLevels.{levels, levels_chain}
+use Rattle.tree_kinds.specs.TreeLevels.{kind_at, levels, levels_chain}
 use Rattle.flat_trees.specs.Layouts.{Layout, layout_behind}
 use Rattle.flat_trees.proofs.Agreeing.{behind-agrees}
 use Rattle.flattened_trees.specs.Leads.{FlatFace, Lead, Setting, behind}
 use Rattle.flattened_trees.specs.Questions.{Question}
-use Rattle.flattened_trees.specs.Flattened.{IsChain}
-use Rattle.flattened_trees.specs.Readable.{IsReadableChain}
+use Rattle.flattened_trees.specs.Flattened.{AreRights, IsChain, IsDefined, IsFlattened, IsInstance, Right}
+use Rattle.flattened_trees.specs.Readable.{IsReadable, IsReadableChain, IsReadableDefinition, IsReadableThrough}
 use Rattle.flattened_trees.specs.Agreeing.{TakesAs}
-use Rattle.flattened_trees.specs.Answers.{items_of, level_answers}
+use Rattle.flattened_trees.specs.Answers.{items_of, kind_in, level_answers}
 use Rattle.flattened_meanings.specs.Faces.{NameModules, NamesModules}
+use Rattle.flattened_meanings.specs.Rounds.{IsKnownRound}
 use Rattle.flattened_meanings.proofs.Fresh.{Fresh, IsOneOf, seen-with}
 use Rattle.flattened_meanings.proofs.Rounds.{behind-known}
-use Rattle.flattened_meanings.proofs.Behind.{all-one}
+use Rattle.flattened_meanings.proofs.Behind.{all-one, fresh-round, known-round, seen-round}
+use Rattle.flattened_meanings.proofs.Forms.{wholes-fresh}
 use Rattle.flattened_meanings.proofs.Meant.{IsLinkRead, IsLinkedBy, definition-for, each-kept, first-fresh, own-fresh, parts-fresh, rest-fresh}
-use Rattle.flattened_levels.specs.Shapes.{IsShaped, IsShapedChain, IsShapedDefinition}
-use Rattle.flattened_levels.proofs.NodeKinds.{Round}
+use Rattle.flattened_levels.specs.Shapes.{AreShapedRights, IsShaped, IsShapedChain, IsShapedDefinition}
+use Rattle.flattened_levels.specs.Asked.{IsAskedRound}
+use Rattle.flattened_levels.proofs.NodeKinds.{Round, kind-same}
 use Rattle.flattened_levels.proofs.AtNode.{answers-parted}
 use Rattle.flattened_levels.proofs.Operands.{EachAnswered, IsAnswered}
 use Rattle.flattened_levels.proofs.FormsAnswered.{form-answered}
 use Rattle.flattened_levels.proofs.UpdatesAnswered.{except-answered}
 use Rattle.flattened_levels.proofs.DefinitionsAnswered.{definition-answered}
+use Rattle.flattened_levels.proofs.RightsAnswered.{instance-answered}
 
 module _ (flat : FlatModule) (text : Text) (known : Known) (named : List ℕ → Outside) (means : ℕ → Option Meaning) (implied : ℕ → List Meaning) (faces : List ℕ → FlatFace) (nameable : List ℕ → Bool) (ordered : IsOrdered flat) where
   -- the first of a chain is shaped, by whether it is a definition
@@ -90,3 +95,34 @@ module _ (flat : FlatModule) (text : Text) (known : Known) (named : List ℕ →
 
   pub tree-answered : (x : Tree) → NamesModules text.source nameable x → IsAnswered flat text known named means implied faces nameable x
   tree-answered (Node form s parts) names = node-answered form s parts (each-answered parts names.1) names
+
+  -- ---- by what is known round a tree
+
+  module _ (layout : Layout) (setting : Setting) (seen : List Meaning) (around : Around) (x : Tree) (round : IsKnownRound flat text known named faces nameable layout setting seen x) (asked-round : IsAskedRound flat layout setting around) where
+    -- all names were seen but those of the tree
+    abbrev before : Meaning → Bool
+    before = seen-round flat text known named faces nameable layout setting seen x round
+
+    round-all : Round flat text known named means implied faces nameable layout setting before around
+    round-all = record { knows = known-round flat text known named faces nameable layout setting seen x round; asked = asked-round }
+
+    pub tree-kind : (i : ℕ) (asked : List Question) → IsReadable text known named means implied faces layout.context x → IsFlattened text means implied faces flat setting x i asked → kind_in flat setting.frame i ≡ kind_at text known named around x
+    tree-kind i asked can made =
+        kind-same flat text known named means implied faces nameable ordered layout setting before around round-all x i asked round.instances made can (fresh-round flat text known named faces nameable layout setting seen x round)
+
+    pub tree-levels : (i : ℕ) (asked : List Question) → IsReadable text known named means implied faces layout.context x → IsShaped x → IsFlattened text means implied faces flat setting x i asked → level_answers flat asked ≡ levels text known named around x
+    tree-levels i asked can shaped made =
+        tree-answered x round.instances layout setting before i asked around round-all made can shaped (fresh-round flat text known named faces nameable layout setting seen x round)
+
+  pub definition-levels : (layout : Layout) (setting : Setting) (seen : List Meaning) (around : Around) (x : Tree) (lead : List Named → Lead) (roots : List ℕ) (asked : List Question) → IsKnownRound flat text known named faces nameable layout setting seen x → IsAskedRound flat layout setting around → IsReadableDefinition text known named means implied faces layout.context x → IsShapedDefinition x → IsDefined text means implied faces flat setting x lead roots asked → level_answers flat asked ≡ levels text known named around x
+  definition-levels layout setting seen around (Node form s parts) lead roots asked round asked-round can shaped made =
+      let x : Tree = Node form s parts in
+      definition-answered flat text known named means implied faces nameable ordered layout setting (before layout setting seen around x round asked-round) around (round-all layout setting seen around x round asked-round)
+      form s parts lead roots asked (each-answered parts round.instances.1) round.instances.1 made can shaped (fresh-round flat text known named faces nameable layout setting seen x round)
+
+  pub instance-levels : (layout : Layout) (setting : Setting) (seen : List Meaning) (around : Around) (l : Lexeme) (at : Span) (rights : Trees) (outer count : ℕ) (guards : Bool) (written : List Right) (roots : List ℕ) (j : ℕ) (asked more : List Question) → IsKnownRound flat text known named faces nameable layout setting seen (Node (Form.Instance l) at rights) → IsAskedRound flat layout setting around → IsReadableThrough text known named means implied faces layout.context (Cons (Node (Form.Instance l) at rights) Nil) → AreShapedRights rights → AreRights text means implied faces flat setting l rights written roots asked → IsInstance text means implied faces flat setting outer count guards l written j more → level_answers flat (asked ++ more) ≡ levels text known named around (Node (Form.Instance l) at rights)
+  instance-levels layout setting seen around l at rights outer count guards written roots j asked more round asked-round can shaped are is =
+      let x : Tree = Node (Form.Instance l) at rights in
+      instance-answered flat text known named means implied faces nameable ordered layout setting (before layout setting seen around x round asked-round) around (round-all layout setting seen around x round asked-round)
+      l at rights outer count guards written roots j asked more round.instances.0 (each-answered rights round.instances.1) round.instances.1 are is can.0 can.1 can.2 shaped
+      (wholes-fresh text (before layout setting seen around x round asked-round) (Form.Instance l) at rights (fresh-round flat text known named faces nameable layout setting seen x round))
