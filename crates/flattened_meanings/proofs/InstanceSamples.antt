@@ -77,7 +77,7 @@ abbrev node : Form.the_data → ℕ → Trees → Tree
 node form from parts = Node form (record { start = from; end = from + 1 }) parts
 
 -- the names alone, in their order, and the number
-abbrev text : Text
+abbrev pub text : Text
 text = record { file = codes "T"; source = codes "IpMcpI1F"; starts = 0 ∷ (1 ∷ []) }
 
 abbrev i : Meaning
@@ -86,7 +86,7 @@ i = Declared (entity.Instance (0 ∷ [])) (own text (at 0))
 abbrev p : Meaning
 p = Declared (entity.Parameter 0) (own text (at 1))
 
-abbrev means : ℕ → Option Meaning
+abbrev pub means : ℕ → Option Meaning
 means from = if nat_eq from 4 then Some p else if nat_eq from 5 then Some i else if nat_eq from 7 then Some f else None
 
 abbrev segments : Trees
@@ -110,42 +110,42 @@ arguments = Cons (node (Form.Number (at 6)) 6 Nil) Nil
 abbrev path : Trees
 path = Cons (node (Form.Segment (at 5)) 5 arguments) (Cons (node (Form.Segment (at 7)) 7 Nil) Nil)
 
-abbrev tree : Tree
+abbrev pub tree : Tree
 tree = node Form.Let 0 (Cons (node definition_form 0 parts) (Cons (node Form.Identifier 5 path) Nil))
 
 abbrev replacement : Replacement
 replacement = record { root = 0; most = Some 2 }
 
 -- the constant, which is the parameter too; the number; the use behind the instance; and the LET
-abbrev flat : FlatModule
+abbrev pub flat : FlatModule
 flat = record {
   nodes = plain_node (NodeForm.Parameter 0) [] ∷ (constant_node ∷ (plain_node (NodeForm.Use (0 ∷ []) 0) (1 ∷ []) ∷ (plain_node NodeForm.Let (2 ∷ (0 ∷ [])) ∷ [])));
   definitions = record { outer = 1; root = 0 } ∷ [];
   instances = record { outer = 0; parameters = 1; guards = true; replacements = replacement ∷ [] } ∷ [];
 }
 
-abbrev layout : Layout
+abbrev pub layout : Layout
 layout = record { context = empty; stands = unsaid_stand; places = 0; olds = [] }
 
-abbrev setting : Setting
+abbrev pub setting : Setting
 setting = record { leads = λ meaning names. lead_by (unsaid_stand meaning) names; frame = []; olds = [] }
 
-abbrev named : List ℕ → Outside
+abbrev pub named : List ℕ → Outside
 named module_name = outside
 
-abbrev faces : List ℕ → FlatFace
+abbrev pub faces : List ℕ → FlatFace
 faces module_name = face
 
-abbrev nameable : List ℕ → Bool
+abbrev pub nameable : List ℕ → Bool
 nameable module_name = true
 
-abbrev implied : ℕ → List Meaning
+abbrev pub implied : ℕ → List Meaning
 implied from = []
 
-abbrev known : Known
+abbrev pub known : Known
 known decl = Some (behind_view outside.view)
 
-ordered : IsOrdered flat
+pub ordered : IsOrdered flat
 ordered zero n is = let same : plain_node (NodeForm.Parameter 0) [] ≡ n = cc in subst (IsMadeOfEarlier flat 0) same (record { parts = tt; uses = tt })
 ordered (suc zero) n is = let same : constant_node ≡ n = cc in subst (IsMadeOfEarlier flat 1) same (record { parts = tt; uses = tt })
 ordered (suc (suc zero)) n is =
@@ -200,7 +200,7 @@ face_of_module new =
       unsaid = λ meaning is. refl;
     }
 
-round : IsKnownRound flat text known named faces nameable layout setting [] tree
+pub round : IsKnownRound flat text known named faces nameable layout setting [] tree
 round =
     record {
       settings = record { leads = λ meaning names. refl; places = refl; olds = refl };
@@ -216,7 +216,7 @@ round =
     nothing (Word bytes) meaning e = cc e
     nothing (Symbol op) meaning e = cc e
 
-readable : IsReadable text known named means implied faces layout.context tree
+pub readable : IsReadable text known named means implied faces layout.context tree
 readable = (
   (refl, refl, (record { parameters = refl; constant = refl }, refl, (refl, refl, refl, ((p, record { here = refl; there = refl }, (tt, refl)), refl), tt))),
   (refl, refl, ((i, record { here = refl; there = refl }, (refl, (refl, refl, refl, tt), (tt, refl))), refl), refl),
@@ -279,10 +279,10 @@ use_written = (
   refl,
 )
 
-abbrev tree_asked : List Question
+abbrev pub tree_asked : List Question
 tree_asked = definition_asked ++ (use_asked ++ [])
 
-written : IsFlattened text means implied faces flat setting tree 3 tree_asked
+pub written : IsFlattened text means implied faces flat setting tree 3 tree_asked
 written = (
   Some 2,
   0 ∷ [],

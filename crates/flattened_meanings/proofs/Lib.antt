@@ -12,5 +12,5 @@ pub mod Places
 pub mod Replacing
 pub mod Instances
 pub mod Meant
-mod Samples
-mod InstanceSamples
+pub mod Samples
+pub mod InstanceSamples

@@ -50,11 +50,11 @@ abbrev arguments : Trees
 arguments = Cons (node (Form.Number (at 4)) 4 Nil) Nil
 
 -- LET f(x) == x IN f(1)
-abbrev tree : Tree
+abbrev pub tree : Tree
 tree = node Form.Let 0 (Cons (node definition_form 0 parts) (Cons (name 3 arguments) Nil))
 
 -- the names alone, in their order, and the number
-abbrev text : Text
+abbrev pub text : Text
 text = record { file = codes "M"; source = codes "fxxf1"; starts = 0 ∷ (1 ∷ []) }
 
 abbrev f : Meaning
@@ -63,28 +63,28 @@ f = Declared (entity.Definition (0 ∷ [])) (own text (at 0))
 abbrev x : Meaning
 x = Declared (entity.Parameter 0) (own text (at 1))
 
-abbrev means : ℕ → Option Meaning
+abbrev pub means : ℕ → Option Meaning
 means from = if nat_eq from 2 then Some x else if nat_eq from 3 then Some f else None
 
 -- the parameter, the number, the use and the LET
-abbrev flat : FlatModule
+abbrev pub flat : FlatModule
 flat = record {
   nodes = plain_node (NodeForm.Parameter 0) [] ∷ (constant_node ∷ (plain_node (NodeForm.Use [] 0) (1 ∷ []) ∷ (plain_node NodeForm.Let (2 ∷ (0 ∷ [])) ∷ [])));
   definitions = record { outer = 0; root = 0 } ∷ [];
   instances = [];
 }
 
-abbrev layout : Layout
+abbrev pub layout : Layout
 layout = record { context = empty; stands = unsaid_stand; places = 0; olds = [] }
 
-abbrev setting : Setting
+abbrev pub setting : Setting
 setting = record { leads = λ meaning names. lead_by (unsaid_stand meaning) names; frame = []; olds = [] }
 
-abbrev nameable : List ℕ → Bool
+abbrev pub nameable : List ℕ → Bool
 nameable module_name = false
 
 module _ (known : Known) (named : List ℕ → Outside) (implied : ℕ → List Meaning) (faces : List ℕ → FlatFace) where
-  round : IsKnownRound flat text known named faces nameable layout setting [] tree
+  pub round : IsKnownRound flat text known named faces nameable layout setting [] tree
   round =
       record {
         settings = record { leads = λ meaning names. refl; places = refl; olds = refl };
@@ -100,7 +100,7 @@ module _ (known : Known) (named : List ℕ → Outside) (implied : ℕ → List 
       nothing (Word bytes) meaning e = cc e
       nothing (Symbol op) meaning e = cc e
 
-  readable : IsReadable text known named means implied faces layout.context tree
+  pub readable : IsReadable text known named means implied faces layout.context tree
   readable = (
     ((refl, refl, refl), (refl, (refl, tt)), (tt, ((refl, ((x, record { here = refl; there = refl }, (tt, refl)), refl)), tt))),
     (refl, refl, ((f, record { here = refl; there = refl }, (tt, (refl, refl, refl, tt))), refl), refl),
@@ -144,10 +144,10 @@ module _ (known : Known) (named : List ℕ → Outside) (implied : ℕ → List 
   abbrev definition_asked : List Question
   definition_asked = over [] (IsShallow (at 0) 0 ∷ []) ++ ([] ++ (x_asked ++ []))
 
-  abbrev tree_asked : List Question
+  abbrev pub tree_asked : List Question
   tree_asked = definition_asked ++ (use_asked ++ [])
 
-  written : IsFlattened text means implied faces flat setting tree 3 tree_asked
+  pub written : IsFlattened text means implied faces flat setting tree 3 tree_asked
   written = (
     Some 2,
     0 ∷ [],
@@ -167,7 +167,7 @@ module _ (known : Known) (named : List ℕ → Outside) (implied : ℕ → List 
     refl,
   )
 
-  ordered : IsOrdered flat
+  pub ordered : IsOrdered flat
   ordered zero n is = let same : plain_node (NodeForm.Parameter 0) [] ≡ n = cc in subst (IsMadeOfEarlier flat 0) same (record { parts = tt; uses = tt })
   ordered (suc zero) n is = let same : constant_node ≡ n = cc in subst (IsMadeOfEarlier flat 1) same (record { parts = tt; uses = tt })
   ordered (suc (suc zero)) n is =
