@@ -1,8 +1,7 @@
 -- A node is made of what has kinds where its tree is, unless it has a kind itself.
-use Rattle.std.proofs.Common.{◌≡◌, inl, inr, ℕ, Bool, true, false, List, [], ◌∷◌, ◌++◌, Option, Some, None, refl, sym, ap, ◌∙◌, subst}
+use Rattle.std.proofs.Common.{◌≡◌, inl, inr, ℕ, Bool, true, List, [], ◌∷◌, Option, Some, None, refl, sym, ap, ◌∙◌}
 use Rattle.std.specs.Prelude.{◌⊎◌, ◌&&◌, is_some, not, slice_get}
 use Rattle.tla_symbols.specs.declared.lexeme.Lexeme.{Lexeme}
-use Rattle.tla_symbols.specs.declared.lexeme.Span.{Span}
 use Rattle.tla_symbols.specs.declared.level.Kind.{Kind}
 use Rattle.tla_symbols.specs.declared.level.Kind.TheVariants.{Const}
 use Rattle.tla_symbols.specs.declared.level.Rule.{Rule}
@@ -10,7 +9,7 @@ use Rattle.tla_tree.specs.declared.form.Form.TheVariants as Form
 use Rattle.tla_tree.specs.Syntax.{Tree, Trees, Node, Nil, Cons}
 use Rattle.tla_model.specs.Entities.{Meaning, Text}
 use Rattle.module_model.specs.Exports.{Known}
-use Rattle.kind_text.specs.ExpandedKind.{Operands, all_kinds, kind, kinds}
+use Rattle.kind_text.specs.ExpandedKind.{all_kinds, kind, kinds}
 use Rattle.kind_text.specs.FlatModule.{FlatModule, Form as NodeForm, IsOrdered, Node as FlatNode, places_of}
 use Rattle.kind_text.specs.Expansion.{items as items_at, text as text_at}
 use Rattle.kind_text.specs.Substitution.{Item, judged, texts}

@@ -1,16 +1,15 @@
 -- The questions of arguments and of paths are answered by what is found there.
-use Rattle.std.proofs.Common.{◌≡◌, ℕ, Bool, true, false, List, [], ◌∷◌, ◌++◌, Option, Some, None, refl, sym, ap, ◌∙◌, subst}
-use Rattle.tla_symbols.specs.declared.lexeme.Lexeme.{Lexeme}
+use Rattle.std.proofs.Common.{◌≡◌, ℕ, Bool, false, List, [], ◌∷◌, ◌++◌, Option, Some, None, refl, sym, ap, ◌∙◌}
 use Rattle.tla_symbols.specs.declared.lexeme.Span.{Span}
 use Rattle.tla_tree.specs.declared.form.Form.TheVariants as Form
-use Rattle.tla_tree.specs.Syntax.{Tree, Trees, Node, Nil, Cons}
-use Rattle.tla_model.specs.Entities.{Meaning, Text, all_placed, is_group, placed}
+use Rattle.tla_tree.specs.Syntax.{Trees, Node, Nil, Cons}
+use Rattle.tla_model.specs.Entities.{Meaning, Text, all_placed}
 use Rattle.tla_model.specs.Scopes.{all_grouped, names_in}
 use Rattle.module_model.specs.Exports.{Behind, Known, entry_of, onward}
-use Rattle.kind_text.specs.ExpandedKind.{Operands, kinds}
+use Rattle.kind_text.specs.ExpandedKind.{kinds}
 use Rattle.kind_text.specs.FlatModule.{FlatModule, IsOrdered}
 use Rattle.tree_kinds.specs.Standing.{Outside}
-use Rattle.tree_kinds.specs.Expanding.{Around, Outer, Helper, Whole, Part, and_operands, operands, part_of, stands_outside}
+use Rattle.tree_kinds.specs.Expanding.{Around, Outer, Helper, Whole, Part, operands, part_of, stands_outside}
 use Rattle.tree_kinds.specs.TreeLevels.{levels, levels_parts}
 use Rattle.flat_trees.specs.Layouts.{Layout}
 use Rattle.flattened_trees.specs.Leads.{FlatFace, Setting}
@@ -21,11 +20,11 @@ use Rattle.flattened_trees.specs.Answers.{level_answers}
 use Rattle.flattened_meanings.specs.Faces.{NameModules}
 use Rattle.flattened_meanings.proofs.Fresh.{Fresh, fresh-left, fresh-right, whole-names, whole-plain}
 use Rattle.flattened_meanings.proofs.Operands.{IsMadeAs, IsNewAs}
-use Rattle.flattened_meanings.proofs.Bodies.{helper-part, outer-part, whole-part}
-use Rattle.flattened_levels.specs.Shapes.{AreShaped, IsShaped}
+use Rattle.flattened_meanings.proofs.Bodies.{whole-part}
+use Rattle.flattened_levels.specs.Shapes.{AreShaped}
 use Rattle.flattened_levels.proofs.NodeKinds.{Round, kind-same, kinds-append, kinds-in, kinds-in-append}
 use Rattle.flattened_levels.proofs.AtNode.{answers-parted}
-use Rattle.flattened_levels.proofs.Helpers.{first-levels, helper-levels, levels-next}
+use Rattle.flattened_levels.proofs.Helpers.{helper-levels, levels-next}
 use Rattle.flattened_levels.proofs.Operands.{EachAnswered, IsShapedAs, part-operands}
 
 module _ (flat : FlatModule) (text : Text) (known : Known) (named : List ℕ → Outside) (means : ℕ → Option Meaning) (implied : ℕ → List Meaning) (faces : List ℕ → FlatFace) (nameable : List ℕ → Bool) where

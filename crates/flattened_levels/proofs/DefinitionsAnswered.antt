@@ -1,6 +1,5 @@
 -- The questions of definitions are answered.
-use Rattle.std.proofs.Common.{◌≡◌, ℕ, zero, suc, Bool, true, false, List, [], ◌∷◌, ◌++◌, Option, Some, None, map, refl, sym, ap, ◌∙◌, subst, length}
-use Rattle.std.specs.Prelude.{slice_get}
+use Rattle.std.proofs.Common.{◌≡◌, ℕ, zero, suc, Bool, true, false, List, [], ◌∷◌, ◌++◌, Option, map, refl, sym, ap, ◌∙◌, subst, length}
 use Rattle.std.proofs.lemmas.List.{map-append}
 use Rattle.tla_symbols.specs.declared.lexeme.Lexeme.{Lexeme}
 use Rattle.tla_symbols.specs.declared.lexeme.Span.{Span}
@@ -11,28 +10,28 @@ use Rattle.tla_tree.specs.Syntax.{Tree, Trees, Node, Nil, Cons}
 use Rattle.tla_model.specs.declared.names.Binding.TheVariants as as_binding
 use Rattle.tla_model.specs.declared.names.Meaning.TheVariants.{BuiltIn, Declared}
 use Rattle.tla_model.specs.Tables.{Named}
-use Rattle.tla_model.specs.Entities.{Defines, Meaning, Nothing, Operator, Function, Module, Text, binding_of, declared_in, defined, defines, meant}
+use Rattle.tla_model.specs.Entities.{Defines, Meaning, Nothing, Operator, Function, Module, Text, binding_of, declared_in, defined, defines}
 use Rattle.tla_model.specs.Scopes.{binders, reserved, scope}
 use Rattle.module_model.specs.Exports.{Known}
-use Rattle.kind_text.specs.ExpandedKind.{kind, kinds, ruled}
+use Rattle.kind_text.specs.ExpandedKind.{kind, ruled}
 use Rattle.kind_text.specs.FlatModule.{FlatModule, Form as NodeForm, IsOrdered, places_of}
 use Rattle.kind_text.specs.Expansion.{text as text_at}
 use Rattle.kind_text.specs.Substitution.{Item, judged}
 use Rattle.kind_text.proofs.Unfolding.{text-step}
 use Rattle.tree_kinds.specs.Standing.{Outside}
-use Rattle.tree_kinds.specs.Expanding.{Around, before_scope, in_scope, stands_outside, with_parameters as around_with}
+use Rattle.tree_kinds.specs.Expanding.{Around, before_scope, with_parameters as around_with}
 use Rattle.tree_kinds.specs.TreeLevels.{by_itself, in_body, kind_at, levels, levels_parts}
 use Rattle.flat_kinds.specs.Symbols.{item_itself}
 use Rattle.flat_trees.specs.Stands.{Fits, Matches}
 use Rattle.flat_trees.specs.Layouts.{Agrees, Layout, layout_with, order_of, parameters_of}
 use Rattle.flat_trees.proofs.Agreeing.{with-agrees}
 use Rattle.flattened_trees.specs.Leads.{FlatFace, Lead, Setting, with_parameters}
-use Rattle.flattened_trees.specs.Questions.{IsShallow, IsShallowInstance, Question, over}
+use Rattle.flattened_trees.specs.Questions.{IsShallow, Question, over}
 use Rattle.flattened_trees.specs.NodeForms.{plain_node}
 use Rattle.flattened_trees.specs.Flattened.{AreOperands, HasNode, IsDefined, IsThrough, all_parts, asked_at}
-use Rattle.flattened_trees.specs.Readable.{AreInside, AreReadable, EndsWhole, IsReadableDefinition, IsReadableThrough}
+use Rattle.flattened_trees.specs.Readable.{AreInside, AreReadable, IsReadableDefinition, IsReadableThrough}
 use Rattle.flattened_trees.specs.Answers.{items_of, kind_in, level_answers}
-use Rattle.flattened_meanings.specs.Faces.{NameModules, NamesModules}
+use Rattle.flattened_meanings.specs.Faces.{NameModules}
 use Rattle.flattened_meanings.proofs.Fresh.{Fresh, fresh-left, fresh-right, seen-with, whole-names}
 use Rattle.flattened_meanings.proofs.Rounds.{parameters-known}
 use Rattle.flattened_meanings.proofs.Bodies.{helper-part}
@@ -40,7 +39,7 @@ use Rattle.flattened_meanings.proofs.Forms.{names-fresh, scope-fresh}
 use Rattle.flattened_meanings.proofs.Definitions.{function-form, inside-read, module-form, operator-binds}
 use Rattle.flattened_meanings.proofs.Meant.{IsDefinedBy, IsReadBy}
 use Rattle.flattened_levels.specs.Shapes.{AreShaped, EndsWithInstance, IsNoInstance, IsShapedDefinition}
-use Rattle.flattened_levels.proofs.NodeKinds.{Round, kinds-in, kinds-plain}
+use Rattle.flattened_levels.proofs.NodeKinds.{Round, kinds-plain}
 use Rattle.flattened_levels.proofs.AtNode.{found-nil}
 use Rattle.flattened_levels.proofs.Helpers.{at-none, body-with, helper-levels, helper-ordinary, levels-next, levels-ordinary, no-function}
 use Rattle.flattened_levels.proofs.Operands.{EachAnswered, operands-answered}
@@ -117,8 +116,8 @@ module _ (flat : FlatModule) (text : Text) (known : Known) (named : List ℕ →
         let part = helper-part form shaped.0 in
         through-answered rest layout outside setting seen o inner own count lead roots asked each.2 names.1 round made can shaped.3 (fresh-right text seen _ (whole-names text rest) fresh)
         ∙ sym (
-          levels-next text known named inner o form s parts rest false part.0
-          ∙ ap (λ xs. xs ++ levels_parts text known named o inner rest) (helper-levels text known named inner form s parts part.1 shaped.1 ∙ ap (levels_parts text known named inner inner) shaped.2)
+        levels-next text known named inner o form s parts rest false part.0
+        ∙ ap (λ xs. xs ++ levels_parts text known named o inner rest) (helper-levels text known named inner form s parts part.1 shaped.1 ∙ ap (levels_parts text known named inner inner) shaped.2)
         )
 
     module _ (layout : Layout) (setting : Setting) (seen : Meaning → Bool) (around : Around) (round : Round flat text known named means implied faces nameable layout setting seen around) where

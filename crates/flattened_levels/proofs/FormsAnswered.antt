@@ -1,38 +1,36 @@
 -- The questions of all forms but LET and EXCEPT are answered.
-use Rattle.std.proofs.Common.{◌≡◌, ℕ, Bool, true, false, List, [], ◌∷◌, ◌++◌, Option, Some, None, refl, sym, ap, ◌∙◌, subst}
-use Rattle.std.specs.Prelude.{is_some, slice_get}
-use Rattle.tla_symbols.specs.declared.lexeme.Lexeme.{Lexeme}
+use Rattle.std.proofs.Common.{◌≡◌, ℕ, Bool, true, false, List, [], ◌++◌, Option, Some, refl, sym, ap, ◌∙◌}
 use Rattle.tla_symbols.specs.declared.lexeme.Span.{Span}
 use Rattle.tla_symbols.specs.declared.level.Kind.TheVariants.{Const}
 use Rattle.tla_tree.specs.declared.form.Form.TheVariants as Form
 use Rattle.tla_tree.specs.Syntax.{Tree, Trees, Node, Nil, Cons}
 use Rattle.tla_model.specs.declared.names.Binding.TheVariants as as_binding
-use Rattle.tla_model.specs.Entities.{Meaning, Nothing, Text, all_placed, binding_of, bound_as, declared_in, defined, defines}
-use Rattle.tla_model.specs.Scopes.{all_grouped, binders, reserved, scope}
+use Rattle.tla_model.specs.Entities.{Meaning, Nothing, Text, binding_of, bound_as, declared_in, defined, defines}
+use Rattle.tla_model.specs.Scopes.{binders, reserved, scope}
 use Rattle.module_model.specs.Exports.{Known, behind_meaning}
 use Rattle.kind_text.specs.ExpandedKind.{kinds}
 use Rattle.kind_text.specs.FlatModule.{FlatModule, Form as NodeForm, IsOrdered, Node as FlatNode}
 use Rattle.level_text.specs.FormRules.{form_rule}
 use Rattle.tree_kinds.specs.Standing.{Outside}
-use Rattle.tree_kinds.specs.Expanding.{Around, before_scope, in_scope, made_of, operands}
-use Rattle.tree_kinds.specs.TreeLevels.{at_node, in_body, is_judged, kind_at, levels, levels_parts}
+use Rattle.tree_kinds.specs.Expanding.{Around, before_scope, in_scope, operands}
+use Rattle.tree_kinds.specs.TreeLevels.{in_body, is_judged, kind_at, levels, levels_parts}
 use Rattle.flat_trees.specs.Layouts.{Layout, layout_before, layout_in}
 use Rattle.flat_trees.proofs.Agreeing.{before-agrees, scope-agrees}
 use Rattle.flattened_trees.specs.Leads.{FlatFace, Setting}
 use Rattle.flattened_trees.specs.Questions.{Question}
 use Rattle.flattened_trees.specs.NodeForms.{in_order, last_first, plain_node, ruled_node}
-use Rattle.flattened_trees.specs.Flattened.{AreOperands, HasNode, IsFlattened, all_parts, asked_at, written_node}
-use Rattle.flattened_trees.specs.Readable.{AreArguments, AreReadable, IsReadable}
+use Rattle.flattened_trees.specs.Flattened.{AreOperands, IsFlattened, all_parts, asked_at, written_node}
+use Rattle.flattened_trees.specs.Readable.{AreReadable, IsReadable}
 use Rattle.flattened_trees.specs.Answers.{have_kinds, items_of, kind_in, level_answers}
 use Rattle.flattened_meanings.specs.Faces.{NameModules, NamesModules}
-use Rattle.flattened_meanings.proofs.Fresh.{Fresh, seen-with, whole-names}
-use Rattle.flattened_meanings.proofs.Rounds.{before-known, scope-known, scoped}
+use Rattle.flattened_meanings.proofs.Fresh.{Fresh, seen-with}
+use Rattle.flattened_meanings.proofs.Rounds.{before-known, scope-known}
 use Rattle.flattened_meanings.proofs.Forms.{bound-form, names-fresh, scope-fresh, wholes-fresh}
 use Rattle.flattened_levels.specs.Shapes.{AreShaped, IsShaped}
 use Rattle.flattened_levels.proofs.NodeKinds.{Round, have-last, have-ordered, kind-same, kinds-in}
 use Rattle.flattened_levels.proofs.AtNode.{AreAlike, answers-parted, node-asked}
 use Rattle.flattened_levels.proofs.Helpers.{IsOrdinary, before-still, body-bound, in-scope-still, levels-ordinary}
-use Rattle.flattened_levels.proofs.Operands.{AreAnswered, EachAnswered, IsAnswered, operands-answered}
+use Rattle.flattened_levels.proofs.Operands.{AreAnswered, EachAnswered, operands-answered}
 use Rattle.flattened_levels.proofs.Arguments.{ArgumentsAnswered, arguments-answered, arguments-none, path-answered, path-none}
 use Rattle.flattened_levels.proofs.Alike.{alike-all, alike-by, alike-leaf, bare-parts, olds-kinds, operator-parts, path-parts, ruled-parts}
 
@@ -67,15 +65,15 @@ module _ (flat : FlatModule) (text : Text) (known : Known) (named : List ℕ →
     still-levels : (form : Form.the_data) (parts : Trees) (state : Bool) → defines form ≡ Nothing → binding_of form ≡ as_binding.Bound state → binders form parts ≡ [] → levels_parts text known named around around parts ≡ levels_parts text known named (before_scope text known named around form parts) (in_body text known named around form parts) parts
     still-levels form parts state none binding binds =
         sym (
-          ap (λ b. levels_parts text known named b (in_body text known named around form parts) parts) (before-still text known named around form parts none)
-          ∙ ap (λ b. levels_parts text known named around b parts) (body-bound text known named around form parts state binding ∙ in-scope-still text known named around form parts none binds)
+        ap (λ b. levels_parts text known named b (in_body text known named around form parts) parts) (before-still text known named around form parts none)
+        ∙ ap (λ b. levels_parts text known named around b parts) (body-bound text known named around form parts state binding ∙ in-scope-still text known named around form parts none binds)
         )
 
     still-operands : (form : Form.the_data) (parts : Trees) → defines form ≡ Nothing → binders form parts ≡ [] → kinds (operands text known named around around parts) ≡ kinds (operands text known named (before_scope text known named around form parts) (in_scope text known named around form parts) parts)
     still-operands form parts none binds =
         sym (
-          ap (λ b. kinds (operands text known named b (in_scope text known named around form parts) parts)) (before-still text known named around form parts none)
-          ∙ ap (λ b. kinds (operands text known named around b parts)) (in-scope-still text known named around form parts none binds)
+        ap (λ b. kinds (operands text known named b (in_scope text known named around form parts) parts)) (before-still text known named around form parts none)
+        ∙ ap (λ b. kinds (operands text known named around b parts)) (in-scope-still text known named around form parts none binds)
         )
 
     -- without parts there is nothing

@@ -5,10 +5,10 @@ use Rattle.tla_symbols.specs.declared.lexeme.Lexeme.{Lexeme}
 use Rattle.tla_symbols.specs.declared.lexeme.Span.{Span}
 use Rattle.tla_tree.specs.declared.form.Form.TheVariants as Form
 use Rattle.tla_tree.specs.Forms.{helps}
-use Rattle.tla_tree.specs.Syntax.{Tree, Trees, Node, Nil, Cons}
+use Rattle.tla_tree.specs.Syntax.{Tree, Trees, Node, Cons}
 use Rattle.tla_model.specs.declared.entity.Level.{Level}
 use Rattle.tla_model.specs.declared.names.Binding.TheVariants as as_binding
-use Rattle.tla_model.specs.Entities.{Defines, Nothing, Operator, Function, Module, Text, binding_of, defined_as, defines, meant}
+use Rattle.tla_model.specs.Entities.{Defines, Nothing, Function, Text, binding_of, defined_as, defines, meant}
 use Rattle.tla_model.specs.Contexts.{Context, bind_all, reserve_all}
 use Rattle.tla_model.specs.Scopes.{binders, inside, reserved, scope}
 use Rattle.module_model.specs.Exports.{Known}

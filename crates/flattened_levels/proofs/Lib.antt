@@ -9,3 +9,4 @@ pub mod UpdatesAnswered
 pub mod RightsAnswered
 pub mod DefinitionsAnswered
 pub mod TreesAnswered
+mod Samples

@@ -1,25 +1,24 @@
 -- The questions of operands are answered by what is found in parts, and nodes of operands have their kinds.
-use Rattle.std.proofs.Common.{◌≡◌, ℕ, Bool, true, false, List, [], ◌∷◌, ◌++◌, Option, Some, None, refl, sym, ap, ◌∙◌, subst}
-use Rattle.std.specs.Prelude.{is_some, not}
+use Rattle.std.proofs.Common.{◌≡◌, ℕ, Bool, List, [], ◌∷◌, ◌++◌, Option, refl, sym, ap, ◌∙◌, subst}
 use Rattle.tla_symbols.specs.declared.lexeme.Span.{Span}
 use Rattle.tla_tree.specs.declared.form.Form.TheVariants as Form
 use Rattle.tla_tree.specs.Syntax.{Tree, Trees, Node, Nil, Cons}
 use Rattle.tla_model.specs.declared.names.Binding.TheVariants as as_binding
 use Rattle.tla_model.specs.Entities.{Meaning, Text, declared_in}
-use Rattle.module_model.specs.Exports.{Behind, Known, entry_of, onward}
+use Rattle.module_model.specs.Exports.{Known}
 use Rattle.kind_text.specs.ExpandedKind.{Operands, kinds}
 use Rattle.kind_text.specs.FlatModule.{FlatModule, IsOrdered}
 use Rattle.kind_text.specs.Substitution.{judged}
 use Rattle.tree_kinds.specs.Standing.{Outside}
-use Rattle.tree_kinds.specs.Expanding.{Around, Outer, Helper, Whole, Part, and_operands, expand, operands, part_of, places_at, stands_outside}
+use Rattle.tree_kinds.specs.Expanding.{Around, Outer, Helper, Whole, Part, expand, operands, part_of, places_at, stands_outside}
 use Rattle.tree_kinds.specs.TreeLevels.{levels, levels_parts}
 use Rattle.flat_trees.specs.Layouts.{Layout}
 use Rattle.flattened_trees.specs.Leads.{FlatFace, Setting}
 use Rattle.flattened_trees.specs.Questions.{Question}
 use Rattle.flattened_trees.specs.Flattened.{AreOperands, IsFlattened, all_parts}
-use Rattle.flattened_trees.specs.Readable.{AreArguments, AreReadable, IsReadable, IsReadablePath, first_name, orders_of}
+use Rattle.flattened_trees.specs.Readable.{AreReadable, IsReadable}
 use Rattle.flattened_trees.specs.Answers.{level_answers}
-use Rattle.flattened_meanings.specs.Faces.{NameModules, NamesModules}
+use Rattle.flattened_meanings.specs.Faces.{NameModules}
 use Rattle.flattened_meanings.proofs.Fresh.{Fresh, fresh-left, fresh-right, whole-names}
 use Rattle.flattened_meanings.proofs.Operands.{IsMadeAs, IsNewAs, IsReadAs}
 use Rattle.flattened_meanings.proofs.Bodies.{helper-part, outer-part, whole-part}

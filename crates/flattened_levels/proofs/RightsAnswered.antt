@@ -3,9 +3,8 @@ use Rattle.std.proofs.Common.{◌≡◌, ℕ, zero, suc, Bool, true, false, cond
 use Rattle.std.specs.Prelude.{drop, slice_get}
 use Rattle.tla_symbols.specs.declared.lexeme.Lexeme.{Lexeme}
 use Rattle.tla_symbols.specs.declared.lexeme.Span.{Span}
-use Rattle.tla_symbols.specs.declared.level.Kind.{Kind}
 use Rattle.tla_tree.specs.declared.form.Form.TheVariants as Form
-use Rattle.tla_tree.specs.Syntax.{Tree, Trees, Node, Nil, Cons}
+use Rattle.tla_tree.specs.Syntax.{Trees, Node, Nil, Cons}
 use Rattle.tla_model.specs.Lexemes.{spelled}
 use Rattle.tla_model.specs.Tables.{Named, same_named}
 use Rattle.tla_model.specs.Entities.{Meaning, Text, name_of}
@@ -14,10 +13,10 @@ use Rattle.module_model.specs.Instances.{left_sides}
 use Rattle.kind_text.specs.ExpandedKind.{kind}
 use Rattle.kind_text.specs.FlatModule.{FlatModule, IsOrdered, Replacement}
 use Rattle.kind_text.specs.Expansion.{text as text_at}
-use Rattle.kind_text.specs.Substitution.{Item, judged}
+use Rattle.kind_text.specs.Substitution.{judged}
 use Rattle.tree_kinds.specs.Standing.{Outside, operator_places}
 use Rattle.tree_kinds.specs.Expanding.{Around, Replaced, Written, expand, greatest_level, module_of, places_at, replaced_by, replaced_text, right_sides, written_for}
-use Rattle.tree_kinds.specs.TreeLevels.{LevelFinding, Leveled, TooHigh, declared_level, high_in, high_replacement, high_replacements, is_above, levels, levels_parts, levels_replaced}
+use Rattle.tree_kinds.specs.TreeLevels.{Leveled, TooHigh, declared_level, high_replacement, high_replacements, is_above, levels, levels_parts, levels_replaced}
 use Rattle.flat_trees.specs.Stands.{Matches}
 use Rattle.flat_trees.specs.Names.{order_by, places_by}
 use Rattle.flat_trees.specs.Layouts.{Layout, order_of}

@@ -1,5 +1,5 @@
 -- The questions of updates, and so of EXCEPT, are answered.
-use Rattle.std.proofs.Common.{◌≡◌, ℕ, Bool, true, false, cond, List, [], ◌∷◌, ◌++◌, Option, Some, None, refl, sym, ap, ◌∙◌, subst}
+use Rattle.std.proofs.Common.{◌≡◌, ℕ, Bool, true, false, cond, List, [], ◌∷◌, ◌++◌, Option, None, refl, sym, ap, ◌∙◌, subst}
 use Rattle.std.specs.Prelude.{not, slice_get}
 use Rattle.tla_symbols.specs.declared.lexeme.Span.{Span}
 use Rattle.tla_symbols.specs.declared.level.Kind.{Kind}
@@ -16,7 +16,7 @@ use Rattle.kind_text.specs.Expansion.{text as text_at}
 use Rattle.kind_text.specs.Substitution.{Item, judged}
 use Rattle.tree_kinds.specs.Standing.{Outside}
 use Rattle.tree_kinds.specs.Expanding.{Around, Outer, Helper, Whole, Part, and_operands, expand, in_update, operands, outer_operands, part_of, places_at, stands_outside, updated}
-use Rattle.tree_kinds.specs.TreeLevels.{LevelFinding, at_node, function_text, kind_at, levels, levels_parts, levels_updates}
+use Rattle.tree_kinds.specs.TreeLevels.{LevelFinding, at_node, function_text, levels, levels_parts, levels_updates}
 use Rattle.flat_trees.specs.Stands.{Matches}
 use Rattle.flat_trees.specs.Names.{order_by}
 use Rattle.flat_trees.specs.Layouts.{Agrees, Layout, layout_repeating}
@@ -25,7 +25,7 @@ use Rattle.flattened_trees.specs.Questions.{Question}
 use Rattle.flattened_trees.specs.NodeForms.{plain_node}
 use Rattle.flattened_trees.specs.Flattened.{AreOperands, AreUpdates, IsFlattened, all_parts, asked_at, inside_parts}
 use Rattle.flattened_trees.specs.Readable.{AreReadable, AreUpdatesWritten, EndsWhole, IsReadable}
-use Rattle.flattened_trees.specs.Answers.{items_of, kind_in, level_answers}
+use Rattle.flattened_trees.specs.Answers.{items_of, level_answers}
 use Rattle.flattened_meanings.specs.Faces.{NameModules, NamesModules}
 use Rattle.flattened_meanings.proofs.Fresh.{Fresh, fresh-left, fresh-right, whole-names}
 use Rattle.flattened_meanings.proofs.Rounds.{repeating-known}
@@ -37,7 +37,7 @@ use Rattle.flattened_meanings.proofs.Meant.{each-kept, first-fresh, parts-fresh,
 use Rattle.flattened_levels.specs.Shapes.{AreShaped, IsShaped}
 use Rattle.flattened_levels.specs.Asked.{AreExpressions}
 use Rattle.flattened_levels.proofs.NodeKinds.{Round, kind-same, kinds-append, kinds-in, kinds-in-append, node-places}
-use Rattle.flattened_levels.proofs.AtNode.{answers-append, answers-parted, found-apart, found-nil, node-asked}
+use Rattle.flattened_levels.proofs.AtNode.{answers-append, answers-parted, found-apart, node-asked}
 use Rattle.flattened_levels.proofs.Helpers.{helper-levels, levels-except, levels-next}
 use Rattle.flattened_levels.proofs.Operands.{EachAnswered, IsShapedAs, expressions-append, operands-answered, part-operands}
 use Rattle.flattened_levels.proofs.Alike.{alike-by}
@@ -161,8 +161,8 @@ module _ (flat : FlatModule) (text : Text) (known : Known) (named : List ℕ →
             let nothing = no-nodes parts empty made in
             passed false out nothing.0 nothing.1 Helper e
             (sym (
-              levels-next text known named a o form s parts rest false out
-              ∙ ap (λ xs. xs ++ levels_parts text known named o a rest) (helper-levels text known named a form s parts (helper-part form e).1 shaped.0 ∙ ap (levels_parts text known named a a) empty)
+            levels-next text known named a o form s parts rest false out
+            ∙ ap (λ xs. xs ++ levels_parts text known named o a rest) (helper-levels text known named a form s parts (helper-part form e).1 shaped.0 ∙ ap (levels_parts text known named a a) empty)
             ))
             (sym (ap (λ ps. kinds (operands text known named a a ps)) empty)) (again left)
         by_part Whole e true out left made read shaped new again = both-ways (stands_outside form) (whole-part form e).0 out
