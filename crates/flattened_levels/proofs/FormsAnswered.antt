@@ -18,7 +18,7 @@ use Rattle.flat_trees.specs.Layouts.{Layout, layout_before, layout_in}
 use Rattle.flat_trees.proofs.Agreeing.{before-agrees, scope-agrees}
 use Rattle.flattened_trees.specs.Leads.{FlatFace, Setting}
 use Rattle.flattened_trees.specs.Questions.{Question}
-use Rattle.flattened_trees.specs.NodeForms.{in_order, last_first, plain_node, ruled_node}
+use Rattle.flattened_trees.specs.NodeForms.{rule_order, last_first, plain_node, ruled_node}
 use Rattle.flattened_trees.specs.Flattened.{AreOperands, IsFlattened, all_parts, asked_at, written_node}
 use Rattle.flattened_trees.specs.Readable.{AreReadable, IsReadable}
 use Rattle.flattened_trees.specs.Answers.{have_kinds, items_of, kind_in, level_answers}
@@ -166,6 +166,6 @@ module _ (flat : FlatModule) (text : Text) (known : Known) (named : List ℕ →
         let bound = bound-form form can.0 in
         let answered = scope-answered form s parts made.0 made.1 bound.0 bound.1 each names.1 made.2 can.1 shaped fresh in
         joined form s parts i asked made.1 ordinary same made.4
-        (λ e. alike-by flat setting.frame i text known named around x (ruled_node (form_rule form) (in_order form made.0)) made.0 made.3
-        (ap (have_kinds flat setting.frame) (ruled-parts (form_rule form) (in_order form made.0) can.0) ∙ have-ordered flat setting.frame form made.0) answered.kinds_are)
+        (λ e. alike-by flat setting.frame i text known named around x (ruled_node (form_rule form) (rule_order form made.0)) made.0 made.3
+        (ap (have_kinds flat setting.frame) (ruled-parts (form_rule form) (rule_order form made.0) can.0) ∙ have-ordered flat setting.frame form made.0) answered.kinds_are)
         (scope-found form parts made.1 bound.0 bound.1 answered.found)

@@ -21,7 +21,7 @@ use Rattle.flat_trees.specs.Layouts.{Layout}
 use Rattle.flat_trees.proofs.Reaching.{append-nil}
 use Rattle.flattened_trees.specs.Leads.{FlatFace, Setting}
 use Rattle.flattened_trees.specs.Questions.{Question}
-use Rattle.flattened_trees.specs.NodeForms.{in_order, last_first}
+use Rattle.flattened_trees.specs.NodeForms.{rule_order, last_first}
 use Rattle.flattened_trees.specs.Flattened.{IsFlattened}
 use Rattle.flattened_trees.specs.Readable.{IsReadable}
 use Rattle.flattened_trees.specs.Answers.{have_kinds, items_of, kind_in}
@@ -91,7 +91,7 @@ module _ (flat : FlatModule) (frame : List Meaning) where
   have-last before (i ∷ []) = and-swapped (is_some (kind_in flat frame i)) (have_kinds flat frame before) ∙ sym (have-append before (i ∷ []))
   have-last before (i ∷ (j ∷ is)) = have-last (before ++ (i ∷ [])) (j ∷ is) ∙ ap (have_kinds flat frame) (nodes-apart before (i ∷ []) (j ∷ is))
 
-  pub have-ordered : (form : Form.the_data) (is : List ℕ) → have_kinds flat frame (in_order form is) ≡ have_kinds flat frame is
+  pub have-ordered : (form : Form.the_data) (is : List ℕ) → have_kinds flat frame (rule_order form is) ≡ have_kinds flat frame is
   have-ordered (Form.Fairness l) [] = refl
   have-ordered (Form.Fairness l) (i ∷ []) = refl
   have-ordered (Form.Fairness l) (i ∷ (j ∷ [])) = two (is_some (kind_in flat frame i)) (is_some (kind_in flat frame j))
