@@ -106,7 +106,8 @@ pub fn first_nodes(alloc: Global, flat: &FlatModule) -> Result<Vec<usize>, Alloc
 /// The same where nodes were added: what is known of the others stays. After an error all is as
 /// before.
 pub fn extend_first_nodes(firsts: &mut Vec<usize>, flat: &FlatModule) -> Result<(), AllocError>
-    ensures firsts { OnOk result (GivesFirsts (flat_of flat.now) firsts.old.items firsts.new.items) }
+    ensures firsts { OnOk result (GivesFirsts (flat_of flat.now) firsts.old.items
+        firsts.new.items) }
     ensures kept { OnErr result (firsts.new.items ≡ firsts.old.items) }
 {
     let known = firsts.len();
@@ -121,7 +122,8 @@ pub fn extend_first_nodes(firsts: &mut Vec<usize>, flat: &FlatModule) -> Result<
 
 // Appends the first nodes of further nodes. After an error some may be missing.
 fn add_first_nodes(firsts: &mut Vec<usize>, flat: &FlatModule) -> Result<(), AllocError>
-    ensures firsts { OnOk result (GivesFirsts (flat_of flat.now) firsts.old.items firsts.new.items) }
+    ensures firsts { OnOk result (GivesFirsts (flat_of flat.now) firsts.old.items
+        firsts.new.items) }
     ensures kept { take (length firsts.old.items) firsts.new.items ≡ firsts.old.items }
 {
     for number in firsts.len()..flat.nodes.len() {

@@ -68,8 +68,9 @@ impl KindFacts {
     /// The tables have grown: what was found stays right. After an error it is right for the
     /// tables of before.
     pub fn extend(&mut self, flat: &FlatModule) -> Result<(), AllocError>
-        ensures extended { OnOk result ((before : text.FlatModule) → Extends before (flat_of flat.now)
-            → IsOrdered before → IsFacts before self.old → IsFacts (flat_of flat.now) self.new) }
+        ensures extended { OnOk result ((before : text.FlatModule)
+            → Extends before (flat_of flat.now) → IsOrdered before → IsFacts before self.old
+            → IsFacts (flat_of flat.now) self.new) }
         ensures kept { OnErr result ((before : text.FlatModule) → IsFacts before self.old
             → IsFacts before self.new) }
     {

@@ -32,8 +32,9 @@ impl Depths {
 
     /// The tables have grown: the depths of all nodes now. After an error they are those of before.
     pub fn extend(&mut self, flat: &FlatModule) -> Result<(), AllocError>
-        ensures extended { OnOk result ((before : text.FlatModule) → Extends before (flat_of flat.now)
-            → IsOrdered before → IsDepths before self.old.nodes.items
+        ensures extended { OnOk result ((before : text.FlatModule)
+            → Extends before (flat_of flat.now) → IsOrdered before
+            → IsDepths before self.old.nodes.items
             → IsDepths (flat_of flat.now) self.new.nodes.items) }
         ensures kept { OnErr result (self.new.nodes.items ≡ self.old.nodes.items) }
     {
@@ -68,7 +69,8 @@ impl Depths {
 
 // Appends the depths of further nodes. After an error some may be missing.
 fn add_depths(depths: &mut Vec<u16>, flat: &FlatModule) -> Result<(), AllocError>
-    ensures depths { OnOk result (GivesDepths (flat_of flat.now) depths.old.items depths.new.items) }
+    ensures depths { OnOk result (GivesDepths (flat_of flat.now) depths.old.items
+        depths.new.items) }
     ensures kept { take (length depths.old.items) depths.new.items ≡ depths.old.items }
 {
     for number in depths.len()..flat.nodes.len() {
