@@ -41,7 +41,7 @@ use Rattle.flattened_meanings.proofs.Replacing.{replaced-all, rights-found}
 -- ---- symbols that stay
 
 module _ (flat : FlatModule) where
-  staying-many : (place count : ℕ) (staying : List Replacement) → AreStaying flat place count staying → length staying ≡ count
+  pub staying-many : (place count : ℕ) (staying : List Replacement) → AreStaying flat place count staying → length staying ≡ count
   staying-many place zero [] all = refl
   staying-many place zero (r ∷ staying) all = absurd all
   staying-many place (suc count) [] all = absurd all
@@ -64,7 +64,7 @@ module _ (flat : FlatModule) where
       let e : suc place + i ≡ place + suc i = omega arith in
       (found.0, found.1, subst (λ p. slice_get flat.nodes found.0.root ≡ Some (plain_node (NodeForm.Parameter p) [])) e found.2)
 
-  staying-stays : (ordered : IsOrdered flat) (outer : ℕ) (staying : List Replacement) (base here : Stand) → AreStaying flat 0 outer staying → StandsAs outer base here → StaysIn flat staying base here
+  pub staying-stays : (ordered : IsOrdered flat) (outer : ℕ) (staying : List Replacement) (base here : Stand) → AreStaying flat 0 outer staying → StandsAs outer base here → StaysIn flat staying base here
   staying-stays ordered outer staying Unsaid here all stands = tt
   staying-stays ordered outer staying (Leaf kind) here all stands = stands
   staying-stays ordered outer staying (Place place order) here all (l, same) =

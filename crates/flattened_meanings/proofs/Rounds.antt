@@ -164,7 +164,7 @@ module _ (text : Text) where
   stands-in (x ∷ rest) stands stand m (inr one) = stands-in rest (with_stand stands (meant text x) stand) stand m one
 
 -- where each meaning leads is by what it stands for
-abbrev LeadsBy : (Meaning → Stand) → Leads → Type 0
+abbrev pub LeadsBy : (Meaning → Stand) → Leads → Type 0
 LeadsBy stands leads = (m : Meaning) (names : List Named) → leads m names ≡ lead_by (stands m) names
 
 lead-with : (stands : Meaning → Stand) (leads : Leads) (meaning : Meaning) (stand : Stand) (lead : List Named → Lead) → LeadsBy stands leads → ((names : List Named) → lead names ≡ lead_by stand names) → LeadsBy (with_stand stands meaning stand) (with_lead leads meaning lead)
