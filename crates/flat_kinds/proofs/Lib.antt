@@ -1,8 +1,8 @@
 mod Units
 mod Nested
 mod Leaving
-mod Modules
-mod Symbols
+pub mod Modules
+pub mod Symbols
 mod Growing
 mod Declarations
 mod Distinct

@@ -135,7 +135,7 @@ symbols-at-less base (meaning ∷ rest) place distinct nothing other =
     by_sameness others false same false means = others
 
 -- symbols of its own at places, before those round it
-own-symbols : (base : Meaning → Stand) (symbols : List Meaning) (place : ℕ) (other : Meaning) → with_own base (symbols_at (λ (meaning : Meaning). Unsaid) symbols place) other ≡ symbols_at base symbols place other
+pub own-symbols : (base : Meaning → Stand) (symbols : List Meaning) (place : ℕ) (other : Meaning) → with_own base (symbols_at (λ (meaning : Meaning). Unsaid) symbols place) other ≡ symbols_at base symbols place other
 own-symbols base [] place other = refl
 own-symbols base (meaning ∷ rest) place other = by_sameness (same_symbol other meaning) (own-symbols base rest (suc place) other)
   where

@@ -1,0 +1,9 @@
+mod Leads
+mod Contexts
+mod Units
+mod Bringing
+mod Extending
+mod Beginning
+mod Nesting
+mod Entering
+mod Modules

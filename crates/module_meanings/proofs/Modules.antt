@@ -1,0 +1,281 @@
+-- Modules, unit by unit.
+use Rattle.std.proofs.Common.{◌≡◌, ℕ, false, List, [], ◌∷◌, ◌++◌, Option, map, refl, sym, ap, ◌∙◌, subst, length, ◌+◌, arith}
+use Rattle.std.specs.Prelude.{is_some}
+use Rattle.tla_symbols.specs.declared.lexeme.Lexeme.{Lexeme}
+use Rattle.tla_tree.specs.declared.form.Form.TheVariants as Form
+use Rattle.tla_tree.specs.Syntax.{Tree, Node}
+use Rattle.unit_grammar.specs.Units.{UnitTree, Variables, Constants, OperatorDefinition, FunctionDefinition, ModuleDefinition, Instance, Assumption, Theorem, Line, ModuleBegin, ModuleEnd, ModuleUnits}
+use Rattle.tla_model.specs.declared.entity.Entity.TheVariants as entity
+use Rattle.tla_model.specs.declared.names.Meaning.TheVariants.{BuiltIn, Declared}
+use Rattle.tla_model.specs.Contexts.{Context}
+use Rattle.tla_model.specs.Entities.{Entity, Meaning, Text, all_placed, meant, variables}
+use Rattle.tla_model.specs.Scopes.{definition}
+use Rattle.module_model.specs.Exports.{Known, exports_of}
+use Rattle.module_model.specs.Modules.{Reading, constants, left, text_of}
+use Rattle.module_model.specs.Resolution.{instance_brings, words_of}
+use Rattle.kind_text.specs.FlatModule.{FlatModule, IsOrdered}
+use Rattle.tree_kinds.specs.Standing.{Outside}
+use Rattle.module_kinds.specs.ModuleKinds.{KindState, after, first, known_at, last, read_all, views}
+use Rattle.flat_trees.specs.Layouts.{Layout, StandsBefore}
+use Rattle.flat_kinds.specs.Readings.{layout_after}
+use Rattle.flat_kinds.specs.Modules.{AreRead, Begins, Coming, Current, Ends, Stands, IsRead, KeepsAll, first_current, here_behind, module_stands, round_behind}
+use Rattle.flat_kinds.proofs.Modules.{module-begins, module-read, unit-all}
+use Rattle.flat_kinds.proofs.Symbols.{places-before}
+use Rattle.flattened_trees.specs.Agreeing.{unsaid_stand}
+use Rattle.flattened_trees.specs.Leads.{FlatFace, Setting}
+use Rattle.flattened_trees.specs.Questions.{Question}
+use Rattle.flattened_units.specs.Units.{AreUnitsMade, IsBegun, IsDefinitionMade, IsEnded, IsInstanceMade, IsModuleMade, IsUnitMade, Reader, meanings_of}
+use Rattle.module_meanings.specs.Following.{Follows, IsBuiltSo, IsFollowed, IsMeantSo, IsPlain, LeadsBy}
+use Rattle.module_meanings.specs.Premises.{AreAllTold, AreTold, AreUnitsGiven, IsBegunGiven, IsModuleGiven, IsUnitGiven, StandAsBefore, first_seen, round_of, seen_behind, symbol_leads}
+use Rattle.module_meanings.proofs.Beginning.{begun-so, first-follows, first-reader, symbol-stands}
+use Rattle.module_meanings.proofs.Bringing.{declared-follows, instance-follows, still-follows}
+use Rattle.module_meanings.proofs.Entering.{Holds, all-extended, begun-read, round-holds, within-holds}
+use Rattle.module_meanings.proofs.Extending.{symbols-alike, unsaid-alike}
+use Rattle.module_meanings.proofs.Leads.{exported-lead, none-leads, symbols-lead}
+use Rattle.module_meanings.proofs.Nesting.{HoldsAt, HoldsRound, own-at, round-more, round-stays, told-round}
+use Rattle.module_meanings.proofs.Units.{constants-symbolic, definition-follows, variables-symbolic}
+
+module _ (flat : FlatModule) (ordered : IsOrdered flat) (text : Text) (means : ℕ → Option Meaning) (implied : ℕ → List Meaning) (files : List ℕ → FlatFace) (outsides : List ℕ → Outside) (words : List ℕ) where
+  module _ (state : KindState) (reader : Reader) (seen : List Meaning) (layout : Layout) (follows : Follows state reader seen layout) (told : AreTold state.read.known state.read.place.here.context) where
+    -- what is known behind a unit where names stand as before
+    abbrev StillFollows : UnitTree → Reader → Type 0
+    StillFollows unit r = Follows (after text outsides words state unit) r (seen_behind text outsides words state unit r seen) (layout_after text outsides words state layout unit layout.stands)
+
+    pub unit-follows : (unit : UnitTree) (next : Reader) (asked : List Question) → IsPlain unit → IsUnitMade flat text means implied files outsides words state reader unit next asked → IsUnitGiven flat text means implied files outsides words state reader seen unit next → IsFollowed flat text outsides words state layout unit next seen
+    unit-follows (OperatorDefinition local (Node form s parts)) next asked plain made given =
+        definition-follows flat text means implied files outsides words seen form s parts state reader (OperatorDefinition local (Node form s parts)) layout follows told given.given ordered (is_some local) next asked refl refl made given.readable
+    unit-follows (FunctionDefinition local (Node form s parts)) next asked plain made given =
+        definition-follows flat text means implied files outsides words seen form s parts state reader (FunctionDefinition local (Node form s parts)) layout follows told given.given ordered (is_some local) next asked refl refl made given.readable
+    unit-follows (ModuleDefinition local (Node form s parts)) next asked plain made given =
+        definition-follows flat text means implied files outsides words seen form s parts state reader (ModuleDefinition local (Node form s parts)) layout follows told given.given ordered (is_some local) next asked refl refl made given.readable
+    unit-follows (Instance local x) next asked plain made given =
+        instance-follows flat text means implied files outsides words seen state reader layout follows told ordered local x next asked made given
+    unit-follows (Variables names) next asked plain made given = (
+      layout.stands,
+      refl,
+      subst (StillFollows (Variables names)) (sym made.0)
+          (declared-follows flat text means implied files outsides words seen state reader layout follows told (Variables names) false (variables names) (variables-symbolic text names) given refl refl),
+    )
+    unit-follows (Constants declarations) next asked plain made given = (
+      layout.stands,
+      refl,
+      subst (StillFollows (Constants declarations)) (sym made.0)
+          (declared-follows flat text means implied files outsides words seen state reader layout follows told (Constants declarations) false (constants declarations) (constants-symbolic text (all_placed declarations)) given refl refl),
+    )
+    unit-follows (Assumption word name x) next asked plain (i, a, is, same, asks) given = (
+      layout.stands,
+      refl,
+      subst (StillFollows (Assumption word name x)) (sym same)
+          (still-follows flat text means implied files outsides words seen state reader layout follows told (Assumption word name x) refl refl),
+    )
+    unit-follows (Theorem word name x) next asked plain (i, a, is, same, asks) given = (
+      layout.stands,
+      refl,
+      subst (StillFollows (Theorem word name x)) (sym same)
+          (still-follows flat text means implied files outsides words seen state reader layout follows told (Theorem word name x) refl refl),
+    )
+    unit-follows (Line dashes) next asked plain made given = (
+      layout.stands,
+      refl,
+      subst (StillFollows (Line dashes)) (sym made.0)
+          (still-follows flat text means implied files outsides words seen state reader layout follows told (Line dashes) refl refl),
+    )
+    unit-follows (ModuleBegin dashes name extends) next asked plain made given = absurd plain
+    unit-follows (ModuleEnd closing) next asked plain made given = absurd plain
+
+  -- what comes of a unit at a state, with the modules round it, and what is known behind it
+  pub record Steps (state : KindState) (reader : Reader) (seen : List Meaning) (here : Current) (outers : List Current) (unit : UnitTree) (next : Reader) : Type 0 where
+    pub coming : Coming
+    pub read : IsRead text outsides words flat state here outers unit coming
+    pub holds :
+        Holds flat ordered text means implied files outsides words (after text outsides words state unit) next (seen_behind text outsides words state unit next seen)
+        (here_behind text outsides words state here outers unit coming) (round_behind text outsides words here outers coming)
+
+  module _ (state : KindState) (reader : Reader) (seen : List Meaning) (here : Current) (outers : List Current) (holds : Holds flat ordered text means implied files outsides words state reader seen here outers) (told : AreAllTold state) where
+    -- a unit that begins and ends no nested module
+    plain-steps : (unit : UnitTree) (next : Reader) → IsFollowed flat text outsides words state here.layout unit next seen → (next.round ≡ reader.round) × (next.setting.frame ≡ reader.setting.frame) → (after text outsides words state unit).read.place.round ≡ state.read.place.round → HoldsRound (after text outsides words state unit).read.known state.read.place.round reader.round outers (seen_behind text outsides words state unit next seen) → StandAsBefore flat text means implied files outsides words state unit reader.round → Steps state reader seen here outers unit next
+    plain-steps unit next (stands, read, follows) (round, frame) same round_holds stays =
+        let is-read : IsRead text outsides words flat state here outers unit (Stands stands) =
+        (read, round-stays flat text means implied files outsides words state unit state.read.known state.read.place.round reader.round outers seen holds.round holds.keeps.round stays) in
+        let then = after text outsides words state unit in
+        let names = seen_behind text outsides words state unit next seen in
+        record {
+          coming = Stands stands;
+          read = is-read;
+          holds = record {
+            here = record {
+              follows = follows;
+              leads = subst (λ (settings : List Setting). LeadsBy here.symbols (symbol_leads settings next.setting.frame)) (sym round)
+                  (subst (λ (symbols : List Meaning). LeadsBy here.symbols (symbol_leads reader.round symbols)) (sym frame) holds.here.leads);
+              alike = holds.here.alike;
+              before = holds.here.before;
+            };
+            round = subst (λ readings. HoldsRound then.read.known readings next.round outers names) (sym same)
+                (subst (λ (settings : List Setting). HoldsRound then.read.known state.read.place.round settings outers names) (sym round) round_holds);
+            keeps = unit-all flat text outsides words state here outers unit (Stands stands) holds.keeps is-read;
+          };
+        }
+
+    definition-same : (x : Tree) (next : Reader) (asked : List Question) → IsDefinitionMade flat text means implied files outsides words reader x next asked → (next.round ≡ reader.round) × (next.setting.frame ≡ reader.setting.frame)
+    definition-same x next asked (lead, roots, made, is) = (ap (λ (r : Reader). r.round) is, ap (λ (r : Reader). r.setting.frame) is)
+
+    reader-same : (next : Reader) → next ≡ reader → (next.round ≡ reader.round) × (next.setting.frame ≡ reader.setting.frame)
+    reader-same next is = (ap (λ (r : Reader). r.round) is, ap (λ (r : Reader). r.setting.frame) is)
+
+    instance-same : (x : Tree) (next : Reader) (asked : List Question) → IsInstanceMade flat text means implied files outsides words state reader x next asked → (next.round ≡ reader.round) × (next.setting.frame ≡ reader.setting.frame)
+    instance-same (Node (Form.Instance l) s rights) next asked (written, roots, j, a, b, are, made, is, asks) = (ap (λ (r : Reader). r.round) is, ap (λ (r : Reader). r.setting.frame) is)
+    instance-same (Node form s parts) next asked made = reader-same next made.0
+
+    -- a nested module ends
+    ended-steps : (closing : Lexeme) (next : Reader) (readings : List Reading) (settings : List Setting) (outs : List Current) → state.read.place.round ≡ readings → HoldsRound state.read.known readings settings outs seen → KeepsAll flat state here outs → IsEnded flat text means implied files outsides words state readings reader settings next → Steps state reader seen here outs (ModuleEnd closing) next
+    ended-steps closing next [] settings outs e round keeps made = absurd made
+    ended-steps closing next (reading ∷ readings) [] outs e round keeps made = absurd made
+    ended-steps closing next (reading ∷ readings) (setting ∷ settings) [] e round keeps made = absurd round
+    ended-steps closing next (reading ∷ readings) (setting ∷ settings) (outer ∷ outs) e round keeps (symbols, is) =
+        let known = state.read.known in
+        let context = ap (λ (rs : List Reading). (left known state.read.place.here rs).here.context) e in
+        let rest = ap (λ (rs : List Reading). (left known state.read.place.here rs).round) e in
+        record {
+          coming = Ends;
+          read = tt;
+          holds = record {
+            here = subst (λ (r : Reader). HoldsAt known (left known state.read.place.here state.read.place.round).here.context (symbol_leads r.round r.setting.frame) r.setting seen outer) (sym is)
+                (subst (λ (c : Context). HoldsAt known c (symbol_leads settings setting.frame) setting seen outer) (sym context) round.0);
+            round = subst (λ (r : Reader). HoldsRound known (left known state.read.place.here state.read.place.round).round r.round outs seen) (sym is)
+                (subst (λ (rs : List Reading). HoldsRound known rs settings outs seen) (sym rest) round.1);
+            keeps = unit-all flat text outsides words state here (outer ∷ outs) (ModuleEnd closing) Ends keeps tt;
+          };
+        }
+
+    -- a nested module begins
+    begun-steps : (dashes name : Lexeme) (extends : List Lexeme) (next : Reader) → StandAsBefore flat text means implied files outsides words state (ModuleBegin dashes name extends) (reader.setting ∷ reader.round) → ((own : List Meaning) → next.setting.frame ≡ reader.setting.frame ++ own → IsBegunGiven flat text means implied files outsides words state reader own dashes name extends) → IsBegun flat text means implied files outsides words state reader name extends next → Steps state reader seen here outers (ModuleBegin dashes name extends) next
+    begun-steps dashes name extends next stays given (own, leads, (made, is)) =
+        let unit : UnitTree = ModuleBegin dashes name extends in
+        let given-own = given own (ap (λ (r : Reader). r.setting.frame) is) in
+        let all = all-extended flat ordered text means implied files outsides words state reader seen here outers holds told dashes name extends stays own given-own leads made in
+        let come : Coming = Begins (own-at own here.layout.places) (length own) all.extensions in
+        let read = begun-read flat ordered text means implied files outsides words state reader seen here outers holds told dashes name extends stays own given-own next leads all is in
+        let within = within-holds flat ordered text means implied files outsides words state reader seen here outers holds told dashes name extends stays own given-own next leads all is in
+        let round = round-holds flat ordered text means implied files outsides words state reader seen here outers holds told dashes name extends stays own given-own next leads all is in
+        let holds-within : Holds flat ordered text means implied files outsides words (after text outsides words state unit) _ _ (here_behind text outsides words state here outers unit come) (round_behind text outsides words here outers come) =
+        record { here = within; round = round; keeps = unit-all flat text outsides words state here outers unit come holds.keeps read } in
+        record {
+          coming = come;
+          read = read;
+          holds = subst (λ (r : Reader). Holds flat ordered text means implied files outsides words (after text outsides words state unit) r (seen_behind text outsides words state unit r seen) (here_behind text outsides words state here outers unit come) (round_behind text outsides words here outers come)) (sym is) holds-within;
+        }
+
+    pub unit-steps : (unit : UnitTree) (next : Reader) (asked : List Question) → IsUnitMade flat text means implied files outsides words state reader unit next asked → IsUnitGiven flat text means implied files outsides words state reader seen unit next → StandAsBefore flat text means implied files outsides words state unit (round_of flat text means implied files outsides words unit reader) → Steps state reader seen here outers unit next
+    unit-steps (OperatorDefinition local x) next asked made given stays =
+        plain-steps (OperatorDefinition local x) next (unit-follows state reader seen here.layout holds.here.follows told.0 (OperatorDefinition local x) next asked tt made given) (definition-same x next asked made) refl
+        (round-more state.read.known _ seen (map (meant text) (definition x)) state.read.place.round reader.round outers told.1 holds.round) stays
+    unit-steps (FunctionDefinition local x) next asked made given stays =
+        plain-steps (FunctionDefinition local x) next (unit-follows state reader seen here.layout holds.here.follows told.0 (FunctionDefinition local x) next asked tt made given) (definition-same x next asked made) refl
+        (round-more state.read.known _ seen (map (meant text) (definition x)) state.read.place.round reader.round outers told.1 holds.round) stays
+    unit-steps (ModuleDefinition local x) next asked made given stays =
+        plain-steps (ModuleDefinition local x) next (unit-follows state reader seen here.layout holds.here.follows told.0 (ModuleDefinition local x) next asked tt made given) (definition-same x next asked made) refl
+        (round-more state.read.known _ seen (map (meant text) (definition x)) state.read.place.round reader.round outers told.1 holds.round) stays
+    unit-steps (Instance local x) next asked made given stays =
+        plain-steps (Instance local x) next (unit-follows state reader seen here.layout holds.here.follows told.0 (Instance local x) next asked tt made given) (instance-same x next asked made) refl
+        (round-more (known_at text outsides words state (Instance local x)) _ seen (meanings_of (instance_brings text (views text outsides words) words state.read x)) state.read.place.round reader.round outers (told-round state.read.known _ state.read.place.round told.1)
+        (round-more state.read.known _ seen [] state.read.place.round reader.round outers told.1 holds.round)) stays
+    unit-steps (Variables names) next asked made given stays =
+        plain-steps (Variables names) next (unit-follows state reader seen here.layout holds.here.follows told.0 (Variables names) next asked tt made given) (reader-same next made.0) refl
+        (round-more state.read.known _ seen (map (meant text) (variables names)) state.read.place.round reader.round outers told.1 holds.round) stays
+    unit-steps (Constants declarations) next asked made given stays =
+        plain-steps (Constants declarations) next (unit-follows state reader seen here.layout holds.here.follows told.0 (Constants declarations) next asked tt made given) (reader-same next made.0) refl
+        (round-more state.read.known _ seen (map (meant text) (constants declarations)) state.read.place.round reader.round outers told.1 holds.round) stays
+    unit-steps (Assumption word name x) next asked made given stays =
+        plain-steps (Assumption word name x) next (unit-follows state reader seen here.layout holds.here.follows told.0 (Assumption word name x) next asked tt made given) (reader-same next made.3) refl
+        (round-more state.read.known _ seen [] state.read.place.round reader.round outers told.1 holds.round) stays
+    unit-steps (Theorem word name x) next asked made given stays =
+        plain-steps (Theorem word name x) next (unit-follows state reader seen here.layout holds.here.follows told.0 (Theorem word name x) next asked tt made given) (reader-same next made.3) refl
+        (round-more state.read.known _ seen [] state.read.place.round reader.round outers told.1 holds.round) stays
+    unit-steps (Line dashes) next asked made given stays =
+        plain-steps (Line dashes) next (unit-follows state reader seen here.layout holds.here.follows told.0 (Line dashes) next asked tt made given) (reader-same next made.0) refl
+        (round-more state.read.known _ seen [] state.read.place.round reader.round outers told.1 holds.round) stays
+    unit-steps (ModuleBegin dashes name extends) next asked made given stays = begun-steps dashes name extends next stays given made.0
+    unit-steps (ModuleEnd closing) next asked made given stays = ended-steps closing next state.read.place.round reader.round outers refl holds.round holds.keeps made.0
+
+  -- what comes of units, up to a module behind these, with no other round it
+  pub record AreFollowed (state : KindState) (units : List UnitTree) (here : Current) (outers : List Current) (next : Reader) : Type 0 where
+    pub comings : List Coming
+    pub behind : Current
+    pub seen : List Meaning
+    pub read : AreRead text outsides words flat state units comings here outers behind
+    pub follows : Follows (read_all text outsides words state units) next seen behind.layout
+
+  none-round : (known : Known) (readings : List Reading) (settings : List Setting) (outers : List Current) (seen : List Meaning) (here : Current) (state : KindState) → settings ≡ [] → HoldsRound known readings settings outers seen → AreRead text outsides words flat state [] [] here outers here
+  none-round known readings [] [] seen here state e holds = refl
+  none-round known readings (setting ∷ settings) outers seen here state e holds = cc e
+  none-round known [] [] (outer ∷ outers) seen here state e holds = absurd holds
+  none-round known (reading ∷ readings) [] (outer ∷ outers) seen here state e holds = absurd holds
+
+  pub units-follow : (units : List UnitTree) (state : KindState) (reader : Reader) (seen : List Meaning) (here : Current) (outers : List Current) (next : Reader) (asked : List Question) (made : AreUnitsMade flat text means implied files outsides words state reader units next asked) → AreUnitsGiven flat text means implied files outsides words state reader seen units next asked made → next.round ≡ [] → Holds flat ordered text means implied files outsides words state reader seen here outers → AreFollowed state units here outers next
+  units-follow [] state reader seen here outers next asked made given ends holds =
+      record {
+        comings = [];
+        behind = here;
+        seen = seen;
+        read = none-round state.read.known state.read.place.round reader.round outers seen here state (sym (ap (λ (r : Reader). r.round) made.0) ∙ ends) holds.round;
+        follows = subst (λ (r : Reader). Follows state r seen here.layout) (sym made.0) holds.here.follows;
+      }
+  units-follow (unit ∷ units) state reader seen here outers next asked made given ends holds =
+      let one = unit-steps state reader seen here outers holds given.0 unit made.0 made.1 made.3 given.2 given.1 in
+      let others =
+      units-follow units (after text outsides words state unit) made.0 (seen_behind text outsides words state unit made.0 seen) (here_behind text outsides words state here outers unit one.coming) (round_behind text outsides words here outers one.coming) next made.2 made.4 given.3 ends one.holds in
+      record {
+        comings = one.coming ∷ others.comings;
+        behind = others.behind;
+        seen = others.seen;
+        read = (one.read, others.read);
+        follows = others.follows;
+      }
+
+-- ---- modules
+
+unsaid-before : (m : Meaning) → StandsBefore 0 (unsaid_stand m)
+unsaid-before BuiltIn = tt
+unsaid-before (Declared (entity.Bound state) x) = tt
+unsaid-before (Declared e x) = by_entity e
+  where
+    by_entity : (f : Entity) → StandsBefore 0 (unsaid_stand (Declared f x))
+    by_entity (entity.Bound state) = tt
+    by_entity f = tt
+
+module _ (flat : FlatModule) (ordered : IsOrdered flat) (means : ℕ → Option Meaning) (implied : ℕ → List Meaning) (files : List ℕ → FlatFace) (outsides : List ℕ → Outside) (source : List ℕ) (units : ModuleUnits) (symbols : List Meaning) where
+  pub module-meant : (final : Reader) (asked : List Question) (made : IsModuleMade flat means implied files outsides source units symbols final asked) → IsModuleGiven flat means implied files outsides source units symbols final asked made → IsBuiltSo flat outsides source units symbols final
+  module-meant final asked (leads, extended, made) given =
+      let begun = begun-so flat ordered means implied files outsides source units symbols leads extended given.extended in
+      let stands = symbol-stands flat ordered means implied files outsides source units symbols in
+      let here = first_current outsides source units stands (length symbols) begun.extensions in
+      let follows = first-follows flat ordered means implied files outsides source units symbols leads begun given.extended in
+      let extended-here = begun.are here.layout refl in
+      let holds : Holds flat ordered (text_of source units) means implied files outsides (words_of units) (first outsides source units) (first-reader flat ordered means implied files outsides source units symbols leads) (first_seen flat means implied files outsides source units symbols) here [] =
+      record {
+        here = record {
+          follows = follows;
+          leads = symbols-lead unsaid_stand _ symbols 0 none-leads;
+          alike = symbols-alike unsaid_stand symbols 0 unsaid-alike;
+          before = λ m. let e : 0 + length symbols ≡ length symbols = omega arith in subst (λ n. StandsBefore n (stands m)) e (places-before unsaid_stand symbols 0 m (unsaid-before m));
+        };
+        round = tt;
+        keeps = module-begins flat outsides source units stands (length symbols) begun.extensions extended-here;
+      } in
+      let all =
+      units-follow flat ordered (text_of source units) means implied files outsides (words_of units) units.units (first outsides source units) (first-reader flat ordered means implied files outsides source units symbols leads) (first_seen flat means implied files outsides source units symbols) here [] final asked made given.given given.ends holds in
+      record {
+        extensions = begun.extensions;
+        comings = all.comings;
+        behind = all.behind;
+        built = record { extended = extended-here; read = all.read };
+        leads = λ name names. exported-lead all.behind.layout.stands final.setting.leads (exports_of (last outsides source units).read.place.here.exports) name names all.follows.settings.leads;
+      }
+
+  pub module-means : (final : Reader) → IsBuiltSo flat outsides source units symbols final → IsMeantSo flat outsides source units symbols final
+  module-means final built =
+      record {
+        inner = module_stands outsides source units built.behind.layout;
+        kept = module-read flat outsides source units (symbol-stands flat ordered means implied files outsides source units symbols) (length symbols) built.extensions built.comings built.behind built.built;
+        leads = built.leads;
+      }

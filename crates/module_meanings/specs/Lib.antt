@@ -1,0 +1,3 @@
+pub mod Faces
+pub mod Premises
+pub mod Following

@@ -1,0 +1,109 @@
+//! That a flat module whose nodes are what the units of a module write means the module.
+//!
+//! No code: each function states a law that proofs above cite. Knows nothing of how nodes are
+//! built.
+#![tactic(auto)]
+
+ghost use Rattle.std.specs.Prelude.{◌≡◌, ℕ, List, ◌∷◌, Option, length};
+ghost use Rattle.std.specs.List.{AllByRecursion};
+ghost use Rattle.tla_symbols.specs.declared.lexeme.Lexeme.{Lexeme};
+ghost use Rattle.unit_grammar.specs.Units.{ModuleUnits, UnitTree};
+ghost use Rattle.tla_model.specs.Contexts.{Context};
+ghost use Rattle.tla_model.specs.Entities.{Meaning, Text};
+ghost use Rattle.tla_model.specs.Lexemes.{spelled};
+ghost use Rattle.tla_model.specs.Tables.{Named};
+ghost use Rattle.module_scope.specs.Environments.{Scope};
+ghost use Rattle.module_model.specs.Exports.{Exports, Known};
+ghost use Rattle.kind_text.specs.FlatModule.{FlatModule, IsOrdered};
+ghost use Rattle.tree_kinds.specs.Standing.{Outside};
+ghost use Rattle.module_kinds.specs.ModuleKinds.{KindState, named_in};
+ghost use Rattle.flat_trees.specs.Stands.{Stand};
+ghost use Rattle.flat_trees.specs.Layouts.{Layout, with_brought as with_brought_stands};
+ghost use Rattle.flat_kinds.specs.Readings.{exported_stand, extended_entries};
+ghost use Rattle.flat_kinds.specs.Symbols.{symbols_at};
+ghost use Rattle.flattened_trees.specs.Agreeing.{lead_by, unsaid_stand};
+ghost use Rattle.flattened_trees.specs.Leads.{FlatFace, Leads, Setting};
+ghost use Rattle.flattened_trees.specs.Questions.{Question};
+ghost use Rattle.flattened_units.specs.Units.{AreExtended, IsModuleMade, IsUnitMade, Reader};
+ghost use Rattle.flattened_units.specs.Units.{exported_leads, face_in, no_leads, with_brought};
+ghost use Rattle.flattened_units.specs.Units.{with_symbols};
+ghost use Rattle.module_meanings.specs.Faces.{IsExtendedBy};
+ghost use Rattle.module_meanings.specs.Following.{AreAlike, AreExtendedSo, Follows, IsBuiltSo};
+ghost use Rattle.module_meanings.specs.Following.{IsFollowed, IsMeantSo, IsPlain, LeadsBy};
+ghost use Rattle.module_meanings.specs.Premises.{AllCome, AreTold, IsModuleGiven, IsUnitGiven};
+
+/// Names lead where they stand: with symbols at places, from the first names of a module on; with
+/// what comes through an instance without a name; and outside of a module, by what it exports.
+pub fn leads_are_kept()
+    ensures first { (symbols : List Meaning)
+        → LeadsBy (symbols_at unsaid_stand symbols 0) (with_symbols no_leads symbols 0) }
+    ensures symbols { (stands : Meaning → Stand) (leads : Leads) (symbols : List Meaning)
+        (place : ℕ) → LeadsBy stands leads
+        → LeadsBy (symbols_at stands symbols place) (with_symbols leads symbols place) }
+    ensures brought { (stands : Meaning → Stand) (leads : Leads) (entries : Exports) (j : ℕ)
+        (face : FlatFace) (inner : Named → Stand) → LeadsBy stands leads
+        → ((name : Named) (names : List Named)
+        → face.leads (name ∷ names) ≡ lead_by (inner name) names)
+        → LeadsBy (with_brought_stands stands entries j inner)
+        (with_brought leads entries j face) }
+    ensures exported { (stands : Meaning → Stand) (leads : Leads) (entries : Exports)
+        (name : Named) (names : List Named) → LeadsBy stands leads
+        → exported_leads leads entries (name ∷ names)
+        ≡ lead_by (exported_stand stands entries name) names }
+{}
+
+/// Modules that are extended come as a flat module has them: each through an instance that lets its
+/// symbols stand as they do here. Names lead behind them where they stand; they take what they do in
+/// these modules; and nothing more is said of names that none of them exports.
+pub fn extended_modules_are_read()
+    ensures { (flat : FlatModule) (text : Text) (means : ℕ → Option Meaning)
+        (implied : ℕ → List Meaning) (files : List ℕ → FlatFace) (outsides : List ℕ → Outside)
+        (words : List ℕ) (known : Known) (context : Context) (modules : Scope Outside)
+        (faces : Scope FlatFace) (setting : Setting) (symbols : Leads) (here : Meaning → Stand)
+        (names : List Lexeme) (stands : Meaning → Stand) (leads next : Leads)
+        → IsOrdered flat → LeadsBy here symbols → AreAlike here → LeadsBy stands leads
+        → AllByRecursion (λ l. IsExtendedBy flat setting.leads symbols
+        (face_in flat text means implied files outsides words faces (spelled text.source l))
+        (named_in text outsides words modules (spelled text.source l))
+        × AllCome known context (named_in text outsides words modules (spelled text.source l)).view
+        (extended_entries text outsides words modules l)) names
+        → AreExtended flat text means implied files outsides words modules faces setting leads names
+        next
+        → AreExtendedSo flat text outsides words known context modules (length setting.frame) here
+        names stands next }
+{}
+
+/// What is written of a unit that begins and ends no nested module is what comes of it: a name of a
+/// definition stands for what this gives, an INSTANCE without a name brings what stands behind it,
+/// and claims leave all as it is. And the reader behind the unit has what a layout leads to.
+pub fn units_are_read()
+    ensures { (flat : FlatModule) (text : Text) (means : ℕ → Option Meaning)
+        (implied : ℕ → List Meaning) (files : List ℕ → FlatFace) (outsides : List ℕ → Outside)
+        (words : List ℕ) (state : KindState) (reader : Reader) (seen : List Meaning)
+        (layout : Layout) (unit : UnitTree) (next : Reader) (asked : List Question)
+        → IsOrdered flat → Follows state reader seen layout
+        → AreTold state.read.known state.read.place.here.context → IsPlain unit
+        → IsUnitMade flat text means implied files outsides words state reader unit next asked
+        → IsUnitGiven flat text means implied files outsides words state reader seen unit next
+        → IsFollowed flat text outsides words state layout unit next seen }
+{}
+
+/// Where nodes of a flat module are what the units of a module write, with the modules that are
+/// nested in it, the flat module is built along the module, and so it means the module: over its
+/// symbols names stand for what the module exports, and these lead so outside of it.
+pub fn modules_are_meant()
+    ensures built { (flat : FlatModule) (means : ℕ → Option Meaning) (implied : ℕ → List Meaning)
+        (files : List ℕ → FlatFace) (outsides : List ℕ → Outside) (source : List ℕ)
+        (units : ModuleUnits) (symbols : List Meaning) (last : Reader) (asked : List Question)
+        (made : IsModuleMade flat means implied files outsides source units symbols last asked)
+        → IsOrdered flat
+        → IsModuleGiven flat means implied files outsides source units symbols last asked made
+        → IsBuiltSo flat outsides source units symbols last }
+    ensures means { (flat : FlatModule) (means : ℕ → Option Meaning) (implied : ℕ → List Meaning)
+        (files : List ℕ → FlatFace) (outsides : List ℕ → Outside) (source : List ℕ)
+        (units : ModuleUnits) (symbols : List Meaning) (last : Reader) (asked : List Question)
+        (made : IsModuleMade flat means implied files outsides source units symbols last asked)
+        → IsOrdered flat
+        → IsModuleGiven flat means implied files outsides source units symbols last asked made
+        → IsMeantSo flat outsides source units symbols last }
+{}
