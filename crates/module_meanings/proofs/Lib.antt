@@ -7,3 +7,4 @@ mod Beginning
 mod Nesting
 mod Entering
 mod Modules
+mod Meant

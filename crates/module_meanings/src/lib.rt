@@ -4,7 +4,7 @@
 //! built.
 #![tactic(auto)]
 
-ghost use Rattle.std.specs.Prelude.{◌≡◌, ℕ, List, ◌∷◌, Option, length};
+ghost use Rattle.std.specs.Prelude.{◌≡◌, ℕ, List, [], ◌∷◌, Option, Some, length};
 ghost use Rattle.std.specs.List.{AllByRecursion};
 ghost use Rattle.tla_symbols.specs.declared.lexeme.Lexeme.{Lexeme};
 ghost use Rattle.unit_grammar.specs.Units.{ModuleUnits, UnitTree};
@@ -13,24 +13,27 @@ ghost use Rattle.tla_model.specs.Entities.{Meaning, Text};
 ghost use Rattle.tla_model.specs.Lexemes.{spelled};
 ghost use Rattle.tla_model.specs.Tables.{Named};
 ghost use Rattle.module_scope.specs.Environments.{Scope};
-ghost use Rattle.module_model.specs.Exports.{Exports, Known};
+ghost use Rattle.module_model.specs.Exports.{Exports, Known, behind_instance, entry_of};
+ghost use Rattle.module_model.specs.Exports.{exports_of, onward};
 ghost use Rattle.kind_text.specs.FlatModule.{FlatModule, IsOrdered};
 ghost use Rattle.tree_kinds.specs.Standing.{Outside};
-ghost use Rattle.module_kinds.specs.ModuleKinds.{KindState, named_in};
+ghost use Rattle.module_kinds.specs.ModuleKinds.{KindState, last, named_in, outside};
 ghost use Rattle.flat_trees.specs.Stands.{Stand};
 ghost use Rattle.flat_trees.specs.Layouts.{Layout, with_brought as with_brought_stands};
+ghost use Rattle.flat_trees.specs.Instances.{symbols_of};
 ghost use Rattle.flat_kinds.specs.Readings.{exported_stand, extended_entries};
 ghost use Rattle.flat_kinds.specs.Symbols.{symbols_at};
-ghost use Rattle.flattened_trees.specs.Agreeing.{lead_by, unsaid_stand};
+ghost use Rattle.flattened_trees.specs.Agreeing.{TakesBehind, lead_by, unsaid_stand};
 ghost use Rattle.flattened_trees.specs.Leads.{FlatFace, Leads, Setting};
 ghost use Rattle.flattened_trees.specs.Questions.{Question};
 ghost use Rattle.flattened_units.specs.Units.{AreExtended, IsModuleMade, IsUnitMade, Reader};
 ghost use Rattle.flattened_units.specs.Units.{exported_leads, face_in, no_leads, with_brought};
 ghost use Rattle.flattened_units.specs.Units.{with_symbols};
-ghost use Rattle.module_meanings.specs.Faces.{IsExtendedBy};
+ghost use Rattle.module_meanings.specs.Faces.{IsExtendedBy, IsPlaced};
 ghost use Rattle.module_meanings.specs.Following.{AreAlike, AreExtendedSo, Follows, IsBuiltSo};
 ghost use Rattle.module_meanings.specs.Following.{IsFollowed, IsMeantSo, IsPlain, LeadsBy};
 ghost use Rattle.module_meanings.specs.Premises.{AllCome, AreTold, IsModuleGiven, IsUnitGiven};
+ghost use Rattle.module_meanings.specs.Premises.{symbol_leads};
 
 /// Names lead where they stand: with symbols at places, from the first names of a module on; with
 /// what comes through an instance without a name; and outside of a module, by what it exports.
@@ -106,4 +109,26 @@ pub fn modules_are_meant()
         → IsOrdered flat
         → IsModuleGiven flat means implied files outsides source units symbols last asked made
         → IsMeantSo flat outsides source units symbols last }
+{}
+
+/// A module that is meant is what is asked of one that is extended, where its symbols stand in the
+/// order of its view, its names take what they do in it, and its symbols have places.
+pub fn meant_modules_are_extended()
+    ensures { (flat : FlatModule) (outsides : List ℕ → Outside) (source : List ℕ)
+        (units : ModuleUnits) (symbols : List Meaning) (last_reader : Reader) (face : FlatFace)
+        (leads : Leads) (round : List Setting) (frame : List Meaning)
+        (meant : IsMeantSo flat outsides source units symbols last_reader)
+        → symbols ≡ symbols_of (outside outsides source units) → face.outer ≡ 0
+        → face.parameters ≡ (outside outsides source units).view.parameters
+        → ((name : Named) (names : List Named) → face.leads (name ∷ names)
+        ≡ exported_leads last_reader.setting.leads
+        (exports_of (last outsides source units).read.place.here.exports) (name ∷ names))
+        → ((name : Named) (next : Meaning)
+        → entry_of (behind_instance (outside outsides source units).view []) name ≡ Some next
+        → TakesBehind (meant.inner name)
+        (onward (behind_instance (outside outsides source units).view) name) next)
+        → AllByRecursion (λ meaning. IsPlaced (symbol_leads round frame) meaning
+        × (leads meaning [] ≡ symbol_leads round frame meaning [])) symbols
+        → IsExtendedBy flat leads (symbol_leads round frame) face
+        (outside outsides source units) }
 {}
