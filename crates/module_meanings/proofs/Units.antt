@@ -30,7 +30,8 @@ use Rattle.flattened_trees.specs.Questions.{Question}
 use Rattle.flattened_trees.specs.Readable.{IsInstanceOf, IsNoInstance, IsReadableDefinition, orders_of}
 use Rattle.flattened_meanings.specs.Faces.{IsFaceOf}
 use Rattle.flattened_meanings.proofs.Fresh.{Fresh, IsOneOf, new-fresh, node-names, others-none, seen-none, seen-other, times, tree-any}
-use Rattle.flattened_meanings.proofs.Meant.{all-one, definition-for, each-kept}
+use Rattle.flattened_meanings.proofs.Behind.{all-one}
+use Rattle.flattened_meanings.proofs.Meant.{definition-for, each-kept}
 use Rattle.flattened_meanings.proofs.Rounds.{Knows, leads-with, stands-in, stands-other}
 use Rattle.flattened_units.specs.Units.{IsDefinitionMade, Reader, face_in}
 use Rattle.module_meanings.specs.Following.{Follows, LeadsBy}
