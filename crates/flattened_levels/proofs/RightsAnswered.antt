@@ -74,7 +74,7 @@ module _ (flat : FlatModule) (frame : List Meaning) where
 module _ (flat : FlatModule) (text : Text) (known : Known) (named : List ℕ → Outside) (means : ℕ → Option Meaning) (implied : ℕ → List Meaning) (faces : List ℕ → FlatFace) (nameable : List ℕ → Bool) (ordered : IsOrdered flat) (layout : Layout) (setting : Setting) (seen : Meaning → Bool) (around : Around) (round : Round flat text known named means implied faces nameable layout setting seen around) where
   -- ---- right sides
 
-  rights-answered : (rights : Trees) (parameters : Exports) (before : List Named) (l : Lexeme) (made : List Right) (roots : List ℕ) (asked : List Question) → EachAnswered flat text known named means implied faces nameable rights → NameModules text.source nameable rights → AreRights text means implied faces flat setting l rights made roots asked → AreReadableRights text known named means implied faces layout.context parameters before rights → AreShapedRights rights → Fresh text seen (whole-names text rights) → IsFaceFor text known named means implied faces l → level_answers flat asked ≡ levels_replaced text known named around l rights
+  pub rights-answered : (rights : Trees) (parameters : Exports) (before : List Named) (l : Lexeme) (made : List Right) (roots : List ℕ) (asked : List Question) → EachAnswered flat text known named means implied faces nameable rights → NameModules text.source nameable rights → AreRights text means implied faces flat setting l rights made roots asked → AreReadableRights text known named means implied faces layout.context parameters before rights → AreShapedRights rights → Fresh text seen (whole-names text rights) → IsFaceFor text known named means implied faces l → level_answers flat asked ≡ levels_replaced text known named around l rights
   rights-answered Nil parameters before l made roots asked each names all can shaped fresh face = ap (level_answers flat) all.2
   rights-answered (Cons (Node (Form.Replacement left) s (Cons (Node form at parts) Nil)) rest) parameters before l made roots asked each names (is, others, a, b, more, one, rest-made, parted, joined, asks) (whole, new, order, can, cans) shaped fresh face =
       let right : Trees = Cons (Node form at parts) Nil in
