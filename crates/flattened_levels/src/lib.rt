@@ -1,4 +1,4 @@
-//! What the kinds of nodes answer to the questions of a tree is what is found of levels in the tree.
+//! What the kinds of nodes answer to the questions of a tree is what is found of levels in it.
 //!
 //! No code: each function states a law that proofs above cite. Knows nothing of how nodes are
 //! built, and of how kinds are found.
