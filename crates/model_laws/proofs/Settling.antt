@@ -179,7 +179,7 @@ told-joined known local reading (entry ∷ rest) all told =
 
 module _ (text : Text) where
   -- of an instance that a name declares
-  abbrev Binds : Known → Binder → Type 0
+  abbrev pub Binds : Known → Binder → Type 0
   Binds known binder = IsTold known (meant text binder)
 
   told-declared : (known : Known) (local : Bool) (reading : Reading) (binders : List Binder) → Tells known reading → AllByRecursion (Binds known) binders → Tells known (m.declare_all text local reading binders)
@@ -191,16 +191,16 @@ module _ (text : Text) where
       (told-either known (has reading.context name) reading other all (told-entry known local reading name (meant text binder) all told.0)) told.1
 
   -- variables and constants are no instances
-  told-variables : (known : Known) (names : List Lexeme) → AllByRecursion (Binds known) (variables names)
+  pub told-variables : (known : Known) (names : List Lexeme) → AllByRecursion (Binds known) (variables names)
   told-variables known [] = tt
   told-variables known (name ∷ names) = ((λ is. cc is), told-variables known names)
 
-  told-constants : (known : Known) (names : List (Lexeme × ℕ)) → AllByRecursion (Binds known) (bound_as as_binding.Constant names)
+  pub told-constants : (known : Known) (names : List (Lexeme × ℕ)) → AllByRecursion (Binds known) (bound_as as_binding.Constant names)
   told-constants known [] = tt
   told-constants known (name ∷ names) = ((λ is. cc is), told-constants known names)
 
   -- what the tree of a unit defines is an instance only where it names one
-  told-defined : (known : Known) (named : List ℕ → ModuleView) (x : Tree) → AllByRecursion (Binds (and_known known (n.known_named text named (i.all_named_instances (Cons x Nil))))) (definition x)
+  pub told-defined : (known : Known) (named : List ℕ → ModuleView) (x : Tree) → AllByRecursion (Binds (and_known known (n.known_named text named (i.all_named_instances (Cons x Nil))))) (definition x)
   told-defined known named (Node (Form.OperatorDefinition l) span parts) = ((λ is. cc is), tt)
   told-defined known named (Node (Form.PrefixDefinition l) span parts) = ((λ is. cc is), tt)
   told-defined known named (Node (Form.InfixDefinition l) span parts) = ((λ is. cc is), tt)
@@ -216,16 +216,16 @@ module _ (text : Text) where
 -- ---- units
 
 module _ (text : Text) (files : List ℕ → ModuleView) (words : List ℕ) where
-  brings-exported : (found : Option (Option ModuleView)) (name : List ℕ) → m.exports_under (exports_by files) found name ≡ exported (n.module_under files found name)
+  pub brings-exported : (found : Option (Option ModuleView)) (name : List ℕ) → m.exports_under (exports_by files) found name ≡ exported (n.module_under files found name)
   brings-exported None name = refl
   brings-exported (Some None) name = refl
   brings-exported (Some (Some view)) name = refl
 
   -- of each instance that the module of a name exports
-  abbrev Brought : Known → Environment ModuleView → Lexeme → Type 0
+  abbrev pub Brought : Known → Environment ModuleView → Lexeme → Type 0
   Brought known modules l = AreTold known (exported (n.module_at files modules (spelled text.source l)))
 
-  told-from-all : (modules : Environment ModuleView) (names : List Lexeme) → AllByRecursion (Brought (n.known_from_all text (n.module_at files modules) names) modules) names
+  pub told-from-all : (modules : Environment ModuleView) (names : List Lexeme) → AllByRecursion (Brought (n.known_from_all text (n.module_at files modules) names) modules) names
   told-from-all modules [] = tt
   told-from-all modules (l ∷ rest) =
       let view : ModuleView = n.module_at files modules (spelled text.source l) in
@@ -254,7 +254,7 @@ module _ (text : Text) (files : List ℕ → ModuleView) (words : List ℕ) wher
       (all-weaker (Brought more modules) (Brought (and_known known more) modules) (λ name one. all-told-beside known more (exported (n.module_at files modules (spelled text.source name))) one) names (told-from-all modules names)))
 
   -- what is known of the instances that an INSTANCE without a name brings
-  told-instance : (state : ReadState) (x : Tree) → AreTold (r.known_brought text files words state x) (r.instance_brings text files words state x)
+  pub told-instance : (state : ReadState) (x : Tree) → AreTold (r.known_brought text files words state x) (r.instance_brings text files words state x)
   told-instance state (Node (Form.Instance l) span parts) = told-brought (n.unit_of text words l) (n.view_of text (r.module_named text files words state) l)
   told-instance state (Node _ span parts) = tt
 
