@@ -12,7 +12,7 @@ use Rattle.tla_model.specs.Entities.{Meaning, Text, same_meaning}
 use Rattle.tla_model.specs.EntityKinds.{is_meant, stands_for_parameter}
 use Rattle.tla_model.specs.Tables.{Named, Word, Symbol, find, lookup}
 use Rattle.module_scope.specs.Environments.{first as first_scope, outermost}
-use Rattle.module_model.specs.Exports.{Behind, behind_meaning, exported, exports_by}
+use Rattle.module_model.specs.Exports.{Behind, none_known, behind_meaning, exported, exports_by}
 use Rattle.module_model.specs.Modules.{exports_under, text_of, unread}
 use Rattle.module_model.specs.Resolution.{words_of}
 use Rattle.kind_text.specs.FlatModule.{FlatModule, IsOrdered}
@@ -27,9 +27,10 @@ use Rattle.flattened_trees.specs.Leads.{FlatFace, Leads}
 use Rattle.flattened_units.specs.Units.{AreExtended, Reader, symbol_setting}
 use Rattle.module_meanings.specs.Faces.{IsPlaced}
 use Rattle.module_meanings.specs.Following.{AreExtendedSo, Follows, LeadsBy}
-use Rattle.module_meanings.specs.Premises.{AreExtendedGiven, extended_meanings, first_seen}
+use Rattle.module_meanings.specs.Premises.{IsTold, AreExtendedGiven, extended_meanings, first_seen}
 use Rattle.module_meanings.proofs.Contexts.{seen-right, unseen-parts}
 use Rattle.module_meanings.proofs.Extending.{BringSame, extended-all, extends-means, symbols-alike, unsaid-alike}
+use Rattle.module_meanings.proofs.Knowing.{extended-told}
 use Rattle.module_meanings.proofs.Leads.{lead-place, none-leads, symbols-lead}
 use Rattle.module_meanings.proofs.Units.{IsSymbolic}
 
@@ -144,6 +145,9 @@ module _ (flat : FlatModule) (ordered : IsOrdered flat) (means : ℕ → Option 
       record {
         context = refl;
         settings = record { leads = begun.leads; places = refl; olds = refl };
+        told = λ name m e.
+            extended-told (text_of source units) (views (text_of source units) outsides (words_of units)) (words_of units) none_known units.extends (unread (text_of source units)) name m
+            (λ used n there. subst (IsTold none_known) (sym (built-in-means used n there)) tt) e;
         orders = λ name m e. begun.takes name m e (λ none. by_other m (given.others name m e none));
         all_seen = λ name m e. by_seen name m (extends-means (text_of source units) outsides (words_of units) (first_scope (text_of source units).file) units.extends (unread (text_of source units)) name m (first-same (text_of source units) outsides (words_of units)) e);
         unsaid = λ m none. let parts = unseen-parts (BuiltIn ∷ symbols) extended-here m none in begun.unsaid m parts.1 ∙ symbols-unseen unsaid_stand symbols 0 m (unseen-rest m parts.0);

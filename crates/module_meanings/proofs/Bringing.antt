@@ -14,7 +14,8 @@ use Rattle.tla_model.specs.Lexemes.{spelled}
 use Rattle.tla_model.specs.Tables.{Named}
 use Rattle.module_model.specs.Exports.{Exports, Known, behind_meaning}
 use Rattle.module_model.specs.Modules.{declare_all}
-use Rattle.module_model.specs.Resolution.{instance_brings}
+use Rattle.module_model.specs.Resolution.{instance_brings, known_brought}
+use Rattle.model_laws.proofs.Settling.{told-beside as known-beside, told-instance}
 use Rattle.kind_text.specs.FlatModule.{FlatModule, Instance as FlatInstance, IsOrdered}
 use Rattle.tree_kinds.specs.Standing.{Outside, name_among}
 use Rattle.module_kinds.specs.ModuleKinds.{KindState, after, known_at, named, views}
@@ -33,8 +34,9 @@ use Rattle.flattened_meanings.proofs.Meant.{each-kept}
 use Rattle.flattened_units.specs.Units.{IsInstanceMade, Reader, face_in, meanings_of}
 use Rattle.module_meanings.specs.Faces.{IsPlaced}
 use Rattle.module_meanings.specs.Following.{Follows}
-use Rattle.module_meanings.specs.Premises.{AreTold, IsInstanceGiven}
+use Rattle.module_meanings.specs.Premises.{IsTold, AreTold, IsInstanceGiven}
 use Rattle.module_meanings.proofs.Contexts.{IsEntry, declared-means, entry-named, entry-seen, joined-means, one-is-seen, orders-more, seen-left, seen-right, told-more, unseen-entries, unseen-parts}
+use Rattle.module_meanings.proofs.Knowing.{binder-told, entry-told}
 use Rattle.module_meanings.proofs.Leads.{brought-lead}
 use Rattle.module_meanings.proofs.Units.{IsSymbolic, comes-takes, placed-one, placed-takes, seen-but, tree-fresh, tree-knows}
 
@@ -88,6 +90,7 @@ module _ (flat : FlatModule) (text : Text) (means : ℕ → Option Meaning) (imp
                   places = follows.settings.places;
                   olds = follows.settings.olds;
                 };
+                told = λ name m e. by_told name m (joined-means entries (is_some local) state.read.place.here name m e);
                 orders = λ name m e. by_name is-of.inner j m
                     (λ n found. comes-takes _ _ n m is-of.inner (given.comes l s rights refl name m n e found) is-of.takes)
                     name (joined-means entries (is_some local) state.read.place.here name m e) old (name_among entries m) refl;
@@ -101,14 +104,20 @@ module _ (flat : FlatModule) (text : Text) (means : ℕ → Option Meaning) (imp
         by_name inner j m comes name (inl before) old None found = old name m (before-means name m before)
         by_name inner j m comes name (inr one) old None found = absurd (entry-named (entries-of state l s rights) m one found)
 
+        by_told : (name : Named) (m : Meaning) → ((meaning_of state.read.place.here.context name ≡ Some m) ⊎ IsEntry (entries-of state l s rights) m) → IsTold (known-behind state local l s rights) m
+        by_told name m (inl before) = told-more (known_at text outsides words state (Instance local (Node (Form.Instance l) s rights))) _ m (told-more state.read.known _ m (told name m before))
+        by_told name m (inr one) =
+            known-beside (known_at text outsides words state (Instance local (Node (Form.Instance l) s rights))) _ m
+            (entry-told (known_brought text (views text outsides words) words state.read (Node (Form.Instance l) s rights)) (entries-of state l s rights) m (told-instance text (views text outsides words) words state.read (Node (Form.Instance l) s rights)) one)
+
         by_seen : (name : Named) (m : Meaning) → ((meaning_of state.read.place.here.context name ≡ Some m) ⊎ IsEntry (entries-of state l s rights) m) → is_seen (meanings_of (entries-of state l s rights) ++ seen) m ≡ true
         by_seen name m (inl before) = seen-right (meanings_of (entries-of state l s rights)) seen m (follows.all_seen name m (before-means name m before))
         by_seen name m (inr one) = seen-left (meanings_of (entries-of state l s rights)) seen m (entry-seen (entries-of state l s rights) m one)
     instance-follows ordered local (Node form s parts) next asked made given = absurd given.readable
 
     -- behind declarations, whose symbols have places already
-    pub declared-follows : (unit : UnitTree) (local : Bool) (binders : List Binder) → ((m : Meaning) → IsOneOf text binders m → IsSymbolic m) → AllByRecursion (IsPlaced reader.setting.leads) (map (meant text) binders) → (after text outsides words state unit).read.known ≡ known_at text outsides words state unit → (after text outsides words state unit).read.place.here.context ≡ (declare_all text local state.read.place.here binders).context → Follows (after text outsides words state unit) reader (map (meant text) binders ++ seen) (layout_after text outsides words state layout unit layout.stands)
-    declared-follows unit local binders symbolic placed same_known same_context =
+    pub declared-follows : (unit : UnitTree) (local : Bool) (binders : List Binder) → ((m : Meaning) → IsOneOf text binders m → IsSymbolic m) → AllByRecursion (IsPlaced reader.setting.leads) (map (meant text) binders) → AllByRecursion (λ (b : Binder). IsTold (known_at text outsides words state unit) (meant text b)) binders → (after text outsides words state unit).read.known ≡ known_at text outsides words state unit → (after text outsides words state unit).read.place.here.context ≡ (declare_all text local state.read.place.here binders).context → Follows (after text outsides words state unit) reader (map (meant text) binders ++ seen) (layout_after text outsides words state layout unit layout.stands)
+    declared-follows unit local binders symbolic placed all_told same_known same_context =
         let known = known_at text outsides words state unit in
         let there = layout_after text outsides words state layout unit layout.stands in
         let old = orders-more state.read.known _ layout here-told follows.orders in
@@ -117,6 +126,7 @@ module _ (flat : FlatModule) (text : Text) (means : ℕ → Option Meaning) (imp
         record {
           context = refl;
           settings = record { leads = follows.settings.leads; places = follows.settings.places; olds = follows.settings.olds };
+          told = subst (λ k. AreTold k there.context) (sym same_known) (λ name m e. by_told name m (declared-means text binders local state.read.place.here name m (subst (λ (context : Context). meaning_of context name ≡ Some m) same_context e)));
           orders = subst (λ k. KeepsOrders k there) (sym same_known) orders;
           all_seen = λ name m e. by_seen name m (declared-means text binders local state.read.place.here name m (subst (λ (context : Context). meaning_of context name ≡ Some m) same_context e));
           unsaid = λ m none. follows.unsaid m (unseen-parts (map (meant text) binders) seen m none).1;
@@ -125,6 +135,10 @@ module _ (flat : FlatModule) (text : Text) (means : ℕ → Option Meaning) (imp
         by_orders : KeepsOrders (known_at text outsides words state unit) layout → (name : Named) (m : Meaning) → (meaning_of state.read.place.here.context name ≡ Some m) ⊎ IsOneOf text binders m → TakesAs (layout.stands m) (behind_meaning (known_at text outsides words state unit) (Some m)) m
         by_orders old name m (inl before) = old name m (before-means name m before)
         by_orders old name m (inr one) = placed-takes layout.stands reader.setting.leads (behind_meaning (known_at text outsides words state unit) (Some m)) m follows.settings.leads (placed-one text reader.setting.leads binders m placed one) (symbolic m one)
+
+        by_told : (name : Named) (m : Meaning) → (meaning_of state.read.place.here.context name ≡ Some m) ⊎ IsOneOf text binders m → IsTold (known_at text outsides words state unit) m
+        by_told name m (inl before) = told-more state.read.known _ m (told name m before)
+        by_told name m (inr one) = binder-told text (known_at text outsides words state unit) binders m all_told one
 
         by_seen : (name : Named) (m : Meaning) → (meaning_of state.read.place.here.context name ≡ Some m) ⊎ IsOneOf text binders m → is_seen (map (meant text) binders ++ seen) m ≡ true
         by_seen name m (inl before) = seen-right (map (meant text) binders) seen m (follows.all_seen name m (before-means name m before))
@@ -140,6 +154,8 @@ module _ (flat : FlatModule) (text : Text) (means : ℕ → Option Meaning) (imp
         record {
           context = refl;
           settings = record { leads = follows.settings.leads; places = follows.settings.places; olds = follows.settings.olds };
+          told = subst (λ k. AreTold k there.context) (sym same_known)
+              (λ name m e. told-more state.read.known _ m (told name m (subst (λ (context : Context). meaning_of context name ≡ Some m) same_context e)));
           orders = subst (λ k. KeepsOrders k there) (sym same_known) orders;
           all_seen = λ name m e. follows.all_seen name m (means-before name m e);
           unsaid = follows.unsaid;

@@ -14,7 +14,7 @@ use Rattle.module_model.specs.Exports.{behind_meaning}
 use Rattle.module_model.specs.Modules.{nested}
 use Rattle.kind_text.specs.FlatModule.{FlatModule, IsOrdered}
 use Rattle.tree_kinds.specs.Standing.{Outside}
-use Rattle.module_kinds.specs.ModuleKinds.{KindState, after}
+use Rattle.module_kinds.specs.ModuleKinds.{KindState, after, views}
 use Rattle.flat_trees.specs.Stands.{Stand}
 use Rattle.flat_trees.specs.Layouts.{Layout}
 use Rattle.flat_kinds.specs.Modules.{Begins, Coming, Current, IsRead, KeepsAll, here_behind}
@@ -24,11 +24,12 @@ use Rattle.flattened_trees.specs.Leads.{FlatFace, Leads, Setting}
 use Rattle.flattened_units.specs.Units.{AreExtended, Reader, with_symbols}
 use Rattle.module_meanings.specs.Faces.{IsPlaced}
 use Rattle.module_meanings.specs.Following.{AreExtendedSo}
-use Rattle.module_meanings.specs.Premises.{AreAllTold, AreTold, IsBegunGiven, StandAsBefore, extended_meanings, symbol_leads}
+use Rattle.module_meanings.specs.Premises.{AreTold, IsBegunGiven, StandAsBefore, extended_meanings, symbol_leads}
 use Rattle.module_meanings.proofs.Beginning.{parameter-takes, symbols-unseen}
 use Rattle.module_meanings.proofs.Contexts.{orders-more, seen-left, seen-right, unseen-parts}
 use Rattle.module_meanings.proofs.Extending.{extended-all, extends-means}
-use Rattle.module_meanings.proofs.Nesting.{HoldsAt, HoldsRound, holds-more, own-alike, own-at, own-before, own-lead, own-new, own-takes, round-more, round-stays}
+use Rattle.module_meanings.proofs.Knowing.{extended-told}
+use Rattle.module_meanings.proofs.Nesting.{AreAllTold, HoldsAt, HoldsRound, holds-more, own-alike, own-at, own-before, own-lead, own-new, own-takes, round-more, round-stays}
 use Rattle.flat_kinds.proofs.Symbols.{own-symbols}
 
 drop-front : (a b : List Meaning) → drop (length a) (a ++ b) ≡ b
@@ -137,6 +138,7 @@ module _ (flat : FlatModule) (ordered : IsOrdered flat) (text : Text) (means : �
             follows = record {
               context = refl;
               settings = record { leads = all.leads; places = room; olds = refl };
+              told = λ used m e. extended-told text (views text outsides words) words state.read.known extends (nested text state.read.place.here name) used m told.0 e;
               orders = λ used m e. all.takes used m e (λ none. by-other m (given.extended.others used m e none));
               all_seen = λ used m e. by-seen used m (extends-means text outsides words modules extends (nested text state.read.place.here name) used m given.same e);
               unsaid = λ m none.

@@ -1,5 +1,6 @@
 mod Leads
 mod Contexts
+mod Knowing
 mod Units
 mod Bringing
 mod Extending

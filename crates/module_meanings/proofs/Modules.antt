@@ -12,7 +12,8 @@ use Rattle.tla_model.specs.Entities.{Entity, Meaning, Text, all_placed, meant, v
 use Rattle.tla_model.specs.Scopes.{definition}
 use Rattle.module_model.specs.Exports.{Known, exports_of}
 use Rattle.module_model.specs.Modules.{Reading, constants, left, text_of}
-use Rattle.module_model.specs.Resolution.{instance_brings, words_of}
+use Rattle.module_model.specs.Resolution.{instance_brings, module_named, words_of}
+use Rattle.model_laws.proofs.Settling.{told-constants, told-defined, told-variables}
 use Rattle.kind_text.specs.FlatModule.{FlatModule, IsOrdered}
 use Rattle.tree_kinds.specs.Standing.{Outside}
 use Rattle.module_kinds.specs.ModuleKinds.{KindState, after, first, known_at, last, read_all, views}
@@ -26,13 +27,13 @@ use Rattle.flattened_trees.specs.Leads.{FlatFace, Setting}
 use Rattle.flattened_trees.specs.Questions.{Question}
 use Rattle.flattened_units.specs.Units.{AreUnitsMade, IsBegun, IsDefinitionMade, IsEnded, IsInstanceMade, IsModuleMade, IsUnitMade, Reader, meanings_of}
 use Rattle.module_meanings.specs.Following.{Follows, IsBuiltSo, IsFollowed, IsMeantSo, IsPlain, LeadsBy}
-use Rattle.module_meanings.specs.Premises.{AreAllTold, AreTold, AreUnitsGiven, IsBegunGiven, IsModuleGiven, IsUnitGiven, StandAsBefore, first_seen, round_of, seen_behind, symbol_leads}
+use Rattle.module_meanings.specs.Premises.{AreTold, AreUnitsGiven, IsBegunGiven, IsModuleGiven, IsUnitGiven, StandAsBefore, first_seen, round_of, seen_behind, symbol_leads}
 use Rattle.module_meanings.proofs.Beginning.{begun-so, first-follows, first-reader, symbol-stands}
 use Rattle.module_meanings.proofs.Bringing.{declared-follows, instance-follows, still-follows}
 use Rattle.module_meanings.proofs.Entering.{Holds, all-extended, begun-read, round-holds, within-holds}
 use Rattle.module_meanings.proofs.Extending.{symbols-alike, unsaid-alike}
 use Rattle.module_meanings.proofs.Leads.{exported-lead, none-leads, symbols-lead}
-use Rattle.module_meanings.proofs.Nesting.{HoldsAt, HoldsRound, own-at, round-more, round-stays, told-round}
+use Rattle.module_meanings.proofs.Nesting.{AreAllTold, all-told, here-told, HoldsAt, HoldsRound, own-at, round-more, round-stays, told-round}
 use Rattle.module_meanings.proofs.Units.{constants-symbolic, definition-follows, variables-symbolic}
 
 module _ (flat : FlatModule) (ordered : IsOrdered flat) (text : Text) (means : ℕ → Option Meaning) (implied : ℕ → List Meaning) (files : List ℕ → FlatFace) (outsides : List ℕ → Outside) (words : List ℕ) where
@@ -43,24 +44,24 @@ module _ (flat : FlatModule) (ordered : IsOrdered flat) (text : Text) (means : �
 
     pub unit-follows : (unit : UnitTree) (next : Reader) (asked : List Question) → IsPlain unit → IsUnitMade flat text means implied files outsides words state reader unit next asked → IsUnitGiven flat text means implied files outsides words state reader seen unit next → IsFollowed flat text outsides words state layout unit next seen
     unit-follows (OperatorDefinition local (Node form s parts)) next asked plain made given =
-        definition-follows flat text means implied files outsides words seen form s parts state reader (OperatorDefinition local (Node form s parts)) layout follows told given.given ordered (is_some local) next asked refl refl made given.readable
+        definition-follows flat text means implied files outsides words seen form s parts state reader (OperatorDefinition local (Node form s parts)) layout follows told given.given ordered (is_some local) next asked (told-defined text state.read.known (module_named text (views text outsides words) words state.read) (Node form s parts)) refl refl made given.readable
     unit-follows (FunctionDefinition local (Node form s parts)) next asked plain made given =
-        definition-follows flat text means implied files outsides words seen form s parts state reader (FunctionDefinition local (Node form s parts)) layout follows told given.given ordered (is_some local) next asked refl refl made given.readable
+        definition-follows flat text means implied files outsides words seen form s parts state reader (FunctionDefinition local (Node form s parts)) layout follows told given.given ordered (is_some local) next asked (told-defined text state.read.known (module_named text (views text outsides words) words state.read) (Node form s parts)) refl refl made given.readable
     unit-follows (ModuleDefinition local (Node form s parts)) next asked plain made given =
-        definition-follows flat text means implied files outsides words seen form s parts state reader (ModuleDefinition local (Node form s parts)) layout follows told given.given ordered (is_some local) next asked refl refl made given.readable
+        definition-follows flat text means implied files outsides words seen form s parts state reader (ModuleDefinition local (Node form s parts)) layout follows told given.given ordered (is_some local) next asked (told-defined text state.read.known (module_named text (views text outsides words) words state.read) (Node form s parts)) refl refl made given.readable
     unit-follows (Instance local x) next asked plain made given =
         instance-follows flat text means implied files outsides words seen state reader layout follows told ordered local x next asked made given
     unit-follows (Variables names) next asked plain made given = (
       layout.stands,
       refl,
       subst (StillFollows (Variables names)) (sym made.0)
-          (declared-follows flat text means implied files outsides words seen state reader layout follows told (Variables names) false (variables names) (variables-symbolic text names) given refl refl),
+          (declared-follows flat text means implied files outsides words seen state reader layout follows told (Variables names) false (variables names) (variables-symbolic text names) given (told-variables text (known_at text outsides words state (Variables names)) names) refl refl),
     )
     unit-follows (Constants declarations) next asked plain made given = (
       layout.stands,
       refl,
       subst (StillFollows (Constants declarations)) (sym made.0)
-          (declared-follows flat text means implied files outsides words seen state reader layout follows told (Constants declarations) false (constants declarations) (constants-symbolic text (all_placed declarations)) given refl refl),
+          (declared-follows flat text means implied files outsides words seen state reader layout follows told (Constants declarations) false (constants declarations) (constants-symbolic text (all_placed declarations)) given (told-constants text (known_at text outsides words state (Constants declarations)) (all_placed declarations)) refl refl),
     )
     unit-follows (Assumption word name x) next asked plain (i, a, is, same, asks) given = (
       layout.stands,
@@ -221,9 +222,10 @@ module _ (flat : FlatModule) (ordered : IsOrdered flat) (text : Text) (means : �
         follows = subst (λ (r : Reader). Follows state r seen here.layout) (sym made.0) holds.here.follows;
       }
   units-follow (unit ∷ units) state reader seen here outers next asked made given ends holds =
-      let one = unit-steps state reader seen here outers holds given.0 unit made.0 made.1 made.3 given.2 given.1 in
+      let one = unit-steps state reader seen here outers holds
+      (here-told state.read.known state.read.place.here.context reader.setting seen here.layout holds.here.follows, all-told state.read.known seen state.read.place.round reader.round outers holds.round) unit made.0 made.1 made.3 given.1 given.0 in
       let others =
-      units-follow units (after text outsides words state unit) made.0 (seen_behind text outsides words state unit made.0 seen) (here_behind text outsides words state here outers unit one.coming) (round_behind text outsides words here outers one.coming) next made.2 made.4 given.3 ends one.holds in
+      units-follow units (after text outsides words state unit) made.0 (seen_behind text outsides words state unit made.0 seen) (here_behind text outsides words state here outers unit one.coming) (round_behind text outsides words here outers one.coming) next made.2 made.4 given.2 ends one.holds in
       record {
         comings = one.coming ∷ others.comings;
         behind = others.behind;
@@ -269,6 +271,8 @@ module _ (flat : FlatModule) (ordered : IsOrdered flat) (means : ℕ → Option 
         comings = all.comings;
         behind = all.behind;
         built = record { extended = extended-here; read = all.read };
+        seen = all.seen;
+        follows = all.follows;
         leads = λ name names. exported-lead all.behind.layout.stands final.setting.leads (exports_of (last outsides source units).read.place.here.exports) name names all.follows.settings.leads;
       }
 

@@ -119,6 +119,7 @@ holds-more known more here symbols setting seen names current told holds =
       follows = record {
         context = follows.context;
         settings = follows.settings;
+        told = λ name m e. told-more known more m (follows.told name m e);
         orders = orders-more known more current.layout (subst (AreTold known) follows.context told) follows.orders;
         all_seen = λ name m e. seen-right names seen m (follows.all_seen name m e);
         unsaid = λ m none. follows.unsaid m (unseen-parts names seen m none).1;
@@ -136,6 +137,21 @@ round-more known more seen names [] [] (outer ∷ outers) told holds = absurd ho
 round-more known more seen names [] (setting ∷ round) outers told holds = absurd holds
 round-more known more seen names (reading ∷ readings) [] outers told holds = absurd holds
 round-more known more seen names (reading ∷ readings) (setting ∷ round) [] told holds = absurd holds
+
+-- something is known behind all instances that can be used, in a module and in those round it
+abbrev pub AreAllTold : KindState → Type 0
+AreAllTold state =
+    AreTold state.read.known state.read.place.here.context × AllByRecursion (λ (reading : Reading). AreTold state.read.known reading.context) state.read.place.round
+
+pub here-told : (known : Known) (here : Context) (setting : Setting) (seen : List Meaning) (layout : Layout) → FollowsAt known here setting seen layout → AreTold known here
+here-told known here setting seen layout follows = subst (AreTold known) (sym follows.context) follows.told
+
+pub all-told : (known : Known) (seen : List Meaning) (readings : List Reading) (settings : List Setting) (outers : List Current) → HoldsRound known readings settings outers seen → AllByRecursion (λ (reading : Reading). AreTold known reading.context) readings
+all-told known seen [] settings outers holds = tt
+all-told known seen (reading ∷ readings) (setting ∷ round) (outer ∷ outers) holds =
+    (here-told known reading.context setting seen outer.layout holds.0.follows, all-told known seen readings round outers holds.1)
+all-told known seen (reading ∷ readings) [] outers holds = absurd holds
+all-told known seen (reading ∷ readings) (setting ∷ round) [] holds = absurd holds
 
 pub told-round : (known more : Known) (readings : List Reading) → AllByRecursion (λ (reading : Reading). AreTold known reading.context) readings → AllByRecursion (λ (reading : Reading). AreTold (and_known known more) reading.context) readings
 told-round known more [] told = tt

@@ -36,8 +36,9 @@ use Rattle.flattened_meanings.proofs.Rounds.{Knows, leads-with, stands-in, stand
 use Rattle.flattened_units.specs.Units.{IsDefinitionMade, Reader, face_in}
 use Rattle.module_meanings.specs.Following.{Follows, LeadsBy}
 use Rattle.module_meanings.specs.Faces.{IsFaceBy, IsPlaced, LeadsAs}
-use Rattle.module_meanings.specs.Premises.{AreTold, ComesAs, IsTreeGiven}
-use Rattle.module_meanings.proofs.Contexts.{declared-means, one-is-seen, orders-more, seen-left, seen-right, unseen-parts}
+use Rattle.module_meanings.specs.Premises.{IsTold, AreTold, ComesAs, IsTreeGiven}
+use Rattle.module_meanings.proofs.Contexts.{told-more, declared-means, one-is-seen, orders-more, seen-left, seen-right, unseen-parts}
+use Rattle.module_meanings.proofs.Knowing.{binder-told}
 use Rattle.module_meanings.proofs.Leads.{lead-place, leads-as}
 
 not-not : (b : Bool) → not (not b) ≡ true → b ≡ true
@@ -172,8 +173,8 @@ module _ (flat : FlatModule) (text : Text) (means : ℕ → Option Meaning) (imp
       here-means name m e = subst (λ (context : Context). meaning_of context name ≡ Some m) follows.context e
 
       -- what comes of a definition, and what is known behind it
-      pub definition-follows : (ordered : IsOrdered flat) (local : Bool) (next : Reader) (asked : List Question) → (after text outsides words state unit).read.known ≡ known_at text outsides words state unit → (after text outsides words state unit).read.place.here.context ≡ (declare_all text local state.read.place.here (defined form parts)).context → IsDefinitionMade flat text means implied files outsides words reader x next asked → IsReadableDefinition text (known_at text outsides words state unit) (named text outsides words state) means implied faces state.read.place.here.context x → (stands : Meaning → Stand) × IsDefinitionRead text outsides words flat state layout unit x stands × Follows (after text outsides words state unit) next (map (meant text) (defined form parts) ++ seen) (layout_after text outsides words state layout unit stands)
-      definition-follows ordered local next asked same_known same_context (lead, roots, made, is) can =
+      pub definition-follows : (ordered : IsOrdered flat) (local : Bool) (next : Reader) (asked : List Question) → AllByRecursion (λ (b : Binder). IsTold (known_at text outsides words state unit) (meant text b)) (defined form parts) → (after text outsides words state unit).read.known ≡ known_at text outsides words state unit → (after text outsides words state unit).read.place.here.context ≡ (declare_all text local state.read.place.here (defined form parts)).context → IsDefinitionMade flat text means implied files outsides words reader x next asked → IsReadableDefinition text (known_at text outsides words state unit) (named text outsides words state) means implied faces state.read.place.here.context x → (stands : Meaning → Stand) × IsDefinitionRead text outsides words flat state layout unit x stands × Follows (after text outsides words state unit) next (map (meant text) (defined form parts) ++ seen) (layout_after text outsides words state layout unit stands)
+      definition-follows ordered local next asked all_told same_known same_context (lead, roots, made, is) can =
           let known = known_at text outsides words state unit in
           let modules = named text outsides words state in
           let names = defined form parts in
@@ -196,6 +197,7 @@ module _ (flat : FlatModule) (text : Text) (means : ℕ → Option Meaning) (imp
                     places = follows.settings.places;
                     olds = follows.settings.olds;
                   };
+                  told = subst (λ k. AreTold k there.context) (sym same_known) (λ name m e. by_told name m (declared-means text names local state.read.place.here name m (subst (λ (context : Context). meaning_of context name ≡ Some m) same_context e)));
                   orders = subst (λ k. KeepsOrders k there) (sym same_known) orders;
                   all_seen = λ name m e. by_seen name m (declared-means text names local state.read.place.here name m (subst (λ (context : Context). meaning_of context name ≡ Some m) same_context e));
                   unsaid = λ m none. let parts = unseen-parts (map (meant text) names) seen m none in stands-other text names layout.stands found.stand m (others-none text names m parts.0) ∙ follows.unsaid m parts.1;
@@ -208,6 +210,10 @@ module _ (flat : FlatModule) (text : Text) (means : ℕ → Option Meaning) (imp
               subst (λ z. TakesAs z (behind_meaning (known_at text outsides words state unit) (Some m)) m) (sym (stands-other text (defined form parts) layout.stands stand m (seen-apart m (follows.all_seen name m there)))) (known-orders name m there)
           by_orders stand takes name m (inr one) =
               subst (λ z. TakesAs z (behind_meaning (known_at text outsides words state unit) (Some m)) m) (sym (stands-in text (defined form parts) layout.stands stand m one)) (takes m one)
+
+          by_told : (name : Named) (m : Meaning) → (meaning_of state.read.place.here.context name ≡ Some m) ⊎ IsOneOf text (defined form parts) m → IsTold (known_at text outsides words state unit) m
+          by_told name m (inl before) = told-more state.read.known _ m (told name m before)
+          by_told name m (inr one) = binder-told text (known_at text outsides words state unit) (defined form parts) m all_told one
 
           by_seen : (name : Named) (m : Meaning) → (meaning_of state.read.place.here.context name ≡ Some m) ⊎ IsOneOf text (defined form parts) m → is_seen (map (meant text) (defined form parts) ++ seen) m ≡ true
           by_seen name m (inl before) = seen-right (map (meant text) (defined form parts)) seen m (follows.all_seen name m (here-means name m before))

@@ -19,7 +19,7 @@ use Rattle.flat_kinds.specs.Symbols.{same_symbol, symbols_at}
 use Rattle.flattened_trees.specs.Agreeing.{IsSeen, IsSettingOf, KeepsOrders, TakesAs, is_seen, lead_by, unsaid_stand}
 use Rattle.flattened_trees.specs.Leads.{Leads, Setting}
 use Rattle.flattened_units.specs.Units.{Reader, exported_leads}
-use Rattle.module_meanings.specs.Premises.{extended_meanings, seen_behind}
+use Rattle.module_meanings.specs.Premises.{AreTold, extended_meanings, seen_behind}
 
 -- where each meaning leads is by what it stands for
 abbrev pub LeadsBy : (Meaning → Stand) → Leads → Type 0
@@ -29,11 +29,12 @@ LeadsBy stands leads = (meaning : Meaning) (names : List Named) → leads meanin
 abbrev pub AreAlike : (Meaning → Stand) → Type 0
 AreAlike stands = (a b : Meaning) → same_symbol a b ≡ true → stands a ≡ stands b
 
--- a setting is what a layout leads to, which has this context; all names that can be used stand for what takes what they take; and nothing
+-- a setting is what a layout leads to, which has this context; something is known behind all instances that can be used; all names that can be used stand for what takes what they take; and nothing
 -- is said of names that were not seen
 pub record FollowsAt (known : Known) (here : Context) (setting : Setting) (seen : List Meaning) (layout : Layout) : Type 0 where
   pub context : here ≡ layout.context
   pub settings : IsSettingOf layout setting
+  pub told : AreTold known layout.context
   pub orders : KeepsOrders known layout
   pub all_seen : IsSeen seen layout
   pub unsaid : (meaning : Meaning) → is_seen seen meaning ≡ false → layout.stands meaning ≡ unsaid_stand meaning
@@ -76,12 +77,14 @@ module _ (flat : FlatModule) (outsides : List ℕ → Outside) (source : List �
       (name : Named) (names : List Named)
       → exported_leads final.setting.leads (exports_of (last outsides source units).read.place.here.exports) (name ∷ names) ≡ lead_by (inner name) names
 
-  -- a flat module is built along a module with these symbols, up to this reader
+  -- a flat module is built along a module with these symbols, up to this reader, which follows the state there
   pub record IsBuiltSo : Type 0 where
     pub extensions : List Extension
     pub comings : List Coming
     pub behind : Current
     pub built : IsBuiltAlong outsides source units flat (symbols_at unsaid_stand symbols 0) (length symbols) extensions comings behind
+    pub seen : List Meaning
+    pub follows : Follows (last outsides source units) final seen behind.layout
     pub leads : LeadOutside (module_stands outsides source units behind.layout)
 
   -- it means the module

@@ -43,11 +43,6 @@ IsTold known (Declared entity callee) = is_instance entity ≡ true → is_some 
 abbrev pub AreTold : Known → Context → Type 0
 AreTold known context = (name : Named) (meaning : Meaning) → meaning_of context name ≡ Some meaning → IsTold known meaning
 
--- the same of a state, and of the modules round the one that is read
-abbrev pub AreAllTold : KindState → Type 0
-AreAllTold state =
-    AreTold state.read.known state.read.place.here.context × AllByRecursion (λ reading. AreTold state.read.known reading.context) state.read.place.round
-
 -- what a name means comes from a module under this name there: it is the same entity there, and behind it is known what the module has
 pub record ComesAs (known : Known) (view : ModuleView) (name : Named) (meaning : Meaning) : Type 0 where
   pub entity : Entity
@@ -176,12 +171,11 @@ module _ (flat : FlatModule) (text : Text) (means : ℕ → Option Meaning) (imp
       → ((names : List Named) → setting.leads meaning names ≡ nowhere)
       ⊎ ((parameters : Environment) → standing_behind text outsides words state unit parameters meaning ≡ state.standing parameters meaning)) settings
 
-  -- the same of units, one after another, as they come; something is known behind all names that can be used there, and names of modules
-  -- round it stand behind each as before
+  -- the same of units, one after another, as they come; and names of modules round it stand behind each as before
   abbrev pub AreUnitsGiven : (state : KindState) (reader : Reader) (seen : List Meaning) (units : List UnitTree) (next : Reader) (asked : List Question) → AreUnitsMade flat text means implied files outsides words state reader units next asked → Type 0
   AreUnitsGiven state reader seen [] next asked made = Unit {0}
   AreUnitsGiven state reader seen (unit ∷ units) next asked made =
-      AreAllTold state × StandAsBefore state unit (round_of unit reader) × IsUnitGiven state reader seen unit made.0
+      StandAsBefore state unit (round_of unit reader) × IsUnitGiven state reader seen unit made.0
       × AreUnitsGiven (after text outsides words state unit) made.0 (seen_behind text outsides words state unit made.0 seen) units next made.2 made.4
 
 -- ---- modules

@@ -32,7 +32,7 @@ ghost use Rattle.flattened_units.specs.Units.{with_symbols};
 ghost use Rattle.module_meanings.specs.Faces.{IsExtendedBy, IsPlaced};
 ghost use Rattle.module_meanings.specs.Following.{AreAlike, AreExtendedSo, Follows, IsBuiltSo};
 ghost use Rattle.module_meanings.specs.Following.{IsFollowed, IsMeantSo, IsPlain, LeadsBy};
-ghost use Rattle.module_meanings.specs.Premises.{AllCome, AreTold, IsModuleGiven, IsUnitGiven};
+ghost use Rattle.module_meanings.specs.Premises.{AllCome, IsModuleGiven, IsUnitGiven};
 ghost use Rattle.module_meanings.specs.Premises.{symbol_leads};
 
 /// Names lead where they stand: with symbols at places, from the first names of a module on; with
@@ -84,8 +84,7 @@ pub fn units_are_read()
         (implied : ℕ → List Meaning) (files : List ℕ → FlatFace) (outsides : List ℕ → Outside)
         (words : List ℕ) (state : KindState) (reader : Reader) (seen : List Meaning)
         (layout : Layout) (unit : UnitTree) (next : Reader) (asked : List Question)
-        → IsOrdered flat → Follows state reader seen layout
-        → AreTold state.read.known state.read.place.here.context → IsPlain unit
+        → IsOrdered flat → Follows state reader seen layout → IsPlain unit
         → IsUnitMade flat text means implied files outsides words state reader unit next asked
         → IsUnitGiven flat text means implied files outsides words state reader seen unit next
         → IsFollowed flat text outsides words state layout unit next seen }
