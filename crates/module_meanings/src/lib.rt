@@ -56,8 +56,8 @@ pub fn leads_are_kept()
 {}
 
 /// Modules that are extended come as a flat module has them: each through an instance that lets its
-/// symbols stand as they do here. Names lead behind them where they stand; they take what they do in
-/// these modules; and nothing more is said of names that none of them exports.
+/// symbols stand as they do here. Names lead behind them where they stand; they take what they do
+/// in these modules; and nothing more is said of names that none of them exports.
 pub fn extended_modules_are_read()
     ensures { (flat : FlatModule) (text : Text) (means : ℕ → Option Meaning)
         (implied : ℕ → List Meaning) (files : List ℕ → FlatFace) (outsides : List ℕ → Outside)
@@ -90,9 +90,10 @@ pub fn units_are_read()
         → IsFollowed flat text outsides words state layout unit next seen }
 {}
 
-/// Where nodes of a flat module are what the units of a module write, with the modules that are
-/// nested in it, the flat module is built along the module, and so it means the module: over its
-/// symbols names stand for what the module exports, and these lead so outside of it.
+/// Where nodes of a flat module are what the units of a module write, the flat module is built
+/// along the module, and so it means the module: over its symbols names stand for what the module
+/// exports, and these lead so outside of it. It is asked that names of the modules round a nested
+/// one stand behind its units as before.
 pub fn modules_are_meant()
     ensures built { (flat : FlatModule) (means : ℕ → Option Meaning) (implied : ℕ → List Meaning)
         (files : List ℕ → FlatFace) (outsides : List ℕ → Outside) (source : List ℕ)
