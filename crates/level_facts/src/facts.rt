@@ -1,17 +1,17 @@
 // What was found of kinds, and how callers ask for more.
-ghost use Rattle.std.specs.Prelude.{◌≡◌, ◌∷◌, [], IfOk, OnErr, OnOk, length, map};
+ghost use Rattle.std.specs.Prelude.{◌≡◌, ◌<◌, ◌∷◌, [], IfOk, OnErr, OnOk, length, map};
 ghost use Rattle.kind_text.specs.ExpandedKind.{kind};
 ghost use Rattle.kind_text.specs.Expansion.{text_of};
 ghost use Rattle.kind_text.specs.FlatModule.{Extends, IsOrdered};
 ghost use Rattle.kind_text.specs.FlatModule as text;
-ghost use Rattle.kind_table.specs.Flattened.{flat_of};
+ghost use Rattle.kind_table.specs.Flattened.{first_node, flat_of};
 ghost use Rattle.kind_table.specs.Table.{Grows, IsArg, IsStored};
 ghost use Rattle.level_facts.specs.Facts.{AddsArguments, IsFacts, IsKept, NamesBody, argument_item};
 
 use crate::judging::kind_on;
 use crate::steps::body_of;
 use indexmap::{IndexMap, IndexSet};
-use kind_table::{Arg, FlatModule, extend_first_nodes, first_nodes};
+use kind_table::{Arg, FlatModule, extend_first_nodes, first_nodes, number_at};
 use std::alloc::{AllocError, Global};
 use tla_symbols::{Kind, Rule};
 
@@ -76,6 +76,14 @@ impl KindFacts {
     {
         extend_first_nodes(&mut self.firsts, flat)?;
         Ok(())
+    }
+
+    /// The first of the nodes that a node's kind is made of, whatever stands round it.
+    pub fn first_node(&self, node: usize) -> usize
+        ensures { (flat : text.FlatModule) → IsFacts flat self.now → node < length flat.nodes
+            → result ≡ first_node flat node }
+    {
+        number_at(&self.firsts, node)
     }
 
     /// The kind of a definition's expansion with these put in, for what stands round it and for

@@ -79,3 +79,6 @@ module _ (flat : FlatModule) (f g : ℕ → ℕ) (h : (i : ℕ) → f i ≡ capp
 
   pub instance-deep : (o : Option Instance) → is_too_deep (instance_depth f o) ≡ is_too_deep (instance_depth g o)
   instance-deep o = same-test (instance_depth f o) (instance_depth g o) (instance-capped o)
+
+  pub node-deep : (i : ℕ) → is_too_deep (f i) ≡ is_too_deep (g i)
+  node-deep i = same-test (f i) (g i) (let one = h i in omega arith)

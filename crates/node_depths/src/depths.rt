@@ -8,6 +8,7 @@ ghost use Rattle.node_depths.specs.Capped.{GivesDepths, IsDepths};
 ghost use Rattle.node_depths.specs.Capped as spec;
 
 use crate::forms::{definition_depth, form_depth, instance_depth};
+use crate::nodes::depth_at;
 use kind_table::FlatModule;
 use std::alloc::{AllocError, Global};
 
@@ -64,6 +65,14 @@ impl Depths {
             (slice_get (flat_of flat.now).instances instance)) }
     {
         instance_depth(flat, &self.nodes, instance) > MOST
+    }
+
+    /// The same of a node.
+    pub fn is_deep_node(&self, node: usize) -> bool
+        ensures { (flat : text.FlatModule) → IsDepths flat self.now.nodes.items
+            → result ≡ is_too_deep (depth flat node) }
+    {
+        depth_at(&self.nodes, node) > MOST
     }
 }
 
