@@ -6,13 +6,13 @@ use Rattle.std.proofs.Math.Nat.{max-zero, zero-max}
 use Rattle.tla_tree.specs.declared.form.Form.TheVariants as Form
 use Rattle.tla_tree.specs.Syntax.{Tree, Trees}
 use Rattle.tla_model.specs.Tables.{Named}
-use Rattle.tla_model.specs.Entities.{Meaning, Text, meant, same_meaning}
+use Rattle.tla_model.specs.Entities.{Meaning, Text, meant}
 use Rattle.tla_model.specs.Contexts.{Context}
 use Rattle.tla_model.specs.Scopes.{behind, definition, reserved, scope}
 use Rattle.module_model.specs.Exports.{Exports, Known}
 use Rattle.kind_text.specs.FlatModule.{FlatModule}
 use Rattle.level_text.specs.Depth.{depth as depth_at, replaced_depth}
-use Rattle.tree_kinds.specs.Standing.{Outside, Reached, name_among}
+use Rattle.tree_kinds.specs.Standing.{Outside, Reached, name_among, same_standing}
 use Rattle.tree_kinds.specs.TreeDepths.{Beneath, Depths, before_scope, behind_depth, coming_depth, deeper, in_scope, with_depth, with_entry_depths}
 use Rattle.flat_trees.specs.Stands.{Stand, Unsaid, Leaf, Place, Defined, Through, Brought}
 use Rattle.flat_trees.specs.Layouts.{Layout, coming_stand, layout_before, layout_behind, layout_declaring, layout_in, layout_repeating, layout_with, order_of, parameters_of, with_brought, with_places, with_stand, with_stands}
@@ -48,7 +48,7 @@ module _ (flat : FlatModule) where
   module _ (stand : Stand) (reached : List Named → Reached) (one : HasDepths flat 0 stand reached) (other : Meaning) where
     same-deep : (meanings : List Meaning) (stands : Meaning → Stand) → HasDepths flat 0 (stands other) reached → HasDepths flat 0 (with_stands stands meanings stand other) reached
     same-deep [] stands has = has
-    same-deep (meaning ∷ rest) stands has = same-deep rest (with_stand stands meaning stand) (by_sameness (same_meaning other meaning))
+    same-deep (meaning ∷ rest) stands has = same-deep rest (with_stand stands meaning stand) (by_sameness (same_standing other meaning))
       where
         by_sameness : (b : Bool) → HasDepths flat 0 (cond b stand (stands other)) reached
         by_sameness true = one
@@ -57,18 +57,18 @@ module _ (flat : FlatModule) where
     pub with-stands-deep : (meanings : List Meaning) (stands : Meaning → Stand) (depths : Depths) → HasDepths flat 0 (stands other) (depths other) → HasDepths flat 0 (with_stands stands meanings stand other) (with_depth depths meanings reached other)
     with-stands-deep [] stands depths has = has
     with-stands-deep (meaning ∷ rest) stands depths has =
-        by_sameness (same_meaning other meaning) refl
+        by_sameness (same_standing other meaning) refl
         (λ e. with-stands-deep rest (with_stand stands meaning stand) depths (subst (λ b. HasDepths flat 0 (cond b stand (stands other)) (depths other)) (sym e) has))
       where
-        by_sameness : (b : Bool) → same_meaning other meaning ≡ b → (same_meaning other meaning ≡ false → HasDepths flat 0 (with_stands (with_stand stands meaning stand) rest stand other) (with_depth depths rest reached other)) → HasDepths flat 0 (with_stands (with_stand stands meaning stand) rest stand other) (λ path. cond b (reached path) (with_depth depths rest reached other path))
+        by_sameness : (b : Bool) → same_standing other meaning ≡ b → (same_standing other meaning ≡ false → HasDepths flat 0 (with_stands (with_stand stands meaning stand) rest stand other) (with_depth depths rest reached other)) → HasDepths flat 0 (with_stands (with_stand stands meaning stand) rest stand other) (λ path. cond b (reached path) (with_depth depths rest reached other path))
         by_sameness true e next = same-deep rest (with_stand stands meaning stand) (subst (λ b. HasDepths flat 0 (cond b stand (stands other)) reached) (sym e) one)
         by_sameness false e next = next e
 
   -- a parameter or a symbol has no depth
   place-deep : (stands : Meaning → Stand) (depths : Depths) (meaning : Meaning) (place : ℕ) → HaveDepths flat stands depths → IsPlain depths meaning → HaveDepths flat (with_stand stands meaning (Place place (order_of meaning))) depths
-  place-deep stands depths meaning place have plain other = by_sameness (same_meaning other meaning) refl
+  place-deep stands depths meaning place have plain other = by_sameness (same_standing other meaning) refl
     where
-      by_sameness : (b : Bool) → same_meaning other meaning ≡ b → HasDepths flat 0 (cond b (Place place (order_of meaning)) (stands other)) (depths other)
+      by_sameness : (b : Bool) → same_standing other meaning ≡ b → HasDepths flat 0 (cond b (Place place (order_of meaning)) (stands other)) (depths other)
       by_sameness true e = plain other e
       by_sameness false e = have other
 

@@ -8,7 +8,7 @@ use Rattle.tla_tree.specs.declared.form.Form.TheVariants as Form
 use Rattle.tla_tree.specs.Syntax.{Tree, Node}
 use Rattle.unit_grammar.specs.Units.{UnitTree, Variables, Constants, OperatorDefinition, FunctionDefinition, ModuleDefinition, Instance, Assumption, Theorem, Line, ModuleBegin, ModuleEnd, ModuleUnits}
 use Rattle.tla_model.specs.Tables.{Named}
-use Rattle.tla_model.specs.Entities.{Meaning, Text, meant, same_meaning}
+use Rattle.tla_model.specs.Entities.{Meaning, Text, meant}
 use Rattle.tla_model.specs.Lexemes.{spelled}
 use Rattle.tla_model.specs.Scopes.{definition}
 use Rattle.module_scope.specs.Environments.{Scope, begun, first as first_scope}
@@ -16,7 +16,7 @@ use Rattle.module_model.specs.Exports.{Exports, ModuleView, entry_of, exports_of
 use Rattle.module_model.specs.Modules.{text_of}
 use Rattle.module_model.specs.Resolution.{instance_brings, outside_in, words_of}
 use Rattle.kind_text.specs.FlatModule.{Extends, FlatModule, IsOrdered}
-use Rattle.tree_kinds.specs.Standing.{Outside, Reached, name_among}
+use Rattle.tree_kinds.specs.Standing.{Outside, Reached, name_among, same_standing}
 use Rattle.tree_kinds.specs.TreeDepths.{Depths, coming_depth, deeper, defined_depth, no_depths, reached_by, replaced_depth, with_depth, with_entry_depths}
 use Rattle.module_kinds.specs.ModuleKinds.{KindState, after, beneath, depths_behind, extended_depths, first, known_at, last, named, named_in, outside, outside_by, read_all, views, with_brought}
 use Rattle.flat_trees.specs.Stands.{Stand, Unsaid, Leaf, Place, Defined, Through, Brought}
@@ -33,7 +33,7 @@ use Rattle.flat_depths.proofs.Growing.{has-kept}
 depths-left : (depths : Depths) (meanings : List Meaning) (reached : List Named → Reached) (other : Meaning) (path : List Named) → is_among meanings other ≡ false → with_depth depths meanings reached other path ≡ depths other path
 depths-left depths [] reached other path among = refl
 depths-left depths (m ∷ rest) reached other path among =
-    by_sameness (same_meaning other m) (with_depth depths rest reached other path) (λ others. depths-left depths rest reached other path others) among
+    by_sameness (same_standing other m) (with_depth depths rest reached other path) (λ others. depths-left depths rest reached other path others) among
   where
     by_sameness : (t : Bool) (found : Reached) → (is_among rest other ≡ false → found ≡ depths other path) → (t || is_among rest other) ≡ false → cond t (reached path) found ≡ depths other path
     by_sameness true found others among = cc

@@ -2,19 +2,19 @@
 use Rattle.std.specs.Prelude.{◌≡◌, ◌⊎◌, ℕ, true, List, [], ◌∷◌, max, slice_get}
 use Rattle.tla_tree.specs.Syntax.{Tree}
 use Rattle.tla_model.specs.Tables.{Named}
-use Rattle.tla_model.specs.Entities.{Meaning, Text, same_meaning}
+use Rattle.tla_model.specs.Entities.{Meaning, Text}
 use Rattle.tla_model.specs.Contexts.{Context}
 use Rattle.module_model.specs.Exports.{Known}
 use Rattle.kind_text.specs.FlatModule.{FlatModule}
 use Rattle.level_text.specs.Depth.{depth as depth_at, depth_of, instance_depth, replaced_depth}
-use Rattle.tree_kinds.specs.Standing.{Outside, Reached}
+use Rattle.tree_kinds.specs.Standing.{Outside, Reached, same_standing}
 use Rattle.tree_kinds.specs.TreeDepths.{Beneath, Depths, depth}
 use Rattle.flat_trees.specs.Stands.{Stand, Unsaid, Place, Defined, Through, Brought}
 use Rattle.flat_trees.specs.Layouts.{Layout}
 
--- whatever means the same has no depth
+-- whatever stands as this does has no depth
 abbrev pub IsPlain : Depths → Meaning → Type 0
-IsPlain depths meaning = (other : Meaning) → same_meaning other meaning ≡ true → depths other [] ≡ record { depth = 0; replaced = 0 }
+IsPlain depths meaning = (other : Meaning) → same_standing other meaning ≡ true → depths other [] ≡ record { depth = 0; replaced = 0 }
 
 -- a name stands as before, or for the item at the next place, and then it has no depth
 abbrev pub IsDeclaredPlain : Layout → (List Named → Reached) → Stand → Stand → Type 0

@@ -25,7 +25,8 @@ use Rattle.module_model.specs.Instances.{brought_by, brought_entries, nested_vie
 use Rattle.module_model.specs.Modules.{Reading, begun_in, clashes, constants, declare_all, exports_under, extends_all, joined, left, text_of, unread, with_entry}
 use Rattle.module_model.specs.NamedModules.{module_under as view_under, unit_of}
 use Rattle.module_model.specs.Resolution.{ReadState, instance_brings, words_of, read_all as read_names}
-use Rattle.tree_kinds.specs.Standing.{Environment as Standing, Outside, name_among}
+use Rattle.tree_kinds.specs.Standing.{Environment as Standing, Outside, name_among, same_standing}
+use Rattle.tree_kinds.proofs.Standings.{standing-means, standing-unlike}
 use Rattle.module_kinds.specs.ModuleKinds.{KindState, after, first, module_under, named_in, nested_outside, outside, read_all, views}
 use Rattle.flat_kinds.specs.Declarations.{Declarations, AreDeclared, AreNamesDeclared, AreUnitsDeclared, EachOnce, IsOnce, KeepsDeclarations, IsDeclared, IsNoDefinition, IsOutsideDeclared, IsReadingDeclared, IsStateDeclared, IsViewDeclared, OfAllKnown, OfKnown, declared_names}
 use Rattle.list_laws.proofs.Lists.{all-both, all-weaker}
@@ -92,11 +93,11 @@ read-same text files words state (unit ∷ units) = read-same text files words (
 
 module _ (declares : Declarations) where
   -- what is declared as a definition is not what is declared as none
-  apart : (meaning other : Meaning) (name : Named) → IsNoDefinition declares meaning → IsDeclared declares name other → is_meant stands_behind other ≡ true → same_meaning meaning other ≡ false
-  apart BuiltIn BuiltIn name none declared behind = cc
-  apart BuiltIn (Declared f y) name none declared behind = refl
-  apart (Declared e x) BuiltIn name none declared behind = refl
-  apart (Declared e x) (Declared f y) name none declared behind = by_same (same_decl x.decl y.decl) refl
+  declared-apart : (meaning other : Meaning) (name : Named) → IsNoDefinition declares meaning → IsDeclared declares name other → is_meant stands_behind other ≡ true → same_meaning meaning other ≡ false
+  declared-apart BuiltIn BuiltIn name none declared behind = cc
+  declared-apart BuiltIn (Declared f y) name none declared behind = refl
+  declared-apart (Declared e x) BuiltIn name none declared behind = refl
+  declared-apart (Declared e x) (Declared f y) name none declared behind = by_same (same_decl x.decl y.decl) refl
     where
       by_same : (b : Bool) → same_decl x.decl y.decl ≡ b → (b && same_units x.via y.via) ≡ false
       by_same false is = refl
@@ -105,6 +106,9 @@ module _ (declares : Declarations) where
           let as_here : (declares x.decl).1 ≡ f = ap (λ d. (declares d).1) decl ∙ ap (λ (p : Named × Entity). p.1) declared in
           let both : stands_behind (declares x.decl).1 ≡ true = ap stands_behind as_here ∙ behind in
           absurd (cc)
+
+  apart : (meaning other : Meaning) (name : Named) → IsNoDefinition declares meaning → IsDeclared declares name other → is_meant stands_behind other ≡ true → same_standing meaning other ≡ false
+  apart meaning other name none declared behind = standing-unlike meaning other (declared-apart meaning other name none declared behind)
 
   -- ---- entries
 
@@ -387,10 +391,10 @@ module _ (declares : Declarations) where
 
   none-among : (symbols : List Meaning) (other : Meaning) → AllByRecursion (IsNoDefinition declares) symbols → is_among symbols other ≡ true → IsNoDefinition declares other
   none-among [] other all among = cc
-  none-among (meaning ∷ rest) other all among = by_same (none-among rest other all.1) (same_meaning other meaning) refl among
+  none-among (meaning ∷ rest) other all among = by_same (none-among rest other all.1) (same_standing other meaning) refl among
     where
-      by_same : (is_among rest other ≡ true → IsNoDefinition declares other) → (b : Bool) → same_meaning other meaning ≡ b → (b || is_among rest other) ≡ true → IsNoDefinition declares other
-      by_same others true is among = none-alike other meaning is all.0
+      by_same : (is_among rest other ≡ true → IsNoDefinition declares other) → (b : Bool) → same_standing other meaning ≡ b → (b || is_among rest other) ≡ true → IsNoDefinition declares other
+      by_same others true is among = none-alike other meaning (standing-means other meaning is) all.0
       by_same others false is among = others among
 
   -- own symbols that are declared so are new

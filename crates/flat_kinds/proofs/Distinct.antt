@@ -20,7 +20,8 @@ use Rattle.module_model.specs.Exports.{Exports, exports_of, of_symbols, of_words
 use Rattle.module_model.specs.Instances.{own_parameters}
 use Rattle.module_model.specs.Modules.{Reading, text_of}
 use Rattle.module_model.specs.Resolution.{ReadState, words_of}
-use Rattle.tree_kinds.specs.Standing.{Outside}
+use Rattle.tree_kinds.specs.Standing.{Outside, same_standing}
+use Rattle.tree_kinds.proofs.Standings.{standing-means, standing-unlike}
 use Rattle.module_kinds.specs.ModuleKinds.{KindState, first, last, nested_outside, outside}
 use Rattle.list_laws.proofs.Lists.{all-both}
 use Rattle.flat_trees.specs.Instances.{symbols_of}
@@ -74,9 +75,9 @@ words-own (word ∷ words) symbols once others =
 -- what means none of these means none of those that are kept
 among-kept : (keep : Named × Meaning → Bool) (entries : Exports) (other : Meaning) → is_among (map (λ (entry : Named × Meaning). entry.1) entries) other ≡ false → is_among (map (λ (entry : Named × Meaning). entry.1) (filter keep entries)) other ≡ false
 among-kept keep [] other none = refl
-among-kept keep (entry ∷ rest) other none = by_kept (keep entry) (same_meaning other entry.1) refl none (among-kept keep rest other)
+among-kept keep (entry ∷ rest) other none = by_kept (keep entry) (same_standing other entry.1) refl none (among-kept keep rest other)
   where
-    by_kept : (b t : Bool) → same_meaning other entry.1 ≡ t → (t || is_among (map (λ (e : Named × Meaning). e.1) rest) other) ≡ false
+    by_kept : (b t : Bool) → same_standing other entry.1 ≡ t → (t || is_among (map (λ (e : Named × Meaning). e.1) rest) other) ≡ false
         → (is_among (map (λ (e : Named × Meaning). e.1) rest) other ≡ false → is_among (map (λ (e : Named × Meaning). e.1) (filter keep rest)) other ≡ false)
         → is_among (map (λ (e : Named × Meaning). e.1) (cond b (entry ∷ filter keep rest) (filter keep rest))) other ≡ false
     by_kept b true is none others = cc none
@@ -114,7 +115,7 @@ module _ (declares : Declarations) where
   name-once : (entry : Named × Meaning) (rest : Exports) → AllByRecursion (λ (other : Named × Meaning). entry.0 ≡ other.0 → ⊥) rest → IsDeclared declares entry.0 entry.1 → AreDeclared declares rest → is_meant stands_for_parameter entry.1 ≡ true → is_among (map (λ (e : Named × Meaning). e.1) rest) entry.1 ≡ false
   name-once entry [] own one all is = refl
   name-once entry (other ∷ rest) own one all is =
-      ap (λ b. b || is_among (map (λ (e : Named × Meaning). e.1) rest) entry.1) (names-apart entry.0 other.0 entry.1 other.1 one all.0 is own.0)
+      ap (λ b. b || is_among (map (λ (e : Named × Meaning). e.1) rest) entry.1) (standing-unlike entry.1 other.1 (names-apart entry.0 other.0 entry.1 other.1 one all.0 is own.0))
       ∙ name-once entry rest own.1 one all.1 is
 
   symbol-declared : (name : Named) (meaning : Meaning) → IsDeclared declares name meaning → is_meant stands_for_parameter meaning ≡ true → IsSymbol declares meaning
@@ -180,10 +181,10 @@ module _ (declares : Declarations) where
 
   symbol-among : (symbols : List Meaning) (other : Meaning) → AllByRecursion (IsSymbol declares) symbols → is_among symbols other ≡ true → IsSymbol declares other
   symbol-among [] other all among = cc among
-  symbol-among (meaning ∷ rest) other all among = by_same (symbol-among rest other all.1) (same_meaning other meaning) refl among
+  symbol-among (meaning ∷ rest) other all among = by_same (symbol-among rest other all.1) (same_standing other meaning) refl among
     where
-      by_same : (is_among rest other ≡ true → IsSymbol declares other) → (b : Bool) → same_meaning other meaning ≡ b → (b || is_among rest other) ≡ true → IsSymbol declares other
-      by_same others true is among = symbol-alike other meaning is all.0
+      by_same : (is_among rest other ≡ true → IsSymbol declares other) → (b : Bool) → same_standing other meaning ≡ b → (b || is_among rest other) ≡ true → IsSymbol declares other
+      by_same others true is among = symbol-alike other meaning (standing-means other meaning is) all.0
       by_same others false is among = others among
 
   pub says-nothing : (base : Meaning → Stand) (symbols : List Meaning) → ((meaning : Meaning) → IsSymbol declares meaning → base meaning ≡ Unsaid) → AllByRecursion (IsSymbol declares) symbols → SaysNothing base symbols
@@ -194,9 +195,9 @@ module _ (declares : Declarations) where
 -- what means one of these means none of the others
 own-none : (outer own : List Meaning) (other : Meaning) → AllByRecursion (λ (meaning : Meaning). is_among outer meaning ≡ false) own → is_among own other ≡ true → is_among outer other ≡ false
 own-none outer [] other all among = cc among
-own-none outer (meaning ∷ rest) other all among = by_same (own-none outer rest other all.1) (same_meaning other meaning) refl among
+own-none outer (meaning ∷ rest) other all among = by_same (own-none outer rest other all.1) (same_standing other meaning) refl among
   where
-    by_same : (is_among rest other ≡ true → is_among outer other ≡ false) → (b : Bool) → same_meaning other meaning ≡ b → (b || is_among rest other) ≡ true → is_among outer other ≡ false
+    by_same : (is_among rest other ≡ true → is_among outer other ≡ false) → (b : Bool) → same_standing other meaning ≡ b → (b || is_among rest other) ≡ true → is_among outer other ≡ false
     by_same others true is among = among-alike outer other meaning is ∙ all.0
     by_same others false is among = others among
 

@@ -3,7 +3,7 @@ use Rattle.std.proofs.Common.{◌≡◌, ℕ, Bool, true, false, cond, List, [],
 use Rattle.std.specs.Prelude.{◌||◌}
 use Rattle.tla_symbols.specs.declared.lexeme.Lexeme.{Lexeme}
 use Rattle.unit_grammar.specs.Units.{UnitTree, Variables, Constants, OperatorDefinition, FunctionDefinition, ModuleDefinition, Instance, Assumption, Theorem, Line, ModuleBegin, ModuleEnd}
-use Rattle.tla_model.specs.Entities.{Meaning, Text, meant, same_meaning}
+use Rattle.tla_model.specs.Entities.{Meaning, Text, meant}
 use Rattle.tla_model.specs.Lexemes.{spelled}
 use Rattle.tla_model.specs.Scopes.{definition}
 use Rattle.module_scope.specs.Environments.{Scope, begun}
@@ -12,7 +12,7 @@ use Rattle.module_model.specs.Modules.{Reading, left}
 use Rattle.module_model.specs.Resolution.{instance_brings}
 use Rattle.kind_text.specs.ExpandedKind.{Expanded}
 use Rattle.kind_text.specs.FlatModule.{FlatModule}
-use Rattle.tree_kinds.specs.Standing.{Environment, Outside, Steps, Value, coming, name_among, with_entries, with_value, with_values}
+use Rattle.tree_kinds.specs.Standing.{Environment, Outside, Steps, Value, coming, name_among, same_standing, with_entries, with_value, with_values}
 use Rattle.tree_kinds.specs.Expanding.{unguarded}
 use Rattle.module_kinds.specs.ModuleKinds.{KindState, after, around, extended, known_at, named, named_in, standing_behind, views}
 use Rattle.flat_trees.specs.Stands.{IsStanding, Stand}
@@ -22,7 +22,7 @@ use Rattle.flat_kinds.specs.Readings.{BringNone, KeepsStanding, KeepsState, Leav
 values-left : (standing : Environment) (meanings : List Meaning) (value : Value) (other : Meaning) → is_among meanings other ≡ false → with_values standing meanings value other ≡ standing other
 values-left standing [] value other among = refl
 values-left standing (m ∷ rest) value other among =
-    by_sameness (same_meaning other m) (with_values (with_value standing m value) rest value other) (values-left (with_value standing m value) rest value other) among
+    by_sameness (same_standing other m) (with_values (with_value standing m value) rest value other) (values-left (with_value standing m value) rest value other) among
   where
     by_sameness : (t : Bool) (found : Value) → (is_among rest other ≡ false → found ≡ cond t value (standing other)) → (t || is_among rest other) ≡ false → found ≡ standing other
     by_sameness true found others among = cc

@@ -4,17 +4,18 @@ use Rattle.std.specs.Prelude.{◌||◌}
 use Rattle.std.proofs.lemmas.Bool.{and_parts}
 use Rattle.std.proofs.lemmas.List.{length-append}
 use Rattle.tla_model.specs.declared.entity.Entity.TheVariants as entity
+use Rattle.tla_model.specs.declared.ids.Callee.{Callee}
 use Rattle.tla_model.specs.declared.names.Meaning.TheVariants.{BuiltIn, Declared}
 use Rattle.tla_model.specs.Tables.{Named}
 use Rattle.tla_model.specs.Entities.{Entity, Meaning, same_meaning}
 use Rattle.kind_text.specs.FlatModule.{FlatModule}
 use Rattle.kind_text.specs.Substitution.{Item, at}
-use Rattle.tree_kinds.specs.Standing.{Outside, itself, themselves, value_of}
+use Rattle.tree_kinds.specs.Standing.{Outside, is_bound, itself, same_standing, themselves, value_of}
+use Rattle.tree_kinds.proofs.Standings.{standing-alike, standing-from}
 use Rattle.flat_trees.specs.Stands.{AreStanding, IsItem, IsStanding, Matches, Stand, Unsaid, Leaf, Place, Defined, Through, Brought}
 use Rattle.flat_trees.specs.Layouts.{StandsBefore, order_of}
 use Rattle.flat_trees.specs.Instances.{IsModule, with_symbols}
 use Rattle.flat_trees.proofs.Agreeing.{append-append, at-behind, item-value}
-use Rattle.flat_trees.proofs.Meanings.{same-alike}
 use Rattle.flat_trees.proofs.Reaching.{at-append}
 use Rattle.flat_kinds.specs.Readings.{SaysLess, StandsItself, is_among, or_stand, with_own}
 use Rattle.flat_kinds.specs.Symbols.{AreDistinct, SaysNothing, item_itself, same_declared, same_symbol, symbols_at}
@@ -58,10 +59,18 @@ symbol-itself BuiltIn b same = cc
 symbol-itself (Declared e x) BuiltIn same = cc
 symbol-itself (Declared e x) (Declared f y) same = sym (declared-alike e f (and_parts (same_declared e f) (same_meaning (Declared e x) (Declared f y)) same).0)
 
-symbol-means : (a b : Meaning) → same_symbol a b ≡ true → same_meaning a b ≡ true
-symbol-means BuiltIn b same = cc
-symbol-means (Declared e x) BuiltIn same = cc
-symbol-means (Declared e x) (Declared f y) same = (and_parts (same_declared e f) (same_meaning (Declared e x) (Declared f y)) same).1
+declared-free : (e f : Entity) (x y : Callee) → same_declared e f ≡ true → is_bound (Declared e x) ≡ is_bound (Declared f y)
+declared-free (entity.Constant m) (entity.Constant n) x y same = refl
+declared-free entity.Variable entity.Variable x y same = refl
+declared-free e f x y same = cc
+
+-- what is the same symbol stands as it does
+pub symbol-stands : (a b : Meaning) → same_symbol a b ≡ true → same_standing a b ≡ true
+symbol-stands BuiltIn b same = cc
+symbol-stands (Declared e x) BuiltIn same = cc
+symbol-stands (Declared e x) (Declared f y) same =
+    let parts = and_parts (same_declared e f) (same_meaning (Declared e x) (Declared f y)) same in
+    standing-from (Declared e x) (Declared f y) parts.1 (declared-free e f x y parts.0)
 
 -- a symbol is declared
 symbol-place : (frame : List Item) (place order : ℕ) (a b : Meaning) → same_symbol a b ≡ true → place < length frame → at frame place ≡ item_itself a → StandsItself frame (Place place order) a
@@ -100,34 +109,34 @@ places-itself base before (meaning ∷ rest) other holds =
 -- what means none of these symbols stands as before
 pub symbols-none : (base : Meaning → Stand) (symbols : List Meaning) (place : ℕ) (other : Meaning) → is_among symbols other ≡ false → symbols_at base symbols place other ≡ base other
 symbols-none base [] place other none = refl
-symbols-none base (meaning ∷ rest) place other none = by_sameness (symbols-none base rest (suc place) other) (same_symbol other meaning) refl (same_meaning other meaning) refl none
+symbols-none base (meaning ∷ rest) place other none = by_sameness (symbols-none base rest (suc place) other) (same_symbol other meaning) refl (same_standing other meaning) refl none
   where
-    by_sameness : (is_among rest other ≡ false → symbols_at base rest (suc place) other ≡ base other) → (b : Bool) → same_symbol other meaning ≡ b → (t : Bool) → same_meaning other meaning ≡ t → (t || is_among rest other) ≡ false → cond b (Place place (order_of meaning)) (symbols_at base rest (suc place) other) ≡ base other
+    by_sameness : (is_among rest other ≡ false → symbols_at base rest (suc place) other ≡ base other) → (b : Bool) → same_symbol other meaning ≡ b → (t : Bool) → same_standing other meaning ≡ t → (t || is_among rest other) ≡ false → cond b (Place place (order_of meaning)) (symbols_at base rest (suc place) other) ≡ base other
     by_sameness others b same true means none = cc
-    by_sameness others true same false means none = let e = symbol-means other meaning same in cc
+    by_sameness others true same false means none = let e = symbol-stands other meaning same in cc
     by_sameness others false same false means none = others none
 
-pub among-alike : (symbols : List Meaning) (a b : Meaning) → same_meaning a b ≡ true → is_among symbols a ≡ is_among symbols b
+pub among-alike : (symbols : List Meaning) (a b : Meaning) → same_standing a b ≡ true → is_among symbols a ≡ is_among symbols b
 among-alike [] a b same = refl
 among-alike (meaning ∷ rest) a b same =
-    ap (λ (t : Bool). t || is_among rest a) (same-alike a b meaning same) ∙ ap (λ (t : Bool). same_meaning b meaning || t) (among-alike rest a b same)
+    ap (λ (t : Bool). t || is_among rest a) (standing-alike a b meaning same) ∙ ap (λ (t : Bool). same_standing b meaning || t) (among-alike rest a b same)
 
 -- less is said of symbols than of all that mean the same
 pub symbols-at-less : (base : Meaning → Stand) (symbols : List Meaning) (place : ℕ) → AreDistinct symbols → SaysNothing base symbols → SaysLess (symbols_at base symbols place) (with_symbols base symbols place)
 symbols-at-less base [] place distinct nothing other = inr refl
 symbols-at-less base (meaning ∷ rest) place distinct nothing other =
-    by_sameness (symbols-at-less base rest (suc place) distinct.1 rest_nothing other) (same_symbol other meaning) refl (same_meaning other meaning) refl
+    by_sameness (symbols-at-less base rest (suc place) distinct.1 rest_nothing other) (same_symbol other meaning) refl (same_standing other meaning) refl
   where
     or-true : (b : Bool) → (b || true) ≡ true
     or-true true = refl
     or-true false = refl
 
     rest_nothing : SaysNothing base rest
-    rest_nothing one among = nothing one (ap (λ (t : Bool). same_meaning one meaning || t) among ∙ or-true (same_meaning one meaning))
+    rest_nothing one among = nothing one (ap (λ (t : Bool). same_standing one meaning || t) among ∙ or-true (same_standing one meaning))
 
-    by_sameness : (symbols_at base rest (suc place) other ≡ Unsaid) ⊎ (symbols_at base rest (suc place) other ≡ with_symbols base rest (suc place) other) → (b : Bool) → same_symbol other meaning ≡ b → (t : Bool) → same_meaning other meaning ≡ t → (cond b (Place place (order_of meaning)) (symbols_at base rest (suc place) other) ≡ Unsaid) ⊎ (cond b (Place place (order_of meaning)) (symbols_at base rest (suc place) other) ≡ cond t (Place place (order_of meaning)) (with_symbols base rest (suc place) other))
+    by_sameness : (symbols_at base rest (suc place) other ≡ Unsaid) ⊎ (symbols_at base rest (suc place) other ≡ with_symbols base rest (suc place) other) → (b : Bool) → same_symbol other meaning ≡ b → (t : Bool) → same_standing other meaning ≡ t → (cond b (Place place (order_of meaning)) (symbols_at base rest (suc place) other) ≡ Unsaid) ⊎ (cond b (Place place (order_of meaning)) (symbols_at base rest (suc place) other) ≡ cond t (Place place (order_of meaning)) (with_symbols base rest (suc place) other))
     by_sameness others true same true means = inr refl
-    by_sameness others true same false means = let e = symbol-means other meaning same in absurd (cc)
+    by_sameness others true same false means = let e = symbol-stands other meaning same in absurd (cc)
     by_sameness others false same true means =
         inl
         (symbols-none base rest (suc place) other (among-alike rest other meaning means ∙ distinct.0)

@@ -17,7 +17,8 @@ use Rattle.module_model.specs.Resolution.{ReadState, words_of}
 use Rattle.kind_text.specs.FlatModule.{FlatModule}
 use Rattle.kind_text.specs.ExpandedKind.{Expanded}
 use Rattle.kind_text.specs.Substitution.{Item}
-use Rattle.tree_kinds.specs.Standing.{Environment, Outside, Steps, Value, coming, name_among, value_in, with_entries}
+use Rattle.tree_kinds.specs.Standing.{Environment, Outside, Steps, Value, coming, name_among, same_standing, value_in, with_entries}
+use Rattle.tree_kinds.proofs.Standings.{standing-means}
 use Rattle.module_kinds.specs.ModuleKinds.{KindState, after, extended, first, last, module_under, named_in, nested_outside, outside, standing_behind}
 use Rattle.flat_trees.specs.Stands.{IsStanding, Stand, Unsaid}
 use Rattle.flat_trees.specs.Layouts.{Layout}
@@ -54,20 +55,20 @@ entry-found (entry ∷ rest) meaning name own is = by_kind (is_meant stands_behi
         by_name false is = found.there
         by_name true is = absurd (found.own entry.0 own.0 (sym (named-equal name entry.0 is)))
 
-    by_same : (b : Bool) → same_meaning meaning entry.1 ≡ b → is_meant stands_behind entry.1 ≡ true → (name_among (instantiable rest) meaning ≡ Some name → Entry rest meaning name) → cond b (Some entry.0) (name_among (instantiable rest) meaning) ≡ Some name → Entry (entry ∷ rest) meaning name
+    by_same : (b : Bool) → same_standing meaning entry.1 ≡ b → is_meant stands_behind entry.1 ≡ true → (name_among (instantiable rest) meaning ≡ Some name → Entry rest meaning name) → cond b (Some entry.0) (name_among (instantiable rest) meaning) ≡ Some name → Entry (entry ∷ rest) meaning name
     by_same true same behind others is =
         let named : entry.0 ≡ name = cc is in
         record {
           other = entry.1;
           there = ap (λ b. cond b (Some entry.1) (entry_of rest name)) (subst (λ n. same_named n entry.0 ≡ true) named (named-itself entry.0));
-          same = same;
+          same = standing-means meaning entry.1 same;
           behind = behind;
           own = λ key all equal. all.0 (equal ∙ sym named);
         }
     by_same false same behind others is = later (others is)
 
     by_kind : (b : Bool) → is_meant stands_behind entry.1 ≡ b → (name_among (instantiable rest) meaning ≡ Some name → Entry rest meaning name) → name_among (cond b (entry ∷ instantiable rest) (instantiable rest)) meaning ≡ Some name → Entry (entry ∷ rest) meaning name
-    by_kind true behind others is = by_same (same_meaning meaning entry.1) refl behind others is
+    by_kind true behind others is = by_same (same_standing meaning entry.1) refl behind others is
     by_kind false behind others is = later (others is)
 
 module _ (yields : Yields) where

@@ -6,7 +6,7 @@ use Rattle.tla_tree.specs.Syntax.{Tree}
 use Rattle.unit_grammar.specs.Units.{UnitTree, OperatorDefinition, FunctionDefinition, ModuleDefinition, Instance, ModuleBegin, ModuleEnd}
 use Rattle.tla_model.specs.declared.names.Meaning.TheVariants.{Declared}
 use Rattle.tla_model.specs.Tables.{Named}
-use Rattle.tla_model.specs.Entities.{Meaning, Text, meant, same_meaning}
+use Rattle.tla_model.specs.Entities.{Meaning, Text, meant}
 use Rattle.tla_model.specs.Contexts.{Context}
 use Rattle.tla_model.specs.Lexemes.{spelled}
 use Rattle.tla_model.specs.Scopes.{definition}
@@ -16,7 +16,7 @@ use Rattle.module_model.specs.Resolution.{instance_brings}
 use Rattle.kind_text.specs.ExpandedKind.{Given}
 use Rattle.kind_text.specs.FlatModule.{FlatModule, Instance as FlatInstance}
 use Rattle.kind_text.specs.Substitution.{Item, at}
-use Rattle.tree_kinds.specs.Standing.{Environment, Outside, itself, name_among, themselves}
+use Rattle.tree_kinds.specs.Standing.{Environment, Outside, itself, name_among, same_standing, themselves}
 use Rattle.tree_kinds.specs.Expanding.{Around, bringing, defined_value}
 use Rattle.module_kinds.specs.ModuleKinds.{KindState, after, known_at, named, named_in, standing_behind, views}
 use Rattle.flat_trees.specs.Stands.{AreStanding, IsStanding, Stand, Unsaid, Leaf, Place}
@@ -95,10 +95,10 @@ pub record IsExtension (flat : FlatModule) (layout : Layout) (here : Meaning →
   pub kept : IsModule flat e.symbols e.places e.inner outside
   pub stays : (meaning : Meaning) → StaysIn flat e.instance.replacements (e.symbols meaning) (here meaning)
 
--- a name means one of these
+-- a name stands as one of these does
 abbrev pub is_among : List Meaning → Meaning → Bool
 is_among [] other = false
-is_among (meaning ∷ rest) other = same_meaning other meaning || is_among rest other
+is_among (meaning ∷ rest) other = same_standing other meaning || is_among rest other
 
 -- in another context, with other stands
 abbrev pub layout_as : Layout → Context → (Meaning → Stand) → Layout

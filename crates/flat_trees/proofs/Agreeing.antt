@@ -4,7 +4,7 @@ use Rattle.std.proofs.lemmas.List.{length-append, length-map}
 use Rattle.tla_tree.specs.declared.form.Form.TheVariants as Form
 use Rattle.tla_tree.specs.Syntax.{Tree, Trees}
 use Rattle.tla_model.specs.Tables.{Named}
-use Rattle.tla_model.specs.Entities.{Meaning, Text, meant, same_meaning}
+use Rattle.tla_model.specs.Entities.{Meaning, Text, meant}
 use Rattle.tla_model.specs.Contexts.{Context}
 use Rattle.tla_model.specs.Scopes.{behind, definition, reserved, scope}
 use Rattle.module_model.specs.Exports.{Exports, Known}
@@ -12,7 +12,7 @@ use Rattle.kind_text.specs.ExpandedKind.{Expanded}
 use Rattle.kind_text.specs.FlatModule.{FlatModule}
 use Rattle.kind_text.specs.Expansion.{items as items_at, text as text_at}
 use Rattle.kind_text.specs.Substitution.{Item, at, texts}
-use Rattle.tree_kinds.specs.Standing.{Environment, Outside, Steps, Value, coming, name_among, value_of, with_entries, with_items, with_value, with_values}
+use Rattle.tree_kinds.specs.Standing.{Environment, Outside, Steps, Value, coming, name_among, same_standing, value_of, with_entries, with_items, with_value, with_values}
 use Rattle.tree_kinds.specs.Expanding.{Around, before_scope, behind_definition, in_scope, with_parameters}
 use Rattle.flat_trees.specs.Stands.{AreStanding, Fits, IsItem, IsStanding, Matches, Stand, Unsaid, Leaf, Place, Defined, Through, Brought, count}
 use Rattle.flat_trees.specs.Layouts.{Agrees, IsDeclaredAs, Layout, StandsBefore, around_in, coming_stand, layout_before, layout_behind, layout_declaring, layout_in, layout_with, order_of, parameters_of, with_brought, with_places, with_stand, with_stands}
@@ -50,7 +50,7 @@ fits-length (n ∷ orders) (x ∷ xs) (y ∷ ys) fits = ap suc (fits-length orde
 
 module _ (flat : FlatModule) where
   pub with-stand-stands : (s : List Item) (stands : Meaning → Stand) (standing : Environment) (meaning : Meaning) (stand : Stand) (value : Value) → AreStanding flat s stands standing → IsStanding flat s [] stand value → AreStanding flat s (with_stand stands meaning stand) (with_value standing meaning value)
-  with-stand-stands s stands standing meaning stand value all one other = by_sameness (same_meaning other meaning)
+  with-stand-stands s stands standing meaning stand value all one other = by_sameness (same_standing other meaning)
     where
       by_sameness : (b : Bool) → IsStanding flat s [] (cond b stand (stands other)) (cond b value (standing other))
       by_sameness true = one

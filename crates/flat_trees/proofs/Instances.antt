@@ -12,14 +12,14 @@ use Rattle.tla_tree.specs.declared.form.Form.TheVariants as Form
 use Rattle.tla_tree.specs.Syntax.{Trees, Node, Nil, Cons}
 use Rattle.tla_model.specs.declared.names.Meaning.TheVariants.{BuiltIn, Declared}
 use Rattle.tla_model.specs.Tables.{Named}
-use Rattle.tla_model.specs.Entities.{Meaning, Text, same_meaning}
+use Rattle.tla_model.specs.Entities.{Meaning, Text}
 use Rattle.module_model.specs.Exports.{Exports, Known}
 use Rattle.kind_text.specs.ExpandedKind.{Expanded, Given, Guarded}
 use Rattle.kind_text.specs.FlatModule.{FlatModule, Form as NodeForm, Instance, IsOrdered, Node as FlatNode, Replacement}
 use Rattle.kind_text.proofs.Unfolding.{text-step}
 use Rattle.kind_text.specs.Expansion.{Guard, form_item, guard, guarded_by, guards_of, items as items_at, judged_at, text as text_at}
 use Rattle.kind_text.specs.Substitution.{Item, at, constants, judged, leaves}
-use Rattle.tree_kinds.specs.Standing.{Environment, Outside, Steps, Value, operator_places, places as places_in, value_of, with_entries}
+use Rattle.tree_kinds.specs.Standing.{Environment, Outside, Steps, Value, operator_places, places as places_in, same_standing, value_of, with_entries}
 use Rattle.tree_kinds.specs.Expanding.{Around, Replaced, Written, behind_instance, bringing, defined_value, guard_of, module_of, replaced_by, replacements, right_sides, through, unguarded, with_parameters, with_replaced, written_for}
 use Rattle.flat_trees.specs.Stands.{AreStanding, IsItem, IsStanding, Matches, Stand, Unsaid, Leaf, Place, Defined, Through, Brought, count, passed}
 use Rattle.flat_trees.specs.Layouts.{Agrees, Layout, Stands, layout_with, order_of, parameters_of, with_brought}
@@ -181,9 +181,9 @@ module _ (flat : FlatModule) where
   -- symbols that stay
   pub symbols-stay : (made : List Replacement) (base here : Meaning → Stand) (symbols : List Meaning) (number : ℕ) → ((meaning : Meaning) → StaysIn flat made (base meaning) (here meaning)) → AllStay flat made here symbols number → (meaning : Meaning) → StaysIn flat made (with_symbols base symbols number meaning) (here meaning)
   symbols-stay made base here [] number leaves all other = leaves other
-  symbols-stay made base here (meaning ∷ rest) number leaves all other = by_sameness (symbols-stay made base here rest (suc number) leaves all.1 other) (same_meaning other meaning) refl
+  symbols-stay made base here (meaning ∷ rest) number leaves all other = by_sameness (symbols-stay made base here rest (suc number) leaves all.1 other) (same_standing other meaning) refl
     where
-      by_sameness : StaysIn flat made (with_symbols base rest (suc number) other) (here other) → (b : Bool) → same_meaning other meaning ≡ b → StaysIn flat made (cond b (Place number (order_of meaning)) (with_symbols base rest (suc number) other)) (here other)
+      by_sameness : StaysIn flat made (with_symbols base rest (suc number) other) (here other) → (b : Bool) → same_standing other meaning ≡ b → StaysIn flat made (cond b (Place number (order_of meaning)) (with_symbols base rest (suc number) other)) (here other)
       by_sameness others true e = all.0 other e
       by_sameness others false e = others
 

@@ -5,3 +5,4 @@ pub mod Definitions
 pub mod Instances
 pub mod Meanings
 pub mod Growing
+pub mod BoundNames

@@ -5,12 +5,12 @@ use Rattle.tla_symbols.specs.declared.lexeme.Lexeme.{Lexeme}
 use Rattle.tla_tree.specs.declared.form.Form.TheVariants as Form
 use Rattle.tla_tree.specs.Syntax.{Trees, Node, Nil, Cons}
 use Rattle.tla_model.specs.Tables.{Named}
-use Rattle.tla_model.specs.Entities.{Meaning, Text, same_meaning}
+use Rattle.tla_model.specs.Entities.{Meaning, Text}
 use Rattle.module_model.specs.Exports.{Known}
 use Rattle.kind_text.specs.FlatModule.{FlatModule, Instance, Replacement, places_of}
 use Rattle.kind_text.specs.Expansion.{text as text_at}
 use Rattle.kind_text.specs.Substitution.{Item, at}
-use Rattle.tree_kinds.specs.Standing.{Environment, Outside, Value, operator_places}
+use Rattle.tree_kinds.specs.Standing.{Environment, Outside, Value, operator_places, same_standing}
 use Rattle.tree_kinds.specs.Expanding.{Around, Replaced, greatest_level, module_of, replacements, right_sides}
 use Rattle.flat_trees.specs.Stands.{AreStanding, IsStanding, Matches, Stand, Unsaid, Leaf, Place}
 use Rattle.flat_trees.specs.Layouts.{Agrees, Layout, order_of, with_stand}
@@ -61,11 +61,11 @@ module _ (flat : FlatModule) where
   StaysIn made (Place place order) here = (r : Replacement) × (now : ℕ) × (slice_get made place ≡ Some r) × IsStaying r now × (here ≡ Place now order)
   StaysIn made _ here = ⊥
 
-  -- these symbols stay, from the replacement with this number on: whatever means the same stands for one place here
+  -- these symbols stay, from the replacement with this number on: each name that stands as the symbol does is at one place here
   abbrev pub AllStay : List Replacement → (Meaning → Stand) → List Meaning → ℕ → Type 0
   AllStay made here [] number = Unit {0}
   AllStay made here (meaning ∷ rest) number =
-      ((other : Meaning) → same_meaning other meaning ≡ true → StaysIn made (Place number (order_of meaning)) (here other)) × AllStay made here rest (suc number)
+      ((other : Meaning) → same_standing other meaning ≡ true → StaysIn made (Place number (order_of meaning)) (here other)) × AllStay made here rest (suc number)
 
   -- a replacement is what replaces a symbol, by whether the module is constant
   pub record IsReplaced (constant : Bool) (frame : List Item) (made : Replacement) (replaced : Replaced) : Type 0 where

@@ -5,7 +5,7 @@ use Rattle.tla_tree.specs.declared.form.Form.TheVariants as Form
 use Rattle.tla_tree.specs.Syntax.{Tree, Trees}
 use Rattle.tla_model.specs.declared.names.Meaning.TheVariants.{BuiltIn, Declared}
 use Rattle.tla_model.specs.Tables.{Named}
-use Rattle.tla_model.specs.Entities.{Meaning, Text, meant, same_meaning}
+use Rattle.tla_model.specs.Entities.{Meaning, Text, meant}
 use Rattle.tla_model.specs.Contexts.{Context}
 use Rattle.tla_model.specs.Scopes.{behind, binders, definition, reserved, scope}
 use Rattle.module_model.specs.Exports.{Exports, Known}
@@ -13,7 +13,7 @@ use Rattle.kind_text.specs.ExpandedKind.{Expanded, Operands, Ruled}
 use Rattle.kind_text.specs.FlatModule.{FlatModule, Node as FlatNode}
 use Rattle.kind_text.specs.Expansion.{items as items_at, text as text_at}
 use Rattle.kind_text.specs.Substitution.{Item, texts}
-use Rattle.tree_kinds.specs.Standing.{Outside, Value, name_among, places as places_of}
+use Rattle.tree_kinds.specs.Standing.{Outside, Value, name_among, places as places_of, same_standing}
 use Rattle.tree_kinds.specs.Expanding.{Around, expand, inner, places_at, before_scope, in_scope, operands}
 use Rattle.flat_trees.specs.Stands.{AreStanding, IsItem, IsStanding, Matches, Stand, Unsaid, Leaf, Place, Brought}
 use Rattle.flat_trees.specs.Names.{order_by, IsBuilt}
@@ -22,7 +22,7 @@ use Rattle.flat_trees.specs.Names.{order_by, IsBuilt}
 
 -- one thing more
 abbrev pub with_stand : (Meaning → Stand) → Meaning → Stand → Meaning → Stand
-with_stand stands meaning stand other = if same_meaning other meaning then stand else stands other
+with_stand stands meaning stand other = if same_standing other meaning then stand else stands other
 
 -- the same for each of these
 abbrev pub with_stands : (Meaning → Stand) → List Meaning → Stand → Meaning → Stand

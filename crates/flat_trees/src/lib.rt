@@ -14,7 +14,7 @@ ghost use Rattle.tla_tree.specs.Forms.{helps};
 ghost use Rattle.tla_tree.specs.Syntax as tree;
 ghost use Rattle.tla_tree.specs.Syntax.{Tree, Trees};
 ghost use Rattle.tla_model.specs.Tables.{Named};
-ghost use Rattle.tla_model.specs.Entities.{Meaning, Operator, Text, defines, same_meaning};
+ghost use Rattle.tla_model.specs.Entities.{Meaning, Operator, Text, defines};
 ghost use Rattle.tla_model.specs.Contexts.{Context};
 ghost use Rattle.module_model.specs.Exports.{Exports, Known};
 ghost use Rattle.kind_text.specs.ExpandedKind.{Expanded, Operands};
@@ -23,7 +23,7 @@ ghost use Rattle.kind_text.specs.FlatModule.{Instance, IsOrdered, Node, Replacem
 ghost use Rattle.kind_text.specs.Substitution.{Item, texts};
 ghost use Rattle.kind_text.specs.Expansion as expansion;
 ghost use Rattle.tree_kinds.specs.Standing.{Environment, Outside, Steps, Value, applied_to};
-ghost use Rattle.tree_kinds.specs.Standing.{item_of, with_entries};
+ghost use Rattle.tree_kinds.specs.Standing.{item_of, same_standing, with_entries};
 ghost use Rattle.tree_kinds.specs.Expanding.{Around, at_names, before_scope, behind_definition};
 ghost use Rattle.tree_kinds.specs.Expanding.{bringing, defined_value, expand, in_scope, module_of};
 ghost use Rattle.tree_kinds.specs.Expanding.{places_at, with_parameters};
@@ -213,7 +213,7 @@ pub fn symbols_stay()
         → AllStay flat made here symbols number → (meaning : Meaning)
         → StaysIn flat made (with_symbols base symbols number meaning) (here meaning) }
     ensures same { (base : Meaning → Stand) (symbols : List Meaning) (place : ℕ) (a b : Meaning)
-        → same_meaning a b ≡ true → base a ≡ base b
+        → same_standing a b ≡ true → base a ≡ base b
         → with_symbols base symbols place a ≡ with_symbols base symbols place b }
 {}
 

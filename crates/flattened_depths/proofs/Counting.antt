@@ -13,7 +13,8 @@ use Rattle.tla_model.specs.declared.names.Meaning.TheVariants.{BuiltIn, Declared
 use Rattle.tla_model.specs.Entities.{Binding, Entity, Meaning, Text, all_placed, binding_in, binding_of, bound_as, declared_among, declared_in, declared_round, defined, follows_first, is_group, meant, own, placed, same_meaning, within}
 use Rattle.tla_model.specs.Scopes.{all_grouped, binders, names_in}
 use Rattle.tree_kinds.specs.Expanding.{Part, Outer, Helper, Whole, part_of, stands_outside}
-use Rattle.flat_trees.proofs.Meanings.{same-alike}
+use Rattle.tree_kinds.specs.Standing.{same_standing}
+use Rattle.tree_kinds.proofs.Standings.{same-alike, standing-unlike}
 use Rattle.flat_depths.proofs.Joining.{no-group, no-name}
 use Rattle.flattened_trees.specs.Agreeing.{AreNew, is_seen}
 
@@ -45,6 +46,17 @@ module _ (text : Text) where
   abbrev pub times : Meaning → List Binder → ℕ
   times m [] = 0
   times m (b ∷ rest) = cond (same_meaning m (meant text b)) 1 0 + times m rest
+
+  -- what none of these names means stands as none
+  pub first-unlike : (b : Binder) (rest : List Binder) (m : Meaning) → times m (b ∷ rest) ≡ 0 → same_standing m (meant text b) ≡ false
+  first-unlike b rest m e = standing-unlike m (meant text b) (by_same (same_meaning m (meant text b)) e)
+    where
+      by_same : (t : Bool) → cond t 1 0 + times m rest ≡ 0 → t ≡ false
+      by_same true e = absurd (omega (arith, e))
+      by_same false e = refl
+
+  pub rest-none : (b : Binder) (rest : List Binder) (m : Meaning) → times m (b ∷ rest) ≡ 0 → times m rest ≡ 0
+  rest-none b rest m e = omega (arith, e)
 
   -- the same of names with their places
   abbrev placed_times : Meaning → List (Lexeme × ℕ) → ℕ

@@ -18,7 +18,8 @@ use Rattle.tla_model.proofs.Same.{meaning-itself}
 use Rattle.module_model.specs.Exports.{Behind, Known, behind_meaning}
 use Rattle.model_laws.proofs.Settling.{put-gives}
 use Rattle.kind_text.specs.FlatModule.{FlatModule}
-use Rattle.tree_kinds.specs.Standing.{Reached}
+use Rattle.tree_kinds.specs.Standing.{Reached, same_standing}
+use Rattle.tree_kinds.proofs.Standings.{standing-equal, standing-means}
 use Rattle.tree_kinds.specs.TreeDepths.{Depths, with_depth}
 use Rattle.flat_trees.specs.Stands.{Stand, Place}
 use Rattle.flat_trees.specs.Layouts.{order_of, parameters_of, with_places, with_stand, with_stands}
@@ -29,7 +30,7 @@ use Rattle.flattened_trees.specs.Leads.{Lead, Leads, Setting, only, repeating, w
 use Rattle.flattened_trees.specs.Leads as leads_of
 use Rattle.flattened_trees.specs.Agreeing.{TakesAs, is_seen, lead_by, unsaid_stand}
 use Rattle.flattened_depths.specs.Rounds.{ArePlain, TakesParameters}
-use Rattle.flattened_depths.proofs.Counting.{New, and_seen, new-fewer, not-seen, seen-alike, seen-none, still-seen, times, times-joins}
+use Rattle.flattened_depths.proofs.Counting.{New, and_seen, first-unlike, new-fewer, not-seen, rest-none, seen-alike, seen-none, still-seen, times, times-joins}
 
 -- ---- what contexts have
 
@@ -106,20 +107,16 @@ module _ (text : Text) where
   places-other : (names : List Binder) (stands : Meaning → Stand) (place : ℕ) (m : Meaning) → times text m names ≡ 0 → with_places stands (map (meant text) names) place m ≡ stands m
   places-other [] stands place m e = refl
   places-other (b ∷ rest) stands place m e =
-      places-other rest (with_stand stands (meant text b) (Place place (order_of (meant text b)))) (suc place) m (omega (arith, e)) ∙ by_same (same_meaning m (meant text b)) e
-    where
-      by_same : (t : Bool) → cond t 1 0 + times text m rest ≡ 0 → cond t (Place place (order_of (meant text b))) (stands m) ≡ stands m
-      by_same true e = absurd (omega (arith, e))
-      by_same false e = refl
+      places-other rest (with_stand stands (meant text b) (Place place (order_of (meant text b)))) (suc place) m (rest-none text b rest m e)
+      ∙ ap (λ t. cond t (Place place (order_of (meant text b))) (stands m)) (first-unlike text b rest m e)
 
   places-own : (names : List Binder) (stands : Meaning → Stand) (place : ℕ) (m : Meaning) → times text m names ≤ 1 → Among m names → (at : ℕ) × (with_places stands (map (meant text) names) place m ≡ Place at (order_of m))
   places-own [] stands place m few among = absurd among
   places-own (b ∷ rest) stands place m few (inl same) =
-      let t : same_meaning m (meant text b) ≡ true = ap (same_meaning m) same ∙ meaning-itself m in
-      let one = ap {B = ℕ} (λ t. cond t 1 0) t in (
+      let one = ap {B = ℕ} (λ t. cond t 1 0) (ap (same_meaning m) same ∙ meaning-itself m) in (
         place,
         places-other rest (with_stand stands (meant text b) (Place place (order_of (meant text b)))) (suc place) m (omega (arith, few, one))
-            ∙ ap (λ t. cond t (Place place (order_of (meant text b))) (stands m)) t
+            ∙ ap (λ t. cond t (Place place (order_of (meant text b))) (stands m)) (standing-equal m (meant text b) (sym same))
             ∙ ap (λ x. Place place (order_of x)) same,
       )
   places-own (b ∷ rest) stands place m few (inr among) = places-own rest (with_stand stands (meant text b) (Place place (order_of (meant text b)))) (suc place) m (omega (arith, few)) among
@@ -140,7 +137,7 @@ module _ (text : Text) where
   places-lead : (meanings : List Meaning) (leads : Leads) (stands : Meaning → Stand) (place : ℕ) → ((m : Meaning) (names : List Named) → leads m names ≡ lead_by (stands m) names) → (m : Meaning) (names : List Named) → leads_of.with_places leads meanings place m names ≡ lead_by (with_places stands meanings place m) names
   places-lead [] leads stands place same m names = same m names
   places-lead (meaning ∷ rest) leads stands place same m names =
-      places-lead rest (with_lead leads meaning (only (end.Place place (order_of meaning)))) (with_stand stands meaning (Place place (order_of meaning))) (suc place) (λ other more. by_same other more (same_meaning other meaning)) m names
+      places-lead rest (with_lead leads meaning (only (end.Place place (order_of meaning)))) (with_stand stands meaning (Place place (order_of meaning))) (suc place) (λ other more. by_same other more (same_standing other meaning)) m names
     where
       by_same : (m : Meaning) (names : List Named) (t : Bool) → cond t (only (end.Place place (order_of meaning)) names) (leads m names) ≡ lead_by (cond t (Place place (order_of meaning)) (stands m)) names
       by_same m names true = refl
@@ -150,15 +147,12 @@ module _ (text : Text) where
 
   stands-other : (names : List Binder) (stands : Meaning → Stand) (stand : Stand) (m : Meaning) → times text m names ≡ 0 → with_stands stands (map (meant text) names) stand m ≡ stands m
   stands-other [] stands stand m e = refl
-  stands-other (b ∷ rest) stands stand m e = stands-other rest (with_stand stands (meant text b) stand) stand m (omega (arith, e)) ∙ by_same (same_meaning m (meant text b)) e
-    where
-      by_same : (t : Bool) → cond t 1 0 + times text m rest ≡ 0 → cond t stand (stands m) ≡ stands m
-      by_same true e = absurd (omega (arith, e))
-      by_same false e = refl
+  stands-other (b ∷ rest) stands stand m e =
+      stands-other rest (with_stand stands (meant text b) stand) stand m (rest-none text b rest m e) ∙ ap (λ t. cond t stand (stands m)) (first-unlike text b rest m e)
 
   stands-kept : (meanings : List Meaning) (stands : Meaning → Stand) (stand : Stand) (m : Meaning) → stands m ≡ stand → with_stands stands meanings stand m ≡ stand
   stands-kept [] stands stand m e = e
-  stands-kept (meaning ∷ rest) stands stand m e = stands-kept rest (with_stand stands meaning stand) stand m (by_same (same_meaning m meaning))
+  stands-kept (meaning ∷ rest) stands stand m e = stands-kept rest (with_stand stands meaning stand) stand m (by_same (same_standing m meaning))
     where
       by_same : (t : Bool) → cond t stand (stands m) ≡ stand
       by_same true = refl
@@ -167,21 +161,18 @@ module _ (text : Text) where
   stands-own : (names : List Binder) (stands : Meaning → Stand) (stand : Stand) (m : Meaning) → Among m names → with_stands stands (map (meant text) names) stand m ≡ stand
   stands-own [] stands stand m among = absurd among
   stands-own (b ∷ rest) stands stand m (inl same) =
-      stands-kept (map (meant text) rest) (with_stand stands (meant text b) stand) stand m (ap (λ (t : Bool). cond t stand (stands m)) (ap (same_meaning m) same ∙ meaning-itself m))
+      stands-kept (map (meant text) rest) (with_stand stands (meant text b) stand) stand m (ap (λ (t : Bool). cond t stand (stands m)) (standing-equal m (meant text b) (sym same)))
   stands-own (b ∷ rest) stands stand m (inr among) = stands-own rest (with_stand stands (meant text b) stand) stand m among
 
   depths-other : (names : List Binder) (depths : Depths) (reached : List Named → Reached) (m : Meaning) (path : List Named) → times text m names ≡ 0 → with_depth depths (map (meant text) names) reached m path ≡ depths m path
   depths-other [] depths reached m path e = refl
-  depths-other (b ∷ rest) depths reached m path e = by_same (same_meaning m (meant text b)) e (λ f. depths-other rest depths reached m path f)
-    where
-      by_same : (t : Bool) → cond t 1 0 + times text m rest ≡ 0 → (times text m rest ≡ 0 → with_depth depths (map (meant text) rest) reached m path ≡ depths m path) → cond t (reached path) (with_depth depths (map (meant text) rest) reached m path) ≡ depths m path
-      by_same true e next = absurd (omega (arith, e))
-      by_same false e next = next (omega (arith, e))
+  depths-other (b ∷ rest) depths reached m path e =
+      ap (λ t. cond t (reached path) (with_depth depths (map (meant text) rest) reached m path)) (first-unlike text b rest m e) ∙ depths-other rest depths reached m path (rest-none text b rest m e)
 
   definitions-lead : (meanings : List Meaning) (leads : Leads) (stands : Meaning → Stand) (lead : List Named → Lead) (stand : Stand) → ((names : List Named) → lead names ≡ lead_by stand names) → ((m : Meaning) (names : List Named) → leads m names ≡ lead_by (stands m) names) → (m : Meaning) (names : List Named) → with_leads leads meanings lead m names ≡ lead_by (with_stands stands meanings stand m) names
   definitions-lead [] leads stands lead stand one same m names = same m names
   definitions-lead (meaning ∷ rest) leads stands lead stand one same m names =
-      definitions-lead rest (with_lead leads meaning lead) (with_stand stands meaning stand) lead stand one (λ other more. by_same other more (same_meaning other meaning)) m names
+      definitions-lead rest (with_lead leads meaning lead) (with_stand stands meaning stand) lead stand one (λ other more. by_same other more (same_standing other meaning)) m names
     where
       by_same : (m : Meaning) (names : List Named) (t : Bool) → cond t (lead names) (leads m names) ≡ lead_by (cond t stand (stands m)) names
       by_same m names true = one names
@@ -281,13 +272,13 @@ module _ (text : Text) where
       some-places : (names : List Binder) → New text seen names → AllByRecursion (IsPlain depths) (map (meant text) names)
       some-places [] new = tt
       some-places (b ∷ rest) new = (
-        λ other e. round.plain other (seen-alike text seen other (meant text b) e ∙ times-new (meant text b) (b ∷ rest) seen new (among-times (meant text b) (b ∷ rest) (inl refl))),
+        λ other e. round.plain other (seen-alike text seen other (meant text b) (standing-means other (meant text b) e) ∙ times-new (meant text b) (b ∷ rest) seen new (among-times (meant text b) (b ∷ rest) (inl refl))),
         some-places rest (new-fewer text (b ∷ rest) rest seen (λ m. omega arith) new),
       )
 
       parameters-take : (meanings : List Meaning) (before : Meaning → Stand) (place : ℕ) → ((m : Meaning) → TakesParameters flat (before m)) → (m : Meaning) → TakesParameters flat (with_places before meanings place m)
       parameters-take [] before place all m = all m
-      parameters-take (meaning ∷ rest) before place all m = parameters-take rest (with_stand before meaning (Place place (order_of meaning))) (suc place) (λ other. by_same other (same_meaning other meaning)) m
+      parameters-take (meaning ∷ rest) before place all m = parameters-take rest (with_stand before meaning (Place place (order_of meaning))) (suc place) (λ other. by_same other (same_standing other meaning)) m
         where
           by_same : (m : Meaning) (t : Bool) → TakesParameters flat (cond t (Place place (order_of meaning)) (before m))
           by_same m true = tt
@@ -356,7 +347,7 @@ module _ (text : Text) where
         where
           all : (meanings : List Meaning) (before : Meaning → Stand) → ((m : Meaning) → TakesParameters flat (before m)) → (m : Meaning) → TakesParameters flat (with_stands before meanings stand m)
           all [] before each m = each m
-          all (meaning ∷ rest) before each m = all rest (with_stand before meaning stand) (λ other. by_same other (same_meaning other meaning)) m
+          all (meaning ∷ rest) before each m = all rest (with_stand before meaning stand) (λ other. by_same other (same_standing other meaning)) m
             where
               by_same : (m : Meaning) (t : Bool) → TakesParameters flat (cond t stand (before m))
               by_same m true = takes

@@ -13,9 +13,10 @@ use Rattle.tla_model.specs.Contexts.{meaning_of}
 use Rattle.tla_model.proofs.Same.{meaning-itself}
 use Rattle.module_model.specs.Exports.{Known, behind_meaning}
 use Rattle.kind_text.specs.FlatModule.{FlatModule}
-use Rattle.tree_kinds.specs.Standing.{Outside}
+use Rattle.tree_kinds.specs.Standing.{Outside, is_bound}
 use Rattle.flat_trees.specs.Stands.{Stand}
 use Rattle.flat_trees.specs.Layouts.{Layout, layout_behind}
+use Rattle.flat_trees.proofs.BoundNames.{definition-free, stands-left}
 use Rattle.flattened_trees.specs.Leads.{FlatFace, Lead, Setting, behind}
 use Rattle.flattened_trees.specs.Agreeing.{AreNew, IsSeen, IsSettingOf, IsUnsaid, KeepsOrders, TakesAs, is_seen, lead_by, unsaid_stand}
 use Rattle.flattened_meanings.specs.Faces.{AreFacesOf, IsFaceOf, StandsAs}
@@ -109,11 +110,16 @@ module _ (text : Text) (layout : Layout) (form : Form.the_data) (s : Span) (part
         takes = face.takes;
         apart = face.apart;
         symbols = λ m. by_seen face m (is_seen (map (meant text) (defined form parts)) m) refl;
-        unsaid = λ m is. face.unsaid m (fewer m is);
+        unsaid = λ m is free. face.unsaid m (fewer m is) free;
       }
     where
       by_seen : (face : IsFaceOf flat new layout.stands (faces name) (named name)) (m : Meaning) (b : Bool) → is_seen (map (meant text) (defined form parts)) m ≡ b → StandsAs (faces name).outer (face.base m) (next.stands m)
-      by_seen face m true e = subst (λ z. StandsAs (faces name).outer z (next.stands m)) (sym (face.unsaid m (own m e))) tt
+      by_seen face m true e = by_bound (is_bound m) refl
+        where
+          by_bound : (b : Bool) → is_bound m ≡ b → StandsAs (faces name).outer (face.base m) (next.stands m)
+          by_bound true is =
+              subst (λ z. StandsAs (faces name).outer (face.base m) z) (sym (stands-left m is (map (meant text) (defined form parts)) layout.stands stand (definition-free text form parts))) (face.symbols m)
+          by_bound false free = subst (λ z. StandsAs (faces name).outer z (next.stands m)) (sym (face.unsaid m (own m e) free)) tt
       by_seen face m false e = subst (λ z. StandsAs (faces name).outer (face.base m) z) (sym (other-behind m e)) (face.symbols m)
 
 -- ---- round a whole tree
@@ -155,6 +161,6 @@ module _ (flat : FlatModule) (text : Text) (known : Known) (named : List ℕ →
               takes = face.takes;
               apart = face.apart;
               symbols = face.symbols;
-              unsaid = λ m is. face.unsaid m (sym (twice (is_seen (map (meant text) (within x)) m)) ∙ is);
+              unsaid = λ m is free. face.unsaid m (sym (twice (is_seen (map (meant text) (within x)) m)) ∙ is) free;
             };
       }

@@ -14,7 +14,8 @@ use Rattle.tla_model.specs.Entities.{Binding, Entity, Meaning, Text, all_placed,
 use Rattle.tla_model.specs.Scopes.{all_grouped, binders, names_in}
 use Rattle.tla_model.proofs.Same.{meaning-itself}
 use Rattle.tree_kinds.specs.Expanding.{Outer, Helper, Whole, Part, part_of}
-use Rattle.flat_trees.proofs.Meanings.{same-alike}
+use Rattle.tree_kinds.specs.Standing.{same_standing}
+use Rattle.tree_kinds.proofs.Standings.{same-alike, standing-unlike}
 use Rattle.flattened_trees.specs.Agreeing.{AreNew, is_seen}
 
 -- ---- marks
@@ -39,6 +40,17 @@ module _ (text : Text) where
   abbrev pub times : Meaning → List Binder → ℕ
   times m [] = 0
   times m (name ∷ rest) = mark (same_meaning m (meant text name)) + times m rest
+
+  mark-none : (b : Bool) (n : ℕ) → mark b + n ≡ 0 → b ≡ false
+  mark-none true n e = absurd (omega (arith, e))
+  mark-none false n e = refl
+
+  -- what is none of these names stands as none
+  pub first-unlike : (name : Binder) (rest : List Binder) (m : Meaning) → times m (name ∷ rest) ≡ 0 → same_standing m (meant text name) ≡ false
+  first-unlike name rest m none = standing-unlike m (meant text name) (mark-none (same_meaning m (meant text name)) (times m rest) none)
+
+  pub rest-none : (name : Binder) (rest : List Binder) (m : Meaning) → times m (name ∷ rest) ≡ 0 → times m rest ≡ 0
+  rest-none name rest m none = omega (arith, none)
 
   pub times-append : (m : Meaning) (a b : List Binder) → times m (a ++ b) ≡ times m a + times m b
   times-append m [] b = omega arith

@@ -197,7 +197,7 @@ face_of_module new =
       takes = takes;
       apart = (refl, tt);
       symbols = λ meaning. tt;
-      unsaid = λ meaning is. refl;
+      unsaid = λ meaning is free. refl;
     }
 
 pub round : IsKnownRound flat text known named faces nameable layout setting [] tree

@@ -19,14 +19,16 @@ use Rattle.tla_model.proofs.Same.{meaning-itself}
 use Rattle.model_laws.proofs.Settling.{put-gives}
 use Rattle.module_model.specs.Exports.{Known, behind_meaning}
 use Rattle.kind_text.specs.FlatModule.{FlatModule}
-use Rattle.tree_kinds.specs.Standing.{Outside}
+use Rattle.tree_kinds.specs.Standing.{Outside, is_bound, same_standing}
+use Rattle.tree_kinds.proofs.Standings.{standing-equal}
 use Rattle.flat_trees.specs.Stands.{Stand, Place}
 use Rattle.flat_trees.specs.Layouts.{Layout, layout_before, layout_behind, layout_in, layout_repeating, layout_with, order_of, parameters_of, with_places, with_stand, with_stands}
+use Rattle.flat_trees.proofs.BoundNames.{definition-free, parameters-free, places-left, stands-left}
 use Rattle.flattened_trees.specs.declared.End.TheVariants as end
 use Rattle.flattened_trees.specs.Leads.{FlatFace, Lead, Leads, Setting, behind, only, repeating, with_lead, with_leads, with_parameters, with_places as with_lead_places}
 use Rattle.flattened_trees.specs.Agreeing.{IsSettingOf, KeepsOrders, TakesAs, lead_by, unsaid_stand}
 use Rattle.flattened_meanings.specs.Faces.{AreFacesOf, IsFaceOf, StandsAs}
-use Rattle.flattened_meanings.proofs.Fresh.{Fresh, IsOneOf, mark, one-counts, seen-none, seen-with, seen-still, times, times-append, unseen-before}
+use Rattle.flattened_meanings.proofs.Fresh.{Fresh, IsOneOf, first-unlike, mark, one-counts, rest-none, seen-none, seen-with, seen-still, times, times-append, unseen-before}
 
 -- ---- contexts
 
@@ -120,20 +122,16 @@ module _ (text : Text) where
   places-other : (names : List Binder) (stands : Meaning → Stand) (place : ℕ) (m : Meaning) → times text m names ≡ 0 → with_places stands (map (meant text) names) place m ≡ stands m
   places-other [] stands place m none = refl
   places-other (x ∷ rest) stands place m none =
-      by_sameness (same_meaning m (meant text x)) none (places-other rest (with_stand stands (meant text x) (Place place (order_of (meant text x)))) (suc place) m)
-    where
-      by_sameness : (b : Bool) → mark b + times text m rest ≡ 0 → (times text m rest ≡ 0 → with_places (with_stand stands (meant text x) (Place place (order_of (meant text x)))) (map (meant text) rest) (suc place) m ≡ cond b (Place place (order_of (meant text x))) (stands m)) → with_places (with_stand stands (meant text x) (Place place (order_of (meant text x)))) (map (meant text) rest) (suc place) m ≡ stands m
-      by_sameness true e again = absurd (omega (arith, e))
-      by_sameness false e again = again (omega (arith, e))
+      places-other rest (with_stand stands (meant text x) (Place place (order_of (meant text x)))) (suc place) m (rest-none text x rest m none)
+      ∙ ap (λ b. cond b (Place place (order_of (meant text x))) (stands m)) (first-unlike text x rest m none)
 
   places-in : (names : List Binder) (stands : Meaning → Stand) (place : ℕ) (m : Meaning) → IsOneOf text names m → times text m names ≤ 1 → (p : ℕ) × (with_places stands (map (meant text) names) place m ≡ Place p (order_of m))
   places-in [] stands place m one l = absurd one
   places-in (x ∷ rest) stands place m (inl same) l =
-      let is : same_meaning m (meant text x) ≡ true = ap (λ n. same_meaning m n) (sym same) ∙ meaning-itself m in
-      let once : mark (same_meaning m (meant text x)) ≡ 1 = ap mark is in (
+      let once : mark (same_meaning m (meant text x)) ≡ 1 = ap mark (ap (λ n. same_meaning m n) (sym same) ∙ meaning-itself m) in (
         place,
         places-other rest (with_stand stands (meant text x) (Place place (order_of (meant text x)))) (suc place) m (omega (arith, l, once))
-            ∙ ap (λ b. cond b (Place place (order_of (meant text x))) (stands m)) is
+            ∙ ap (λ b. cond b (Place place (order_of (meant text x))) (stands m)) (standing-equal m (meant text x) same)
             ∙ ap (λ n. Place place (order_of n)) (sym same),
       )
   places-in (x ∷ rest) stands place m (inr one) l =
@@ -142,15 +140,12 @@ module _ (text : Text) where
   pub stands-other : (names : List Binder) (stands : Meaning → Stand) (stand : Stand) (m : Meaning) → times text m names ≡ 0 → with_stands stands (map (meant text) names) stand m ≡ stands m
   stands-other [] stands stand m none = refl
   stands-other (x ∷ rest) stands stand m none =
-      by_sameness (same_meaning m (meant text x)) none (stands-other rest (with_stand stands (meant text x) stand) stand m)
-    where
-      by_sameness : (b : Bool) → mark b + times text m rest ≡ 0 → (times text m rest ≡ 0 → with_stands (with_stand stands (meant text x) stand) (map (meant text) rest) stand m ≡ cond b stand (stands m)) → with_stands (with_stand stands (meant text x) stand) (map (meant text) rest) stand m ≡ stands m
-      by_sameness true e again = absurd (omega (arith, e))
-      by_sameness false e again = again (omega (arith, e))
+      stands-other rest (with_stand stands (meant text x) stand) stand m (rest-none text x rest m none)
+      ∙ ap (λ b. cond b stand (stands m)) (first-unlike text x rest m none)
 
   stands-kept : (names : List Binder) (stands : Meaning → Stand) (stand : Stand) (m : Meaning) → stands m ≡ stand → with_stands stands (map (meant text) names) stand m ≡ stand
   stands-kept [] stands stand m is = is
-  stands-kept (x ∷ rest) stands stand m is = stands-kept rest (with_stand stands (meant text x) stand) stand m (by_sameness (same_meaning m (meant text x)))
+  stands-kept (x ∷ rest) stands stand m is = stands-kept rest (with_stand stands (meant text x) stand) stand m (by_sameness (same_standing m (meant text x)))
     where
       by_sameness : (b : Bool) → cond b stand (stands m) ≡ stand
       by_sameness true = refl
@@ -160,7 +155,7 @@ module _ (text : Text) where
   stands-in [] stands stand m one = absurd one
   stands-in (x ∷ rest) stands stand m (inl same) =
       stands-kept rest (with_stand stands (meant text x) stand) stand m
-      (ap (λ b. cond b stand (stands m)) (ap (λ n. same_meaning m n) (sym same) ∙ meaning-itself m))
+      (ap (λ b. cond b stand (stands m)) (standing-equal m (meant text x) same))
   stands-in (x ∷ rest) stands stand m (inr one) = stands-in rest (with_stand stands (meant text x) stand) stand m one
 
 -- where each meaning leads is by what it stands for
@@ -168,7 +163,7 @@ abbrev pub LeadsBy : (Meaning → Stand) → Leads → Type 0
 LeadsBy stands leads = (m : Meaning) (names : List Named) → leads m names ≡ lead_by (stands m) names
 
 lead-with : (stands : Meaning → Stand) (leads : Leads) (meaning : Meaning) (stand : Stand) (lead : List Named → Lead) → LeadsBy stands leads → ((names : List Named) → lead names ≡ lead_by stand names) → LeadsBy (with_stand stands meaning stand) (with_lead leads meaning lead)
-lead-with stands leads meaning stand lead all one m names = by_sameness (same_meaning m meaning)
+lead-with stands leads meaning stand lead all one m names = by_sameness (same_standing m meaning)
   where
     by_sameness : (b : Bool) → cond b (lead names) (leads m names) ≡ lead_by (cond b stand (stands m)) names
     by_sameness true = one names
@@ -204,9 +199,9 @@ module _ (flat : FlatModule) (text : Text) (known : Known) (named : List ℕ →
     pub all_seen : HasSeen seen layout
     pub modules : AreFacesOf flat nameable (λ m. not (seen m)) layout.stands faces named
 
-  -- where more names were seen, which came to stand for something, and others stand for the same
-  face-moved : (seen : Meaning → Bool) (names : List Binder) (here next : Meaning → Stand) (face : FlatFace) (outside : Outside) → Fresh text seen names → ((m : Meaning) → times text m names ≡ 0 → next m ≡ here m) → IsFaceOf flat (λ m. not (seen m)) here face outside → IsFaceOf flat (λ m. not (seen-with text names seen m)) next face outside
-  face-moved seen names here next face outside fresh same is =
+  -- where more names were seen, which came to stand for something, and others stand for the same, and so do bound ones
+  face-moved : (seen : Meaning → Bool) (names : List Binder) (here next : Meaning → Stand) (face : FlatFace) (outside : Outside) → Fresh text seen names → ((m : Meaning) → times text m names ≡ 0 → next m ≡ here m) → ((m : Meaning) → is_bound m ≡ true → next m ≡ here m) → IsFaceOf flat (λ m. not (seen m)) here face outside → IsFaceOf flat (λ m. not (seen-with text names seen m)) next face outside
+  face-moved seen names here next face outside fresh same bound is =
       record {
         base = is.base;
         inner = is.inner;
@@ -215,18 +210,22 @@ module _ (flat : FlatModule) (text : Text) (known : Known) (named : List ℕ →
         takes = is.takes;
         apart = is.apart;
         symbols = λ m. by_times m (times text m names) refl;
-        unsaid = λ m none. is.unsaid m (ap not (unseen-before text names seen m (not-true (seen-with text names seen m) none)).0);
+        unsaid = λ m none free. is.unsaid m (ap not (unseen-before text names seen m (not-true (seen-with text names seen m) none)).0) free;
       }
     where
       by_times : (m : Meaning) (n : ℕ) → times text m names ≡ n → StandsAs face.outer (is.base m) (next m)
       by_times m zero e = subst (λ stand. StandsAs face.outer (is.base m) stand) (sym (same m e)) (is.symbols m)
-      by_times m (suc n) e =
-          let some : 1 ≤ times text m names = omega (arith, e) in
-          subst (λ stand. StandsAs face.outer stand (next m)) (sym (is.unsaid m (ap not (counted-unseen text seen names m fresh some)))) tt
+      by_times m (suc n) e = by_bound (is_bound m) refl
+        where
+          by_bound : (b : Bool) → is_bound m ≡ b → StandsAs face.outer (is.base m) (next m)
+          by_bound true e_bound = subst (λ stand. StandsAs face.outer (is.base m) stand) (sym (bound m e_bound)) (is.symbols m)
+          by_bound false free =
+              let some : 1 ≤ times text m names = omega (arith, e) in
+              subst (λ stand. StandsAs face.outer stand (next m)) (sym (is.unsaid m (ap not (counted-unseen text seen names m fresh some)) free)) tt
 
   -- the same of all that is known, where a context brings names that were there before, or that are these and take what they stand for
-  moved : (layout next : Layout) (setting then : Setting) (seen : Meaning → Bool) (names : List Binder) → Knows layout setting seen → Fresh text seen names → IsSettingOf next then → ((m : Meaning) → times text m names ≡ 0 → next.stands m ≡ layout.stands m) → ((name : Named) (m : Meaning) → meaning_of next.context name ≡ Some m → (meaning_of layout.context name ≡ Some m) ⊎ ((1 ≤ times text m names) × TakesAs (next.stands m) (behind_meaning known (Some m)) m)) → Knows next then (seen-with text names seen)
-  moved layout next setting then seen names knows fresh settings same brings =
+  moved : (layout next : Layout) (setting then : Setting) (seen : Meaning → Bool) (names : List Binder) → Knows layout setting seen → Fresh text seen names → IsSettingOf next then → ((m : Meaning) → times text m names ≡ 0 → next.stands m ≡ layout.stands m) → ((m : Meaning) → is_bound m ≡ true → next.stands m ≡ layout.stands m) → ((name : Named) (m : Meaning) → meaning_of next.context name ≡ Some m → (meaning_of layout.context name ≡ Some m) ⊎ ((1 ≤ times text m names) × TakesAs (next.stands m) (behind_meaning known (Some m)) m)) → Knows next then (seen-with text names seen)
+  moved layout next setting then seen names knows fresh settings same bound brings =
       record {
         settings = settings;
         orders = λ name m e. by_orders name m (brings name m e);
@@ -234,7 +233,7 @@ module _ (flat : FlatModule) (text : Text) (known : Known) (named : List ℕ →
           context = λ name m e. by_seen name m (brings name m e);
           stands = λ m none. let before = unseen-before text names seen m none in same m before.1 ∙ knows.all_seen.stands m before.0;
         };
-        modules = λ name can. face-moved seen names layout.stands next.stands (faces name) (named name) fresh same (knows.modules name can);
+        modules = λ name can. face-moved seen names layout.stands next.stands (faces name) (named name) fresh same bound (knows.modules name can);
       }
     where
       by_orders : (name : Named) (m : Meaning) → ((meaning_of layout.context name ≡ Some m) ⊎ ((1 ≤ times text m names) × TakesAs (next.stands m) (behind_meaning known (Some m)) m)) → TakesAs (next.stands m) (behind_meaning known (Some m)) m
@@ -284,7 +283,7 @@ module _ (flat : FlatModule) (text : Text) (known : Known) (named : List ℕ →
       pub before-known : Knows (layout_before text layout form parts) setting (seen-with text scoped seen)
       before-known =
           moved layout (layout_before text layout form parts) setting setting seen scoped knows fresh
-          (record { leads = knows.settings.leads; places = knows.settings.places; olds = knows.settings.olds }) (λ m none. refl)
+          (record { leads = knows.settings.leads; places = knows.settings.places; olds = knows.settings.olds }) (λ m none. refl) (λ m is. refl)
           (λ name m e. inl (reserve-all-gives text (defined form parts) layout.context name m e))
 
       -- a bound name is a leaf
@@ -299,7 +298,7 @@ module _ (flat : FlatModule) (text : Text) (known : Known) (named : List ℕ →
       pub scope-known : (state : Bool) → binding_of form ≡ as_binding.Bound state → Knows (layout_in text layout form parts) setting (seen-with text scoped seen)
       scope-known state binding =
           moved layout (layout_in text layout form parts) setting setting seen scoped knows fresh
-          (record { leads = knows.settings.leads; places = knows.settings.places; olds = knows.settings.olds }) (λ m none. refl)
+          (record { leads = knows.settings.leads; places = knows.settings.places; olds = knows.settings.olds }) (λ m none. refl) (λ m is. refl)
           (λ name m e. by_scope name m (bind-all-gives text (binders form parts) (inside text layout.context form parts) name m e))
         where
           by_inside : (name : Named) (m : Meaning) → ((meaning_of layout.context name ≡ Some m) ⊎ ((l : Lexeme) × (form ≡ Form.FunctionDefinition l) × (m ≡ Declared (entity.Bound false) (own text l)))) → Brings layout.stands name m
@@ -324,6 +323,7 @@ module _ (flat : FlatModule) (text : Text) (known : Known) (named : List ℕ →
             olds = knows.settings.olds;
           })
           (λ m none. places-other text (binders form parts) layout.stands layout.places m (let b = times-append text m (defined form parts) (binders form parts) in omega (arith, b, none)))
+          (λ m is. places-left m is (parameters_of text form parts) layout.stands layout.places (parameters-free text form parts binding))
           (λ name m e. by_scope name m (bind-all-gives text (binders form parts) (inside text layout.context form parts) name m e))
         where
           by_inside : (name : Named) (m : Meaning) → ((meaning_of layout.context name ≡ Some m) ⊎ ((l : Lexeme) × (form ≡ Form.FunctionDefinition l) × (m ≡ Declared (entity.Bound false) (own text l)))) → Brings (layout_with text layout form parts).stands name m
@@ -353,6 +353,7 @@ module _ (flat : FlatModule) (text : Text) (known : Known) (named : List ℕ →
           olds = knows.settings.olds;
         })
         (λ m none. stands-other text (defined form parts) layout.stands stand m none)
+        (λ m is. stands-left m is (map (meant text) (defined form parts)) layout.stands stand (definition-free text form parts))
         (λ name m e. by_bind name m (bind-all-gives text (defined form parts) layout.context name m e))
       where
         by_bind : (name : Named) (m : Meaning) → ((meaning_of layout.context name ≡ Some m) ⊎ IsOneOf text (defined form parts) m) → (meaning_of layout.context name ≡ Some m) ⊎ ((1 ≤ times text m (defined form parts)) × TakesAs ((layout_behind text layout (Node form s parts) stand).stands m) (behind_meaning known (Some m)) m)

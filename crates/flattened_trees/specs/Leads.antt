@@ -3,9 +3,10 @@ use Rattle.std.specs.Prelude.{ℕ, suc, Bool, List, [], ◌∷◌, ◌++◌, if�
 use Rattle.tla_tree.specs.declared.form.Form.{Form}
 use Rattle.tla_tree.specs.Syntax.{Tree, Trees}
 use Rattle.tla_model.specs.Tables.{Named}
-use Rattle.tla_model.specs.Entities.{Meaning, Text, meant, same_meaning}
+use Rattle.tla_model.specs.Entities.{Meaning, Text, meant}
 use Rattle.tla_model.specs.Scopes.{definition}
 use Rattle.module_model.specs.Exports.{Exports}
+use Rattle.tree_kinds.specs.Standing.{same_standing}
 use Rattle.flat_trees.specs.Layouts.{order_of, parameters_of}
 use Rattle.flattened_trees.specs.declared.End.TheVariants as end
 
@@ -33,7 +34,7 @@ only e (name ∷ names) = nowhere
 
 -- one thing more
 abbrev pub with_lead : Leads → Meaning → (List Named → Lead) → Leads
-with_lead leads meaning lead other names = if same_meaning other meaning then lead names else leads other names
+with_lead leads meaning lead other names = if same_standing other meaning then lead names else leads other names
 
 -- the same for each of these
 abbrev pub with_leads : Leads → List Meaning → (List Named → Lead) → Leads

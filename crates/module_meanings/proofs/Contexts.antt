@@ -12,7 +12,8 @@ use Rattle.tla_model.proofs.Same.{meaning-itself}
 use Rattle.model_laws.proofs.Settling.{put-gives}
 use Rattle.module_model.specs.Exports.{Behind, Exports, Known, and_known, at_path, behind_meaning}
 use Rattle.module_model.specs.Modules.{Reading, clashes, declare_all, joined, with_entry}
-use Rattle.tree_kinds.specs.Standing.{name_among}
+use Rattle.tree_kinds.specs.Standing.{name_among, same_standing}
+use Rattle.tree_kinds.proofs.Standings.{standing-equal, standing-unlike}
 use Rattle.flat_trees.specs.Layouts.{Layout}
 use Rattle.flattened_trees.specs.Agreeing.{KeepsOrders, TakesAs, is_seen}
 use Rattle.flattened_meanings.proofs.Fresh.{IsOneOf}
@@ -58,8 +59,8 @@ same-true a b same = ap (λ n. same_meaning a n) (sym same) ∙ meaning-itself a
 pub entry-named : (entries : Exports) (m : Meaning) → IsEntry entries m → name_among entries m ≡ None → ⊥
 entry-named [] m one none = absurd one
 entry-named (entry ∷ rest) m (inl same) none =
-    let e : cond true (Some entry.0) (name_among rest m) ≡ None = ap (λ b. cond b (Some entry.0) (name_among rest m)) (sym (same-true m entry.1 same)) ∙ none in cc e
-entry-named (entry ∷ rest) m (inr one) none = by_sameness (same_meaning m entry.1) none (entry-named rest m one)
+    let e : cond true (Some entry.0) (name_among rest m) ≡ None = ap (λ b. cond b (Some entry.0) (name_among rest m)) (sym (standing-equal m entry.1 same)) ∙ none in cc e
+entry-named (entry ∷ rest) m (inr one) none = by_sameness (same_standing m entry.1) none (entry-named rest m one)
   where
     by_sameness : (t : Bool) → cond t (Some entry.0) (name_among rest m) ≡ None → (name_among rest m ≡ None → ⊥) → ⊥
     by_sameness true none others = cc none
@@ -76,11 +77,11 @@ entry-seen (entry ∷ rest) m (inr one) = by_sameness (same_meaning m entry.1) (
 
 pub unseen-entries : (entries : Exports) (m : Meaning) → is_seen (meanings_of entries) m ≡ false → name_among entries m ≡ None
 unseen-entries [] m none = refl
-unseen-entries (entry ∷ rest) m none = by_sameness (same_meaning m entry.1) none (unseen-entries rest m)
+unseen-entries (entry ∷ rest) m none = by_sameness (same_meaning m entry.1) refl none (unseen-entries rest m)
   where
-    by_sameness : (t : Bool) → cond t true (is_seen (meanings_of rest) m) ≡ false → (is_seen (meanings_of rest) m ≡ false → name_among rest m ≡ None) → cond t (Some entry.0) (name_among rest m) ≡ None
-    by_sameness true none others = absurd (cc none)
-    by_sameness false none others = others none
+    by_sameness : (t : Bool) → same_meaning m entry.1 ≡ t → cond t true (is_seen (meanings_of rest) m) ≡ false → (is_seen (meanings_of rest) m ≡ false → name_among rest m ≡ None) → name_among (entry ∷ rest) m ≡ None
+    by_sameness true e none others = absurd (cc none)
+    by_sameness false e none others = ap (λ t. cond t (Some entry.0) (name_among rest m)) (standing-unlike m entry.1 e) ∙ others none
 
 -- ---- names behind declarations
 

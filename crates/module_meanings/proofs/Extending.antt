@@ -24,7 +24,7 @@ use Rattle.flat_trees.specs.Stands.{Stand, Unsaid, Leaf, Place, Defined, Through
 use Rattle.flat_trees.specs.Layouts.{Layout, coming_stand, order_of, with_brought}
 use Rattle.flat_trees.specs.Instances.{StaysIn, symbols_of}
 use Rattle.flat_trees.proofs.Instances.{parameter-stays}
-use Rattle.flat_trees.proofs.Meanings.{same-alike}
+use Rattle.tree_kinds.proofs.Standings.{same-alike, standing-unlike}
 use Rattle.flat_kinds.specs.Readings.{Extension, IsExtension, extended_entries}
 use Rattle.flat_kinds.specs.Symbols.{same_declared, same_symbol, symbols_at}
 use Rattle.flattened_trees.specs.Agreeing.{TakesAs, TakesBehind, is_seen, unsaid_stand}
@@ -163,7 +163,7 @@ unseen-passing [] m none = refl
 unseen-passing (entry ∷ rest) m none = by_same (same_meaning m entry.1) refl none (unseen-passing rest m)
   where
     by_kind : (b : Bool) → same_meaning m entry.1 ≡ false → name_among (instantiable rest) m ≡ None → name_among (cond b (entry ∷ instantiable rest) (instantiable rest)) m ≡ None
-    by_kind true apart others = ap (λ t. cond t (Some entry.0) (name_among (instantiable rest) m)) apart ∙ others
+    by_kind true apart others = ap (λ t. cond t (Some entry.0) (name_among (instantiable rest) m)) (standing-unlike m entry.1 apart) ∙ others
     by_kind false apart others = others
 
     by_same : (t : Bool) → same_meaning m entry.1 ≡ t → cond t true (is_seen (meanings_of rest) m) ≡ false → (is_seen (meanings_of rest) m ≡ false → name_among (instantiable rest) m ≡ None) → name_among (instantiable (entry ∷ rest)) m ≡ None

@@ -1,12 +1,12 @@
 -- What is asked of the modules that units name: they are to these what a flat module has for them. It is said by where names lead
 -- there, and so without what these stand for.
-use Rattle.std.specs.Prelude.{◌≡◌, ℕ, ◌+◌, ◌<◌, Bool, true, List, [], ◌∷◌, Some, length}
+use Rattle.std.specs.Prelude.{◌≡◌, ℕ, ◌+◌, ◌<◌, Bool, true, false, List, [], ◌∷◌, Some, length}
 use Rattle.std.specs.List.{AllByRecursion}
 use Rattle.tla_model.specs.Tables.{Named}
 use Rattle.tla_model.specs.Entities.{Meaning}
 use Rattle.module_model.specs.Exports.{behind_instance, entry_of, onward}
 use Rattle.kind_text.specs.FlatModule.{FlatModule}
-use Rattle.tree_kinds.specs.Standing.{Outside}
+use Rattle.tree_kinds.specs.Standing.{Outside, is_bound}
 use Rattle.flat_trees.specs.Stands.{Stand, Unsaid, Leaf, Place}
 use Rattle.flat_trees.specs.Layouts.{order_of}
 use Rattle.flat_trees.specs.Instances.{IsModule, IsModuleBehind, symbols_of}
@@ -28,7 +28,7 @@ IsPlaced leads meaning = (place : ℕ) × (leads meaning [] ≡ only (end.Place 
 
 module _ (flat : FlatModule) where
   -- a module is that to its instances, by where names lead here and by which are new: its names stand so behind the symbols of the modules
-  -- round it, which lead where they do here; its own symbols are found by their names; and nothing is said there of new names
+  -- round it, which lead where they do here; its own symbols are found by their names; and nothing is said there of new names, but of bound ones
   pub record IsFaceBy (new : Meaning → Bool) (leads : Leads) (face : FlatFace) (outside : Outside) : Type 0 where
     pub base : Meaning → Stand
     pub inner : Named → Stand
@@ -37,7 +37,7 @@ module _ (flat : FlatModule) where
     pub takes : (name : Named) (next : Meaning) → entry_of (behind_instance outside.view []) name ≡ Some next → TakesBehind (inner name) (onward (behind_instance outside.view) name) next
     pub apart : AllByRecursion (λ parameter. entry_of outside.view.parameters parameter.0 ≡ Some parameter.1) outside.view.parameters
     pub symbols : (meaning : Meaning) → LeadsAs face.outer (base meaning) (leads meaning [])
-    pub unsaid : (meaning : Meaning) → new meaning ≡ true → base meaning ≡ Unsaid
+    pub unsaid : (meaning : Meaning) → new meaning ≡ true → is_bound meaning ≡ false → base meaning ≡ Unsaid
 
   -- a module is that to one that extends it, by where names lead and by where symbols do: its names stand so over its symbols, each of its
   -- own entity alone, which lead to places here, behind those of the modules round it

@@ -1,6 +1,6 @@
 -- Definitions that are made, and their names in scope.
-use Rattle.std.proofs.Common.{◌≡◌, ℕ, suc, ◌<◌, List, [], ◌∷◌, ◌++◌, Some, refl, sym, ap, subst, ◌∙◌, length, take, map, arith}
-use Rattle.std.specs.Prelude.{slice_get, if◌then◌else◌}
+use Rattle.std.proofs.Common.{◌≡◌, ℕ, suc, ◌<◌, Bool, false, List, [], ◌∷◌, ◌++◌, Some, refl, sym, ap, subst, ◌∙◌, length, take, map, arith}
+use Rattle.std.specs.Prelude.{slice_get, if◌then◌else◌, not, ◌&&◌}
 use Rattle.std.specs.List.{AllByRecursion}
 use Rattle.std.proofs.lemmas.List.{append-nil, length_push}
 use Rattle.std.proofs.lemmas.Option.{get_or_from_slice_get}
@@ -11,12 +11,15 @@ use Rattle.tla_symbols.specs.declared.level.Rule.TheVariants.{Plain}
 use Rattle.tla_tree.specs.declared.form.Form.{Form}
 use Rattle.tla_tree.specs.Syntax.{Trees, Node}
 use Rattle.tla_model.specs.declared.names.Binder.{Binder}
+use Rattle.tla_model.specs.declared.names.Binding.TheVariants as as_binding
 use Rattle.tla_model.specs.declared.names.Meaning.TheVariants.{BuiltIn, Declared}
 use Rattle.tla_model.specs.Tables.{Named}
-use Rattle.tla_model.specs.Entities.{Defines, Nothing, Operator, Function, Module, Meaning, Text, defined_as, defines, meant, place_in, same_meaning}
+use Rattle.tla_model.specs.Entities.{Defines, Nothing, Operator, Function, Module, Meaning, Text, binding_of, defined_as, defines, meant, place_in, same_meaning}
 use Rattle.tla_model.specs.Scopes.{binders}
 use Rattle.kind_text.specs.FlatModule.{Extends, FlatModule, Form as NodeForm, Keeps}
+use Rattle.tree_kinds.specs.Standing.{is_bound, same_standing}
 use Rattle.flat_trees.specs.Layouts.{order_of, parameters_of}
+use Rattle.flat_trees.proofs.BoundNames.{AreFree, definition-free, operator-binds, parameters-free}
 use Rattle.flattened_trees.specs.declared.End.TheVariants as end
 use Rattle.flattened_trees.specs.Leads.{Lead, Leads, Setting, behind, nowhere, only, with_lead, with_leads, with_parameters, with_places}
 use Rattle.flattened_trees.specs.NodeForms.{plain_node}
@@ -48,14 +51,21 @@ same-place : (text : Text) (binder : Binder) (other : Meaning) → same_meaning 
 same-place text binder BuiltIn = refl
 same-place text binder (Declared e callee) = refl
 
-same-lead : (text : Text) (binder : Binder) (leads : Leads) (lead : List Named → Lead) → with_lead leads (declared_at text (place_in text.starts binder.name.span.start)) lead ≡ with_lead leads (meant text binder) lead
-same-lead text binder leads lead = λ i other names. if same-place text binder other i then lead names else leads other names
+-- if it is not bound
+same-stand : (text : Text) (binder : Binder) → is_bound (meant text binder) ≡ false → (other : Meaning)
+    → same_standing other (declared_at text (place_in text.starts binder.name.span.start)) ≡ same_standing other (meant text binder)
+same-stand text binder free other =
+    let both : Bool → Bool → Bool = λ same bound. same && (if is_bound other then bound else not bound) in
+    ap (λ same. both same false) (same-place text binder other) ∙ ap (both (same_meaning other (meant text binder))) (sym free)
 
-placed-leads : (w : World) (binders : List Binder) (leads : Leads) (place : ℕ) → with_locals w leads (entries_of w.text place binders) ≡ with_places leads (map (meant w.text) binders) place
-placed-leads w [] leads place = refl
-placed-leads w (binder ∷ rest) leads place =
-    ap (λ z. with_locals w z (entries_of w.text (suc place) rest)) (same-lead w.text binder leads (only (end.Place place (order_of (meant w.text binder)))))
-    ∙ placed-leads w rest (with_lead leads (meant w.text binder) (only (end.Place place (order_of (meant w.text binder))))) (suc place)
+same-lead : (text : Text) (binder : Binder) (leads : Leads) (lead : List Named → Lead) → is_bound (meant text binder) ≡ false → with_lead leads (declared_at text (place_in text.starts binder.name.span.start)) lead ≡ with_lead leads (meant text binder) lead
+same-lead text binder leads lead free = λ i other names. if same-stand text binder free other i then lead names else leads other names
+
+placed-leads : (w : World) (binders : List Binder) (leads : Leads) (place : ℕ) → AreFree (map (meant w.text) binders) → with_locals w leads (entries_of w.text place binders) ≡ with_places leads (map (meant w.text) binders) place
+placed-leads w [] leads place free = refl
+placed-leads w (binder ∷ rest) leads place free =
+    ap (λ z. with_locals w z (entries_of w.text (suc place) rest)) (same-lead w.text binder leads (only (end.Place place (order_of (meant w.text binder)))) free.0)
+    ∙ placed-leads w rest (with_lead leads (meant w.text binder) (only (end.Place place (order_of (meant w.text binder))))) (suc place) free.1
 
 -- parameters name nothing that has to be there
 places-within : (w : World) (flat : FlatModule) (binders : List Binder) (place : ℕ) → AllByRecursion (λ entry. IsLocalWithin flat entry.local) (entries_of w.text place binders)
@@ -83,11 +93,11 @@ module _ (w : World) (s t : Flattening) (frame : ℕ) (form : Form) (parts : Tre
       (ap (λ z. slice_get z entered.frame) enters.frames ∙ ap (slice_get (s.frames.items ++ inner ∷ [])) enters.number ∙ at-end s.frames.items inner)
 
   -- parameters stand round the parts of their form
-  pub enters-setting : (olds : List ℕ) → setting_of w t entered.frame olds ≡ with_parameters w.text (setting_of w s frame olds) form parts
-  enters-setting olds =
+  pub enters-setting : (olds : List ℕ) → binding_of form ≡ as_binding.Parameter → setting_of w t entered.frame olds ≡ with_parameters w.text (setting_of w s frame olds) form parts
+  enters-setting olds binding =
       let leads =
       ap (with_locals w w.leads) enters.locals ∙ locals-both w w.leads s.locals.items (entries_of w.text (length (frame_at s.frames.items frame)) (binders form parts))
-      ∙ placed-leads w (binders form parts) (with_locals w w.leads s.locals.items) (length (frame_at s.frames.items frame))
+      ∙ placed-leads w (binders form parts) (with_locals w w.leads s.locals.items) (length (frame_at s.frames.items frame)) (parameters-free w.text form parts binding)
       in
       λ i. record { leads = leads i; frame = frame-is i; olds = olds }
 
@@ -175,7 +185,8 @@ named-setting w s t frame olds form at parts binder l keeps there defined locals
     let setting = setting_of w s frame olds in
     let entry : Entry = record { place = place_in w.text.starts binder.name.span.start; local = l } in
     let leads =
-    ap (with_locals w w.leads) locals ∙ locals-both w w.leads s.locals.items (entry ∷ []) ∙ same-lead w.text binder setting.leads (lead_by w l)
+    ap (with_locals w w.leads) locals ∙ locals-both w w.leads s.locals.items (entry ∷ [])
+    ∙ same-lead w.text binder setting.leads (lead_by w l) (let free = subst (λ (bs : List Binder). AreFree (map (meant w.text) bs)) defined (definition-free w.text form parts) in free.0)
     ∙ sym (ap (λ binders. with_leads setting.leads (map (meant w.text) binders) (lead_by w l)) defined)
     in
     λ i. record { leads = leads i; frame = frame-kept s.frames.items t.frames.items frame keeps there i; olds = olds }
@@ -264,7 +275,7 @@ module _ (w : World) (s0 s1 s2 s3 s4 s5 s6 s7 s8 : Flattening) (frame : ℕ) (ol
               d,
               reads.asked,
               subst (λ z. AreOperands w.text w.means w.implied w.faces more all_parts z parts reads.first reads.asked)
-                  (enters-setting w s1 s2 frame form parts entered enters olds ∙ ap (λ z. with_parameters w.text z form parts) same1) (reads.holds more to3),
+                  (enters-setting w s1 s2 frame form parts entered enters olds (operator-binds form l e) ∙ ap (λ z. with_parameters w.text z form parts) same1) (reads.holds more to3),
               subst (λ z. IsRoot more z root) reads.is (rooted.holds more to5),
               defined-there s5 s6 (length (frame_at s5.frames.items frame)) root d defining more to6 ∙ ap (λ n. Some (record { outer = n; root = root })) outer,
               refl,

@@ -7,11 +7,12 @@ use Rattle.tla_model.specs.declared.names.Meaning.TheVariants.{BuiltIn, Declared
 use Rattle.tla_model.specs.Tables.{Named}
 use Rattle.tla_model.specs.Entities.{Meaning, Text, same_meaning, same_units}
 use Rattle.tla_model.specs.declared.ids.UnitId.{UnitId}
+use Rattle.tree_kinds.specs.Standing.{is_bound, same_standing}
 use Rattle.flattened_trees.specs.Leads.{Lead, Leads, with_lead}
 use Rattle.tree_flattener.specs.declared.locals.Entry.{Entry}
 use Rattle.tree_flattener.specs.declared.locals.Local.{Local}
 use Rattle.tree_flattener.specs.Found.{local_in}
-use Rattle.tree_flattener.specs.Worlds.{World, declared_at, is_none_of, lead_by, local_at, local_of, own_place, with_locals}
+use Rattle.tree_flattener.specs.Worlds.{World, declared_at, declared_place, is_none_of, lead_by, local_at, local_of, own_place, with_locals}
 
 -- ---- one name
 
@@ -42,14 +43,25 @@ tests-as true false own place = refl
 tests-as false true own place = refl
 tests-as false false own place = refl
 
-same-declared : (text : Text) (other : Meaning) (place : ℕ) → same_meaning other (declared_at text place) ≡ at_place (own_place text other) place
+same-named : (text : Text) (other : Meaning) (place : ℕ) → same_meaning other (declared_at text place) ≡ at_place (declared_place text other) place
 unfolding at_place
-same-declared text BuiltIn place = refl
-same-declared text (Declared e callee) place =
+same-named text BuiltIn place = refl
+same-named text (Declared e callee) place =
     let a = bytes_eq callee.decl.«module» text.file in
     ap (λ z. a && nat_eq callee.decl.place place && z) (none-same callee.via)
     ∙ three-tests a (nat_eq callee.decl.place place) (is_none_of callee.via)
     ∙ tests-as a (is_none_of callee.via) callee.decl.place place
+
+-- a bound name is none that came into scope
+unbound : (bound same : Bool) (own : Option ℕ) (place : ℕ) → same ≡ at_place own place → (same && (if bound then false else true)) ≡ at_place (if bound then None else own) place
+unfolding at_place
+unbound true true own place is = refl
+unbound true false own place is = refl
+unbound false true own place is = is
+unbound false false own place is = is
+
+same-declared : (text : Text) (other : Meaning) (place : ℕ) → same_standing other (declared_at text place) ≡ at_place (own_place text other) place
+same-declared text other place = unbound (is_bound other) (same_meaning other (declared_at text place)) (declared_place text other) place (same-named text other place)
 
 -- ---- all names in scope
 

@@ -15,6 +15,7 @@ use Rattle.tla_model.specs.Lexemes.{LiesIn, spelled}
 use Rattle.tla_model.specs.Tables.{Named}
 use Rattle.kind_text.specs.FlatModule.{FlatModule}
 use Rattle.flat_trees.specs.Layouts.{parameters_of}
+use Rattle.flat_trees.proofs.BoundNames.{module-binds}
 use Rattle.flattened_trees.specs.Leads.{Lead, Setting, behind_instance, with_parameters}
 use Rattle.flattened_trees.specs.Questions as asking
 use Rattle.flattened_trees.specs.Questions.{Question, over}
@@ -144,7 +145,7 @@ module _ (w : World) (s0 s1 s2 s3 s4 s5 s6 s7 : Flattening) (frame : ℕ) (olds 
       let keeps3 = keeps-on s0.frames.items s1.frames.items s3.frames.items keeps1 (keeps-on s1.frames.items s2.frames.items s3.frames.items entering.frames righted.steps.frames) in
       let outer : length (frame_at s3.frames.items frame) ≡ length setting.frame = ap length (frame-kept s0.frames.items s3.frames.items frame keeps3 there) in
       let inner_setting = with_parameters w.text setting form parts in
-      let round : setting_of w s2 entered.frame olds ≡ inner_setting = enters-setting w s1 s2 frame form parts entered enters olds ∙ ap (λ z. with_parameters w.text z form parts) same1 in
+      let round : setting_of w s2 entered.frame olds ≡ inner_setting = enters-setting w s1 s2 frame form parts entered enters olds (module-binds form own e) ∙ ap (λ z. with_parameters w.text z form parts) same1 in
       let framed2 : entered.frame < length s2.frames.items =
       let n = enters.number in let l' = ap length enters.frames ∙ length_push s1.frames.items (frame_at s1.frames.items frame ++ parameters_of w.text form parts) in omega (arith, n, l')
       in

@@ -5,7 +5,8 @@ use Rattle.std.specs.List.{AllByRecursion}
 use Rattle.std.proofs.lemmas.Option.{slice_get_within}
 use Rattle.list_laws.proofs.Lists.{all-weaker, item-at}
 use Rattle.tla_model.specs.Tables.{Named}
-use Rattle.tla_model.specs.Entities.{Meaning, same_meaning}
+use Rattle.tla_model.specs.Entities.{Meaning}
+use Rattle.tree_kinds.specs.Standing.{same_standing}
 use Rattle.kind_text.specs.FlatModule.{Extends, FlatModule, Keeps, UsesDefinition, UsesInstance}
 use Rattle.flattened_trees.specs.declared.End.TheVariants as end
 use Rattle.flattened_trees.specs.Leads.{Lead, Leads, with_lead}
@@ -84,7 +85,7 @@ module _ (w : World) (flat : FlatModule) (within : AreWithin w flat) where
       by_test false meaning names = known meaning names
 
       next : (meaning : Meaning) (names : List Named) → IsLeadWithin flat (with_lead leads (declared_at w.text entry.place) (lead_by w entry.local) meaning names)
-      next meaning names = by_test (same_meaning meaning (declared_at w.text entry.place)) meaning names
+      next meaning names = by_test (same_standing meaning (declared_at w.text entry.place)) meaning names
 
 -- where a name leads that may mean nothing is there
 pub named-within : (w : World) (state : Flattening) → IsKnown w state → (meaning : Option Meaning) (names : List Named) → IsLeadWithin state.flat (lead_of (with_locals w w.leads state.locals.items) meaning names)

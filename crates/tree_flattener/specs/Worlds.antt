@@ -11,6 +11,7 @@ use Rattle.tla_model.specs.declared.names.Meaning.TheVariants.{BuiltIn, Declared
 use Rattle.tla_model.specs.Entities.{Meaning, Text}
 use Rattle.tla_model.specs.Lexemes.{LiesIn, all_lexemes, lexemes, spelled}
 use Rattle.kind_text.specs.FlatModule.{FlatModule, UsesDefinition, UsesInstance}
+use Rattle.tree_kinds.specs.Standing.{is_bound}
 use Rattle.flattened_trees.specs.declared.End.TheVariants as end
 use Rattle.flattened_trees.specs.Leads.{FlatFace, Lead, Leads, Setting, behind_instance, nowhere, only, with_lead}
 use Rattle.tree_flattener.specs.declared.locals.Entry.{Entry}
@@ -66,9 +67,13 @@ is_none_of [] = true
 is_none_of (x ∷ xs) = false
 
 -- the place of something that the text declares itself
+abbrev pub declared_place : Text → Meaning → Option ℕ
+declared_place text BuiltIn = None
+declared_place text (Declared e callee) = if bytes_eq callee.decl.«module» text.file && is_none_of callee.via then Some callee.decl.place else None
+
+-- the same of what can come into scope as a definition or a parameter: a bound name is none
 abbrev pub own_place : Text → Meaning → Option ℕ
-own_place text BuiltIn = None
-own_place text (Declared e callee) = if bytes_eq callee.decl.«module» text.file && is_none_of callee.via then Some callee.decl.place else None
+own_place text meaning = if is_bound meaning then None else declared_place text meaning
 
 -- something that the text declares, by how many declaring names stand before it
 abbrev pub declared_at : Text → ℕ → Meaning

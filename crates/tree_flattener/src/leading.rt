@@ -7,8 +7,9 @@ ghost use Rattle.name_context.specs.AsTables.{meant_by};
 ghost use Rattle.flattened_trees.specs.NodeForms.{lead_of};
 ghost use Rattle.flattened_trees.specs.Leads as leading;
 ghost use Rattle.tree_flattener.specs.Found.{lead_in};
-ghost use Rattle.tree_flattener.specs.Worlds.{DoLie, DoesLie, is_none_of, lead_by, local_of};
-ghost use Rattle.tree_flattener.specs.Worlds.{own_place, with_locals, world_of};
+ghost use Rattle.tree_kinds.specs.Standing.{is_bound};
+ghost use Rattle.tree_flattener.specs.Worlds.{DoLie, DoesLie, declared_place, is_none_of, lead_by};
+ghost use Rattle.tree_flattener.specs.Worlds.{local_of, own_place, with_locals, world_of};
 
 use crate::locals::{Entry, Local, local_at};
 use crate::names::{Lead, Names};
@@ -16,7 +17,7 @@ use crate::written::Written;
 use flattened_trees::End;
 use name_context::Named;
 use std::alloc::Global;
-use tla_model::{Meaning, UnitId};
+use tla_model::{Entity, Meaning, UnitId};
 use tool_list::Memory;
 use tree_names::ModuleText;
 
@@ -31,8 +32,8 @@ fn is_none_of(units: &[UnitId]) -> bool
 }
 
 // How many declaring names of the text stand before something that it declares itself.
-fn own_place(text: &ModuleText<'_>, meaning: &Meaning) -> Option<u32>
-    ensures { result ≡ own_place text.now meaning.now }
+fn declared_place(text: &ModuleText<'_>, meaning: &Meaning) -> Option<u32>
+    ensures { result ≡ declared_place text.now meaning.now }
 {
     match meaning {
         Meaning::BuiltIn => None,
@@ -44,6 +45,29 @@ fn own_place(text: &ModuleText<'_>, meaning: &Meaning) -> Option<u32>
             }
         }
     }
+}
+
+// Whether this is a name that a quantifier, a function or a set binds.
+fn is_bound(meaning: &Meaning) -> bool
+    ensures { result ≡ is_bound meaning.now }
+{
+    match meaning {
+        Meaning::Declared {
+            entity: Entity::Bound { .. },
+            ..
+        } => true,
+        _ => false,
+    }
+}
+
+// The same of what can come into scope as a definition or a parameter: a bound name is none.
+fn own_place(text: &ModuleText<'_>, meaning: &Meaning) -> Option<u32>
+    ensures { result ≡ own_place text.now meaning.now }
+{
+    if is_bound(meaning) {
+        return None;
+    }
+    declared_place(text, meaning)
 }
 
 // The name of a scope that this means.

@@ -1,1 +1,2 @@
 pub mod MadeNodes
+pub mod Standings

@@ -1,5 +1,5 @@
 -- What names stand for: what they give on arguments, and what stands behind instances.
-use Rattle.std.specs.Prelude.{ℕ, Bool, List, [], ◌∷◌, ◌++◌, Option, Some, None, if◌then◌else◌, length, nat_eq}
+use Rattle.std.specs.Prelude.{ℕ, Bool, true, false, not, ◌&&◌, List, [], ◌∷◌, ◌++◌, Option, Some, None, if◌then◌else◌, length, nat_eq}
 use Rattle.tla_symbols.specs.declared.level.Kind.TheVariants.{Const, State}
 use Rattle.tla_symbols.specs.declared.level.Rule.TheVariants.{Plain, Boolean}
 use Rattle.tla_model.specs.declared.entity.Entity.TheVariants as entity
@@ -64,9 +64,18 @@ abbrev pub value_in : Environment → Option Meaning → Value
 value_in standing None arguments path = Given None
 value_in standing (Some meaning) arguments path = standing meaning arguments path
 
+-- a name that a quantifier, a function or a set binds
+abbrev pub is_bound : Meaning → Bool
+is_bound (Declared (entity.Bound state) callee) = true
+is_bound meaning = false
+
+-- both mean the same, and both are bound names or neither: what stands for a definition never stands for a bound name
+abbrev pub same_standing : Meaning → Meaning → Bool
+same_standing a b = same_meaning a b && (if is_bound a then is_bound b else not (is_bound b))
+
 -- one thing more
 abbrev pub with_value : Environment → Meaning → Value → Environment
-with_value standing meaning value other = if same_meaning other meaning then value else standing other
+with_value standing meaning value other = if same_standing other meaning then value else standing other
 
 -- the same value for each of these
 abbrev pub with_values : Environment → List Meaning → Value → Environment
@@ -121,7 +130,7 @@ along_entries standing entries (step ∷ path) = value_in standing (entry_of ent
 -- the name of the first of these entries that means this
 abbrev pub name_among : Exports → Meaning → Option Named
 name_among [] meaning = None
-name_among (entry ∷ rest) meaning = if same_meaning meaning entry.1 then Some entry.0 else name_among rest meaning
+name_among (entry ∷ rest) meaning = if same_standing meaning entry.1 then Some entry.0 else name_among rest meaning
 
 -- what comes from a module under this name there, or else this
 abbrev pub coming : (Steps → Expanded) → Value → Option Named → Value

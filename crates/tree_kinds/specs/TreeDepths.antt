@@ -6,12 +6,12 @@ use Rattle.tla_symbols.specs.declared.op.Op.TheVariants as Op
 use Rattle.tla_tree.specs.declared.form.Form.TheVariants as Form
 use Rattle.tla_tree.specs.Syntax.{Tree, Trees, Node, Nil, Cons}
 use Rattle.tla_model.specs.Tables.{Named, Symbol, is_among}
-use Rattle.tla_model.specs.Entities.{Meaning, Text, meant, name_of, same_meaning}
+use Rattle.tla_model.specs.Entities.{Meaning, Text, meant, name_of}
 use Rattle.tla_model.specs.Contexts.{Context, meaning_of}
 use Rattle.tla_model.specs.Scopes.{behind, definition, has_set, is_free, itself as as_spelled, prefixed, reserved, scope}
 use Rattle.module_model.specs.Exports.{Exports, Known, entry_of}
 use Rattle.module_model.specs.Instances.{left_sides}
-use Rattle.tree_kinds.specs.Standing.{Outside, Reached, name_among}
+use Rattle.tree_kinds.specs.Standing.{Outside, Reached, name_among, same_standing}
 use Rattle.tree_kinds.specs.Expanding.{module_of, places_at}
 
 -- how deep what a name stands for is, at the names that follow it on a path
@@ -43,7 +43,7 @@ depths_along depths entries (name ∷ path) = reached_by depths (entry_of entrie
 -- one thing more
 abbrev pub with_depth : Depths → List Meaning → (List Named → Reached) → Depths
 with_depth depths [] reached other path = depths other path
-with_depth depths (meaning ∷ rest) reached other path = if same_meaning other meaning then reached path else with_depth depths rest reached other path
+with_depth depths (meaning ∷ rest) reached other path = if same_standing other meaning then reached path else with_depth depths rest reached other path
 
 -- what comes from a module under this name there, or else this
 abbrev pub coming_depth : (List Named → Reached) → Reached → Option Named → List Named → Reached
