@@ -1,6 +1,6 @@
 mod Units
 mod Nested
-mod Leaving
+pub mod Leaving
 pub mod Modules
 pub mod Symbols
 mod Growing

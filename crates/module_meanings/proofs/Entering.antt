@@ -24,12 +24,13 @@ use Rattle.flattened_trees.specs.Leads.{FlatFace, Leads, Setting}
 use Rattle.flattened_units.specs.Units.{AreExtended, Reader, with_symbols}
 use Rattle.module_meanings.specs.Faces.{IsPlaced}
 use Rattle.module_meanings.specs.Following.{AreExtendedSo}
-use Rattle.module_meanings.specs.Premises.{AreTold, IsBegunGiven, StandAsBefore, extended_meanings, symbol_leads}
+use Rattle.module_meanings.specs.Premises.{AreTold, IsBegunGiven, extended_meanings, symbol_leads}
 use Rattle.module_meanings.proofs.Beginning.{parameter-takes, symbols-unseen}
 use Rattle.module_meanings.proofs.Contexts.{orders-more, seen-left, seen-right, unseen-parts}
 use Rattle.module_meanings.proofs.Extending.{extended-all, extends-means}
 use Rattle.module_meanings.proofs.Knowing.{extended-told}
 use Rattle.module_meanings.proofs.Nesting.{AreAllTold, HoldsAt, HoldsRound, holds-more, own-alike, own-at, own-before, own-lead, own-new, own-takes, round-more, round-stays}
+use Rattle.module_meanings.proofs.Staying.{StayBehind}
 use Rattle.flat_kinds.proofs.Symbols.{own-symbols}
 
 drop-front : (a b : List Meaning) → drop (length a) (a ++ b) ≡ b
@@ -44,7 +45,7 @@ module _ (flat : FlatModule) (ordered : IsOrdered flat) (text : Text) (means : �
     pub keeps : KeepsAll flat state current outers
 
   -- a nested module begins
-  module _ (state : KindState) (reader : Reader) (seen : List Meaning) (here : Current) (outers : List Current) (holds : Holds state reader seen here outers) (told : AreAllTold state) (dashes name : Lexeme) (extends : List Lexeme) (stays : StandAsBefore flat text means implied files outsides words state (ModuleBegin dashes name extends) (reader.setting ∷ reader.round)) (own : List Meaning) (given : IsBegunGiven flat text means implied files outsides words state reader own dashes name extends) where
+  module _ (state : KindState) (reader : Reader) (seen : List Meaning) (here : Current) (outers : List Current) (holds : Holds state reader seen here outers) (told : AreAllTold state) (dashes name : Lexeme) (extends : List Lexeme) (stays : StayBehind text outsides words state (ModuleBegin dashes name extends) seen) (own : List Meaning) (given : IsBegunGiven flat text means implied files outsides words state reader own dashes name extends) where
     abbrev pub unit : UnitTree
     unit = ModuleBegin dashes name extends
 
@@ -97,8 +98,8 @@ module _ (flat : FlatModule) (ordered : IsOrdered flat) (text : Text) (means : �
       begun-read = (
         own-new here.symbols (symbol_leads reader.round reader.setting.frame) here.layout state own holds.here.leads holds.here.before given.new,
         all.are nested-here room,
-        round-stays flat text means implied files outsides words state unit state.read.known (state.read.place.here ∷ state.read.place.round) (reader.setting ∷ reader.round) (here ∷ outers) seen
-            (holds.here, holds.round) ((holds.keeps.here.context, holds.keeps.here.olds, holds.keeps.here.standing), holds.keeps.round) stays,
+        round-stays flat text outsides words state unit state.read.known (state.read.place.here ∷ state.read.place.round) (reader.setting ∷ reader.round) (here ∷ outers) seen
+            (holds.here, holds.round) ((holds.keeps.here.context, holds.keeps.here.olds, holds.keeps.here.standing), holds.keeps.round) (λ some. stays),
       )
 
       -- the names that were seen then

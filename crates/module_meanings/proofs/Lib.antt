@@ -5,6 +5,7 @@ mod Units
 mod Bringing
 mod Extending
 mod Beginning
+mod Staying
 mod Nesting
 mod Entering
 mod Modules

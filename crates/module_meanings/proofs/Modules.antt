@@ -1,5 +1,5 @@
 -- Modules, unit by unit.
-use Rattle.std.proofs.Common.{◌≡◌, ℕ, false, List, [], ◌∷◌, ◌++◌, Option, map, refl, sym, ap, ◌∙◌, subst, length, ◌+◌, arith}
+use Rattle.std.proofs.Common.{◌≡◌, inl, ℕ, false, List, [], ◌∷◌, ◌++◌, Option, map, refl, sym, ap, ◌∙◌, subst, length, ◌+◌, arith}
 use Rattle.std.specs.Prelude.{is_some}
 use Rattle.tla_symbols.specs.declared.lexeme.Lexeme.{Lexeme}
 use Rattle.tla_tree.specs.declared.form.Form.TheVariants as Form
@@ -27,13 +27,14 @@ use Rattle.flattened_trees.specs.Leads.{FlatFace, Setting}
 use Rattle.flattened_trees.specs.Questions.{Question}
 use Rattle.flattened_units.specs.Units.{AreUnitsMade, IsBegun, IsDefinitionMade, IsEnded, IsInstanceMade, IsModuleMade, IsUnitMade, Reader, meanings_of}
 use Rattle.module_meanings.specs.Following.{Follows, IsBuiltSo, IsFollowed, IsMeantSo, IsPlain, LeadsBy}
-use Rattle.module_meanings.specs.Premises.{AreTold, AreUnitsGiven, IsBegunGiven, IsModuleGiven, IsUnitGiven, StandAsBefore, first_seen, round_of, seen_behind, symbol_leads}
+use Rattle.module_meanings.specs.Premises.{AreTold, AreUnitsGiven, IsBegunGiven, IsModuleGiven, IsUnitGiven, IsBroughtGiven, first_seen, seen_behind, symbol_leads}
 use Rattle.module_meanings.proofs.Beginning.{begun-so, first-follows, first-reader, symbol-stands}
 use Rattle.module_meanings.proofs.Bringing.{declared-follows, instance-follows, still-follows}
 use Rattle.module_meanings.proofs.Entering.{Holds, all-extended, begun-read, round-holds, within-holds}
 use Rattle.module_meanings.proofs.Extending.{symbols-alike, unsaid-alike}
 use Rattle.module_meanings.proofs.Leads.{exported-lead, none-leads, symbols-lead}
 use Rattle.module_meanings.proofs.Nesting.{AreAllTold, all-told, here-told, HoldsAt, HoldsRound, own-at, round-more, round-stays, told-round}
+use Rattle.module_meanings.proofs.Staying.{StayBehind, definition-stays, given-stays}
 use Rattle.module_meanings.proofs.Units.{constants-symbolic, definition-follows, variables-symbolic}
 
 module _ (flat : FlatModule) (ordered : IsOrdered flat) (text : Text) (means : ℕ → Option Meaning) (implied : ℕ → List Meaning) (files : List ℕ → FlatFace) (outsides : List ℕ → Outside) (words : List ℕ) where
@@ -94,10 +95,10 @@ module _ (flat : FlatModule) (ordered : IsOrdered flat) (text : Text) (means : �
 
   module _ (state : KindState) (reader : Reader) (seen : List Meaning) (here : Current) (outers : List Current) (holds : Holds flat ordered text means implied files outsides words state reader seen here outers) (told : AreAllTold state) where
     -- a unit that begins and ends no nested module
-    plain-steps : (unit : UnitTree) (next : Reader) → IsFollowed flat text outsides words state here.layout unit next seen → (next.round ≡ reader.round) × (next.setting.frame ≡ reader.setting.frame) → (after text outsides words state unit).read.place.round ≡ state.read.place.round → HoldsRound (after text outsides words state unit).read.known state.read.place.round reader.round outers (seen_behind text outsides words state unit next seen) → StandAsBefore flat text means implied files outsides words state unit reader.round → Steps state reader seen here outers unit next
+    plain-steps : (unit : UnitTree) (next : Reader) → IsFollowed flat text outsides words state here.layout unit next seen → (next.round ≡ reader.round) × (next.setting.frame ≡ reader.setting.frame) → (after text outsides words state unit).read.place.round ≡ state.read.place.round → HoldsRound (after text outsides words state unit).read.known state.read.place.round reader.round outers (seen_behind text outsides words state unit next seen) → ((reader.round ≡ [] → ⊥) → StayBehind text outsides words state unit seen) → Steps state reader seen here outers unit next
     plain-steps unit next (stands, read, follows) (round, frame) same round_holds stays =
         let is-read : IsRead text outsides words flat state here outers unit (Stands stands) =
-        (read, round-stays flat text means implied files outsides words state unit state.read.known state.read.place.round reader.round outers seen holds.round holds.keeps.round stays) in
+        (read, round-stays flat text outsides words state unit state.read.known state.read.place.round reader.round outers seen holds.round holds.keeps.round stays) in
         let then = after text outsides words state unit in
         let names = seen_behind text outsides words state unit next seen in
         record {
@@ -149,7 +150,7 @@ module _ (flat : FlatModule) (ordered : IsOrdered flat) (text : Text) (means : �
         }
 
     -- a nested module begins
-    begun-steps : (dashes name : Lexeme) (extends : List Lexeme) (next : Reader) → StandAsBefore flat text means implied files outsides words state (ModuleBegin dashes name extends) (reader.setting ∷ reader.round) → ((own : List Meaning) → next.setting.frame ≡ reader.setting.frame ++ own → IsBegunGiven flat text means implied files outsides words state reader own dashes name extends) → IsBegun flat text means implied files outsides words state reader name extends next → Steps state reader seen here outers (ModuleBegin dashes name extends) next
+    begun-steps : (dashes name : Lexeme) (extends : List Lexeme) (next : Reader) → StayBehind text outsides words state (ModuleBegin dashes name extends) seen → ((own : List Meaning) → next.setting.frame ≡ reader.setting.frame ++ own → IsBegunGiven flat text means implied files outsides words state reader own dashes name extends) → IsBegun flat text means implied files outsides words state reader name extends next → Steps state reader seen here outers (ModuleBegin dashes name extends) next
     begun-steps dashes name extends next stays given (own, leads, (made, is)) =
         let unit : UnitTree = ModuleBegin dashes name extends in
         let given-own = given own (ap (λ (r : Reader). r.setting.frame) is) in
@@ -166,37 +167,42 @@ module _ (flat : FlatModule) (ordered : IsOrdered flat) (text : Text) (means : �
           holds = subst (λ (r : Reader). Holds flat ordered text means implied files outsides words (after text outsides words state unit) r (seen_behind text outsides words state unit r seen) (here_behind text outsides words state here outers unit come) (round_behind text outsides words here outers come)) (sym is) holds-within;
         }
 
-    pub unit-steps : (unit : UnitTree) (next : Reader) (asked : List Question) → IsUnitMade flat text means implied files outsides words state reader unit next asked → IsUnitGiven flat text means implied files outsides words state reader seen unit next → StandAsBefore flat text means implied files outsides words state unit (round_of flat text means implied files outsides words unit reader) → Steps state reader seen here outers unit next
-    unit-steps (OperatorDefinition local x) next asked made given stays =
+    pub unit-steps : (unit : UnitTree) (next : Reader) (asked : List Question) → IsUnitMade flat text means implied files outsides words state reader unit next asked → IsUnitGiven flat text means implied files outsides words state reader seen unit next → IsBroughtGiven flat text means implied files outsides words state reader seen unit → Steps state reader seen here outers unit next
+    unit-steps (OperatorDefinition local x) next asked made given brought =
         plain-steps (OperatorDefinition local x) next (unit-follows state reader seen here.layout holds.here.follows told.0 (OperatorDefinition local x) next asked tt made given) (definition-same x next asked made) refl
-        (round-more state.read.known _ seen (map (meant text) (definition x)) state.read.place.round reader.round outers told.1 holds.round) stays
-    unit-steps (FunctionDefinition local x) next asked made given stays =
+        (round-more state.read.known _ seen (map (meant text) (definition x)) state.read.place.round reader.round outers told.1 holds.round)
+        (λ some. definition-stays text outsides words state (OperatorDefinition local x) x seen given.given.fresh (λ m none. none))
+    unit-steps (FunctionDefinition local x) next asked made given brought =
         plain-steps (FunctionDefinition local x) next (unit-follows state reader seen here.layout holds.here.follows told.0 (FunctionDefinition local x) next asked tt made given) (definition-same x next asked made) refl
-        (round-more state.read.known _ seen (map (meant text) (definition x)) state.read.place.round reader.round outers told.1 holds.round) stays
-    unit-steps (ModuleDefinition local x) next asked made given stays =
+        (round-more state.read.known _ seen (map (meant text) (definition x)) state.read.place.round reader.round outers told.1 holds.round)
+        (λ some. definition-stays text outsides words state (FunctionDefinition local x) x seen given.given.fresh (λ m none. none))
+    unit-steps (ModuleDefinition local x) next asked made given brought =
         plain-steps (ModuleDefinition local x) next (unit-follows state reader seen here.layout holds.here.follows told.0 (ModuleDefinition local x) next asked tt made given) (definition-same x next asked made) refl
-        (round-more state.read.known _ seen (map (meant text) (definition x)) state.read.place.round reader.round outers told.1 holds.round) stays
-    unit-steps (Instance local x) next asked made given stays =
+        (round-more state.read.known _ seen (map (meant text) (definition x)) state.read.place.round reader.round outers told.1 holds.round)
+        (λ some. definition-stays text outsides words state (ModuleDefinition local x) x seen given.given.fresh (λ m none. none))
+    unit-steps (Instance local x) next asked made given brought =
         plain-steps (Instance local x) next (unit-follows state reader seen here.layout holds.here.follows told.0 (Instance local x) next asked tt made given) (instance-same x next asked made) refl
         (round-more (known_at text outsides words state (Instance local x)) _ seen (meanings_of (instance_brings text (views text outsides words) words state.read x)) state.read.place.round reader.round outers (told-round state.read.known _ state.read.place.round told.1)
-        (round-more state.read.known _ seen [] state.read.place.round reader.round outers told.1 holds.round)) stays
-    unit-steps (Variables names) next asked made given stays =
+        (round-more state.read.known _ seen [] state.read.place.round reader.round outers told.1 holds.round))
+        (λ some. given-stays text outsides words state (Instance local x) seen (brought some))
+    unit-steps (Variables names) next asked made given brought =
         plain-steps (Variables names) next (unit-follows state reader seen here.layout holds.here.follows told.0 (Variables names) next asked tt made given) (reader-same next made.0) refl
-        (round-more state.read.known _ seen (map (meant text) (variables names)) state.read.place.round reader.round outers told.1 holds.round) stays
-    unit-steps (Constants declarations) next asked made given stays =
+        (round-more state.read.known _ seen (map (meant text) (variables names)) state.read.place.round reader.round outers told.1 holds.round) (λ some. given-stays text outsides words state (Variables names) seen (λ m is. inl tt))
+    unit-steps (Constants declarations) next asked made given brought =
         plain-steps (Constants declarations) next (unit-follows state reader seen here.layout holds.here.follows told.0 (Constants declarations) next asked tt made given) (reader-same next made.0) refl
-        (round-more state.read.known _ seen (map (meant text) (constants declarations)) state.read.place.round reader.round outers told.1 holds.round) stays
-    unit-steps (Assumption word name x) next asked made given stays =
+        (round-more state.read.known _ seen (map (meant text) (constants declarations)) state.read.place.round reader.round outers told.1 holds.round) (λ some. given-stays text outsides words state (Constants declarations) seen (λ m is. inl tt))
+    unit-steps (Assumption word name x) next asked made given brought =
         plain-steps (Assumption word name x) next (unit-follows state reader seen here.layout holds.here.follows told.0 (Assumption word name x) next asked tt made given) (reader-same next made.3) refl
-        (round-more state.read.known _ seen [] state.read.place.round reader.round outers told.1 holds.round) stays
-    unit-steps (Theorem word name x) next asked made given stays =
+        (round-more state.read.known _ seen [] state.read.place.round reader.round outers told.1 holds.round) (λ some. given-stays text outsides words state (Assumption word name x) seen (λ m is. inl tt))
+    unit-steps (Theorem word name x) next asked made given brought =
         plain-steps (Theorem word name x) next (unit-follows state reader seen here.layout holds.here.follows told.0 (Theorem word name x) next asked tt made given) (reader-same next made.3) refl
-        (round-more state.read.known _ seen [] state.read.place.round reader.round outers told.1 holds.round) stays
-    unit-steps (Line dashes) next asked made given stays =
+        (round-more state.read.known _ seen [] state.read.place.round reader.round outers told.1 holds.round) (λ some. given-stays text outsides words state (Theorem word name x) seen (λ m is. inl tt))
+    unit-steps (Line dashes) next asked made given brought =
         plain-steps (Line dashes) next (unit-follows state reader seen here.layout holds.here.follows told.0 (Line dashes) next asked tt made given) (reader-same next made.0) refl
-        (round-more state.read.known _ seen [] state.read.place.round reader.round outers told.1 holds.round) stays
-    unit-steps (ModuleBegin dashes name extends) next asked made given stays = begun-steps dashes name extends next stays given made.0
-    unit-steps (ModuleEnd closing) next asked made given stays = ended-steps closing next state.read.place.round reader.round outers refl holds.round holds.keeps made.0
+        (round-more state.read.known _ seen [] state.read.place.round reader.round outers told.1 holds.round) (λ some. given-stays text outsides words state (Line dashes) seen (λ m is. inl tt))
+    unit-steps (ModuleBegin dashes name extends) next asked made given brought =
+        begun-steps dashes name extends next (given-stays text outsides words state (ModuleBegin dashes name extends) seen brought) given made.0
+    unit-steps (ModuleEnd closing) next asked made given brought = ended-steps closing next state.read.place.round reader.round outers refl holds.round holds.keeps made.0
 
   -- what comes of units, up to a module behind these, with no other round it
   pub record AreFollowed (state : KindState) (units : List UnitTree) (here : Current) (outers : List Current) (next : Reader) : Type 0 where

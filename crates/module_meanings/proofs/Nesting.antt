@@ -1,5 +1,5 @@
 -- The modules round a unit, and nested modules that begin.
-use Rattle.std.proofs.Common.{◌≡◌, inl, inr, ℕ, suc, ◌+◌, Bool, true, false, cond, List, [], ◌∷◌, ◌++◌, Option, refl, sym, ap, ◌∙◌, subst, length}
+use Rattle.std.proofs.Common.{◌≡◌, inl, inr, ℕ, suc, ◌+◌, Bool, true, false, cond, List, [], ◌∷◌, ◌++◌, refl, sym, ap, ◌∙◌, subst, length}
 use Rattle.std.specs.Prelude.{◌⊎◌, replicate}
 use Rattle.std.specs.List.{AllByRecursion}
 use Rattle.std.proofs.lemmas.Bool.{and_parts}
@@ -7,7 +7,6 @@ use Rattle.unit_grammar.specs.Units.{UnitTree}
 use Rattle.tla_model.specs.declared.names.Meaning.TheVariants.{BuiltIn, Declared}
 use Rattle.tla_model.specs.Contexts.{Context}
 use Rattle.tla_model.specs.Entities.{Meaning, Text, same_meaning}
-use Rattle.tla_model.specs.Tables.{Named, Word}
 use Rattle.module_model.specs.Exports.{Behind, Known, and_known}
 use Rattle.module_model.specs.Modules.{Reading}
 use Rattle.kind_text.specs.FlatModule.{FlatModule}
@@ -20,28 +19,18 @@ use Rattle.flat_kinds.specs.Readings.{AreNew, KeepsStanding, StaysBehind, with_o
 use Rattle.flat_kinds.specs.Symbols.{same_declared, same_symbol, symbols_at}
 use Rattle.flat_kinds.proofs.Symbols.{own-symbols, places-before}
 use Rattle.flattened_trees.specs.declared.End.TheVariants as end
-use Rattle.flattened_trees.specs.Agreeing.{TakesAs, lead_by}
-use Rattle.flattened_trees.specs.Leads.{FlatFace, Lead, Leads, Setting, nowhere}
+use Rattle.flattened_trees.specs.Agreeing.{TakesAs, is_seen, lead_by, unsaid_stand}
+use Rattle.flattened_trees.specs.Leads.{Lead, Leads, Setting, nowhere}
 use Rattle.flattened_units.specs.Units.{with_symbols}
 use Rattle.module_meanings.specs.Following.{AreAlike, FollowsAt, LeadsBy}
-use Rattle.module_meanings.specs.Premises.{AreTold, StandAsBefore, symbol_leads}
+use Rattle.module_meanings.specs.Premises.{AreTold, symbol_leads}
 use Rattle.module_meanings.proofs.Beginning.{symbol-symbolic}
 use Rattle.module_meanings.proofs.Contexts.{orders-more, seen-right, told-more, unseen-parts}
 use Rattle.module_meanings.proofs.Extending.{declared-equal, symbols-alike}
 use Rattle.module_meanings.proofs.Leads.{symbols-lead}
+use Rattle.module_meanings.proofs.Staying.{IsLeafName, StayBehind, leaf-or-unsaid}
 
 -- ---- what leads nowhere
-
-pub lead-nowhere : (stand : Stand) → ((names : List Named) → lead_by stand names ≡ nowhere) → stand ≡ Unsaid
-lead-nowhere stand none = by_stand stand (ap (λ (lead : Lead). lead.end) (none [])) (ap (λ (lead : Lead). lead.path) (none [])) (ap (λ (lead : Lead). lead.path) (none (Word [] ∷ [])))
-  where
-    by_stand : (s : Stand) → (lead_by s []).end ≡ nowhere.end → (lead_by s []).path ≡ [] → (lead_by s (Word [] ∷ [])).path ≡ [] → s ≡ Unsaid
-    by_stand Unsaid e p q = refl
-    by_stand (Leaf k) e p q = cc e
-    by_stand (Place place order) e p q = cc e
-    by_stand (Defined d orders) e p q = cc e
-    by_stand (Through j orders inner) e p q = cc q
-    by_stand (Brought j inner) e p q = cc p
 
 -- a symbol that leads nowhere has nothing said of it
 before-nowhere : (places : ℕ) (stand : Stand) → StandsBefore places stand → lead_by stand [] ≡ nowhere → stand ≡ Unsaid
@@ -157,19 +146,27 @@ pub told-round : (known more : Known) (readings : List Reading) → AllByRecursi
 told-round known more [] told = tt
 told-round known more (reading ∷ readings) told = ((λ name m e. told-more known more m (told.0 name m e)), told-round known more readings told.1)
 
-module _ (flat : FlatModule) (text : Text) (means : ℕ → Option Meaning) (implied : ℕ → List Meaning) (files : List ℕ → FlatFace) (outsides : List ℕ → Outside) (words : List ℕ) where
-  -- names of a module stand so behind a unit
-  stays-behind : (state : KindState) (unit : UnitTree) (setting : Setting) (current : Current) → LeadsBy current.layout.stands setting.leads → KeepsStanding flat current.symbols current.layout state.standing → ((m : Meaning) → ((names : List Named) → setting.leads m names ≡ nowhere) ⊎ ((parameters : Environment) → standing_behind text outsides words state unit parameters m ≡ state.standing parameters m)) → StaysBehind text outsides words flat state unit current.symbols current.layout
-  stays-behind state unit setting current all keeps stays frame parameters room stands m = inr (by_case (stays m))
+module _ (flat : FlatModule) (text : Text) (outsides : List ℕ → Outside) (words : List ℕ) where
+  -- names of a module stand so behind a unit: those that were seen, and leaves; of others nothing is said
+  stays-behind : (state : KindState) (unit : UnitTree) (seen : List Meaning) (current : Current) → ((m : Meaning) → is_seen seen m ≡ false → current.layout.stands m ≡ unsaid_stand m) → KeepsStanding flat current.symbols current.layout state.standing → StayBehind text outsides words state unit seen → StaysBehind text outsides words flat state unit current.symbols current.layout
+  stays-behind state unit seen current unsaid keeps stays frame parameters room stands m = inr (by_seen (is_seen seen m) refl)
     where
-      by_case : ((names : List Named) → setting.leads m names ≡ nowhere) ⊎ ((given : Environment) → standing_behind text outsides words state unit given m ≡ state.standing given m) → IsStanding flat frame [] (current.layout.stands m) (standing_behind text outsides words state unit parameters m)
-      by_case (inl none) = subst (λ stand. IsStanding flat frame [] stand (standing_behind text outsides words state unit parameters m)) (sym (lead-nowhere (current.layout.stands m) (λ names. sym (all m names) ∙ none names))) tt
-      by_case (inr same) = subst (λ value. IsStanding flat frame [] (current.layout.stands m) value) (sym (same parameters)) (keeps frame parameters room stands m)
+      as-before : (is_seen seen m ≡ true) ⊎ IsLeafName m → IsStanding flat frame [] (current.layout.stands m) (standing_behind text outsides words state unit parameters m)
+      as-before why = subst (λ value. IsStanding flat frame [] (current.layout.stands m) value) (sym (stays m why parameters)) (keeps frame parameters room stands m)
 
-  pub round-stays : (state : KindState) (unit : UnitTree) (known : Known) (readings : List Reading) (settings : List Setting) (outers : List Current) (seen : List Meaning) → HoldsRound known readings settings outers seen → KeepsRound flat readings outers state.standing → StandAsBefore flat text means implied files outsides words state unit settings → AllStayBehind text outsides words flat state unit outers
+      by_leaf : is_seen seen m ≡ false → IsLeafName m ⊎ (unsaid_stand m ≡ Unsaid) → IsStanding flat frame [] (current.layout.stands m) (standing_behind text outsides words state unit parameters m)
+      by_leaf none (inl leaf) = as-before (inr leaf)
+      by_leaf none (inr nothing) = subst (λ stand. IsStanding flat frame [] stand (standing_behind text outsides words state unit parameters m)) (sym (unsaid m none ∙ nothing)) tt
+
+      by_seen : (b : Bool) → is_seen seen m ≡ b → IsStanding flat frame [] (current.layout.stands m) (standing_behind text outsides words state unit parameters m)
+      by_seen true is = as-before (inl is)
+      by_seen false none = by_leaf none (leaf-or-unsaid m)
+
+  pub round-stays : (state : KindState) (unit : UnitTree) (known : Known) (readings : List Reading) (settings : List Setting) (outers : List Current) (seen : List Meaning) → HoldsRound known readings settings outers seen → KeepsRound flat readings outers state.standing → ((settings ≡ [] → ⊥) → StayBehind text outsides words state unit seen) → AllStayBehind text outsides words flat state unit outers
   round-stays state unit known [] [] [] seen holds keeps stays = tt
   round-stays state unit known (reading ∷ readings) (setting ∷ round) (outer ∷ outers) seen holds keeps stays =
-      (stays-behind state unit setting outer holds.0.follows.settings.leads keeps.0.2 stays.0, round-stays state unit known readings round outers seen holds.1 keeps.1 stays.1)
+      let here = stays (λ e. cc e) in
+      (stays-behind state unit seen outer holds.0.follows.unsaid keeps.0.2 here, round-stays state unit known readings round outers seen holds.1 keeps.1 (λ some. here))
   round-stays state unit known [] [] (outer ∷ outers) seen holds keeps stays = absurd holds
   round-stays state unit known [] (setting ∷ round) outers seen holds keeps stays = absurd holds
   round-stays state unit known (reading ∷ readings) [] outers seen holds keeps stays = absurd holds

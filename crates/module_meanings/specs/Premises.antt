@@ -22,7 +22,7 @@ use Rattle.module_model.specs.Resolution.{instance_brings, words_of}
 use Rattle.kind_text.specs.FlatModule.{FlatModule}
 use Rattle.tree_kinds.specs.Standing.{Environment, Outside, name_among}
 use Rattle.module_kinds.specs.ModuleKinds.{KindState, after, first, known_at, named, named_in, standing_behind, views}
-use Rattle.flat_kinds.specs.Readings.{BringNone, extended_entries}
+use Rattle.flat_kinds.specs.Readings.{BringNone, Leaves, extended_entries}
 use Rattle.flat_kinds.specs.Symbols.{same_symbol}
 use Rattle.flattened_trees.specs.Agreeing.{IsFresh, is_seen}
 use Rattle.flattened_trees.specs.Leads.{FlatFace, Leads, Setting, nowhere}
@@ -157,25 +157,25 @@ module _ (flat : FlatModule) (text : Text) (means : ℕ → Option Meaning) (imp
       (own : List Meaning) → next.setting.frame ≡ reader.setting.frame ++ own → IsBegunGiven state reader own dashes name extends
   IsUnitGiven state reader seen unit next = Unit {0}
 
-  -- the modules round what is read behind a unit begins: those round it, and for a nested one the module that is read itself
-  abbrev pub round_of : UnitTree → Reader → List Setting
-  round_of (ModuleBegin dashes name extends) reader = reader.setting ∷ reader.round
-  round_of unit reader = reader.round
+  -- what was seen before a unit it leaves, or that stands behind it as before
+  abbrev pub SeenStay : KindState → UnitTree → List Meaning → Type 0
+  SeenStay state unit seen =
+      (meaning : Meaning) → is_seen seen meaning ≡ true
+      → Leaves text outsides words state unit meaning
+      ⊎ ((parameters : Environment) → standing_behind text outsides words state unit parameters meaning ≡ state.standing parameters meaning)
 
-  -- names stand behind a unit as before it, that lead somewhere in these modules
-  abbrev pub StandAsBefore : KindState → UnitTree → List Setting → Type 0
-  StandAsBefore state unit settings =
-      AllByRecursion
-      (λ setting.
-      (meaning : Meaning)
-      → ((names : List Named) → setting.leads meaning names ≡ nowhere)
-      ⊎ ((parameters : Environment) → standing_behind text outsides words state unit parameters meaning ≡ state.standing parameters meaning)) settings
+  -- what a unit brings that has modules round it is new, or stands in these as before: what an INSTANCE without a name brings to a nested
+  -- module, and what a nested module extends
+  abbrev pub IsBroughtGiven : KindState → Reader → List Meaning → UnitTree → Type 0
+  IsBroughtGiven state reader seen (Instance local x) = (reader.round ≡ [] → ⊥) → SeenStay state (Instance local x) seen
+  IsBroughtGiven state reader seen (ModuleBegin dashes name extends) = SeenStay state (ModuleBegin dashes name extends) seen
+  IsBroughtGiven state reader seen unit = Unit {0}
 
-  -- the same of units, one after another, as they come; and names of modules round it stand behind each as before
+  -- the same of units, one after another, as they come
   abbrev pub AreUnitsGiven : (state : KindState) (reader : Reader) (seen : List Meaning) (units : List UnitTree) (next : Reader) (asked : List Question) → AreUnitsMade flat text means implied files outsides words state reader units next asked → Type 0
   AreUnitsGiven state reader seen [] next asked made = Unit {0}
   AreUnitsGiven state reader seen (unit ∷ units) next asked made =
-      StandAsBefore state unit (round_of unit reader) × IsUnitGiven state reader seen unit made.0
+      IsBroughtGiven state reader seen unit × IsUnitGiven state reader seen unit made.0
       × AreUnitsGiven (after text outsides words state unit) made.0 (seen_behind text outsides words state unit made.0 seen) units next made.2 made.4
 
 -- ---- modules

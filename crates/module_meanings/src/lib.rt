@@ -92,8 +92,8 @@ pub fn units_are_read()
 
 /// Where nodes of a flat module are what the units of a module write, the flat module is built
 /// along the module, and so it means the module: over its symbols names stand for what the module
-/// exports, and these lead so outside of it. It is asked that names of the modules round a nested
-/// one stand behind its units as before.
+/// exports, and these lead so outside of it. It is asked that what a nested module brings is new in
+/// the modules round it, or stands there as before.
 pub fn modules_are_meant()
     ensures built { (flat : FlatModule) (means : ℕ → Option Meaning) (implied : ℕ → List Meaning)
         (files : List ℕ → FlatFace) (outsides : List ℕ → Outside) (source : List ℕ)
