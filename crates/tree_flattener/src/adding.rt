@@ -13,13 +13,13 @@ ghost use Rattle.tree_flattener.specs.Steps.{Adds};
 ghost use Rattle.tree_flattener.specs.Worlds.{IsLeadWithin};
 
 use crate::names::Lead;
-use crate::rules::places_by;
 use crate::state::Flattening;
 use flattened_trees::End;
 use kind_table::Form;
 use std::alloc::Global;
 use tla_symbols::{Kind, Rule};
 use tool_list::Memory;
+use tree_rules::places_by;
 
 // Adds a node of a form that names no path, an expression.
 pub(crate) fn add_plain(

@@ -10,12 +10,12 @@ ghost use Rattle.tla_model.specs.Scopes as scopes;
 ghost use Rattle.tree_flattener.specs.Asking.{segment_asks};
 
 use crate::paths::segment_of;
-use crate::rules::{is_free, is_judged, prefixed};
 use crate::state::{Asked, Flattening, Question};
 use tla_model::Level;
 use tla_symbols::{LexKind, Lexeme, Op, Span};
 use tla_tree::{Form, Tree};
 use tool_list::Memory;
+use tree_rules::{is_free, is_judged, prefixed};
 
 // Asks something over a frame.
 pub(crate) fn ask(asked: &mut Vec<Question>, frame: usize, what: Asked) -> Result<(), Memory>

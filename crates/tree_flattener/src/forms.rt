@@ -16,7 +16,6 @@ use crate::adding::{add_constant, add_name, add_plain, add_ruled, add_symbol};
 use crate::leading::lead_of;
 use crate::names::Names;
 use crate::paths::{is_bare, last_segment, path_names, rest, segment_of};
-use crate::rules::{bare_rule, built_in_places, form_rule, is_free, operator_places, symbol_rule};
 use crate::shapes::{Making, making_of};
 use crate::state::Flattening;
 use crate::written::Written;
@@ -25,6 +24,7 @@ use std::alloc::Global;
 use tla_symbols::{LexKind, Lexeme, Rule};
 use tla_tree::{Form, Tree};
 use tool_list::Memory;
+use tree_rules::{bare_rule, built_in_places, form_rule, is_free, operator_places, symbol_rule};
 
 // The places of a path that is a bare operator.
 fn path_places(written: &Written<'_>, segments: &[u32]) -> Option<usize>

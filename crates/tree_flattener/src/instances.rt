@@ -25,7 +25,6 @@ use crate::asking::ask;
 use crate::defining::frame_len;
 use crate::leading::lead_of;
 use crate::names::Names;
-use crate::rules::{declared_level, greatest_level, operator_places};
 use crate::state::{Asked, Flattening};
 use crate::written::Written;
 use kind_table::{Form as NodeForm, Instance, Replacement};
@@ -36,6 +35,7 @@ use tla_symbols::{Lexeme, Span};
 use tla_tree::{Form, Tree};
 use tool_list::Memory;
 use tree_names::Parameter;
+use tree_rules::{declared_level, greatest_level, operator_places};
 
 /// A right side that is written for a name, with its node.
 #[derive(Clone, Copy)]

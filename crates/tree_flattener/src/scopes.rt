@@ -7,7 +7,6 @@ ghost use Rattle.tree_flattener.specs.Entering.{Enters, entries_of, entry_of};
 ghost use Rattle.tree_flattener.specs.Steps.{Cuts, Puts};
 
 use crate::locals::{Entry, Local};
-use crate::rules::order_of;
 use crate::state::Flattening;
 use crate::written::Written;
 use declared_names::binders;
@@ -16,6 +15,7 @@ use tla_model::{Binder, Meaning};
 use tla_symbols::Lexeme;
 use tool_list::{List, Memory};
 use tree_names::ModuleText;
+use tree_rules::order_of;
 
 /// A frame with more places, by its number, and how many more these are.
 #[derive(Clone, Copy)]
