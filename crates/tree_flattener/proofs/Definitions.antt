@@ -155,6 +155,7 @@ nothing-made w state frame olds form s parts before e ready =
       is = sym (append-nil before);
       there = tt;
       lead = lead;
+      leads = ap (λ what. defined_as what parts) e;
       setting = sym (ap (λ what. record setting { leads = with_leads setting.leads (map (meant w.text) (defined_as what parts)) lead }) e);
       holds = λ more extends. as-defined w more setting form s parts lead [] [] Nothing e (refl, refl);
     }
@@ -264,6 +265,7 @@ module _ (w : World) (s0 s1 s2 s3 s4 s5 s6 s7 s8 : Flattening) (frame : ℕ) (ol
         is = pushed;
         there = (root_there, tt);
         lead = lead;
+        leads = refl;
         setting = named-setting w s0 s8 frame olds form s parts _ (local.Definition d) all.frames there (ap (λ what. defined_as what parts) e) locals8;
         holds = λ more extends.
             let to6 = extends-on s6.flat s8.flat more from6 extends in
@@ -339,6 +341,7 @@ module _ (w : World) (s0 s1 s2 s3 s4 s5 s6 s7 s8 : Flattening) (frame : ℕ) (ol
         is = pushed;
         there = (root_there, tt);
         lead = lead;
+        leads = refl;
         setting = named-setting w s0 s8 frame olds form s parts _ (local.Definition d) all.frames there (ap (λ what. defined_as what parts) e) locals8;
         holds = λ more extends.
             let to6 = extends-on s6.flat s8.flat more from6 extends in

@@ -2,9 +2,9 @@ mod Walking
 mod Lying
 mod LocalLeads
 mod Numbering
-mod Within
+pub mod Within
 mod MadeForms
-mod Stepping
+pub mod Stepping
 mod Reading
 mod Expressions
 mod Excepts
@@ -19,3 +19,4 @@ mod Instantiating
 mod Parameters
 mod Placing
 mod Growth
+mod TakenNames

@@ -101,6 +101,7 @@ no-instance-made w s0 s1 frame olds form s children own before e ready there non
       is = sym (append-nil before);
       there = tt;
       lead = lead;
+      leads = refl;
       setting = named-setting w s0 s1 frame olds form s parts _ local.Nothing step.frames ready.framed (ap (λ what. defined_as what parts) e) puts.locals;
       holds = λ more extends.
           as-defined w more setting form s parts lead [] [] (Module own) e
@@ -161,6 +162,7 @@ module _ (w : World) (s0 s1 s2 s3 s4 s5 s6 s7 : Flattening) (frame : ℕ) (olds 
         is = righted.is;
         there = all-below-on s3.flat s7.flat from3 righted.first righted.there;
         lead = lead;
+        leads = refl;
         setting = named-setting w s0 s7 frame olds form s parts _ (local.Instance j l) all.frames there (ap (λ what. defined_as what parts) e) locals7;
         holds = λ more extends.
             let to4 = extends-on s4.flat s7.flat more from4 extends in

@@ -65,7 +65,8 @@ module _ (flat more : FlatModule) (extends : Extends flat more) where
 -- ---- names in scope
 
 module _ (w : World) (flat : FlatModule) (within : AreWithin w flat) where
-  local-within : (l : local.the_data) → IsLocalWithin flat l → (names : List Named) → IsLeadWithin flat (lead_by w l names)
+  -- where a name of a scope leads is there
+  pub local-within : (l : local.the_data) → IsLocalWithin flat l → (names : List Named) → IsLeadWithin flat (lead_by w l names)
   local-within local.Nothing here names = record { path = tt; end = tt }
   local-within (local.Place place order) here [] = record { path = tt; end = tt }
   local-within (local.Place place order) here (name ∷ names) = record { path = tt; end = tt }

@@ -1,10 +1,11 @@
 -- What code makes of trees: nodes that are these trees in each flat module that has what was made.
-use Rattle.std.specs.Prelude.{◌≡◌, ℕ, ◌<◌, List, ◌++◌, Option, length, map}
+use Rattle.std.specs.Prelude.{◌≡◌, ℕ, ◌<◌, List, [], ◌∷◌, ◌++◌, Option, length, map}
 use Rattle.std.specs.List.{AllByRecursion}
 use Rattle.std.specs.Option.{option_or}
 use Rattle.tla_tree.specs.Arena.{node_at, tree_at}
 use Rattle.tla_tree.specs.Syntax.{Tree, Trees, Cons, trees}
 use Rattle.tla_model.specs.Tables.{Named}
+use Rattle.tla_model.specs.Scopes.{definition}
 use Rattle.kind_text.specs.FlatModule.{Extends, FlatModule}
 use Rattle.declared_names.specs.Listed.{listed}
 use Rattle.flattened_trees.specs.Leads.{Lead, Setting, behind}
@@ -15,7 +16,7 @@ use Rattle.tree_flattener.specs.declared.rules.Taken.TheVariants as taken
 use Rattle.tree_flattener.specs.declared.state.Flattening.{Flattening}
 use Rattle.tree_flattener.specs.Parts.{taken_by}
 use Rattle.tree_flattener.specs.Steps.{Steps}
-use Rattle.tree_flattener.specs.Worlds.{IsReady, World, setting_of}
+use Rattle.tree_flattener.specs.Worlds.{IsReady, World, lead_by, setting_of}
 
 -- the trees of the children of a node
 abbrev pub parts_in : World → ℕ → Trees
@@ -71,6 +72,12 @@ pub record ReadsAll (P : OfParts) (old new : Flattening) (all : Trees) (before a
   pub there : AllByRecursion (λ i. i < length new.flat.nodes) first
   pub holds : (more : FlatModule) → Extends new.flat more → P more all first asked
 
+-- where the name of a tree leads that is put into scope, if the tree defines one
+abbrev pub LeadsTo : World → Tree → List Entry → (List Named → Lead) → Type 0
+LeadsTo w x [] lead = definition x ≡ []
+LeadsTo w x (entry ∷ []) lead = lead ≡ lead_by w entry.local
+LeadsTo w x _ lead = ⊥
+
 -- what a tree defines is made, and its name leads there
 pub record IsMadeDefinition (w : World) (old new : Flattening) (frame : ℕ) (olds : List ℕ) (x : Tree) (before after : List ℕ) : Type 0 where
   pub asked : List Question
@@ -82,6 +89,7 @@ pub record IsMadeDefinition (w : World) (old new : Flattening) (frame : ℕ) (ol
   pub is : after ≡ before ++ first
   pub there : AllByRecursion (λ i. i < length new.flat.nodes) first
   pub lead : List Named → Lead
+  pub leads : LeadsTo w x put lead
   pub setting : setting_of w new frame olds ≡ behind w.text (setting_of w old frame olds) x lead
   pub holds : (more : FlatModule) → Extends new.flat more → IsDefined w.text w.means w.implied w.faces more (setting_of w old frame olds) x lead first asked
 

@@ -7,5 +7,6 @@ pub mod Worlds
 pub mod Steps
 pub mod Entering
 pub mod Flattens
+pub mod Apart
 pub mod Replacing
 pub mod Righting

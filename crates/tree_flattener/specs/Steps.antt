@@ -92,6 +92,14 @@ pub record Defines (old new : Flattening) (definition : Definition) (d : ℕ) : 
   pub frames : new.frames.items ≡ old.frames.items
   pub questions : new.asked.items ≡ old.asked.items
 
+-- a frame is added, with these symbols at its places
+pub record AddsFrame (old new : Flattening) (symbols : List Meaning) (frame : ℕ) : Type 0 where
+  pub flat : new.flat ≡ old.flat
+  pub number : frame ≡ length old.frames.items
+  pub locals : new.locals.items ≡ old.locals.items
+  pub frames : new.frames.items ≡ old.frames.items ++ symbols ∷ []
+  pub questions : new.asked.items ≡ old.asked.items
+
 -- names come into scope
 pub record Puts (old new : Flattening) (entries : List Entry) : Type 0 where
   pub flat : new.flat ≡ old.flat

@@ -15,6 +15,7 @@ ghost use Rattle.flattened_trees.specs.Flattened as flattened;
 ghost use Rattle.tree_flattener.specs.Worlds.{World};
 
 mod adding;
+mod apart;
 mod asking;
 mod defining;
 mod flattening;
@@ -30,8 +31,10 @@ mod shapes;
 mod state;
 mod written;
 
+pub use apart::{add_frame, ask_constant, claim, definition_apart};
 pub use flattening::{definition, flatten, right_sides};
 pub use instances::{Right, instantiate};
+pub use locals::Local;
 pub use names::{Lead, Names};
 pub use state::{Asked, Flattening, Question};
 pub use written::Written;

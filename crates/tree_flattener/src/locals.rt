@@ -6,10 +6,12 @@ use tla_symbols::Lexeme;
 
 /// Where a name of a scope leads.
 #[derive(Clone, Copy)]
-pub(crate) enum Local {
+pub enum Local {
+    /// To nothing.
     Nothing,
     /// To a parameter, by its place and its order.
     Place { place: usize, order: u32 },
+    /// To a definition, by number.
     Definition(usize),
     /// Through an instance of a module, which is named there.
     Instance { number: usize, module: Lexeme },
