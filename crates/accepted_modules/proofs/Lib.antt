@@ -1,0 +1,9 @@
+mod Views
+mod Tables
+mod Contexts
+mod Holding
+mod Telling
+mod Behind
+mod Coming
+mod Brought
+mod Beside

@@ -1,0 +1,4 @@
+pub mod States
+pub mod Named
+pub mod Behind
+pub mod Beside
