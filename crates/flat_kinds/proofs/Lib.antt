@@ -1,11 +1,11 @@
-mod Units
+pub mod Units
 mod Nested
 pub mod Leaving
 pub mod Modules
 pub mod Symbols
 mod Growing
-mod Declarations
-mod Distinct
+pub mod Declarations
+pub mod Distinct
 mod Yields
 mod Places
 mod Samples

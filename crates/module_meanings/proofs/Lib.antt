@@ -10,3 +10,5 @@ mod Nesting
 mod Entering
 mod Modules
 mod Meant
+mod Instancing
+mod Leaves

@@ -47,7 +47,7 @@ behind-free (Declared (entity.Bound state) x) is = cc is
 behind-free (Declared e x) is = refl
 
 -- it stands as no definition and as no instance
-leaf-apart : (m other : Meaning) → IsLeafName m → is_meant stands_behind other ≡ true → same_standing m other ≡ false
+pub leaf-apart : (m other : Meaning) → IsLeafName m → is_meant stands_behind other ≡ true → same_standing m other ≡ false
 leaf-apart m BuiltIn (inl same) behind = cc behind
 leaf-apart m (Declared e x) (inl same) behind = ap (λ n. same_standing n (Declared e x)) same
 leaf-apart m other (inr bound) behind = bound-apart m other bound (behind-free other behind)
@@ -58,7 +58,7 @@ leaf-apart m other (inr bound) behind = bound-apart m other bound (behind-free o
 abbrev pub AreBehind : Exports → Type 0
 AreBehind entries = AllByRecursion (λ (entry : Named × Meaning). is_meant stands_behind entry.1 ≡ true) entries
 
-leaf-unnamed : (entries : Exports) (m : Meaning) → IsLeafName m → AreBehind entries → name_among entries m ≡ None
+pub leaf-unnamed : (entries : Exports) (m : Meaning) → IsLeafName m → AreBehind entries → name_among entries m ≡ None
 leaf-unnamed [] m leaf all = refl
 leaf-unnamed (entry ∷ rest) m leaf all =
     ap (λ b. cond b (Some entry.0) (name_among rest m)) (leaf-apart m entry.1 leaf all.0) ∙ leaf-unnamed rest m leaf all.1
@@ -90,7 +90,7 @@ leaf-none [] m leaf all = refl
 leaf-none (d ∷ rest) m leaf all = ap (λ b. b || is_among rest m) (leaf-apart m d leaf all.0) ∙ leaf-none rest m leaf all.1
 
 module _ (text : Text) where
-  defined-behind : (what : Defines) (parts : Trees) → AllByRecursion (λ (d : Meaning). is_meant stands_behind d ≡ true) (map (meant text) (defined_as what parts))
+  pub defined-behind : (what : Defines) (parts : Trees) → AllByRecursion (λ (d : Meaning). is_meant stands_behind d ≡ true) (map (meant text) (defined_as what parts))
   defined-behind Nothing parts = tt
   defined-behind (Operator l) parts = (refl, tt)
   defined-behind (Function l) parts = (refl, tt)
@@ -115,7 +115,7 @@ module _ (text : Text) where
 -- ---- units
 
 module _ (text : Text) (outsides : List ℕ → Outside) (words : List ℕ) where
-  brings-behind : (state : ReadState) (x : Tree) → AreBehind (instance_brings text (views text outsides words) words state x)
+  pub brings-behind : (state : ReadState) (x : Tree) → AreBehind (instance_brings text (views text outsides words) words state x)
   brings-behind state (Node (Form.Instance l) s parts) = brought-behind (unit_of text words l) (view_of text (module_named text (views text outsides words) words state) l)
   brings-behind state (Node form s parts) = tt
 

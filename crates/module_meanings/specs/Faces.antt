@@ -13,7 +13,7 @@ use Rattle.flat_trees.specs.Instances.{IsModule, IsModuleBehind, symbols_of}
 use Rattle.flat_kinds.specs.Symbols.{symbols_at}
 use Rattle.flattened_trees.specs.declared.End.TheVariants as end
 use Rattle.flattened_trees.specs.Leads.{FlatFace, Lead, Leads, only}
-use Rattle.flattened_trees.specs.Agreeing.{TakesBehind, lead_by}
+use Rattle.flattened_trees.specs.Agreeing.{TakesBehind, lead_by, unsaid_stand}
 
 -- where the first so many places stay, a name that stands so leads here where it does there; or nothing is said of it
 abbrev pub LeadsAs : ℕ → Stand → Lead → Type 0
@@ -25,6 +25,10 @@ LeadsAs outer _ lead = ⊥
 -- a name leads to a place, as a symbol of its order
 abbrev pub IsPlaced : Leads → Meaning → Type 0
 IsPlaced leads meaning = (place : ℕ) × (leads meaning [] ≡ only (end.Place place (order_of meaning)) [])
+
+-- what is built in and bound names lead to the leaves that they are
+abbrev pub LeavesLead : Leads → Type 0
+LeavesLead leads = (meaning : Meaning) → LeadsAs 0 (unsaid_stand meaning) (leads meaning [])
 
 module _ (flat : FlatModule) where
   -- a module is that to its instances, by where names lead here and by which are new: its names stand so behind the symbols of the modules

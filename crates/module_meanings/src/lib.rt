@@ -4,10 +4,12 @@
 //! built.
 #![tactic(auto)]
 
-ghost use Rattle.std.specs.Prelude.{◌≡◌, ℕ, List, [], ◌∷◌, Option, Some, length};
+ghost use Rattle.std.specs.Prelude.{◌≡◌, ℕ, ◌+◌, Bool, true, false, List, [], ◌∷◌, Option, Some};
+ghost use Rattle.std.specs.Prelude.{length};
 ghost use Rattle.std.specs.List.{AllByRecursion};
 ghost use Rattle.tla_symbols.specs.declared.lexeme.Lexeme.{Lexeme};
 ghost use Rattle.unit_grammar.specs.Units.{ModuleUnits, UnitTree};
+ghost use Rattle.tla_model.specs.declared.names.Meaning.TheVariants.{BuiltIn};
 ghost use Rattle.tla_model.specs.Contexts.{Context};
 ghost use Rattle.tla_model.specs.Entities.{Meaning, Text};
 ghost use Rattle.tla_model.specs.Lexemes.{spelled};
@@ -15,21 +17,26 @@ ghost use Rattle.tla_model.specs.Tables.{Named};
 ghost use Rattle.module_scope.specs.Environments.{Scope};
 ghost use Rattle.module_model.specs.Exports.{Exports, Known, behind_instance, entry_of};
 ghost use Rattle.module_model.specs.Exports.{exports_of, onward};
+ghost use Rattle.module_model.specs.Modules.{Reading};
 ghost use Rattle.kind_text.specs.FlatModule.{FlatModule, IsOrdered};
-ghost use Rattle.tree_kinds.specs.Standing.{Outside};
-ghost use Rattle.module_kinds.specs.ModuleKinds.{KindState, last, named_in, outside};
-ghost use Rattle.flat_trees.specs.Stands.{Stand};
+ghost use Rattle.tree_kinds.specs.Standing.{Outside, is_bound};
+ghost use Rattle.module_kinds.specs.ModuleKinds.{KindState, last, named_in, nested_outside};
+ghost use Rattle.module_kinds.specs.ModuleKinds.{outside};
+ghost use Rattle.flat_trees.specs.Stands.{Stand, Unsaid};
 ghost use Rattle.flat_trees.specs.Layouts.{Layout, with_brought as with_brought_stands};
 ghost use Rattle.flat_trees.specs.Instances.{symbols_of};
-ghost use Rattle.flat_kinds.specs.Readings.{exported_stand, extended_entries};
-ghost use Rattle.flat_kinds.specs.Symbols.{symbols_at};
+ghost use Rattle.flat_kinds.specs.Declarations.{IsOnce};
+ghost use Rattle.flat_kinds.specs.Readings.{KeepsState, exported_stand, extended_entries};
+ghost use Rattle.flat_kinds.specs.Readings.{with_own};
+ghost use Rattle.flat_kinds.specs.Symbols.{AreDistinct, SaysNothing, symbols_at};
 ghost use Rattle.flattened_trees.specs.Agreeing.{TakesBehind, lead_by, unsaid_stand};
 ghost use Rattle.flattened_trees.specs.Leads.{FlatFace, Leads, Setting};
 ghost use Rattle.flattened_trees.specs.Questions.{Question};
 ghost use Rattle.flattened_units.specs.Units.{AreExtended, IsModuleMade, IsUnitMade, Reader};
-ghost use Rattle.flattened_units.specs.Units.{exported_leads, face_in, no_leads, with_brought};
-ghost use Rattle.flattened_units.specs.Units.{with_symbols};
-ghost use Rattle.module_meanings.specs.Faces.{IsExtendedBy, IsPlaced};
+ghost use Rattle.flattened_units.specs.Units.{exported_leads, face_in, nested_face, no_leads};
+ghost use Rattle.flattened_units.specs.Units.{with_brought, with_symbols};
+ghost use Rattle.module_meanings.specs.Faces.{IsExtendedBy, IsFaceBy, IsPlaced, LeadsAs};
+ghost use Rattle.module_meanings.specs.Faces.{LeavesLead};
 ghost use Rattle.module_meanings.specs.Following.{AreAlike, AreExtendedSo, Follows, IsBuiltSo};
 ghost use Rattle.module_meanings.specs.Following.{IsFollowed, IsMeantSo, IsPlain, LeadsBy};
 ghost use Rattle.module_meanings.specs.Premises.{AllCome, IsModuleGiven, IsUnitGiven};
@@ -53,6 +60,26 @@ pub fn leads_are_kept()
         (name : Named) (names : List Named) → LeadsBy stands leads
         → exported_leads leads entries (name ∷ names)
         ≡ lead_by (exported_stand stands entries name) names }
+{}
+
+/// What is built in and bound names lead to the leaves that they are, in a module and in those round
+/// it: from its first names on, behind what it extends, and behind each unit.
+pub fn leaves_lead()
+    ensures first { (symbols : List Meaning) → LeavesLead (with_symbols no_leads symbols 0) }
+    ensures extended { (flat : FlatModule) (text : Text) (means : ℕ → Option Meaning)
+        (implied : ℕ → List Meaning) (files : List ℕ → FlatFace) (outsides : List ℕ → Outside)
+        (words : List ℕ) (modules : Scope Outside) (faces : Scope FlatFace) (setting : Setting)
+        (leads : Leads) (names : List Lexeme) (next : Leads) → LeavesLead leads
+        → AreExtended flat text means implied files outsides words modules faces setting leads names
+        next → LeavesLead next }
+    ensures units { (flat : FlatModule) (text : Text) (means : ℕ → Option Meaning)
+        (implied : ℕ → List Meaning) (files : List ℕ → FlatFace) (outsides : List ℕ → Outside)
+        (words : List ℕ) (state : KindState) (reader : Reader) (unit : UnitTree) (next : Reader)
+        (asked : List Question) → LeavesLead reader.setting.leads
+        → AllByRecursion (λ setting. LeavesLead setting.leads) reader.round
+        → IsUnitMade flat text means implied files outsides words state reader unit next asked
+        → LeavesLead next.setting.leads
+        × AllByRecursion (λ setting. LeavesLead setting.leads) next.round }
 {}
 
 /// Modules that are extended come as a flat module has them: each through an instance that lets its
@@ -131,4 +158,49 @@ pub fn meant_modules_are_extended()
         × (leads meaning [] ≡ symbol_leads round frame meaning [])) symbols
         → IsExtendedBy flat leads (symbol_leads round frame) face
         (outside outsides source units) }
+{}
+
+/// A module that is meant is what is asked of one that a tree names, where its symbols stand in the
+/// order of its view and no two of them mean the same, and its names take what they do in it: a
+/// module of a file, where what is built in and bound names lead to leaves; and a nested one at its
+/// end, where the symbols of the modules round it lead where they stand.
+pub fn meant_modules_are_instanced()
+    ensures files { (flat : FlatModule) (outsides : List ℕ → Outside) (source : List ℕ)
+        (units : ModuleUnits) (symbols : List Meaning) (last_reader : Reader) (face : FlatFace)
+        (leads : Leads) (new : Meaning → Bool)
+        (meant : IsMeantSo flat outsides source units symbols last_reader)
+        → symbols ≡ symbols_of (outside outsides source units) → face.outer ≡ 0
+        → AreDistinct symbols → IsOnce (last outsides source units).read.place.here.exports
+        → ((name : Named) (names : List Named) → face.leads (name ∷ names)
+        ≡ exported_leads last_reader.setting.leads
+        (exports_of (last outsides source units).read.place.here.exports) (name ∷ names))
+        → ((name : Named) (next : Meaning)
+        → entry_of (behind_instance (outside outsides source units).view []) name ≡ Some next
+        → TakesBehind (meant.inner name)
+        (onward (behind_instance (outside outsides source units).view) name) next)
+        → LeavesLead leads → new BuiltIn ≡ false
+        → IsFaceBy flat new leads face (outside outsides source units) }
+    ensures nested { (flat : FlatModule) (text : Text) (means : ℕ → Option Meaning)
+        (implied : ℕ → List Meaning) (files : List ℕ → FlatFace) (outsides : List ℕ → Outside)
+        (words : List ℕ) (state : KindState) (round : Reading) (readings : List Reading)
+        (setting outer : Setting) (base : Meaning → Stand) (own : List Meaning) (layout : Layout)
+        (leads : Leads) (new : Meaning → Bool)
+        → KeepsState flat (with_own base
+        (symbols_at (λ (meaning : Meaning). Unsaid) own (length outer.frame))) layout state
+        → layout.places ≡ length outer.frame + length own
+        → own ≡ symbols_of (nested_outside state (round ∷ readings))
+        → AreDistinct own → SaysNothing base own → IsOnce state.read.place.here.exports
+        → LeadsBy layout.stands setting.leads
+        → ((name : Named) (next : Meaning)
+        → entry_of (behind_instance (nested_outside state (round ∷ readings)).view []) name
+        ≡ Some next
+        → TakesBehind (exported_stand layout.stands
+        (exports_of state.read.place.here.exports) name)
+        (onward (behind_instance (nested_outside state (round ∷ readings)).view) name) next)
+        → ((meaning : Meaning) → LeadsAs (length outer.frame) (base meaning) (leads meaning []))
+        → ((meaning : Meaning) → new meaning ≡ true → is_bound meaning ≡ false
+        → base meaning ≡ Unsaid)
+        → IsFaceBy flat new leads
+        (nested_face flat text means implied files outsides words state round setting outer)
+        (nested_outside state (round ∷ readings)) }
 {}
