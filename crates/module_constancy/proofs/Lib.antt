@@ -1,0 +1,5 @@
+mod Constancies
+mod TreeParts
+mod Passing
+mod Modules
+mod UnitLexemes
