@@ -7,3 +7,8 @@ mod Behind
 mod Coming
 mod Brought
 mod Beside
+mod Instanced
+mod Starts
+mod Faces
+mod Knowing
+mod Reading

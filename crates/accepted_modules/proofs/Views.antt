@@ -210,7 +210,7 @@ module _ (outsides : List ℕ → Outside) (source : List ℕ) (units : ModuleUn
       ∙ brought-view (text_of source units) outsides (words_of units) modules name
 
 module _ (outsides : List ℕ → Outside) (files : List ℕ → ModuleView) (source : List ℕ) (units : ModuleUnits) (same : HaveViews outsides files) where
-  all-same : views (text_of source units) outsides (words_of units) ≡ files
+  pub all-same : views (text_of source units) outsides (words_of units) ≡ files
   all-same = λ i name. same name i
 
   pub states-same : (before : List UnitTree) → (kinds_behind outsides source units before).read ≡ state_behind files source units before

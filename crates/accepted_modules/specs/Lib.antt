@@ -2,3 +2,4 @@ pub mod States
 pub mod Named
 pub mod Behind
 pub mod Beside
+pub mod Faces

@@ -3,7 +3,8 @@
 //! No code: each function states a law. Knows nothing of how nodes are built.
 #![tactic(auto)]
 
-ghost use Rattle.std.specs.Prelude.{◌≡◌, ℕ, false, List, ◌∷◌, ◌++◌, Option};
+ghost use Rattle.std.specs.Prelude.{◌≡◌, ℕ, Bool, true, false, List, [], ◌∷◌, ◌++◌};
+ghost use Rattle.std.specs.Prelude.{Option, Some, None};
 ghost use Rattle.std.specs.List.{AllByRecursion};
 ghost use Rattle.std.specs.Str.{bytes_eq};
 ghost use Rattle.tla_symbols.specs.declared.lexeme.Lexeme.{Lexeme};
@@ -11,25 +12,41 @@ ghost use Rattle.tla_symbols.specs.declared.lexeme.Span.{Span};
 ghost use Rattle.tla_tree.specs.declared.form.Form.TheVariants as Form;
 ghost use Rattle.tla_tree.specs.Syntax.{Node, Tree, Trees};
 ghost use Rattle.unit_grammar.specs.Units.{Instance, ModuleBegin, ModuleUnits, UnitTree};
+ghost use Rattle.front_laws.specs.Fronts.{IsFront, Tree as TreeFront};
+ghost use Rattle.tla_model.specs.Entities.{Meaning, Text};
 ghost use Rattle.tla_model.specs.Lexemes.{spelled};
-ghost use Rattle.module_scope.specs.Environments.{begun, inside, meaning};
+ghost use Rattle.module_scope.specs.Environments.{Scope, begun, inside, meaning};
 ghost use Rattle.module_scope.specs.Environments.{first as first_scope};
+ghost use Rattle.module_model.specs.Bindings.{faults};
+ghost use Rattle.module_model.specs.Instances.{unit_trees};
 ghost use Rattle.module_model.specs.Exports.{Known, ModuleView, exported, exports_by};
 ghost use Rattle.module_model.specs.Modules.{exports_under, text_of};
-ghost use Rattle.module_model.specs.Resolution.{findings, instance_brings};
+ghost use Rattle.module_model.specs.Resolution.{findings, instance_brings, known_in};
 ghost use Rattle.module_model.specs.Resolution.{module_named, outside_in, words_of};
 ghost use Rattle.tree_kinds.specs.Standing.{Outside};
-ghost use Rattle.module_kinds.specs.ModuleKinds.{after, first, last, named, named_in};
-ghost use Rattle.module_kinds.specs.ModuleKinds.{outside, views};
+ghost use Rattle.module_kinds.specs.ModuleKinds.{KindState, after, first, known_at, last};
+ghost use Rattle.module_kinds.specs.ModuleKinds.{named, named_in, outside, views};
+ghost use Rattle.kind_text.specs.FlatModule.{FlatModule};
+ghost use Rattle.arity_rules.specs.Arities.{arity_faults};
+ghost use Rattle.flattened_trees.specs.Leads.{FlatFace};
+ghost use Rattle.flattened_trees.specs.Questions.{Question};
+ghost use Rattle.flattened_meanings.specs.Faces.{NameModules};
+ghost use Rattle.flattened_units.specs.Units.{IsUnitMade, Reader, face_in};
 ghost use Rattle.flat_kinds.specs.Declarations.{AreUnitsDeclared, Declarations};
 ghost use Rattle.flat_kinds.specs.Readings.{extended_entries};
 ghost use Rattle.module_meanings.specs.Premises.{AllCome};
 ghost use Rattle.readable_laws.specs.Accepted.{IsDeclared};
-ghost use Rattle.readable_laws.specs.Steady.{state_behind};
+ghost use Rattle.readable_laws.specs.ReadUnits.{AreKnownAmong, IsReadableUnit};
+ghost use Rattle.readable_laws.specs.Steady.{IsSteadyView, state_behind};
+ghost use Rattle.readable_laws.specs.Uses.{implied_by, means_by};
 ghost use Rattle.accepted_modules.specs.States.{HaveViews, kinds_behind};
 ghost use Rattle.accepted_modules.specs.Named.{AllNamed};
+ghost use Rattle.accepted_modules.specs.Faces.{FacesReadAs, ReadsAs};
 ghost use Rattle.accepted_modules.specs.Beside.{IsBeside};
 ghost use Rattle.accepted_modules.specs.Behind.{Behinds, IsForeignView, IsGivenView, with_own};
+
+use lexeme_laws::{lexemes_are_held_once, names_begin_apart};
+use readable_laws::accepted_units_are_read;
 
 /// Wherever a unit of a module is read, the module that a name stands for has the view with which
 /// names are resolved there, a nested module too, if that is so of files; so has the module itself.
@@ -140,3 +157,74 @@ pub fn stand_ins_are_declared()
         → ((name : List ℕ) → AllNamed IsBeside (files name))
         → AllNamed IsBeside (outside_in files source units) }
 {}
+
+/// Faces of modules that can be named are what these are to those that name them, from the first
+/// unit on and behind each. So the face that a name has is what its module is, if that is so of
+/// files, and if the name is none of a module round the place.
+pub fn faces_go_together()
+    ensures begins { (name : List ℕ) → FacesReadAs (first_scope name) (first_scope name) }
+    ensures kept { (flat : FlatModule) (text : Text) (means : ℕ → Option Meaning)
+        (implied : ℕ → List Meaning) (files : List ℕ → FlatFace) (outsides : List ℕ → Outside)
+        (words : List ℕ) (state : KindState) (reader : Reader) (unit : UnitTree) (next : Reader)
+        (asked : List Question) → FacesReadAs reader.faces state.modules
+        → IsUnitMade flat text means implied files outsides words state reader unit next asked
+        → FacesReadAs next.faces (after text outsides words state unit).modules }
+    ensures named { (flat : FlatModule) (text : Text) (means : ℕ → Option Meaning)
+        (implied : ℕ → List Meaning) (files : List ℕ → FlatFace) (outsides : List ℕ → Outside)
+        (words : List ℕ) (faces : Scope FlatFace) (modules : Scope Outside) (name : List ℕ)
+        → FacesReadAs faces modules → ((n : List ℕ) → ReadsAs (files n) (outsides n))
+        → (meaning modules.here name ≡ Some None → ⊥)
+        → ReadsAs (face_in flat text means implied files outsides words faces name)
+        (named_in text outsides words modules name) }
+{}
+
+/// Behind each instance that a unit names it is known what the module has that it is of, and modules
+/// that are named have their faces, if these are theirs. It is asked that files have no declaration
+/// of the module.
+pub fn named_instances_are_known()
+    ensures { (name bytes : List ℕ) (units : ModuleUnits) (files : List ℕ → ModuleView)
+        (outsides : List ℕ → Outside) (faces : List ℕ → FlatFace) (means : ℕ → Option Meaning)
+        (implied : ℕ → List Meaning) (nameable : List ℕ → Bool) (before : List UnitTree)
+        (unit : UnitTree) (behind : List UnitTree) → IsFront name bytes (TreeFront units)
+        → ((n : List ℕ) → IsForeignView (text_of bytes units).file (files n))
+        → units.units ≡ before ++ unit ∷ behind
+        → ((n : List ℕ) → (outsides n).view ≡ module_named (text_of bytes units) files
+        (words_of units) (state_behind files bytes units before) n)
+        → NameModules bytes nameable (unit_trees unit)
+        → ((n : List ℕ) → nameable n ≡ true → ReadsAs (faces n) (outsides n))
+        → AreKnownAmong (text_of bytes units)
+        (known_in (text_of bytes units) files (words_of units)
+        (state_behind files bytes units before) unit)
+        outsides means implied faces (unit_trees unit) }
+{
+    lexemes_are_held_once();
+    names_begin_apart();
+}
+
+/// So each unit of a module without faults of names and arities can be read, by what stands for its
+/// names: it is asked of files that they are steady, that none of their names is built in, and that
+/// none is declared in the module; and of the modules that the unit names that faces are theirs.
+pub fn faultless_units_are_read()
+    ensures { (name bytes : List ℕ) (units : ModuleUnits) (files : List ℕ → ModuleView)
+        (outsides : List ℕ → Outside) (faces : List ℕ → FlatFace) (nameable : List ℕ → Bool)
+        (before : List UnitTree) (unit : UnitTree) (behind : List UnitTree)
+        → IsFront name bytes (TreeFront units) → faults (findings files bytes units) ≡ []
+        → arity_faults (findings files bytes units) units.units ≡ []
+        → ((n : List ℕ) → IsSteadyView (files n)) → ((n : List ℕ) → AllNamed IsBeside (files n))
+        → ((n : List ℕ) → IsForeignView (text_of bytes units).file (files n))
+        → HaveViews outsides files → units.units ≡ before ++ unit ∷ behind
+        → NameModules bytes nameable (unit_trees unit)
+        → ((n : List ℕ) → nameable n ≡ true → ReadsAs (faces n) (named (text_of bytes units)
+        outsides (words_of units) (kinds_behind outsides bytes units before) n))
+        → IsReadableUnit (text_of bytes units)
+        (known_at (text_of bytes units) outsides (words_of units)
+        (kinds_behind outsides bytes units before) unit)
+        (named (text_of bytes units) outsides (words_of units)
+        (kinds_behind outsides bytes units before))
+        (means_by (findings files bytes units)) (implied_by (findings files bytes units)) faces
+        (kinds_behind outsides bytes units before).read.place.here.context unit }
+{
+    accepted_units_are_read();
+    lexemes_are_held_once();
+    names_begin_apart();
+}
