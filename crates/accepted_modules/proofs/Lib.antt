@@ -12,3 +12,4 @@ mod Starts
 mod Faces
 mod Knowing
 mod Reading
+mod Modules

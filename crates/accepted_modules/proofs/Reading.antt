@@ -33,7 +33,7 @@ use Rattle.accepted_modules.proofs.Knowing.{unit-known}
 use Rattle.accepted_modules.proofs.Starts.{names_of}
 use Rattle.accepted_modules.proofs.Views.{all-same, states-same}
 
-front-derives : (name bytes : List ℕ) (units : ModuleUnits) → IsFront name bytes (TreeFront units) → (a : List Lexeme) × DerivesModule units a
+pub front-derives : (name bytes : List ℕ) (units : ModuleUnits) → IsFront name bytes (TreeFront units) → (a : List Lexeme) × DerivesModule units a
 front-derives name bytes units (read {lexemes = lexemes} r l m (whole d h s)) = (lexemes, d)
 
 -- what is known at a unit of a module that is the front of some bytes

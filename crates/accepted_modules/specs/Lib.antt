@@ -3,3 +3,4 @@ pub mod Named
 pub mod Behind
 pub mod Beside
 pub mod Faces
+pub mod Coming

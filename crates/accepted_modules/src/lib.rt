@@ -19,6 +19,10 @@ ghost use Rattle.module_scope.specs.Environments.{Scope, begun, inside, meaning}
 ghost use Rattle.module_scope.specs.Environments.{first as first_scope};
 ghost use Rattle.module_model.specs.Bindings.{faults};
 ghost use Rattle.module_model.specs.Instances.{unit_trees};
+ghost use Rattle.module_model.specs.declared.face.Face.{Face};
+ghost use Rattle.module_model.specs.Given.{imported};
+ghost use Rattle.module_model.specs.Imports.{Imports};
+ghost use Rattle.module_model.specs.Exports.{face_outside, files_of};
 ghost use Rattle.module_model.specs.Exports.{Known, ModuleView, exported, exports_by};
 ghost use Rattle.module_model.specs.Modules.{exports_under, text_of};
 ghost use Rattle.module_model.specs.Resolution.{findings, instance_brings, known_in};
@@ -41,12 +45,13 @@ ghost use Rattle.readable_laws.specs.Steady.{IsSteadyView, state_behind};
 ghost use Rattle.readable_laws.specs.Uses.{implied_by, means_by};
 ghost use Rattle.accepted_modules.specs.States.{HaveViews, kinds_behind};
 ghost use Rattle.accepted_modules.specs.Named.{AllNamed};
+ghost use Rattle.accepted_modules.specs.Coming.{ComesOfModules};
 ghost use Rattle.accepted_modules.specs.Faces.{FacesReadAs, ReadsAs};
 ghost use Rattle.accepted_modules.specs.Beside.{IsBeside};
 ghost use Rattle.accepted_modules.specs.Behind.{Behinds, IsForeignView, IsGivenView, with_own};
 
 use lexeme_laws::{lexemes_are_held_once, names_begin_apart};
-use readable_laws::accepted_units_are_read;
+use readable_laws::{accepted_units_are_read, modules_stay_steady};
 
 /// Wherever a unit of a module is read, the module that a name stands for has the view with which
 /// names are resolved there, a nested module too, if that is so of files; so has the module itself.
@@ -227,4 +232,17 @@ pub fn faultless_units_are_read()
     accepted_units_are_read();
     lexemes_are_held_once();
     names_begin_apart();
+}
+
+/// Views that come of modules, over others that do, are steady, and no name of these is built in. So
+/// are imports whose faces come of modules.
+pub fn modules_come_steady()
+    ensures steady { (view : ModuleView) → ComesOfModules view → IsSteadyView view }
+    ensures beside { (view : ModuleView) → ComesOfModules view → AllNamed IsBeside view }
+    ensures imports { (imports : Imports)
+        → ((name : List ℕ) (face : Face) → imported imports name ≡ Some face
+        → ComesOfModules (face_outside face))
+        → (name : List ℕ) → ComesOfModules (files_of imports name) }
+{
+    modules_stay_steady();
 }

@@ -1,0 +1,11 @@
+use Rattle.accepted_modules.proofs.Modules.{beside-of, imports-come, steady-of}
+use Rattle.accepted_modules.proofs.modules_come_steady.Goals as goal
+
+pub returns-clause-steady : goal.returns-clause-steady
+returns-clause-steady c = λ view is. steady-of (λ files source units a derives steady. c.modules_stay_steady.ensures.outside files source units a derives steady) is
+
+pub returns-clause-beside : goal.returns-clause-beside
+returns-clause-beside c = λ view is. beside-of is
+
+pub returns-clause-imports : goal.returns-clause-imports
+returns-clause-imports c = imports-come
