@@ -1,4 +1,5 @@
 pub mod Leads
+pub mod Within
 pub mod Questions
 pub mod NodeForms
 pub mod Flattened

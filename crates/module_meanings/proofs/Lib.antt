@@ -12,3 +12,4 @@ mod Modules
 mod Meant
 mod Instancing
 mod Leaves
+mod Growing

@@ -18,7 +18,7 @@ ghost use Rattle.module_scope.specs.Environments.{Scope};
 ghost use Rattle.module_model.specs.Exports.{Exports, Known, behind_instance, entry_of};
 ghost use Rattle.module_model.specs.Exports.{exports_of, onward};
 ghost use Rattle.module_model.specs.Modules.{Reading};
-ghost use Rattle.kind_text.specs.FlatModule.{FlatModule, IsOrdered};
+ghost use Rattle.kind_text.specs.FlatModule.{Extends, FlatModule, IsOrdered};
 ghost use Rattle.tree_kinds.specs.Standing.{Outside, is_bound};
 ghost use Rattle.module_kinds.specs.ModuleKinds.{KindState, last, named_in, nested_outside};
 ghost use Rattle.module_kinds.specs.ModuleKinds.{outside};
@@ -32,6 +32,7 @@ ghost use Rattle.flat_kinds.specs.Symbols.{AreDistinct, SaysNothing, symbols_at}
 ghost use Rattle.flattened_trees.specs.Agreeing.{TakesBehind, lead_by, unsaid_stand};
 ghost use Rattle.flattened_trees.specs.Leads.{FlatFace, Leads, Setting};
 ghost use Rattle.flattened_trees.specs.Questions.{Question};
+ghost use Rattle.flattened_trees.specs.Within.{IsLeadWithin};
 ghost use Rattle.flattened_units.specs.Units.{AreExtended, IsModuleMade, IsUnitMade, Reader};
 ghost use Rattle.flattened_units.specs.Units.{exported_leads, face_in, nested_face, no_leads};
 ghost use Rattle.flattened_units.specs.Units.{with_brought, with_symbols};
@@ -203,4 +204,26 @@ pub fn meant_modules_are_instanced()
         → IsFaceBy flat new leads
         (nested_face flat text means implied files outsides words state round setting outer)
         (nested_outside state (round ∷ readings)) }
+{}
+
+/// What a module means in a flat module it means in one that has more, where its names lead to what
+/// is there already; and it is the same to trees that name it and to modules that extend it.
+pub fn meanings_grow()
+    ensures means { (flat more : FlatModule) (outsides : List ℕ → Outside) (source : List ℕ)
+        (units : ModuleUnits) (symbols : List Meaning) (last_reader : Reader)
+        → Extends flat more → IsOrdered flat
+        → ((name : Named) (names : List Named) → IsLeadWithin flat
+        (exported_leads last_reader.setting.leads
+        (exports_of (last outsides source units).read.place.here.exports) (name ∷ names)))
+        → IsMeantSo flat outsides source units symbols last_reader
+        → IsMeantSo more outsides source units symbols last_reader }
+    ensures faces { (flat more : FlatModule) (new : Meaning → Bool) (leads : Leads)
+        (face : FlatFace) (named : Outside) → Extends flat more → IsOrdered flat
+        → ((name : Named) (names : List Named) → IsLeadWithin flat (face.leads (name ∷ names)))
+        → IsFaceBy flat new leads face named → IsFaceBy more new leads face named }
+    ensures extended { (flat more : FlatModule) (leads symbols : Leads) (face : FlatFace)
+        (named : Outside) → Extends flat more → IsOrdered flat
+        → ((name : Named) (names : List Named) → IsLeadWithin flat (face.leads (name ∷ names)))
+        → IsExtendedBy flat leads symbols face named
+        → IsExtendedBy more leads symbols face named }
 {}

@@ -10,6 +10,7 @@ use Rattle.tla_tree.specs.Syntax.{Tree}
 use Rattle.tla_model.specs.Tables.{Named}
 use Rattle.kind_text.specs.FlatModule.{Extends, FlatModule}
 use Rattle.flattened_trees.specs.Leads.{Lead}
+use Rattle.flattened_trees.specs.Within.{IsLeadWithin}
 use Rattle.flattened_trees.specs.Flattened.{IsFlattened}
 use Rattle.flattened_trees.specs.Questions as asking
 use Rattle.tree_flattener.specs.declared.locals.Entry.{Entry}
@@ -18,7 +19,7 @@ use Rattle.tree_flattener.specs.declared.state.Flattening.{Flattening}
 use Rattle.tree_flattener.specs.Apart.{IsLeadOf, IsMadeApart, IsMadeClaim}
 use Rattle.tree_flattener.specs.Flattens.{Flattens, IsMadeDefinition, LeadsTo}
 use Rattle.tree_flattener.specs.Steps.{Asks, Cuts, Numbers, Steps}
-use Rattle.tree_flattener.specs.Worlds.{DoLie, DoesLie, IsKnown, IsLeadWithin, IsLocalWithin, IsReady, World, lead_by}
+use Rattle.tree_flattener.specs.Worlds.{DoLie, DoesLie, IsKnown, IsLocalWithin, IsReady, World, lead_by}
 use Rattle.tree_flattener.proofs.Stepping.{keeps-same, numbers-steps, ready-on, same-setting, steps-on, take-all-of}
 use Rattle.tree_flattener.proofs.Definitions.{cuts-steps}
 use Rattle.tree_flattener.proofs.Within.{local-within}

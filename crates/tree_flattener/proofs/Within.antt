@@ -14,7 +14,8 @@ use Rattle.flattened_trees.specs.NodeForms.{lead_of}
 use Rattle.tree_flattener.specs.declared.locals.Entry.{Entry}
 use Rattle.tree_flattener.specs.declared.locals.Local.TheVariants as local
 use Rattle.tree_flattener.specs.declared.state.Flattening.{Flattening}
-use Rattle.tree_flattener.specs.Worlds.{AreWithin, DoLie, IsEndWithin, IsKnown, IsLeadWithin, IsLocalWithin, World, declared_at, lead_by, with_locals}
+use Rattle.flattened_trees.specs.Within.{IsEndWithin, IsLeadWithin}
+use Rattle.tree_flattener.specs.Worlds.{AreWithin, DoLie, IsKnown, IsLocalWithin, World, declared_at, lead_by, with_locals}
 
 -- a list that has more is as long at least
 pub longer : {A : Type 0} (xs ys : List A) → Keeps xs ys → length xs ≤ length ys

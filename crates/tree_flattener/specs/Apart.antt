@@ -7,12 +7,13 @@ use Rattle.tla_model.specs.Scopes.{definition}
 use Rattle.tla_model.specs.Tables.{Named}
 use Rattle.kind_text.specs.FlatModule.{Extends, FlatModule}
 use Rattle.flattened_trees.specs.Leads.{Lead}
+use Rattle.flattened_trees.specs.Within.{IsLeadWithin}
 use Rattle.flattened_trees.specs.Questions.{IsShallowNode, Question, over}
 use Rattle.flattened_trees.specs.Flattened.{IsDefined, IsFlattened}
 use Rattle.tree_flattener.specs.declared.locals.Local.{Local}
 use Rattle.tree_flattener.specs.declared.state.Flattening.{Flattening}
 use Rattle.tree_flattener.specs.Steps.{Steps}
-use Rattle.tree_flattener.specs.Worlds.{DoesLie, IsLeadWithin, IsReady, World, frame_at, lead_by, setting_of}
+use Rattle.tree_flattener.specs.Worlds.{DoesLie, IsReady, World, frame_at, lead_by, setting_of}
 
 -- where the name of a tree leads, if the tree defines one
 abbrev pub IsLeadOf : World → Tree → Option Local → (List Named → Lead) → Type 0

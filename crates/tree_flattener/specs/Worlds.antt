@@ -14,6 +14,7 @@ use Rattle.kind_text.specs.FlatModule.{FlatModule, UsesDefinition, UsesInstance}
 use Rattle.tree_kinds.specs.Standing.{is_bound}
 use Rattle.flattened_trees.specs.declared.End.TheVariants as end
 use Rattle.flattened_trees.specs.Leads.{FlatFace, Lead, Leads, Setting, behind_instance, nowhere, only, with_lead}
+use Rattle.flattened_trees.specs.Within.{IsLeadWithin}
 use Rattle.tree_flattener.specs.declared.locals.Entry.{Entry}
 use Rattle.tree_flattener.specs.declared.locals.Local.TheVariants as local
 use Rattle.tree_flattener.specs.declared.state.Flattening.{Flattening}
@@ -121,17 +122,7 @@ setting_of w state frame olds =
 -- ---- what is there
 
 module _ (flat : FlatModule) where
-  -- what a name leads to is there
-  abbrev pub IsEndWithin : end.the_data → Type 0
-  IsEndWithin (end.Definition d) = UsesDefinition flat (length flat.nodes) d
-  IsEndWithin _ = Unit {0}
-
-  -- and so are the instances on its way
-  pub record IsLeadWithin (lead : Lead) : Type 0 where
-    pub path : AllByRecursion (UsesInstance flat (length flat.nodes)) lead.path
-    pub end : IsEndWithin lead.end
-
-  -- the same of a name of a scope
+  -- what a name of a scope leads to is there
   abbrev pub IsLocalWithin : local.the_data → Type 0
   IsLocalWithin (local.Definition d) = UsesDefinition flat (length flat.nodes) d
   IsLocalWithin (local.Instance j l) = UsesInstance flat (length flat.nodes) j

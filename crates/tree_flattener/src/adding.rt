@@ -10,7 +10,7 @@ ghost use Rattle.flattened_trees.specs.declared.End.TheVariants as end;
 ghost use Rattle.flattened_trees.specs.NodeForms as node_forms;
 ghost use Rattle.tree_flattener.specs.Found.{lead_in};
 ghost use Rattle.tree_flattener.specs.Steps.{Adds};
-ghost use Rattle.tree_flattener.specs.Worlds.{IsLeadWithin};
+ghost use Rattle.flattened_trees.specs.Within.{IsLeadWithin};
 
 use crate::names::Lead;
 use crate::state::Flattening;
