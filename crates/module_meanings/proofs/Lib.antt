@@ -13,3 +13,4 @@ mod Meant
 mod Instancing
 mod Leaves
 mod Growing
+mod Symbols

@@ -119,7 +119,7 @@ module _ (text : Text) (outsides : List ℕ → Outside) (words : List ℕ) wher
   brings-behind state (Node (Form.Instance l) s parts) = brought-behind (unit_of text words l) (view_of text (module_named text (views text outsides words) words state) l)
   brings-behind state (Node form s parts) = tt
 
-  leaf-brought_none : (modules : Scope Outside) (ls : List Lexeme) (m : Meaning) → IsLeafName m → BringNone text outsides words modules ls m
+  pub leaf-brought_none : (modules : Scope Outside) (ls : List Lexeme) (m : Meaning) → IsLeafName m → BringNone text outsides words modules ls m
   leaf-brought_none modules [] m leaf = tt
   leaf-brought_none modules (l ∷ rest) m leaf =
       (leaf-unnamed (extended_entries text outsides words modules l) m leaf (instantiable-behind (exported (named_in text outsides words modules (spelled text.source l)).view)), leaf-brought_none modules rest m leaf)

@@ -1,6 +1,6 @@
 -- What is asked of the units of a module, each at its state: their trees can be read, their names are new, and the modules that they
 -- name are to them what a flat module has for these.
-use Rattle.std.specs.Prelude.{◌≡◌, ◌⊎◌, ℕ, Bool, true, List, [], ◌∷◌, ◌++◌, Option, Some, drop, is_some, length, map}
+use Rattle.std.specs.Prelude.{◌≡◌, ◌⊎◌, ℕ, Bool, true, false, List, [], ◌∷◌, ◌++◌, Option, Some, drop, is_some, length, map}
 use Rattle.std.specs.List.{AllByRecursion}
 use Rattle.tla_symbols.specs.declared.lexeme.Lexeme.{Lexeme}
 use Rattle.tla_symbols.specs.declared.lexeme.Span.{Span}
@@ -20,7 +20,7 @@ use Rattle.module_model.specs.Exports.{Exports, Known, ModuleView, behind_instan
 use Rattle.module_model.specs.Modules.{constants, exports_under, text_of}
 use Rattle.module_model.specs.Resolution.{instance_brings, words_of}
 use Rattle.kind_text.specs.FlatModule.{FlatModule}
-use Rattle.tree_kinds.specs.Standing.{Environment, Outside, name_among}
+use Rattle.tree_kinds.specs.Standing.{Environment, Outside, is_bound, name_among}
 use Rattle.module_kinds.specs.ModuleKinds.{KindState, after, first, known_at, named, named_in, standing_behind, views}
 use Rattle.flat_kinds.specs.Readings.{BringNone, Leaves, extended_entries}
 use Rattle.flat_kinds.specs.Symbols.{same_symbol}
@@ -82,6 +82,22 @@ module _ (text : Text) (outsides : List ℕ → Outside) (words : List ℕ) wher
 abbrev pub symbol_leads : List Setting → List Meaning → Leads
 symbol_leads [] frame = with_symbols no_leads frame 0
 symbol_leads (outer ∷ round) frame = with_symbols (symbol_leads round outer.frame) (drop (length outer.frame) frame) (length outer.frame)
+
+-- symbols of a module lead where they do by themselves
+abbrev pub SymbolsLead : Setting → List Setting → Type 0
+SymbolsLead setting round =
+    (meaning : Meaning) → (symbol_leads round setting.frame meaning [] ≡ nowhere) ⊎ (setting.leads meaning [] ≡ symbol_leads round setting.frame meaning [])
+
+-- the same of modules one round another
+abbrev pub AllSymbolsLead : List Setting → Type 0
+AllSymbolsLead [] = Unit {0}
+AllSymbolsLead (setting ∷ round) = SymbolsLead setting round × AllSymbolsLead round
+
+module _ (text : Text) (outsides : List ℕ → Outside) (words : List ℕ) where
+  -- a unit leaves the symbols of a module
+  abbrev pub LeavesSymbols : KindState → UnitTree → Setting → List Setting → Type 0
+  LeavesSymbols state unit setting round =
+      (meaning : Meaning) → is_bound meaning ≡ false → (symbol_leads round setting.frame meaning [] ≡ nowhere) ⊎ Leaves text outsides words state unit meaning
 
 -- ---- units
 

@@ -5,7 +5,7 @@
 #![tactic(auto)]
 
 ghost use Rattle.std.specs.Prelude.{◌≡◌, ℕ, ◌+◌, Bool, true, false, List, [], ◌∷◌, Option, Some};
-ghost use Rattle.std.specs.Prelude.{length};
+ghost use Rattle.std.specs.Prelude.{◌⊎◌, length};
 ghost use Rattle.std.specs.List.{AllByRecursion};
 ghost use Rattle.tla_symbols.specs.declared.lexeme.Lexeme.{Lexeme};
 ghost use Rattle.unit_grammar.specs.Units.{ModuleUnits, UnitTree};
@@ -26,11 +26,12 @@ ghost use Rattle.flat_trees.specs.Stands.{Stand, Unsaid};
 ghost use Rattle.flat_trees.specs.Layouts.{Layout, with_brought as with_brought_stands};
 ghost use Rattle.flat_trees.specs.Instances.{symbols_of};
 ghost use Rattle.flat_kinds.specs.Declarations.{IsOnce};
-ghost use Rattle.flat_kinds.specs.Readings.{KeepsState, exported_stand, extended_entries};
+ghost use Rattle.flat_kinds.specs.Readings.{BringNone, KeepsState, exported_stand};
+ghost use Rattle.flat_kinds.specs.Readings.{extended_entries};
 ghost use Rattle.flat_kinds.specs.Readings.{with_own};
 ghost use Rattle.flat_kinds.specs.Symbols.{AreDistinct, SaysNothing, symbols_at};
 ghost use Rattle.flattened_trees.specs.Agreeing.{TakesBehind, lead_by, unsaid_stand};
-ghost use Rattle.flattened_trees.specs.Leads.{FlatFace, Leads, Setting};
+ghost use Rattle.flattened_trees.specs.Leads.{FlatFace, Leads, Setting, nowhere};
 ghost use Rattle.flattened_trees.specs.Questions.{Question};
 ghost use Rattle.flattened_trees.specs.Within.{IsLeadWithin};
 ghost use Rattle.flattened_units.specs.Units.{AreExtended, IsModuleMade, IsUnitMade, Reader};
@@ -41,6 +42,7 @@ ghost use Rattle.module_meanings.specs.Faces.{LeavesLead};
 ghost use Rattle.module_meanings.specs.Following.{AreAlike, AreExtendedSo, Follows, IsBuiltSo};
 ghost use Rattle.module_meanings.specs.Following.{IsFollowed, IsMeantSo, IsPlain, LeadsBy};
 ghost use Rattle.module_meanings.specs.Premises.{AllCome, IsModuleGiven, IsUnitGiven};
+ghost use Rattle.module_meanings.specs.Premises.{AllSymbolsLead, LeavesSymbols, SymbolsLead};
 ghost use Rattle.module_meanings.specs.Premises.{symbol_leads};
 
 /// Names lead where they stand: with symbols at places, from the first names of a module on; with
@@ -81,6 +83,29 @@ pub fn leaves_lead()
         → IsUnitMade flat text means implied files outsides words state reader unit next asked
         → LeavesLead next.setting.leads
         × AllByRecursion (λ setting. LeavesLead setting.leads) next.round }
+{}
+
+/// Symbols of a module and of those round it lead where they do by themselves: behind what the
+/// module extends, and behind each unit, where these leave symbols.
+pub fn symbols_lead()
+    ensures first { (flat : FlatModule) (text : Text) (means : ℕ → Option Meaning)
+        (implied : ℕ → List Meaning) (files : List ℕ → FlatFace) (outsides : List ℕ → Outside)
+        (words : List ℕ) (modules : Scope Outside) (faces : Scope FlatFace)
+        (symbols : List Meaning) (names : List Lexeme) (leads : Leads)
+        → ((meaning : Meaning) → is_bound meaning ≡ false
+        → (symbol_leads [] symbols meaning [] ≡ nowhere)
+        ⊎ BringNone text outsides words modules names meaning)
+        → AreExtended flat text means implied files outsides words modules faces
+        (record { leads = with_symbols no_leads symbols 0; frame = symbols; olds = [] })
+        (with_symbols no_leads symbols 0) names leads
+        → SymbolsLead (record { leads = leads; frame = symbols; olds = [] }) [] }
+    ensures units { (flat : FlatModule) (text : Text) (means : ℕ → Option Meaning)
+        (implied : ℕ → List Meaning) (files : List ℕ → FlatFace) (outsides : List ℕ → Outside)
+        (words : List ℕ) (state : KindState) (reader : Reader) (unit : UnitTree) (next : Reader)
+        (asked : List Question) → AllSymbolsLead (reader.setting ∷ reader.round)
+        → LeavesSymbols text outsides words state unit next.setting next.round
+        → IsUnitMade flat text means implied files outsides words state reader unit next asked
+        → AllSymbolsLead (next.setting ∷ next.round) }
 {}
 
 /// Modules that are extended come as a flat module has them: each through an instance that lets its
