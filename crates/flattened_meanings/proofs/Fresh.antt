@@ -30,7 +30,7 @@ same-entity : (m : Meaning) (e f : Entity) (c : Callee) → same_meaning m (Decl
 same-entity BuiltIn e f c = refl
 same-entity (Declared g d) e f c = refl
 
-seen-alike : (seen : List Meaning) (a b : Meaning) → same_meaning a b ≡ true → is_seen seen a ≡ is_seen seen b
+pub seen-alike : (seen : List Meaning) (a b : Meaning) → same_meaning a b ≡ true → is_seen seen a ≡ is_seen seen b
 seen-alike [] a b same = refl
 seen-alike (first ∷ rest) a b same =
     ap (λ t. cond t true (is_seen rest a)) (same-alike a b first same) ∙ ap (λ u. cond (same_meaning b first) true u) (seen-alike rest a b same)

@@ -34,7 +34,7 @@ use Rattle.flattened_meanings.proofs.Meant.{each-kept}
 use Rattle.flattened_units.specs.Units.{IsInstanceMade, Reader, face_in, meanings_of}
 use Rattle.module_meanings.specs.Faces.{IsPlaced}
 use Rattle.module_meanings.specs.Following.{Follows}
-use Rattle.module_meanings.specs.Premises.{IsTold, AreTold, IsInstanceGiven}
+use Rattle.module_meanings.specs.Premises.{IsTold, AreTold, IsFaceAt, IsInstanceGivenBy}
 use Rattle.module_meanings.proofs.Contexts.{IsEntry, declared-means, entry-named, entry-seen, joined-means, one-is-seen, orders-more, seen-left, seen-right, told-more, unseen-entries, unseen-parts}
 use Rattle.module_meanings.proofs.Knowing.{binder-told, entry-told}
 use Rattle.module_meanings.proofs.Leads.{brought-lead}
@@ -57,7 +57,7 @@ module _ (flat : FlatModule) (text : Text) (means : ℕ → Option Meaning) (imp
     here-told = subst (AreTold state.read.known) follows.context told
 
     -- what comes of an INSTANCE without a name, and what is known behind it
-    pub instance-follows : (ordered : IsOrdered flat) (local : Option Lexeme) (x : Tree) (next : Reader) (asked : List Question) → IsInstanceMade flat text means implied files outsides words state reader x next asked → IsInstanceGiven flat text means implied files outsides words state reader seen (Instance local x) x → (stands : Meaning → Stand) × IsInstanceRead text outsides words flat state layout (Instance local x) x stands × Follows (after text outsides words state (Instance local x)) next (meanings_of (instance_brings text (views text outsides words) words state.read x) ++ seen) (layout_after text outsides words state layout (Instance local x) stands)
+    pub instance-follows : (ordered : IsOrdered flat) (local : Option Lexeme) (x : Tree) (next : Reader) (asked : List Question) → IsInstanceMade flat text means implied files outsides words state reader x next asked → IsInstanceGivenBy flat text means implied files outsides words (IsFaceAt flat text means implied files outsides words) state reader seen (Instance local x) x → (stands : Meaning → Stand) × IsInstanceRead text outsides words flat state layout (Instance local x) x stands × Follows (after text outsides words state (Instance local x)) next (meanings_of (instance_brings text (views text outsides words) words state.read x) ++ seen) (layout_after text outsides words state layout (Instance local x) stands)
     instance-follows ordered local (Node (Form.Instance l) s rights) next asked (written, roots, j, a, b, are, made, is, asks) given =
         let x : Tree = Node (Form.Instance l) s rights in
         let unit : UnitTree = Instance local x in

@@ -116,7 +116,7 @@ kept-own keep (entry ∷ rest) own = by_kept (keep entry) (kept-own keep rest ow
     by_kept true others = (kept-apart keep entry.0 rest own.0, others)
     by_kept false others = others
 
-table-own : (state : ReadState) → IsOnce state.place.here.exports → HaveOwnNames (exports_of state.place.here.exports)
+pub table-own : (state : ReadState) → IsOnce state.place.here.exports → HaveOwnNames (exports_of state.place.here.exports)
 table-own state once = words-own state.place.here.exports.words state.place.here.exports.symbols once.0 once.1
 
 -- the parameters of a module are found by their names
@@ -132,7 +132,7 @@ leaves-as outer BuiltIn lead is = is
 leaves-as outer (Declared (entity.Bound state) x) lead is = is
 leaves-as outer (Declared e x) lead is = tt
 
-new-unsaid : (new : Meaning → Bool) (m : Meaning) → new BuiltIn ≡ false → new m ≡ true → is_bound m ≡ false → unsaid_stand m ≡ Unsaid
+pub new-unsaid : (new : Meaning → Bool) (m : Meaning) → new BuiltIn ≡ false → new m ≡ true → is_bound m ≡ false → unsaid_stand m ≡ Unsaid
 new-unsaid new m old is free = by_leaf (leaf-or-unsaid m)
   where
     by_leaf : IsLeafName m ⊎ (unsaid_stand m ≡ Unsaid) → unsaid_stand m ≡ Unsaid

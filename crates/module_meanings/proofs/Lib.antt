@@ -8,6 +8,7 @@ mod Beginning
 mod Staying
 mod Nesting
 mod Entering
+mod NestedFaces
 mod Modules
 mod Meant
 mod Instancing

@@ -33,7 +33,7 @@ use Rattle.module_meanings.proofs.Staying.{IsLeafName, StayBehind, leaf-or-unsai
 -- ---- what leads nowhere
 
 -- a symbol that leads nowhere has nothing said of it
-before-nowhere : (places : ℕ) (stand : Stand) → StandsBefore places stand → lead_by stand [] ≡ nowhere → stand ≡ Unsaid
+pub before-nowhere : (places : ℕ) (stand : Stand) → StandsBefore places stand → lead_by stand [] ≡ nowhere → stand ≡ Unsaid
 before-nowhere places Unsaid before none = refl
 before-nowhere places (Leaf kind) before none = let e : end.Leaf kind ≡ end.Nowhere = ap (λ (lead : Lead). lead.end) none in absurd (cc e)
 before-nowhere places (Place place order) before none = let e : end.Place place order ≡ end.Nowhere = ap (λ (lead : Lead). lead.end) none in absurd (cc e)

@@ -1,6 +1,6 @@
 -- What stands behind the units of a nested module as before: what was seen, bound names, and what is built in.
-use Rattle.std.proofs.Common.{◌≡◌, inl, inr, ℕ, Bool, true, false, cond, List, [], ◌∷◌, Some, None, map, refl, ap, ◌∙◌, arith}
-use Rattle.std.specs.Prelude.{◌⊎◌, ◌||◌}
+use Rattle.std.proofs.Common.{sym, ◌≡◌, inl, inr, ℕ, Bool, true, false, cond, List, [], ◌∷◌, Some, None, map, refl, ap, ◌∙◌, arith}
+use Rattle.std.specs.Prelude.{◌⊎◌, ◌||◌, not}
 use Rattle.std.specs.List.{AllByRecursion}
 use Rattle.tla_symbols.specs.declared.lexeme.Lexeme.{Lexeme}
 use Rattle.tla_tree.specs.declared.form.Form.TheVariants as Form
@@ -11,7 +11,7 @@ use Rattle.tla_model.specs.declared.ids.UnitId.{UnitId}
 use Rattle.tla_model.specs.declared.names.Binder.{Binder}
 use Rattle.tla_model.specs.declared.names.Binding.TheVariants as as_binding
 use Rattle.tla_model.specs.declared.names.Meaning.TheVariants.{BuiltIn, Declared}
-use Rattle.tla_model.specs.Entities.{Defines, Nothing, Operator, Function, Module, Meaning, Text, defined, defined_as, defines, meant, within}
+use Rattle.tla_model.specs.Entities.{Defines, Nothing, Operator, Function, Module, Meaning, Text, defined, defined_as, defines, meant, same_meaning, within}
 use Rattle.tla_model.specs.EntityKinds.{is_meant, stands_behind}
 use Rattle.tla_model.specs.Lexemes.{spelled}
 use Rattle.tla_model.specs.Scopes.{definition}
@@ -27,8 +27,8 @@ use Rattle.module_kinds.specs.ModuleKinds.{KindState, named_in, standing_behind,
 use Rattle.flat_trees.specs.Stands.{Unsaid}
 use Rattle.flat_kinds.specs.Readings.{BringNone, Leaves, extended_entries, is_among}
 use Rattle.flat_kinds.proofs.Leaving.{meaning-left}
-use Rattle.flattened_trees.specs.Agreeing.{IsFresh, is_seen, unsaid_stand}
-use Rattle.flattened_meanings.proofs.Fresh.{first-unlike, mark, new-times, node-names, rest-none, times, tree-any}
+use Rattle.flattened_trees.specs.Agreeing.{AreNew, IsFresh, is_seen, unsaid_stand}
+use Rattle.flattened_meanings.proofs.Fresh.{first-unlike, seen-alike, mark, new-times, node-names, rest-none, times, tree-any}
 
 -- ---- leaves
 
@@ -111,6 +111,22 @@ module _ (text : Text) where
       let all = node-names text m form s parts in
       let any = tree-any text m (as_binding.Bound false) (Node form s parts) in
       none-among (defined form parts) m (omega (arith, once, before, all, any))
+
+-- what was seen is none of these names that are new
+pub names-other : (seen names : List Meaning) (m : Meaning) → AreNew seen names → is_seen seen m ≡ true → not (is_seen names m) ≡ true
+names-other seen [] m new is = refl
+names-other seen (name ∷ rest) m new is = by_same (same_meaning m name) refl (names-other (name ∷ seen) rest m new.1 (seen-by seen name m is))
+  where
+    seen-by : (before : List Meaning) (one other : Meaning) → is_seen before other ≡ true → is_seen (one ∷ before) other ≡ true
+    seen-by before one other e = by_one (same_meaning other one)
+      where
+        by_one : (b : Bool) → cond b true (is_seen before other) ≡ true
+        by_one true = refl
+        by_one false = e
+
+    by_same : (b : Bool) → same_meaning m name ≡ b → not (is_seen rest m) ≡ true → not (cond b true (is_seen rest m)) ≡ true
+    by_same true same others = let never : false ≡ true = sym new.0 ∙ sym (seen-alike seen m name same) ∙ is in cc never
+    by_same false same others = others
 
 -- ---- units
 

@@ -2,6 +2,7 @@
 -- there, and so without what these stand for.
 use Rattle.std.specs.Prelude.{◌≡◌, ℕ, ◌+◌, ◌<◌, Bool, true, false, List, [], ◌∷◌, Some, length}
 use Rattle.std.specs.List.{AllByRecursion}
+use Rattle.tla_symbols.specs.declared.level.Kind.{Kind}
 use Rattle.tla_model.specs.Tables.{Named}
 use Rattle.tla_model.specs.Entities.{Meaning}
 use Rattle.module_model.specs.Exports.{behind_instance, entry_of, onward}
@@ -29,6 +30,11 @@ IsPlaced leads meaning = (place : ℕ) × (leads meaning [] ≡ only (end.Place 
 -- what is built in and bound names lead to the leaves that they are
 abbrev pub LeavesLead : Leads → Type 0
 LeavesLead leads = (meaning : Meaning) → LeadsAs 0 (unsaid_stand meaning) (leads meaning [])
+
+-- a name leads to no leaf and to no place
+pub record LeadsFurther (lead : Lead) : Type 0 where
+  pub leaf : (kind : Kind) → lead ≡ only (end.Leaf kind) [] → ⊥
+  pub place : (place order : ℕ) → lead ≡ only (end.Place place order) [] → ⊥
 
 module _ (flat : FlatModule) where
   -- a module is that to its instances, by where names lead here and by which are new: its names stand so behind the symbols of the modules

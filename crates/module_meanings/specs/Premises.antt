@@ -1,36 +1,37 @@
 -- What is asked of the units of a module, each at its state: their trees can be read, their names are new, and the modules that they
 -- name are to them what a flat module has for these.
-use Rattle.std.specs.Prelude.{◌≡◌, ◌⊎◌, ℕ, Bool, true, false, List, [], ◌∷◌, ◌++◌, Option, Some, drop, is_some, length, map}
+use Rattle.std.specs.Prelude.{◌≡◌, ◌⊎◌, ℕ, Bool, true, false, List, [], ◌∷◌, ◌++◌, Option, Some, None, drop, is_some, length, map}
 use Rattle.std.specs.List.{AllByRecursion}
 use Rattle.tla_symbols.specs.declared.lexeme.Lexeme.{Lexeme}
 use Rattle.tla_symbols.specs.declared.lexeme.Span.{Span}
 use Rattle.tla_tree.specs.declared.form.Form.TheVariants as Form
 use Rattle.tla_tree.specs.Syntax.{Tree, Trees, Node, Nil, Cons}
-use Rattle.unit_grammar.specs.Units.{UnitTree, Variables, Constants, OperatorDefinition, FunctionDefinition, ModuleDefinition, Instance, ModuleBegin, ModuleUnits}
+use Rattle.unit_grammar.specs.Units.{UnitTree, Variables, Constants, OperatorDefinition, FunctionDefinition, ModuleDefinition, Instance, ModuleBegin, ModuleEnd, ModuleUnits}
 use Rattle.tla_model.specs.declared.ids.Callee.{Callee}
 use Rattle.tla_model.specs.declared.names.Meaning.TheVariants.{BuiltIn, Declared}
 use Rattle.tla_model.specs.Contexts.{Context, built_in, meaning_of}
 use Rattle.tla_model.specs.Entities.{Entity, Meaning, Text, meant, variables, within}
-use Rattle.tla_model.specs.EntityKinds.{is_instance, is_meant, stands_for_parameter}
+use Rattle.tla_model.specs.EntityKinds.{is_instance, is_meant, stands_behind, stands_for_parameter}
 use Rattle.tla_model.specs.Lexemes.{spelled}
 use Rattle.tla_model.specs.Scopes.{definition}
 use Rattle.tla_model.specs.Tables.{Named}
 use Rattle.module_scope.specs.Environments.{Scope, begun, inside, first as first_scope, meaning as module_meaning}
-use Rattle.module_model.specs.Exports.{Exports, Known, ModuleView, behind_instance, behind_meaning, entry_of, exported, exports_by, onward}
+use Rattle.module_model.specs.Exports.{Exports, Known, ModuleView, behind_instance, behind_meaning, entry_of, exported, exports_by, exports_of, onward}
 use Rattle.module_model.specs.Modules.{constants, exports_under, text_of}
 use Rattle.module_model.specs.Resolution.{instance_brings, words_of}
 use Rattle.kind_text.specs.FlatModule.{FlatModule}
 use Rattle.tree_kinds.specs.Standing.{Environment, Outside, is_bound, name_among}
 use Rattle.module_kinds.specs.ModuleKinds.{KindState, after, first, known_at, named, named_in, standing_behind, views}
-use Rattle.flat_kinds.specs.Readings.{BringNone, Leaves, extended_entries}
-use Rattle.flat_kinds.specs.Symbols.{same_symbol}
+use Rattle.flat_kinds.specs.Declarations.{IsOnce}
+use Rattle.flat_kinds.specs.Readings.{BringNone, Leaves, extended_entries, is_among}
+use Rattle.flat_kinds.specs.Symbols.{AreDistinct, same_symbol}
 use Rattle.flattened_trees.specs.Agreeing.{IsFresh, is_seen}
 use Rattle.flattened_trees.specs.Leads.{FlatFace, Leads, Setting, nowhere}
 use Rattle.flattened_trees.specs.Questions.{Question}
 use Rattle.flattened_trees.specs.Readable.{IsReadableDefinition, IsReadableThrough}
 use Rattle.flattened_meanings.specs.Faces.{NamesModules}
 use Rattle.flattened_units.specs.Units.{AreUnitsMade, IsModuleMade, Reader, face_in, meanings_of, no_leads, symbol_setting, with_symbols}
-use Rattle.module_meanings.specs.Faces.{IsExtendedBy, IsFaceBy, IsPlaced}
+use Rattle.module_meanings.specs.Faces.{IsExtendedBy, IsFaceBy, IsPlaced, LeadsFurther}
 
 -- ---- what is known behind instances
 
@@ -102,27 +103,45 @@ module _ (text : Text) (outsides : List ℕ → Outside) (words : List ℕ) wher
 -- ---- units
 
 module _ (flat : FlatModule) (text : Text) (means : ℕ → Option Meaning) (implied : ℕ → List Meaning) (files : List ℕ → FlatFace) (outsides : List ℕ → Outside) (words : List ℕ) where
-  -- what is asked of the tree of a unit, whatever kind of unit it is: its names are new, and the modules that it names are what is known
-  -- of them
-  pub record IsTreeGiven (state : KindState) (reader : Reader) (seen : List Meaning) (x : Tree) : Type 0 where
+  -- what is asked of a module that a tree names, by which names are new in the tree
+  abbrev pub OfNamed : Type 1
+  OfNamed = KindState → Reader → (Meaning → Bool) → List ℕ → Type 0
+
+  -- it is what is known of it
+  abbrev pub IsFaceAt : OfNamed
+  IsFaceAt state reader new name =
+      IsFaceBy flat new reader.setting.leads (face_in flat text means implied files outsides words reader.faces name) (named text outsides words state name)
+
+  -- where its name means a file, it is what is known of it; where that means a nested module, symbols lead where they do by themselves
+  abbrev pub IsFileBy : KindState → Reader → (Meaning → Bool) → List ℕ → Option (Option FlatFace) → Type 0
+  IsFileBy state reader new name None = IsFaceAt state reader new name
+  IsFileBy state reader new name (Some nested) = SymbolsLead reader.setting reader.round
+
+  -- the same by what its name means there
+  abbrev pub IsFileAt : OfNamed
+  IsFileAt state reader new name = IsFileBy state reader new name (module_meaning reader.faces.here name)
+
+  -- what is asked of the tree of a unit, whatever kind of unit it is: its names are new, and this of the modules that it names
+  pub record IsTreeGivenBy (asked : OfNamed) (state : KindState) (reader : Reader) (seen : List Meaning) (x : Tree) : Type 0 where
     pub fresh : IsFresh text seen x
     pub nameable : List ℕ → Bool
     pub names : NamesModules text.source nameable x
-    pub faces :
-        (name : List ℕ) → nameable name ≡ true
-        → IsFaceBy flat (λ meaning. is_seen (map (meant text) (within x)) meaning) reader.setting.leads (face_in flat text means implied files outsides words reader.faces name)
-        (named text outsides words state name)
+    pub faces : (name : List ℕ) → nameable name ≡ true → asked state reader (λ meaning. is_seen (map (meant text) (within x)) meaning) name
+
+  -- the modules that it names are what is known of them
+  abbrev pub IsTreeGiven : KindState → Reader → List Meaning → Tree → Type 0
+  IsTreeGiven state reader seen x = IsTreeGivenBy IsFaceAt state reader seen x
 
   -- a definition can be read
-  pub record IsDefinitionGiven (state : KindState) (reader : Reader) (seen : List Meaning) (unit : UnitTree) (x : Tree) : Type 0 where
-    pub given : IsTreeGiven state reader seen x
+  pub record IsDefinitionGivenBy (asked : OfNamed) (state : KindState) (reader : Reader) (seen : List Meaning) (unit : UnitTree) (x : Tree) : Type 0 where
+    pub given : IsTreeGivenBy asked state reader seen x
     pub readable :
         IsReadableDefinition text (known_at text outsides words state unit) (named text outsides words state) means implied
         (face_in flat text means implied files outsides words reader.faces) state.read.place.here.context x
 
   -- an INSTANCE without a name can be read, and what it brings is known
-  pub record IsInstanceGiven (state : KindState) (reader : Reader) (seen : List Meaning) (unit : UnitTree) (x : Tree) : Type 0 where
-    pub given : IsTreeGiven state reader seen x
+  pub record IsInstanceGivenBy (asked : OfNamed) (state : KindState) (reader : Reader) (seen : List Meaning) (unit : UnitTree) (x : Tree) : Type 0 where
+    pub given : IsTreeGivenBy asked state reader seen x
     pub readable :
         IsReadableThrough text (known_at text outsides words state unit) (named text outsides words state) means implied
         (face_in flat text means implied files outsides words reader.faces) state.read.place.here.context (Cons x Nil)
@@ -162,16 +181,35 @@ module _ (flat : FlatModule) (text : Text) (means : ℕ → Option Meaning) (imp
         ≡ exported (named_in text outsides words (begun state.modules (spelled text.source name)) title).view
 
   -- a unit at a state, by the reader behind it: its trees can be read; what it declares has places; a nested module that begins is given
-  abbrev pub IsUnitGiven : KindState → Reader → List Meaning → UnitTree → Reader → Type 0
-  IsUnitGiven state reader seen (Variables names) next = AllByRecursion (IsPlaced reader.setting.leads) (map (meant text) (variables names))
-  IsUnitGiven state reader seen (Constants declarations) next = AllByRecursion (IsPlaced reader.setting.leads) (map (meant text) (constants declarations))
-  IsUnitGiven state reader seen (OperatorDefinition local x) next = IsDefinitionGiven state reader seen (OperatorDefinition local x) x
-  IsUnitGiven state reader seen (FunctionDefinition local x) next = IsDefinitionGiven state reader seen (FunctionDefinition local x) x
-  IsUnitGiven state reader seen (ModuleDefinition local x) next = IsDefinitionGiven state reader seen (ModuleDefinition local x) x
-  IsUnitGiven state reader seen (Instance local x) next = IsInstanceGiven state reader seen (Instance local x) x
-  IsUnitGiven state reader seen (ModuleBegin dashes name extends) next =
+  abbrev pub IsUnitGivenBy : OfNamed → KindState → Reader → List Meaning → UnitTree → Reader → Type 0
+  IsUnitGivenBy asked state reader seen (Variables names) next = AllByRecursion (IsPlaced reader.setting.leads) (map (meant text) (variables names))
+  IsUnitGivenBy asked state reader seen (Constants declarations) next = AllByRecursion (IsPlaced reader.setting.leads) (map (meant text) (constants declarations))
+  IsUnitGivenBy asked state reader seen (OperatorDefinition local x) next = IsDefinitionGivenBy asked state reader seen (OperatorDefinition local x) x
+  IsUnitGivenBy asked state reader seen (FunctionDefinition local x) next = IsDefinitionGivenBy asked state reader seen (FunctionDefinition local x) x
+  IsUnitGivenBy asked state reader seen (ModuleDefinition local x) next = IsDefinitionGivenBy asked state reader seen (ModuleDefinition local x) x
+  IsUnitGivenBy asked state reader seen (Instance local x) next = IsInstanceGivenBy asked state reader seen (Instance local x) x
+  IsUnitGivenBy asked state reader seen (ModuleBegin dashes name extends) next =
       (own : List Meaning) → next.setting.frame ≡ reader.setting.frame ++ own → IsBegunGiven state reader own dashes name extends
-  IsUnitGiven state reader seen unit next = Unit {0}
+  IsUnitGivenBy asked state reader seen unit next = Unit {0}
+
+  -- the same where the modules that trees name are what is known of them
+  abbrev pub IsUnitGiven : KindState → Reader → List Meaning → UnitTree → Reader → Type 0
+  IsUnitGiven state reader seen unit next = IsUnitGivenBy IsFaceAt state reader seen unit next
+
+  -- a nested module at its end: what it exports has names of its own; no two of its own symbols mean the same, and none of them one of
+  -- the modules round it; and its definitions and instances can be used there, and lead to definitions or through instances
+  pub record IsEndedGiven (state : KindState) (reader : Reader) (outer : Setting) (round : List Setting) : Type 0 where
+    pub once : IsOnce state.read.place.here.exports
+    pub distinct : AreDistinct (drop (length outer.frame) reader.setting.frame)
+    pub apart : (meaning : Meaning) → is_among (drop (length outer.frame) reader.setting.frame) meaning ≡ true → symbol_leads round outer.frame meaning [] ≡ nowhere
+    pub exported :
+        (name : Named) (meaning : Meaning) → entry_of (exports_of state.read.place.here.exports) name ≡ Some meaning → is_meant stands_behind meaning ≡ true
+        → (meaning_of state.read.place.here.context name ≡ Some meaning) × LeadsFurther (reader.setting.leads meaning [])
+
+  -- the same of a unit, if it ends one
+  abbrev pub IsEndGiven : UnitTree → KindState → Reader → List Setting → Type 0
+  IsEndGiven (ModuleEnd closing) state reader (outer ∷ round) = IsEndedGiven state reader outer round
+  IsEndGiven unit state reader round = Unit {0}
 
   -- what was seen before a unit it leaves, or that stands behind it as before
   abbrev pub SeenStay : KindState → UnitTree → List Meaning → Type 0
@@ -191,7 +229,7 @@ module _ (flat : FlatModule) (text : Text) (means : ℕ → Option Meaning) (imp
   abbrev pub AreUnitsGiven : (state : KindState) (reader : Reader) (seen : List Meaning) (units : List UnitTree) (next : Reader) (asked : List Question) → AreUnitsMade flat text means implied files outsides words state reader units next asked → Type 0
   AreUnitsGiven state reader seen [] next asked made = Unit {0}
   AreUnitsGiven state reader seen (unit ∷ units) next asked made =
-      IsBroughtGiven state reader seen unit × IsUnitGiven state reader seen unit made.0
+      (IsBroughtGiven state reader seen unit × IsEndGiven unit state reader reader.round) × IsUnitGivenBy IsFileAt state reader seen unit made.0
       × AreUnitsGiven (after text outsides words state unit) made.0 (seen_behind text outsides words state unit made.0 seen) units next made.2 made.4
 
 -- ---- modules
