@@ -15,3 +15,4 @@ mod Instancing
 mod Leaves
 mod Growing
 mod Symbols
+mod Samples
