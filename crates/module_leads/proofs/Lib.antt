@@ -1,0 +1,10 @@
+mod Feeding
+mod Following
+mod Keyed
+mod Leaded
+mod Listing
+mod Numbered
+mod Placed
+mod Putting
+mod Said
+mod Within

@@ -1,0 +1,180 @@
+// What modules are to those that name them, in a table.
+ghost use Rattle.std.specs.Prelude.{◌≡◌, ◌≤◌, IfOk, MatchOption, None, OnOk, Some, if◌then◌else◌, length};
+ghost use Rattle.std.specs.Option.{option_copied, option_or};
+ghost use Rattle.name_context.specs.AsTables.{meant_by};
+ghost use Rattle.tla_model.specs.Tables as tables;
+ghost use Rattle.tree_names.specs.Parameters.{entries_in};
+ghost use Rattle.flattened_units.specs.Units.{no_face};
+ghost use Rattle.module_leads.specs.Faces.{IsFaceBefore, IsNamedAs, IsNamelessFace, faces_of, first_faces, way_of};
+ghost use Rattle.module_leads.specs.Ways.{face_at};
+
+use crate::ways::{Way, copied_name};
+use indexmap::IndexMap;
+use name_context::{Named, symbol_in};
+use std::alloc::Global;
+use tla_symbols::Op;
+use tool_list::{List, Memory};
+use tree_names::Parameter;
+
+/// What a module is to those that name it.
+pub struct ModuleFace {
+    /// Its symbols, with their names.
+    pub parameters: List<Parameter>,
+    /// How many symbols of modules round it come before these.
+    pub outer: usize,
+    pub is_constant: bool,
+    /// Where its names lead.
+    pub words: IndexMap<String, Way>,
+    // There are few symbols, so they are looked through.
+    pub symbols: Vec<(Op, Way)>,
+}
+
+// By hand, so that a proof meets one call wherever a value ends.
+impl Drop for ModuleFace {
+    fn drop(self) {
+        let ModuleFace {
+            parameters: _,
+            outer: _,
+            is_constant: _,
+            words: _,
+            symbols: _,
+        } = self;
+    }
+}
+
+impl ModuleFace {
+    /// A face without names, by the symbols of the module, how many come before these, and whether it
+    /// is constant.
+    pub(crate) fn new(
+        alloc: Global,
+        parameters: List<Parameter>,
+        outer: usize,
+        is_constant: bool,
+    ) -> ModuleFace
+        ensures { IsNamelessFace result parameters outer is_constant }
+    {
+        ModuleFace {
+            parameters,
+            outer,
+            is_constant,
+            words: IndexMap::new(alloc),
+            symbols: Vec::new(alloc),
+        }
+    }
+
+    /// Where a name leads that the module has.
+    pub(crate) fn way(&self, name: Named<'_>) -> Option<&Way>
+        ensures { option_copied result ≡ way_of self.now (meant_by name.entry) }
+    {
+        match name {
+            Named::Word(word) => self.words.get(word),
+            Named::Symbol(op) => symbol_in(self.symbols.as_slice(), op),
+        }
+    }
+
+    /// Puts a name with where it leads. One that is there stays as it is.
+    pub(crate) fn put(&mut self, alloc: Global, name: Named<'_>, way: Way) -> Result<(), Memory>
+        ensures way { OnOk result ((other : tables.Named) → way_of self.new other
+            ≡ option_or (way_of self.old other)
+            (if tables.same_named other (meant_by name.entry) then Some way else None)) }
+        ensures others { OnOk result (IsNamedAs self.old self.new) }
+    {
+        match name {
+            Named::Word(word) => self.put_word(alloc, word, way),
+            Named::Symbol(op) => self.put_symbol(op, way),
+        }
+    }
+
+    fn put_word(&mut self, alloc: Global, word: &str, way: Way) -> Result<(), Memory>
+        ensures way { OnOk result ((other : tables.Named) → way_of self.new other
+            ≡ option_or (way_of self.old other)
+            (if tables.same_named other (tables.Word word.now) then Some way else None)) }
+        ensures others { OnOk result (IsNamedAs self.old self.new) }
+    {
+        if self.words.contains_key(word) {
+            return Ok(());
+        }
+        let word = String::from_str(alloc, word)?;
+        self.words.insert(word, way)?;
+        Ok(())
+    }
+
+    fn put_symbol(&mut self, op: Op, way: Way) -> Result<(), Memory>
+        ensures way { OnOk result ((other : tables.Named) → way_of self.new other
+            ≡ option_or (way_of self.old other)
+            (if tables.same_named other (tables.Symbol op) then Some way else None)) }
+        ensures others { OnOk result (IsNamedAs self.old self.new) }
+    {
+        if symbol_in(self.symbols.as_slice(), op).is_some() {
+            return Ok(());
+        }
+        self.symbols.push((op, way))?;
+        Ok(())
+    }
+}
+
+// The face with a number among the first so many.
+pub(crate) fn face_before(
+    faces: &[ModuleFace],
+    limit: usize,
+    face: Option<usize>,
+) -> Option<(usize, &ModuleFace)>
+    requires { limit ≤ length faces.now }
+    ensures { MatchOption result (face_at (first_faces faces.now limit) face ≡ no_face)
+        (λ found. IsFaceBefore faces.now limit face found.0 found.1.now) }
+{
+    let number = face?;
+    if number >= limit {
+        return None;
+    }
+    Some((number, &faces[number]))
+}
+
+// The same entries, which share what they name.
+fn copied_parameters(alloc: Global, parameters: &[Parameter]) -> Result<List<Parameter>, Memory>
+    ensures { IfOk result (λ copies. copies ≡ parameters.now) }
+{
+    let mut copies = List::new(alloc);
+    for parameter in parameters {
+        copies.push(Parameter {
+            name: copied_name(&parameter.name)?,
+            meaning: parameter.meaning.copied()?,
+        })?;
+    }
+    Ok(copies)
+}
+
+/// The symbols of a module that INSTANCE replaces, in their order.
+pub(crate) fn face_parameters(
+    alloc: Global,
+    faces: &[ModuleFace],
+    face: Option<usize>,
+) -> Result<List<Parameter>, Memory>
+    ensures { IfOk result (λ parameters. entries_in parameters
+        ≡ (face_at (faces_of faces.now) face).parameters) }
+{
+    match face_before(faces, faces.len(), face) {
+        Some((_, face)) => copied_parameters(alloc, face.parameters.as_slice()),
+        None => Ok(List::new(alloc)),
+    }
+}
+
+/// How many symbols of modules round a module come before its own.
+pub(crate) fn face_outer(faces: &[ModuleFace], face: Option<usize>) -> usize
+    ensures { result ≡ (face_at (faces_of faces.now) face).outer }
+{
+    match face_before(faces, faces.len(), face) {
+        Some((_, face)) => face.outer,
+        None => 0,
+    }
+}
+
+/// Whether a module is constant.
+pub(crate) fn face_is_constant(faces: &[ModuleFace], face: Option<usize>) -> bool
+    ensures { result ≡ (face_at (faces_of faces.now) face).is_constant }
+{
+    match face_before(faces, faces.len(), face) {
+        Some((_, face)) => face.is_constant,
+        None => false,
+    }
+}
