@@ -7,9 +7,14 @@ use Rattle.tla_model.specs.Tables.{Named, Word, Symbol, find, has, lookup, put}
 use Rattle.tla_model.specs.declared.names.Meaning.TheVariants.{BuiltIn}
 use Rattle.tla_model.specs.Entities.{Meaning, Text, meant, name_of}
 use Rattle.tla_model.specs.Contexts.{Context, built_in, meaning_of, usable}
-use Rattle.module_model.specs.Exports.{Exports}
-use Rattle.module_model.specs.Modules.{Reading, clashes, declare_all, joined, with_entry}
+use Rattle.tla_symbols.specs.declared.lexeme.Lexeme.{Lexeme}
+use Rattle.tla_model.specs.Lexemes.{spelled}
+use Rattle.module_scope.specs.Environments.{Environment, meaning}
+use Rattle.module_model.specs.Exports.{Exports, ModuleView, exported, exports_by}
+use Rattle.module_model.specs.Modules.{Reading, brings, clashes, declare_all, exports_under, extended, extends_all, joined, with_entry}
+use Rattle.module_model.specs.NamedModules.{module_at, module_under}
 use Rattle.accepted_modules.proofs.Tables.{put-finds}
+use Rattle.accepted_modules.proofs.Views.{joined-keeps}
 
 pub usable-found : (o : Option (Option Meaning)) (m : Meaning) → usable o ≡ Some m → o ≡ Some (Some m)
 usable-found None m e = absurd (cc)
@@ -28,6 +33,12 @@ found-built-in (entry ∷ rest) bytes m all at = by (bytes_eq bytes entry.0) (fo
 pub built-in-is : (name : Named) (m : Meaning) → meaning_of built_in name ≡ Some m → m ≡ BuiltIn
 built-in-is (Symbol op) m at = absurd (cc)
 built-in-is (Word bytes) m at = found-built-in built_in.words bytes m (refl, (refl, (refl, (refl, tt)))) (usable-found (find built_in (Word bytes)) m at)
+
+-- what the module of a name brings is what it exports
+pub brings-exported : (files : List ℕ → ModuleView) (found : Option (Option ModuleView)) (name : List ℕ) → exports_under (exports_by files) found name ≡ exported (module_under files found name)
+brings-exported files None name = refl
+brings-exported files (Some None) name = refl
+brings-exported files (Some (Some view)) name = refl
 
 -- ---- names that can be used
 
@@ -67,3 +78,14 @@ module _ (P : Named → Meaning → Type 0) where
         let name = name_of text.source binder.name in
         let other : Reading = with_entry local reading name (meant text binder) in
         declared-holds local (cond (has reading.context name) reading other) rest (either-holds (has reading.context name) reading other old (entry-holds local reading name (meant text binder) old all.0)) all.1
+
+    -- behind modules that are extended, whatever these export
+    pub extends-hold : (files : List ℕ → ModuleView) (modules : Environment ModuleView) (reading : Reading) (names : List Lexeme) → reading.modules ≡ modules → HoldsOf reading.context → AllByRecursion (λ l. AllByRecursion EntryHolds (exported (module_at files modules (spelled text.source l)))) names
+        → HoldsOf (extends_all text (exports_by files) reading names).context
+    extends-hold files modules reading [] same old all = old
+    extends-hold files modules reading (l ∷ rest) same old all =
+        let title : List ℕ = spelled text.source l in
+        let entries : Exports = brings text (exports_by files) reading l in
+        let is : entries ≡ exported (module_at files modules title) = brings-exported files (meaning reading.modules title) title ∙ ap (λ ms. exported (module_at files ms title)) same in
+        let each = subst (λ (es : Exports). AllByRecursion EntryHolds es) (sym is) all.0 in
+        extends-hold files modules (extended reading entries) rest ((joined-keeps false reading entries).modules ∙ same) (joined-holds false reading entries old each) all.1

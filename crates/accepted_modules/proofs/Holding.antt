@@ -19,12 +19,12 @@ use Rattle.tla_model.specs.Scopes.{definition}
 use Rattle.module_scope.specs.Environments.{Environment, meaning}
 use Rattle.module_model.specs.Exports.{Exports, Known, ModuleView, exported, exports_by, exports_of, instantiable, is_meant, nothing, of_symbols, of_words, parameters_in, stands_behind, stands_for_parameter}
 use Rattle.module_model.specs.Instances.{brought_by, brought_entries, nested_view, through}
-use Rattle.module_model.specs.Modules.{Place, Reading, begun_in, brings, clashes, constants, declare_all, extended, extends_all, exports_under, joined, left, nested, text_of, unread, with_entry}
+use Rattle.module_model.specs.Modules.{Place, Reading, begun_in, brings, clashes, constants, declare_all, extended, extends_all, joined, left, nested, text_of, unread, with_entry}
 use Rattle.module_model.specs.NamedModules.{module_at, module_under, unit_of, view_of}
 use Rattle.module_model.specs.Resolution.{ReadState, after, first, instance_brings, last, module_named, outside_in, read_all, words_of}
 use Rattle.flat_kinds.specs.Declarations.{IsOnce, OfAllKnown, OfKnown, declared_names}
 use Rattle.accepted_modules.specs.Named.{AllNamed}
-use Rattle.accepted_modules.proofs.Contexts.{HoldsOf, put-holds}
+use Rattle.accepted_modules.proofs.Contexts.{HoldsOf, brings-exported, put-holds}
 use Rattle.accepted_modules.proofs.Tables.{all-passing, put-keeps, put-once, table-once}
 
 -- ---- modules that can be named
@@ -52,12 +52,6 @@ module-says says files modules name none each all = found-known says modules nam
     some : (found : Option ModuleView) → OfKnown says found → says (module_under files (Some found) name)
     some None one = none
     some (Some view) one = one
-
--- what the module of a name brings is what it exports
-pub brings-exported : (files : List ℕ → ModuleView) (found : Option (Option ModuleView)) (name : List ℕ) → exports_under (exports_by files) found name ≡ exported (module_under files found name)
-brings-exported files None name = refl
-brings-exported files (Some None) name = refl
-brings-exported files (Some (Some view)) name = refl
 
 module _ (P : Named → Meaning → Type 0) where
   -- it holds of an entry

@@ -13,3 +13,5 @@ mod Faces
 mod Knowing
 mod Reading
 mod Modules
+mod Symbols
+mod Placed

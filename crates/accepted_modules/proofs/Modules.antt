@@ -15,6 +15,8 @@ use Rattle.accepted_modules.specs.Beside.{IsBeside}
 use Rattle.accepted_modules.specs.Coming.{ComesOfModules, no_module, a_module}
 use Rattle.accepted_modules.specs.Named.{AllNamed}
 use Rattle.accepted_modules.proofs.Beside.{outside-beside}
+use Rattle.accepted_modules.specs.Offered.{IsOffered}
+use Rattle.accepted_modules.proofs.Symbols.{outside-offered}
 use Rattle.accepted_modules.proofs.Reading.{front-derives}
 
 pub steady-of : ((files : List ℕ → ModuleView) (source : List ℕ) (units : ModuleUnits) (a : List Lexeme) → DerivesModule units a → ((name : List ℕ) → IsSteadyView (files name)) → IsSteadyView (outside_in files source units)) → {view : ModuleView} → ComesOfModules view → IsSteadyView view
@@ -26,6 +28,10 @@ steady-of stays (a_module {files = files} {name = name} {bytes = bytes} {units =
 pub beside-of : {view : ModuleView} → ComesOfModules view → AllNamed IsBeside view
 beside-of no_module = record { entries = tt; parameters = tt; once = tt }
 beside-of (a_module {files = files} {bytes = bytes} {units = units} front over) = outside-beside files bytes units (λ title. beside-of (over title))
+
+pub offered-of : {view : ModuleView} → ComesOfModules view → AllNamed IsOffered view
+offered-of no_module = record { entries = tt; parameters = tt; once = tt }
+offered-of (a_module {files = files} {bytes = bytes} {units = units} front over) = outside-offered files bytes units (λ title. offered-of (over title))
 
 pub imports-come : (imports : Imports) → ((name : List ℕ) (face : Face) → imported imports name ≡ Some face → ComesOfModules (face_outside face)) → (name : List ℕ) → ComesOfModules (files_of imports name)
 imports-come imports each name = by (import_of imports name) (each name)

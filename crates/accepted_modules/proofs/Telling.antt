@@ -1,5 +1,5 @@
 -- Something is known behind each instance that can be used, and what is known stays.
-use Rattle.std.proofs.Common.{◌≡◌, ℕ, Bool, false, List, [], ◌∷◌, Some, is_some, sym, ap, subst, ◌∙◌}
+use Rattle.std.proofs.Common.{◌≡◌, ℕ, Bool, false, List, [], ◌∷◌, Some, is_some, sym, ap, subst}
 use Rattle.std.specs.Option.{option_or}
 use Rattle.std.specs.List.{AllByRecursion}
 use Rattle.list_laws.proofs.Lists.{all-weaker}
@@ -12,15 +12,15 @@ use Rattle.tla_model.specs.Entities.{Meaning, Text, all_placed, variables}
 use Rattle.tla_model.specs.Contexts.{Context, built_in}
 use Rattle.tla_model.specs.Lexemes.{spelled}
 use Rattle.tla_model.specs.Scopes.{definition}
-use Rattle.module_scope.specs.Environments.{Environment, meaning}
+use Rattle.module_scope.specs.Environments.{Environment}
 use Rattle.module_model.specs.Exports.{Behind, Exports, Known, ModuleView, and_known, exported, exports_by, none_known}
 use Rattle.module_model.specs.Instances.{all_named_instances, unit_trees}
-use Rattle.module_model.specs.Modules.{Reading, brings, constants, declare_all, extended, extends_all, left, nested, text_of, unread}
+use Rattle.module_model.specs.Modules.{Reading, constants, declare_all, extends_all, left, nested, text_of, unread}
 use Rattle.module_model.specs.NamedModules.{known_from_all, known_named, module_at}
 use Rattle.module_model.specs.Resolution.{ReadState, after, first, inside_nested, instance_brings, known_brought, known_in, module_named, read_all, read_on, words_of}
-use Rattle.model_laws.proofs.Settling.{Binds, Brought, IsTold, all-told-beside, brings-exported, told-constants, told-defined, told-from-all, told-instance, told-more, told-variables}
-use Rattle.accepted_modules.proofs.Contexts.{HoldsOf, built-in-is, declared-holds, joined-holds}
-use Rattle.accepted_modules.proofs.Views.{extends-keep, joined-keeps}
+use Rattle.model_laws.proofs.Settling.{Binds, Brought, IsTold, all-told-beside, told-constants, told-defined, told-from-all, told-instance, told-more, told-variables}
+use Rattle.accepted_modules.proofs.Contexts.{HoldsOf, built-in-is, declared-holds, extends-hold, joined-holds}
+use Rattle.accepted_modules.proofs.Views.{extends-keep}
 
 -- ---- what is known stays
 
@@ -77,23 +77,13 @@ round-more known more round all =
     all-weaker (λ (reading : Reading). HoldsOf (Told known) reading.context) (λ (reading : Reading). HoldsOf (Told (and_known known more)) reading.context) (λ reading one. context-more known more reading.context one) round all
 
 module _ (text : Text) (files : List ℕ → ModuleView) (words : List ℕ) where
-  extends-told : (known : Known) (modules : Environment ModuleView) (reading : Reading) (names : List Lexeme) → reading.modules ≡ modules → HoldsOf (Told known) reading.context → AllByRecursion (Brought text files words known modules) names → HoldsOf (Told known) (extends_all text (exports_by files) reading names).context
-  extends-told known modules reading [] same told all = told
-  extends-told known modules reading (l ∷ rest) same told all =
-      let title : List ℕ = spelled text.source l in
-      let entries : Exports = brings text (exports_by files) reading l in
-      let is : entries ≡ exported (module_at files modules title) =
-      brings-exported text files words (meaning reading.modules title) title ∙ ap (λ ms. exported (module_at files ms title)) same in
-      let each = subst (λ (es : Exports). AllByRecursion (λ (entry : Named × Meaning). IsTold known entry.1) es) (sym is) all.0 in
-      extends-told known modules (extended reading entries) rest ((joined-keeps false reading entries).modules ∙ same) (joined-holds (Told known) false reading entries told each) all.1
-
   -- behind what a module extends, with what is known of that
   extended-told : (known : Known) (reading : Reading) (names : List Lexeme) → HoldsOf (Told known) reading.context
       → HoldsOf (Told (and_known known (known_from_all text (module_at files (extends_all text (exports_by files) reading names).modules) names))) (extends_all text (exports_by files) reading names).context
   extended-told known reading names told =
       let modules : Environment ModuleView = (extends_all text (exports_by files) reading names).modules in
       let more : Known = known_from_all text (module_at files modules) names in
-      extends-told (and_known known more) modules reading names (sym (extends-keep text (exports_by files) reading names).modules) (context-more known more reading.context told)
+      extends-hold (Told (and_known known more)) text files modules reading names (sym (extends-keep text (exports_by files) reading names).modules) (context-more known more reading.context told)
       (all-weaker (Brought text files words more modules) (Brought text files words (and_known known more) modules)
       (λ l one. all-told-beside known more (exported (module_at files modules (spelled text.source l))) one) names (told-from-all text files words modules names))
 

@@ -4,3 +4,4 @@ pub mod Behind
 pub mod Beside
 pub mod Faces
 pub mod Coming
+pub mod Offered

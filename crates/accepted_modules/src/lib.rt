@@ -3,8 +3,8 @@
 //! No code: each function states a law. Knows nothing of how nodes are built.
 #![tactic(auto)]
 
-ghost use Rattle.std.specs.Prelude.{◌≡◌, ℕ, Bool, true, false, List, [], ◌∷◌, ◌++◌};
-ghost use Rattle.std.specs.Prelude.{Option, Some, None};
+ghost use Rattle.std.specs.Prelude.{◌≡◌, ◌⊎◌, ℕ, Bool, true, false, List, []};
+ghost use Rattle.std.specs.Prelude.{◌∷◌, ◌++◌, Option, Some, None};
 ghost use Rattle.std.specs.List.{AllByRecursion};
 ghost use Rattle.std.specs.Str.{bytes_eq};
 ghost use Rattle.tla_symbols.specs.declared.lexeme.Lexeme.{Lexeme};
@@ -12,8 +12,12 @@ ghost use Rattle.tla_symbols.specs.declared.lexeme.Span.{Span};
 ghost use Rattle.tla_tree.specs.declared.form.Form.TheVariants as Form;
 ghost use Rattle.tla_tree.specs.Syntax.{Node, Tree, Trees};
 ghost use Rattle.unit_grammar.specs.Units.{Instance, ModuleBegin, ModuleUnits, UnitTree};
+ghost use Rattle.unit_grammar.specs.Derivation.{DerivesModule};
 ghost use Rattle.front_laws.specs.Fronts.{IsFront, Tree as TreeFront};
 ghost use Rattle.tla_model.specs.Entities.{Meaning, Text};
+ghost use Rattle.tla_model.specs.EntityKinds.{is_meant, stands_for_parameter};
+ghost use Rattle.tla_model.specs.Contexts.{built_in, meaning_of};
+ghost use Rattle.tla_model.specs.Tables.{Named, same_named};
 ghost use Rattle.tla_model.specs.Lexemes.{spelled};
 ghost use Rattle.module_scope.specs.Environments.{Scope, begun, inside, meaning};
 ghost use Rattle.module_scope.specs.Environments.{first as first_scope};
@@ -23,7 +27,8 @@ ghost use Rattle.module_model.specs.declared.face.Face.{Face};
 ghost use Rattle.module_model.specs.Given.{imported};
 ghost use Rattle.module_model.specs.Imports.{Imports};
 ghost use Rattle.module_model.specs.Exports.{face_outside, files_of};
-ghost use Rattle.module_model.specs.Exports.{Known, ModuleView, exported, exports_by};
+ghost use Rattle.module_model.specs.Exports.{Exports, Known, ModuleView, entry_of, exported};
+ghost use Rattle.module_model.specs.Exports.{exports_by};
 ghost use Rattle.module_model.specs.Modules.{exports_under, text_of};
 ghost use Rattle.module_model.specs.Resolution.{findings, instance_brings, known_in};
 ghost use Rattle.module_model.specs.Resolution.{module_named, outside_in, words_of};
@@ -32,12 +37,15 @@ ghost use Rattle.module_kinds.specs.ModuleKinds.{KindState, after, first, known_
 ghost use Rattle.module_kinds.specs.ModuleKinds.{named, named_in, outside, views};
 ghost use Rattle.kind_text.specs.FlatModule.{FlatModule};
 ghost use Rattle.arity_rules.specs.Arities.{arity_faults};
-ghost use Rattle.flattened_trees.specs.Leads.{FlatFace};
+ghost use Rattle.flat_trees.specs.Instances.{symbols_of};
+ghost use Rattle.flattened_trees.specs.Leads.{FlatFace, Leads};
 ghost use Rattle.flattened_trees.specs.Questions.{Question};
 ghost use Rattle.flattened_meanings.specs.Faces.{NameModules};
-ghost use Rattle.flattened_units.specs.Units.{IsUnitMade, Reader, face_in};
-ghost use Rattle.flat_kinds.specs.Declarations.{AreUnitsDeclared, Declarations};
-ghost use Rattle.flat_kinds.specs.Readings.{extended_entries};
+ghost use Rattle.flattened_units.specs.Units.{IsUnitMade, Reader, face_in, meanings_of};
+ghost use Rattle.flattened_units.specs.Units.{no_leads, with_symbols};
+ghost use Rattle.flat_kinds.specs.Declarations.{AreUnitsDeclared, Declarations, EachOnce};
+ghost use Rattle.flat_kinds.specs.Readings.{BringNone, extended_entries};
+ghost use Rattle.module_meanings.specs.Faces.{IsPlaced};
 ghost use Rattle.module_meanings.specs.Premises.{AllCome};
 ghost use Rattle.readable_laws.specs.Accepted.{IsDeclared};
 ghost use Rattle.readable_laws.specs.ReadUnits.{AreKnownAmong, IsReadableUnit};
@@ -47,6 +55,7 @@ ghost use Rattle.accepted_modules.specs.States.{HaveViews, kinds_behind};
 ghost use Rattle.accepted_modules.specs.Named.{AllNamed};
 ghost use Rattle.accepted_modules.specs.Coming.{ComesOfModules};
 ghost use Rattle.accepted_modules.specs.Faces.{FacesReadAs, ReadsAs};
+ghost use Rattle.accepted_modules.specs.Offered.{IsOffered};
 ghost use Rattle.accepted_modules.specs.Beside.{IsBeside};
 ghost use Rattle.accepted_modules.specs.Behind.{Behinds, IsForeignView, IsGivenView, with_own};
 
@@ -234,11 +243,12 @@ pub fn faultless_units_are_read()
     names_begin_apart();
 }
 
-/// Views that come of modules, over others that do, are steady, and no name of these is built in. So
-/// are imports whose faces come of modules.
+/// Views that come of modules, over others that do, are steady; no name of these is built in, and all
+/// are symbols, definitions and instances. Imports whose faces come of modules are such views.
 pub fn modules_come_steady()
     ensures steady { (view : ModuleView) → ComesOfModules view → IsSteadyView view }
     ensures beside { (view : ModuleView) → ComesOfModules view → AllNamed IsBeside view }
+    ensures offered { (view : ModuleView) → ComesOfModules view → AllNamed IsOffered view }
     ensures imports { (imports : Imports)
         → ((name : List ℕ) (face : Face) → imported imports name ≡ Some face
         → ComesOfModules (face_outside face))
@@ -246,3 +256,36 @@ pub fn modules_come_steady()
 {
     modules_stay_steady();
 }
+
+/// Each symbol that can be used in a module, outside of nested ones, is a parameter of the module
+/// from its first use on, each once; and so it has a place, where these have. What none of the
+/// modules brings that it extends is such a symbol, or built in. All that a module exports are
+/// symbols, definitions and instances, if that is so of files.
+pub fn symbols_are_parameters()
+    ensures offered { (files : List ℕ → ModuleView) (source : List ℕ) (units : ModuleUnits)
+        → ((name : List ℕ) → AllNamed IsOffered (files name))
+        → AllNamed IsOffered (outside_in files source units) }
+    ensures stay { (files : List ℕ → ModuleView) (source : List ℕ) (units : ModuleUnits)
+        (a : List Lexeme) (before behind : List UnitTree) (name : Named) (m : Meaning)
+        → DerivesModule units a → units.units ≡ before ++ behind
+        → (state_behind files source units before).place.round ≡ []
+        → meaning_of (state_behind files source units before).place.here.context name ≡ Some m
+        → is_meant stands_for_parameter m ≡ true
+        → entry_of (outside_in files source units).parameters name ≡ Some m }
+    ensures once { (files : List ℕ → ModuleView) (source : List ℕ) (units : ModuleUnits)
+        → ((name : List ℕ) → AllNamed IsOffered (files name))
+        → EachOnce same_named (outside_in files source units).parameters }
+    ensures placed { (leads : Leads) (parameters : Exports) (place : ℕ) (name : Named)
+        (m : Meaning) → entry_of parameters name ≡ Some m
+        → is_meant stands_for_parameter m ≡ true
+        → IsPlaced (with_symbols leads (meanings_of parameters) place) m }
+    ensures extended { (outsides : List ℕ → Outside) (source : List ℕ) (units : ModuleUnits)
+        → ((name : List ℕ) → AllNamed IsOffered (outsides name).view) → (a : List Lexeme)
+        (name : Named) (m : Meaning) → DerivesModule units a
+        → meaning_of (first outsides source units).read.place.here.context name ≡ Some m
+        → BringNone (text_of source units) outsides (words_of units)
+        (first_scope (text_of source units).file) units.extends m
+        → ((is_meant stands_for_parameter m ≡ true) × IsPlaced (with_symbols no_leads
+        (symbols_of (outside outsides source units)) 0) m)
+        ⊎ ((used : Named) × (meaning_of built_in used ≡ Some m)) }
+{}

@@ -1,4 +1,4 @@
-use Rattle.accepted_modules.proofs.Modules.{beside-of, imports-come, steady-of}
+use Rattle.accepted_modules.proofs.Modules.{beside-of, imports-come, offered-of, steady-of}
 use Rattle.accepted_modules.proofs.modules_come_steady.Goals as goal
 
 pub returns-clause-steady : goal.returns-clause-steady
@@ -6,6 +6,9 @@ returns-clause-steady c = λ view is. steady-of (λ files source units a derives
 
 pub returns-clause-beside : goal.returns-clause-beside
 returns-clause-beside c = λ view is. beside-of is
+
+pub returns-clause-offered : goal.returns-clause-offered
+returns-clause-offered c = λ view is. offered-of is
 
 pub returns-clause-imports : goal.returns-clause-imports
 returns-clause-imports c = imports-come
