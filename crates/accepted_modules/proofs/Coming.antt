@@ -26,7 +26,7 @@ use Rattle.accepted_modules.proofs.Telling.{Told}
 -- ---- entries that mean the same
 
 -- the name among entries is that of one that means the same
-among-there : (entries : Exports) (m : Meaning) (name : Named) → name_among entries m ≡ Some name → (n : Meaning) × IsThere entries name n × (same_meaning m n ≡ true)
+pub among-there : (entries : Exports) (m : Meaning) (name : Named) → name_among entries m ≡ Some name → (n : Meaning) × IsThere entries name n × (same_meaning m n ≡ true)
 among-there [] m name at = absurd (cc)
 among-there (entry ∷ rest) m name at = by (same_standing m entry.1) refl (among-there rest m name) at
   where
@@ -35,7 +35,7 @@ among-there (entry ∷ rest) m name at = by (same_standing m entry.1) refl (amon
     by true is others at = (entry.1, inl (cc at, refl), standing-means m entry.1 is)
     by false is others at = let later = others at in (later.0, inr later.1, later.2)
 
-same-declared : (e f : Entity) (a b : Callee) → same_meaning (Declared e a) (Declared f b) ≡ true → a.decl ≡ b.decl
+pub same-declared : (e f : Entity) (a b : Callee) → same_meaning (Declared e a) (Declared f b) ≡ true → a.decl ≡ b.decl
 same-declared e f a b same = decl-equal a.decl b.decl (and_parts (same_decl a.decl b.decl) (same_units a.via b.via) same).0
 
 -- ---- entries that come from a module

@@ -15,3 +15,5 @@ mod Reading
 mod Modules
 mod Symbols
 mod Placed
+mod Leading
+mod Declaring

@@ -52,7 +52,7 @@ module _ {K V : Type 0} (same : K → K → Bool) where
   added-new entries key value itself none = ap (λ (o : Option V). lookup same (cond (is_some o) entries (entries ++ (key, value) ∷ [])) key) none ∙ behind-finds entries key value itself none
 
 -- a name that is not there is found when it is put
-put-new : {V : Type 0} (table : Table V) (name : Named) (value : V) → find table name ≡ None → find (put table name value) name ≡ Some value
+pub put-new : {V : Type 0} (table : Table V) (name : Named) (value : V) → find table name ≡ None → find (put table name value) name ≡ Some value
 put-new table (Word bytes) value none = added-new bytes_eq table.words bytes value (text-itself bytes bytes refl) none
 put-new table (Symbol op) value none = added-new same_symbol table.symbols op value (true_same symbol_enum.the_type op op refl) none
 
@@ -222,7 +222,7 @@ defined-behind text (Node (Form.FunctionDefinition l) s parts) = (refl, tt)
 defined-behind text (Node (Form.ModuleDefinition l) s parts) = (refl, tt)
 defined-behind text (Node _ s parts) = tt
 
-defined-none : (text : Text) (x : Tree) → AllByRecursion (λ binder. IsSymbol (meant text binder) → ⊥) (definition x)
+pub defined-none : (text : Text) (x : Tree) → AllByRecursion (λ binder. IsSymbol (meant text binder) → ⊥) (definition x)
 defined-none text x = all-weaker (λ (binder : Binder). is_meant stands_behind (meant text binder) ≡ true) (λ (binder : Binder). IsSymbol (meant text binder) → ⊥) (λ binder behind. no-symbol (meant text binder) behind) (definition x) (defined-behind text x)
 
 -- ---- what is exported stays
@@ -349,7 +349,7 @@ module _ (text : Text) (files : List ℕ → ModuleView) (words : List ℕ) wher
     units-round (u.more_units {unit = unit} {units = units} y ys) state =
         ap (λ (s : ReadState). s.place.round) (append-read state unit units) ∙ (units-round ys (read_all text files words state unit) ∙ unit-round y state)
 
-  module-round : {found : ModuleUnits} {a : List Lexeme} → u.DerivesModule found a → (state : ReadState) → IsRound state found.units
+  pub module-round : {found : ModuleUnits} {a : List Lexeme} → u.DerivesModule found a → (state : ReadState) → IsRound state found.units
   module-round (u.outermost c k us m) state = units-round us state
 
 -- ---- parameters

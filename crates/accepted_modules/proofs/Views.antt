@@ -153,7 +153,7 @@ module _ (text : Text) (files : List ℕ → Outside) (words : List ℕ) where
   all-together state (unit ∷ units) is = all-together (k.after text files words state unit) units (after-together state unit is)
 
   -- what is read of names is read so without what these stand for
-  read-same : (state : KindState) (units : List UnitTree) → (k.read_all text files words state units).read ≡ r.read_all text (views text files words) words state.read units
+  pub read-same : (state : KindState) (units : List UnitTree) → (k.read_all text files words state units).read ≡ r.read_all text (views text files words) words state.read units
   read-same state [] = refl
   read-same state (unit ∷ units) = read-same (k.after text files words state unit) units
 

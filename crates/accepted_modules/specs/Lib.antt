@@ -5,3 +5,4 @@ pub mod Beside
 pub mod Faces
 pub mod Coming
 pub mod Offered
+pub mod Leading

@@ -14,7 +14,7 @@ ghost use Rattle.tla_tree.specs.Syntax.{Node, Tree, Trees};
 ghost use Rattle.unit_grammar.specs.Units.{Instance, ModuleBegin, ModuleUnits, UnitTree};
 ghost use Rattle.unit_grammar.specs.Derivation.{DerivesModule};
 ghost use Rattle.front_laws.specs.Fronts.{IsFront, Tree as TreeFront};
-ghost use Rattle.tla_model.specs.Entities.{Meaning, Text};
+ghost use Rattle.tla_model.specs.Entities.{Meaning, Text, meant, name_of};
 ghost use Rattle.tla_model.specs.EntityKinds.{is_meant, stands_for_parameter};
 ghost use Rattle.tla_model.specs.Contexts.{built_in, meaning_of};
 ghost use Rattle.tla_model.specs.Tables.{Named, same_named};
@@ -41,10 +41,13 @@ ghost use Rattle.flat_trees.specs.Instances.{symbols_of};
 ghost use Rattle.flattened_trees.specs.Leads.{FlatFace, Leads};
 ghost use Rattle.flattened_trees.specs.Questions.{Question};
 ghost use Rattle.flattened_meanings.specs.Faces.{NameModules};
-ghost use Rattle.flattened_units.specs.Units.{IsUnitMade, Reader, face_in, meanings_of};
+ghost use Rattle.flattened_units.specs.Units.{AreExtended, IsModuleMade, IsUnitMade, Reader};
+ghost use Rattle.flattened_units.specs.Units.{face_in, meanings_of, symbol_setting};
 ghost use Rattle.flattened_units.specs.Units.{no_leads, with_symbols};
 ghost use Rattle.flat_kinds.specs.Declarations.{AreUnitsDeclared, Declarations, EachOnce};
-ghost use Rattle.flat_kinds.specs.Readings.{BringNone, extended_entries};
+ghost use Rattle.flat_kinds.specs.Declarations.{IsNoDefinition, IsOutsideDeclared};
+ghost use Rattle.flat_kinds.specs.Declarations.{declared_names};
+ghost use Rattle.flat_kinds.specs.Readings.{BringNone, Leaves, extended_entries};
 ghost use Rattle.module_meanings.specs.Faces.{IsPlaced};
 ghost use Rattle.module_meanings.specs.Premises.{AllCome};
 ghost use Rattle.readable_laws.specs.Accepted.{IsDeclared};
@@ -55,6 +58,7 @@ ghost use Rattle.accepted_modules.specs.States.{HaveViews, kinds_behind};
 ghost use Rattle.accepted_modules.specs.Named.{AllNamed};
 ghost use Rattle.accepted_modules.specs.Coming.{ComesOfModules};
 ghost use Rattle.accepted_modules.specs.Faces.{FacesReadAs, ReadsAs};
+ghost use Rattle.accepted_modules.specs.Leading.{LeadsByItself};
 ghost use Rattle.accepted_modules.specs.Offered.{IsOffered};
 ghost use Rattle.accepted_modules.specs.Beside.{IsBeside};
 ghost use Rattle.accepted_modules.specs.Behind.{Behinds, IsForeignView, IsGivenView, with_own};
@@ -192,9 +196,9 @@ pub fn faces_go_together()
         (named_in text outsides words modules name) }
 {}
 
-/// Behind each instance that a unit names it is known what the module has that it is of, and modules
-/// that are named have their faces, if these are theirs. It is asked that files have no declaration
-/// of the module.
+/// Behind each instance that a unit names it is known what its module has, and modules that it names
+/// have the faces that are theirs, where faces are. It is asked that files have no declaration of the
+/// module.
 pub fn named_instances_are_known()
     ensures { (name bytes : List ℕ) (units : ModuleUnits) (files : List ℕ → ModuleView)
         (outsides : List ℕ → Outside) (faces : List ℕ → FlatFace) (means : ℕ → Option Meaning)
@@ -243,8 +247,8 @@ pub fn faultless_units_are_read()
     names_begin_apart();
 }
 
-/// Views that come of modules, over others that do, are steady; no name of these is built in, and all
-/// are symbols, definitions and instances. Imports whose faces come of modules are such views.
+/// Views that come of modules, over others that do, are steady; no name of these is built in, and
+/// all are symbols, definitions and instances. Imports whose faces come of modules are such views.
 pub fn modules_come_steady()
     ensures steady { (view : ModuleView) → ComesOfModules view → IsSteadyView view }
     ensures beside { (view : ModuleView) → ComesOfModules view → AllNamed IsBeside view }
@@ -257,10 +261,10 @@ pub fn modules_come_steady()
     modules_stay_steady();
 }
 
-/// Each symbol that can be used in a module, outside of nested ones, is a parameter of the module
-/// from its first use on, each once; and so it has a place, where these have. What none of the
-/// modules brings that it extends is such a symbol, or built in. All that a module exports are
-/// symbols, definitions and instances, if that is so of files.
+/// Each symbol that can be used in a module, outside of nested ones, is a parameter of the module,
+/// once; so are those that a unit of one without faults declares. So they have places, where these
+/// have. What none of the modules brings that it extends is such a symbol, or built in. All that
+/// a module exports are symbols, definitions and instances, if that is so of files.
 pub fn symbols_are_parameters()
     ensures offered { (files : List ℕ → ModuleView) (source : List ℕ) (units : ModuleUnits)
         → ((name : List ℕ) → AllNamed IsOffered (files name))
@@ -272,6 +276,15 @@ pub fn symbols_are_parameters()
         → meaning_of (state_behind files source units before).place.here.context name ≡ Some m
         → is_meant stands_for_parameter m ≡ true
         → entry_of (outside_in files source units).parameters name ≡ Some m }
+    ensures declared { (files : List ℕ → ModuleView) (source : List ℕ) (units : ModuleUnits)
+        (a : List Lexeme) (before : List UnitTree) (unit : UnitTree) (behind : List UnitTree)
+        → DerivesModule units a → faults (findings files source units) ≡ []
+        → units.units ≡ before ++ unit ∷ behind
+        → (state_behind files source units before).place.round ≡ []
+        → AllByRecursion (λ binder.
+        is_meant stands_for_parameter (meant (text_of source units) binder) ≡ true
+        → entry_of (outside_in files source units).parameters (name_of source binder.name)
+        ≡ Some (meant (text_of source units) binder)) (declared_names unit) }
     ensures once { (files : List ℕ → ModuleView) (source : List ℕ) (units : ModuleUnits)
         → ((name : List ℕ) → AllNamed IsOffered (files name))
         → EachOnce same_named (outside_in files source units).parameters }
@@ -288,4 +301,46 @@ pub fn symbols_are_parameters()
         → ((is_meant stands_for_parameter m ≡ true) × IsPlaced (with_symbols no_leads
         (symbols_of (outside outsides source units)) 0) m)
         ⊎ ((used : Named) × (meaning_of built_in used ≡ Some m)) }
+{}
+
+/// A name that a unit leaves leads behind it where symbols do by themselves, in the module that is
+/// read and in those round it, if it does so before; and behind what a module extends, if none of
+/// that brings it. Nothing brings what is declared as no definition.
+pub fn symbols_lead_by_themselves()
+    ensures begins { (flat : FlatModule) (means : ℕ → Option Meaning) (implied : ℕ → List Meaning)
+        (files : List ℕ → FlatFace) (outsides : List ℕ → Outside) (source : List ℕ)
+        (units : ModuleUnits) (symbols : List Meaning) (faces : Scope FlatFace) (leads : Leads)
+        (m : Meaning) → AreExtended flat (text_of source units) means implied files outsides
+        (words_of units) (first_scope (text_of source units).file) faces
+        (symbol_setting flat means implied files outsides source units symbols)
+        (with_symbols no_leads symbols 0) units.extends leads
+        → BringNone (text_of source units) outsides (words_of units)
+        (first_scope (text_of source units).file) units.extends m
+        → LeadsByItself m (record { leads = leads; frame = symbols; olds = [] }) [] }
+    ensures kept { (flat : FlatModule) (text : Text) (means : ℕ → Option Meaning)
+        (implied : ℕ → List Meaning) (files : List ℕ → FlatFace) (outsides : List ℕ → Outside)
+        (words : List ℕ) (state : KindState) (reader : Reader) (unit : UnitTree) (next : Reader)
+        (asked : List Question) (m : Meaning)
+        → IsUnitMade flat text means implied files outsides words state reader unit next asked
+        → Leaves text outsides words state unit m → LeadsByItself m reader.setting reader.round
+        → LeadsByItself m next.setting next.round }
+    ensures unbrought { (declares : Declarations) (outsides : List ℕ → Outside) (source : List ℕ)
+        (units : ModuleUnits) (m : Meaning)
+        → ((name : List ℕ) → IsOutsideDeclared declares (outsides name))
+        → IsNoDefinition declares m
+        → BringNone (text_of source units) outsides (words_of units)
+        (first_scope (text_of source units).file) units.extends m }
+{}
+
+/// Behind all units of a module no other is round the one that is read.
+pub fn readers_end()
+    ensures states { (files : List ℕ → ModuleView) (source : List ℕ) (units : ModuleUnits)
+        (a : List Lexeme) → DerivesModule units a
+        → (state_behind files source units units.units).place.round ≡ [] }
+    ensures readers { (flat : FlatModule) (means : ℕ → Option Meaning)
+        (implied : ℕ → List Meaning) (files : List ℕ → FlatFace) (outsides : List ℕ → Outside)
+        (source : List ℕ) (units : ModuleUnits) (symbols : List Meaning) (final : Reader)
+        (asked : List Question) (a : List Lexeme) → DerivesModule units a
+        → IsModuleMade flat means implied files outsides source units symbols final asked
+        → final.round ≡ [] }
 {}

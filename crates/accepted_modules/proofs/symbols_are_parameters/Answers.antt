@@ -2,6 +2,7 @@ use Rattle.tla_model.specs.Tables.{Named}
 use Rattle.tla_model.specs.Entities.{Meaning}
 use Rattle.module_model.specs.Exports.{exported, is_meant, stands_for_parameter}
 use Rattle.module_model.specs.Resolution.{outside_in}
+use Rattle.accepted_modules.proofs.Declaring.{unit-parameters}
 use Rattle.accepted_modules.proofs.Placed.{first-others, symbol-placed}
 use Rattle.accepted_modules.proofs.Symbols.{outside-offered, symbols-stay}
 use Rattle.accepted_modules.proofs.Tables.{entry-there, once-passing}
@@ -12,6 +13,9 @@ returns-clause-offered c = outside-offered
 
 pub returns-clause-stay : goal.returns-clause-stay
 returns-clause-stay c = symbols-stay
+
+pub returns-clause-declared : goal.returns-clause-declared
+returns-clause-declared c = unit-parameters
 
 pub returns-clause-once : goal.returns-clause-once
 returns-clause-once c = λ files source units given.
