@@ -22,7 +22,7 @@ use Rattle.module_model.specs.Resolution.{ReadState, clash_by, known_in}
 use Rattle.instance_leads.proofs.Knowing.{and-none}
 use Rattle.unit_scope.specs.EnclosingReadings.{IsAt}
 use Rattle.unit_scope.specs.Readings.{Over, files_over}
-use Rattle.unit_scope.specs.Steps.{IsRead, Leads, Tells, brought_with, clashes_at, declared, declaring, found_below, found_instanced, instanced, noted, refused}
+use Rattle.unit_scope.specs.Steps.{IsRead, Leads, Tells, behind_unit, brought_with, clashes_at, declared, declaring, found_below, found_instanced, instanced, noted, refused}
 use Rattle.unit_scope.specs.declared.reader.ModuleReader.{ModuleReader}
 use Rattle.unit_scope.proofs.Onward.{Unit}
 
@@ -159,3 +159,44 @@ module _ (text : Text) (nodes : List ArenaNode) (old new : ModuleReader) (found 
 
     pub theorem-read : read ≡ unit.Theorem word name node → Notes read → Below read node → Done read
     theorem-read is = subst (λ r. Notes r → Below r node → Done r) (sym is) (λ leads tells. record { state = leads; findings = tells })
+
+-- ---- units that are passed
+
+pub on-one : {A E : Type 0} (result : Result A E) (P Q : Type 0) → (P → Q) → OnOk result P → OnOk result Q
+on-one (Ok x) P Q f p = f p
+on-one (Err e) P Q f p = p
+
+module _ (text : Text) (nodes : List ArenaNode) (old new : ModuleReader) (read : Unit) where
+  abbrev Passed : Unit → Type 0
+  Passed one = Leads text (behind_unit text (unit_at nodes one)) old new
+
+  abbrev Declares : Unit → Bool → ℕ → Type 0
+  Declares one flag node = Leads text (declared text (unit_at nodes one) flag (definition (tree_at nodes node))) old new
+
+  as-passed : (one : Unit) (local flag : Bool) (node : ℕ) → read ≡ one → flag ≡ local → (Declares one local node → Passed one) → Declares read flag node → Passed read
+  as-passed one local flag node is same at = subst (λ r. Declares r flag node → Passed r) (sym is) (λ leads. at (subst (λ f. Declares one f node) same leads))
+
+  module _ (local : Option Lexeme) (flag : Bool) (node : ℕ) (same : flag ≡ is_some local) where
+    pub operator-passed : read ≡ unit.OperatorDefinition local node → Declares read flag node → Passed read
+    operator-passed is = as-passed (unit.OperatorDefinition local node) (is_some local) flag node is same (λ leads. leads)
+
+    pub function-passed : read ≡ unit.FunctionDefinition local node → Declares read flag node → Passed read
+    function-passed is = as-passed (unit.FunctionDefinition local node) (is_some local) flag node is same (λ leads. leads)
+
+    pub module-passed : read ≡ unit.ModuleDefinition local node → Declares read flag node → Passed read
+    module-passed is = as-passed (unit.ModuleDefinition local node) (is_some local) flag node is same (λ leads. leads)
+
+    -- an INSTANCE without a name
+    abbrev Instances : Unit → Bool → Type 0
+    Instances one flag = Leads text (instanced text (unit_at nodes one) flag (tree_at nodes node)) old new
+
+    pub instance-passed : read ≡ unit.Instance local node → Instances read flag → Passed read
+    instance-passed is = subst (λ r. Instances r flag → Passed r) (sym is) (λ leads. subst (λ f. Instances (unit.Instance local node) f) same leads)
+
+  -- a statement
+  module _ (word : Lexeme) (name : Option Lexeme) (node : ℕ) where
+    pub assumption-passed : read ≡ unit.Assumption word name node → Leads text (noted text (unit_at nodes read)) old new → Passed read
+    assumption-passed is = subst (λ r. Leads text (noted text (unit_at nodes r)) old new → Passed r) (sym is) (λ leads. leads)
+
+    pub theorem-passed : read ≡ unit.Theorem word name node → Leads text (noted text (unit_at nodes read)) old new → Passed read
+    theorem-passed is = subst (λ r. Leads text (noted text (unit_at nodes r)) old new → Passed r) (sym is) (λ leads. leads)

@@ -1,5 +1,5 @@
 -- How code reads on in a text: what it leaves behind it, and what it finds.
-use Rattle.std.specs.Prelude.{◌≡◌, ℕ, Bool, false, List, [], ◌∷◌, ◌++◌, if◌then◌else◌}
+use Rattle.std.specs.Prelude.{◌≡◌, ℕ, Bool, false, List, [], ◌∷◌, ◌++◌, if◌then◌else◌, length, slice_get}
 use Rattle.tla_symbols.specs.declared.lexeme.Lexeme.{Lexeme}
 use Rattle.tla_tree.specs.Syntax.{Tree}
 use Rattle.unit_grammar.specs.Units.{ModuleUnits, UnitTree}
@@ -9,11 +9,12 @@ use Rattle.tla_model.specs.Entities.{Text}
 use Rattle.tla_model.specs.Scopes.{Finding, all_refused}
 use Rattle.module_model.specs.Exports.{Exports, ModuleView, entries_from, exports_by, exports_of, files_of, none_known, parameters_in}
 use Rattle.module_model.specs.Imports.{Imports}
-use Rattle.module_model.specs.Instances.{brought_by, paths_in}
-use Rattle.module_model.specs.Modules.{all_clashing, begun_in, brings_clash, declare_all, extends_all, joined, left, unread}
+use Rattle.module_model.specs.Instances.{brought_by, nested_view, paths_in}
+use Rattle.module_model.specs.Modules.{Reading, all_clashing, begun_in, brings_clash, declare_all, extends_all, joined, left, unread}
 use Rattle.module_model.specs.NamedModules.{exported_known, known_from_all, unit_of, view_of}
 use Rattle.module_model.specs.Resolution as resolution
-use Rattle.module_model.specs.Resolution.{ReadState, clash_by, found_from, found_in, found_of, instance_brings, known_brought, last, module_named, read_on, with_known, words_of}
+use Rattle.module_model.specs.Resolution.{ReadState, clash_by, first, found_from, found_in, found_of, instance_brings, known_brought, last, module_named, read_on, with_known, words_of}
+use Rattle.instance_leads.specs.Leading.{parameters_shown}
 use Rattle.unit_scope.specs.EnclosingReadings.{IsAt}
 use Rattle.unit_scope.specs.Readings.{Over, files_over}
 use Rattle.unit_scope.specs.declared.reader.ModuleReader.{ModuleReader}
@@ -124,6 +125,12 @@ entered title over state = record { place = record { here = begun_in state.place
 abbrev pub ended : Step
 ended over state = record { place = left state.known state.place.here state.place.round; known = state.known }
 
+-- wherever code read in a nested module, the parameters of the next one that has ended are the parameters of that one
+abbrev pub HasParameters : Text → ModuleReader → ModuleReader → Type 0
+HasParameters text old new =
+    (over : Over) (state : ReadState) (outer : Reading) (round : List Reading) → IsAt text over old state → state.place.round ≡ outer ∷ round
+    → parameters_shown (slice_get new.scope.nested.items (length old.scope.nested.items)) ≡ (nested_view state.known outer.context (exports_of state.place.here.exports)).parameters
+
 -- behind what a module extends, but for what stands behind the instances that these modules export
 abbrev pub extending : Text → List Lexeme → Step
 extending text names over state =
@@ -147,6 +154,10 @@ over_for imports units = record { imports = imports; words = words_of units; pat
 -- code reads a module before what it extends
 abbrev pub IsUnread : Text → Imports → ModuleUnits → ModuleReader → Type 0
 IsUnread text imports units read = IsAt text (over_for imports units) read (unread_state text)
+
+-- code reads a module behind what it extends
+abbrev pub IsFirst : Text → Imports → List ℕ → ModuleUnits → ModuleReader → Type 0
+IsFirst text imports source units read = IsAt text (over_for imports units) read (first (files_of imports) source units)
 
 -- code has read a module
 abbrev pub IsLast : Text → Imports → List ℕ → ModuleUnits → ModuleReader → Type 0

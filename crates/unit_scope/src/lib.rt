@@ -5,6 +5,7 @@
 #![tactic(auto)]
 
 mod declaring;
+mod passing;
 mod reader;
 mod reading;
 mod units;

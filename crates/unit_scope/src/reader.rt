@@ -4,7 +4,7 @@ ghost use Rattle.instance_scope.specs.Scoped.{IsSound, known_of};
 ghost use Rattle.module_model.specs.Exports.{none_known};
 ghost use Rattle.unit_scope.specs.EnclosingReadings.{IsAt, IsSomewhere};
 ghost use Rattle.unit_scope.specs.Readings.{over_of};
-ghost use Rattle.unit_scope.specs.Steps.{Leads, ended, entered, unread_state};
+ghost use Rattle.unit_scope.specs.Steps.{HasParameters, Leads, ended, entered, unread_state};
 ghost use Rattle.tla_model.specs.Entities.{Text};
 
 use crate::reading::{Inner, Reading};
@@ -73,10 +73,12 @@ impl<'a> ModuleReader<'a> {
         Ok(())
     }
 
-    /// Goes out of a nested module, which can then be named unless its name is taken.
+    /// Goes out of a nested module, which can then be named unless its name is taken. It is the last one
+    /// that has ended then, and has its parameters.
     pub fn end(&mut self, alloc: Global, text: &ModuleText<'a>) -> Result<(), Memory>
         requires { IsSomewhere text.now self.old }
-        ensures { OnOk result (Leads text.now ended self.old self.new) }
+        ensures state { OnOk result (Leads text.now ended self.old self.new) }
+        ensures parameters { OnOk result (HasParameters text.now self.old self.new) }
     {
         let Some(outer) = self.round.pop() else {
             return Ok(());

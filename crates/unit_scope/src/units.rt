@@ -27,8 +27,8 @@ use tool_list::{List, Memory};
 use tree_names::ModuleText;
 
 impl<'a> ModuleReader<'a> {
-    // Notes where the instances lead that a unit names.
-    fn note_named(
+    /// Notes where the instances lead that a unit names.
+    pub(crate) fn note_named(
         &mut self,
         alloc: Global,
         text: &ModuleText<'a>,
@@ -126,8 +126,8 @@ impl<'a> ModuleReader<'a> {
         Ok(())
     }
 
-    // Reads an INSTANCE without a name, whose module's name this is.
-    fn bring(
+    /// Reads an INSTANCE without a name, whose module's name this is.
+    pub(crate) fn bring(
         &mut self,
         alloc: Global,
         text: &ModuleText<'a>,
@@ -185,8 +185,8 @@ impl<'a> ModuleReader<'a> {
         }
     }
 
-    // Extends modules, and notes where the instances lead that they export.
-    fn extend(
+    /// Extends modules, and notes where the instances lead that they export.
+    pub(crate) fn extend(
         &mut self,
         alloc: Global,
         text: &ModuleText<'a>,
@@ -271,8 +271,8 @@ impl<'a> ModuleReader<'a> {
         Ok(())
     }
 
-    // Reads a unit.
-    fn read(
+    /// Reads a unit.
+    pub(crate) fn read(
         &mut self,
         alloc: Global,
         text: &ModuleText<'a>,

@@ -1,8 +1,9 @@
-use Rattle.std.proofs.Common.{◌∙◌, ◌<◌, Some, ap, length, reverse, suc, subst, sym, arith}
+use Rattle.std.proofs.Common.{◌∙◌, ◌∷◌, ◌<◌, Some, ap, length, reverse, suc, subst, sym, arith}
 use Rattle.std.specs.Str.{bytes_eq}
 use Rattle.tla_model.specs.Tables.{added}
 use Rattle.instance_scope.specs.Scoped.{known_of}
-use Rattle.module_model.specs.Exports.{exports_of}
+use Rattle.module_model.specs.Exports.{ModuleView, exports_of}
+use Rattle.module_model.specs.Instances.{own_parameters}
 use Rattle.module_model.specs.Given.{AreReached}
 use Rattle.module_model.specs.Modules.{Reading}
 use Rattle.unit_scope.specs.EnclosingReadings.{AreEnded, AreRound, IsOuter}
@@ -20,8 +21,8 @@ end-requires-clause-reached c =
     subst (λ known. AreReached known (exports_of c.leave-exports.result.exports)) (sym at.known)
     (subst (λ table. AreReached state.known (exports_of table)) (sym (c.leave-exports.ensures.exports ∙ ap (λ (r : Reading). r.exports) at.here)) c.requires.settled.here)
 
-pub returns : goal.returns
-returns c = λ over state at.
+pub returns-clause-state : goal.returns-clause-state
+returns-clause-state c = λ over state at.
     let read = c.args.self.now in
     let outer = c.in-Some.outer in
     let rest = reverse c.pop.new.self.items in
@@ -51,3 +52,15 @@ returns c = λ over state at.
       title = kept.kept.title ∙ at.title;
       kept = (λ i. record { imports = kept.kept.imported i; words = kept.kept.words i; paths = kept.kept.paths i }) ∙ at.kept;
     }
+
+pub returns-clause-parameters : goal.returns-clause-parameters
+returns-clause-parameters c = λ over state reading round at is.
+    let read = c.args.self.now in
+    let outer = c.in-Some.outer in
+    let here = state.place.here in
+    let popped = last-first read.round.items c.pop.new.self.items outer c.in-Some.ensures.items in
+    let old = read.scope.nested.items in
+    let round_there = subst (λ z. AreRound here.context here.modules z (reading ∷ round)) popped (subst (AreRound here.context here.modules (reverse read.round.items)) is at.round) in
+    let left = c.leave-exports.ensures.left.reads old reading (subst (λ r. IsOuter r.context r.modules outer reading) (sym at.here) round_there.0) in
+    let shown = c.leave-exports.ensures.exports ∙ ap (λ (r : Reading). r.exports) at.here in
+    ap (λ (v : ModuleView). v.parameters) c.in_ok-number.ensures.view ∙ (λ i. own_parameters ((left i).context) (exports_of (shown i)))
