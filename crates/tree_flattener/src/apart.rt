@@ -1,14 +1,18 @@
 // Definitions whose names are kept elsewhere, claims, and frames.
-ghost use Rattle.std.specs.Prelude.{◌≡◌, ◌∷◌, ◌<◌, IfOk, OnOk, [], length, slice_get};
+ghost use Rattle.std.specs.Prelude.{◌≡◌, ◌∷◌, IfOk, OnOk, Some, [], slice_get};
 ghost use Rattle.std.specs.Option.{option_map};
 ghost use Rattle.tla_tree.specs.Arena.{tree_at};
+ghost use Rattle.tree_kinds.specs.Standing.{operator_places};
+ghost use Rattle.flattened_trees.specs.NodeForms.{name_node};
 ghost use Rattle.flattened_trees.specs.Questions as questions;
 ghost use Rattle.tree_flattener.specs.Apart.{IsMadeApart, IsMadeClaim};
-ghost use Rattle.tree_flattener.specs.Steps.{AddsFrame, Asks};
-ghost use Rattle.tree_flattener.specs.Worlds.{IsNode, IsReady, world_of};
+ghost use Rattle.tree_flattener.specs.Steps.{Adds, AddsFrame, Asks};
+ghost use Rattle.tree_flattener.specs.Worlds.{IsKnown, IsNode, IsReady, with_locals, world_of};
 
+use crate::adding::add_name;
 use crate::asking::{ask, give_number};
 use crate::flattening::{definition, flatten};
+use crate::leading::lead_of;
 use crate::locals::{Entry, Local};
 use crate::names::Names;
 use crate::scopes::leave;
@@ -18,6 +22,7 @@ use std::alloc::Global;
 use tla_model::Meaning;
 use tla_symbols::{Lexeme, Span};
 use tool_list::{List, Memory};
+use tree_rules::operator_places;
 
 // Where the name behind a mark leads, if there is one.
 fn behind_mark(locals: &[Entry], mark: usize) -> Option<Local>
@@ -112,4 +117,23 @@ pub fn add_frame(state: &mut Flattening, symbols: List<Meaning>) -> Result<usize
     let frame = state.frames.len();
     state.frames.push(symbols)?;
     Ok(frame)
+}
+
+/// Adds the node of a bare name of this meaning, as an operator where it takes arguments.
+pub fn add_meaning<N: Names>(
+    alloc: Global,
+    names: &N,
+    written: &Written<'_>,
+    state: &mut Flattening,
+    meaning: &Meaning,
+) -> Result<usize, Memory>
+    requires { IsKnown (world_of (N.leads names.now) (N.faces names.now) written.now) state.old }
+    ensures { IfOk result (λ i. Adds state.old state.new (name_node
+        (operator_places (Some meaning.now)) (with_locals (world_of (N.leads names.now) (N.faces
+        names.now) written.now) (N.leads names.now) state.old.locals.items meaning.now []) []) i) }
+{
+    let places = operator_places(Some(meaning));
+    let lead = lead_of(alloc, names, written, &state.locals, Some(meaning), &[])?;
+    let i = add_name(alloc, state, places, lead, Vec::new(alloc))?;
+    Ok(i)
 }

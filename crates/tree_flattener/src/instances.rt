@@ -74,8 +74,8 @@ fn right_for<'a>(rights: &[Right<'a>], name: Named<'_>) -> Option<Right<'a>>
     None
 }
 
-// Adds the symbols that stay, so many of them.
-fn stay(
+/// Adds the symbols that stay in an instance, so many of them from the first place on.
+pub fn stay(
     alloc: Global,
     state: &mut Flattening,
     count: usize,

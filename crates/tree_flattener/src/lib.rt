@@ -31,9 +31,9 @@ mod shapes;
 mod state;
 mod written;
 
-pub use apart::{add_frame, ask_constant, claim, definition_apart};
+pub use apart::{add_frame, add_meaning, ask_constant, claim, definition_apart};
 pub use flattening::{definition, flatten, right_sides};
-pub use instances::{Right, instantiate};
+pub use instances::{Right, instantiate, stay};
 pub use locals::Local;
 pub use names::{Lead, Names};
 pub use state::{Asked, Flattening, Question};
