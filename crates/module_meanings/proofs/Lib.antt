@@ -16,3 +16,4 @@ mod Leaves
 mod Growing
 mod Symbols
 mod Samples
+mod Within

@@ -11,10 +11,13 @@ use Rattle.tree_kinds.specs.Standing.{Outside, is_bound}
 use Rattle.flat_trees.specs.Stands.{Stand, Unsaid, Leaf, Place}
 use Rattle.flat_trees.specs.Layouts.{order_of}
 use Rattle.flat_trees.specs.Instances.{IsModule, IsModuleBehind, symbols_of}
+use Rattle.flat_kinds.specs.Declarations.{OfAllKnown}
 use Rattle.flat_kinds.specs.Symbols.{symbols_at}
 use Rattle.flattened_trees.specs.declared.End.TheVariants as end
 use Rattle.flattened_trees.specs.Leads.{FlatFace, Lead, Leads, only}
 use Rattle.flattened_trees.specs.Agreeing.{TakesBehind, lead_by, unsaid_stand}
+use Rattle.flattened_trees.specs.Within.{IsLeadWithin}
+use Rattle.flattened_units.specs.Units.{Reader}
 
 -- where the first so many places stay, a name that stands so leads here where it does there; or nothing is said of it
 abbrev pub LeadsAs : ℕ → Stand → Lead → Type 0
@@ -30,6 +33,21 @@ IsPlaced leads meaning = (place : ℕ) × (leads meaning [] ≡ only (end.Place 
 -- what is built in and bound names lead to the leaves that they are
 abbrev pub LeavesLead : Leads → Type 0
 LeavesLead leads = (meaning : Meaning) → LeadsAs 0 (unsaid_stand meaning) (leads meaning [])
+
+-- all names lead to what is there
+abbrev pub LeadsWithin : FlatModule → Leads → Type 0
+LeadsWithin flat leads = (meaning : Meaning) (names : List Named) → IsLeadWithin flat (leads meaning names)
+
+-- so do the names of a module behind its instances
+abbrev pub IsFaceWithin : FlatModule → FlatFace → Type 0
+IsFaceWithin flat face = (name : Named) (names : List Named) → IsLeadWithin flat (face.leads (name ∷ names))
+
+-- the same of all names at a unit, and of all nested modules that can be named there
+pub record IsReaderWithin (flat : FlatModule) (reader : Reader) : Type 0 where
+  pub leads : LeadsWithin flat reader.setting.leads
+  pub round : AllByRecursion (λ setting. LeadsWithin flat setting.leads) reader.round
+  pub faces : OfAllKnown (IsFaceWithin flat) reader.faces.here
+  pub behind : AllByRecursion (λ nested. OfAllKnown (IsFaceWithin flat) nested.1) reader.faces.round
 
 -- a name leads to no leaf and to no place
 pub record LeadsFurther (lead : Lead) : Type 0 where

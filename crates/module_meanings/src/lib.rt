@@ -25,7 +25,7 @@ ghost use Rattle.module_kinds.specs.ModuleKinds.{outside};
 ghost use Rattle.flat_trees.specs.Stands.{Stand, Unsaid};
 ghost use Rattle.flat_trees.specs.Layouts.{Layout, with_brought as with_brought_stands};
 ghost use Rattle.flat_trees.specs.Instances.{symbols_of};
-ghost use Rattle.flat_kinds.specs.Declarations.{IsOnce};
+ghost use Rattle.flat_kinds.specs.Declarations.{IsOnce, OfAllKnown};
 ghost use Rattle.flat_kinds.specs.Readings.{BringNone, KeepsState, exported_stand};
 ghost use Rattle.flat_kinds.specs.Readings.{extended_entries};
 ghost use Rattle.flat_kinds.specs.Readings.{with_own};
@@ -37,11 +37,12 @@ ghost use Rattle.flattened_trees.specs.Within.{IsLeadWithin};
 ghost use Rattle.flattened_units.specs.Units.{AreExtended, IsModuleMade, IsUnitMade, Reader};
 ghost use Rattle.flattened_units.specs.Units.{exported_leads, face_in, nested_face, no_leads};
 ghost use Rattle.flattened_units.specs.Units.{with_brought, with_symbols};
-ghost use Rattle.module_meanings.specs.Faces.{IsExtendedBy, IsFaceBy, IsPlaced, LeadsAs};
-ghost use Rattle.module_meanings.specs.Faces.{LeavesLead};
+ghost use Rattle.module_meanings.specs.Faces.{IsExtendedBy, IsFaceBy, IsFaceWithin, IsPlaced};
+ghost use Rattle.module_meanings.specs.Faces.{IsReaderWithin, LeadsAs, LeadsWithin, LeavesLead};
 ghost use Rattle.module_meanings.specs.Following.{AreAlike, AreExtendedSo, Follows, IsBuiltSo};
 ghost use Rattle.module_meanings.specs.Following.{IsFollowed, IsMeantSo, IsPlain, LeadsBy};
-ghost use Rattle.module_meanings.specs.Premises.{AllCome, IsModuleGiven, IsUnitGiven};
+ghost use Rattle.module_meanings.specs.Premises.{AllCome, IsFileAt, IsModuleGiven, IsUnitGiven};
+ghost use Rattle.module_meanings.specs.Premises.{IsUnitGivenBy};
 ghost use Rattle.module_meanings.specs.Premises.{AllSymbolsLead, LeavesSymbols, SymbolsLead};
 ghost use Rattle.module_meanings.specs.Premises.{symbol_leads};
 
@@ -229,6 +230,34 @@ pub fn meant_modules_are_instanced()
         → IsFaceBy flat new leads
         (nested_face flat text means implied files outsides words state round setting outer)
         (nested_outside state (round ∷ readings)) }
+{}
+
+/// Names of a module and of those round it lead to what is there, and so do those of nested modules
+/// that can be named, where those of files do: from the first names of the module on, behind what it
+/// extends, and behind each unit whose trees can be read; and outside of it.
+pub fn leads_stay_within()
+    ensures first { (flat : FlatModule) (symbols : List Meaning)
+        → LeadsWithin flat (with_symbols no_leads symbols 0) }
+    ensures extended { (flat : FlatModule) (text : Text) (means : ℕ → Option Meaning)
+        (implied : ℕ → List Meaning) (files : List ℕ → FlatFace) (outsides : List ℕ → Outside)
+        (words : List ℕ) (modules : Scope Outside) (faces : Scope FlatFace) (setting : Setting)
+        (leads : Leads) (names : List Lexeme) (next : Leads)
+        → ((title : List ℕ) → IsFaceWithin flat (files title))
+        → OfAllKnown (IsFaceWithin flat) faces.here → LeadsWithin flat leads
+        → AreExtended flat text means implied files outsides words modules faces setting leads names
+        next → LeadsWithin flat next }
+    ensures units { (flat : FlatModule) (text : Text) (means : ℕ → Option Meaning)
+        (implied : ℕ → List Meaning) (files : List ℕ → FlatFace) (outsides : List ℕ → Outside)
+        (words : List ℕ) (state : KindState) (reader : Reader) (seen : List Meaning)
+        (unit : UnitTree) (next : Reader) (asked : List Question)
+        → ((title : List ℕ) → IsFaceWithin flat (files title)) → IsReaderWithin flat reader
+        → IsUnitGivenBy flat text means implied files outsides words
+        (IsFileAt flat text means implied files outsides words) state reader seen unit next
+        → IsUnitMade flat text means implied files outsides words state reader unit next asked
+        → IsReaderWithin flat next }
+    ensures exported { (flat : FlatModule) (leads : Leads) (entries : Exports) (name : Named)
+        (names : List Named) → LeadsWithin flat leads
+        → IsLeadWithin flat (exported_leads leads entries (name ∷ names)) }
 {}
 
 /// What a module means in a flat module it means in one that has more, where its names lead to what
