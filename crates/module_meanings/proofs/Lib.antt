@@ -8,6 +8,7 @@ mod Beginning
 mod Staying
 mod Nesting
 mod Entering
+mod Further
 mod NestedFaces
 mod Modules
 mod Meant

@@ -12,7 +12,7 @@ use Rattle.tla_model.specs.Contexts.{Context, meaning_of}
 use Rattle.tla_model.specs.Entities.{Entity, Meaning, Text, all_placed, meant, same_meaning, variables, within}
 use Rattle.tla_model.specs.Tables.{Named}
 use Rattle.tla_model.specs.Scopes.{definition}
-use Rattle.module_scope.specs.Environments.{Scope, ended, meaning as module_meaning}
+use Rattle.module_scope.specs.Environments.{Scope, ended, first as first_scope, meaning as module_meaning}
 use Rattle.module_model.specs.Exports.{Known, behind_instance, behind_meaning, entry_of, exports_of, onward}
 use Rattle.module_model.specs.Modules.{Reading, constants, left, text_of}
 use Rattle.module_model.specs.Resolution.{instance_brings, module_named, words_of}
@@ -30,7 +30,7 @@ use Rattle.flat_kinds.proofs.Symbols.{places-before}
 use Rattle.flattened_trees.specs.Agreeing.{AreNew, TakesBehind, is_seen, unsaid_stand}
 use Rattle.flattened_trees.specs.Leads.{FlatFace, Setting}
 use Rattle.flattened_trees.specs.Questions.{Question}
-use Rattle.flattened_units.specs.Units.{AreUnitsMade, IsBegun, IsDefinitionMade, IsEnded, IsInstanceMade, IsModuleMade, IsUnitMade, Reader, face_under, meanings_of, nested_face}
+use Rattle.flattened_units.specs.Units.{AreUnitsMade, IsBegun, IsDefinitionMade, IsEnded, IsInstanceMade, IsModuleMade, IsUnitMade, Reader, face_under, meanings_of, nested_face, symbol_setting}
 use Rattle.module_meanings.specs.Faces.{IsFaceBy, LeadsAs}
 use Rattle.module_meanings.specs.Following.{Follows, IsBuiltSo, IsFollowed, IsMeantSo, IsPlain, LeadsBy}
 use Rattle.module_meanings.specs.Premises.{AreTold, AreUnitsGiven, IsBegunGiven, IsBroughtGiven, IsEndGiven, IsEndedGiven, IsFileAt, IsFileBy, IsModuleGiven, IsTreeGiven, IsTreeGivenBy, IsUnitGiven, IsUnitGivenBy, first_seen, seen_behind, symbol_leads}
@@ -38,6 +38,7 @@ use Rattle.module_meanings.proofs.Beginning.{begun-so, first-follows, first-read
 use Rattle.module_meanings.proofs.Bringing.{declared-follows, instance-follows, still-follows}
 use Rattle.module_meanings.proofs.Entering.{Holds, all-extended, begun-read, drop-front, round-holds, within-holds, within-nested}
 use Rattle.module_meanings.proofs.Contexts.{seen-right, unseen-parts}
+use Rattle.module_meanings.proofs.Further.{AllDefinitionsLead, DefinitionsLead, extended-further, first-further, unit-further}
 use Rattle.module_meanings.proofs.Instancing.{nested-instanced, new-unsaid, table-own}
 use Rattle.module_meanings.proofs.NestedFaces.{HoldsNested, brought-entry, further-takes, known-both, named-face, nested-ends, nested-more, symbol-as}
 use Rattle.module_meanings.proofs.Extending.{symbols-alike, unsaid-alike}
@@ -102,7 +103,7 @@ module _ (flat : FlatModule) (ordered : IsOrdered flat) (text : Text) (means : �
         Holds flat ordered text means implied files outsides words (after text outsides words state unit) next (seen_behind text outsides words state unit next seen)
         (here_behind text outsides words state here outers unit coming) (round_behind text outsides words here outers coming)
 
-  module _ (state : KindState) (reader : Reader) (seen : List Meaning) (here : Current) (outers : List Current) (holds : Holds flat ordered text means implied files outsides words state reader seen here outers) (told : AreAllTold state) where
+  module _ (state : KindState) (reader : Reader) (seen : List Meaning) (here : Current) (outers : List Current) (holds : Holds flat ordered text means implied files outsides words state reader seen here outers) (told : AreAllTold state) (further : DefinitionsLead reader.setting.leads) where
     -- a unit that begins and ends no nested module
     plain-steps : (unit : UnitTree) (next : Reader) → IsFollowed flat text outsides words state here.layout unit next seen → (next.round ≡ reader.round) × (next.setting.frame ≡ reader.setting.frame) × (next.faces ≡ reader.faces) → (after text outsides words state unit).read.place.round ≡ state.read.place.round → HoldsRound (after text outsides words state unit).read.known state.read.place.round reader.round outers (seen_behind text outsides words state unit next seen) → ((reader.round ≡ [] → ⊥) → StayBehind text outsides words state unit seen) → (after text outsides words state unit).modules ≡ state.modules → ((m : Meaning) → is_seen seen m ≡ true → is_seen (seen_behind text outsides words state unit next seen) m ≡ true) → Steps state reader seen here outers unit next
     plain-steps unit next (stands, read, follows) (round, frame, faces) same round_holds stays modules more =
@@ -151,9 +152,9 @@ module _ (flat : FlatModule) (ordered : IsOrdered flat) (text : Text) (means : �
     ended-takes reading readings given name m found =
         let follows = holds.here.follows in
         let entry = brought-entry (exports_of state.read.place.here.exports) name m (table-own state.read given.once) found in
-        let usable = given.exported name m entry.0 entry.1 in
-        let takes = further-takes (here.layout.stands m) (behind_meaning state.read.known (Some m)) m (reader.setting.leads m []) (follows.settings.leads m []) usable.1
-        (follows.orders name m (subst (λ (context : Context). meaning_of context name ≡ Some m) follows.context usable.0))
+        let usable = given.usable name m entry.0 entry.1 in
+        let takes = further-takes (here.layout.stands m) (behind_meaning state.read.known (Some m)) m (reader.setting.leads m []) (follows.settings.leads m []) (further m entry.1)
+        (follows.orders name m (subst (λ (context : Context). meaning_of context name ≡ Some m) follows.context usable))
         in
         subst (λ (o : Option Meaning). TakesBehind (stand_in here.layout.stands o) (λ path. behind_meaning state.read.known o path) m) (sym entry.0) takes
 
@@ -334,8 +335,8 @@ module _ (flat : FlatModule) (ordered : IsOrdered flat) (text : Text) (means : �
   none-round known [] [] (outer ∷ outers) seen here state e holds = absurd holds
   none-round known (reading ∷ readings) [] (outer ∷ outers) seen here state e holds = absurd holds
 
-  pub units-follow : (units : List UnitTree) (state : KindState) (reader : Reader) (seen : List Meaning) (here : Current) (outers : List Current) (next : Reader) (asked : List Question) (made : AreUnitsMade flat text means implied files outsides words state reader units next asked) → AreUnitsGiven flat text means implied files outsides words state reader seen units next asked made → next.round ≡ [] → Holds flat ordered text means implied files outsides words state reader seen here outers → AreFollowed state units here outers next
-  units-follow [] state reader seen here outers next asked made given ends holds =
+  pub units-follow : (units : List UnitTree) (state : KindState) (reader : Reader) (seen : List Meaning) (here : Current) (outers : List Current) (next : Reader) (asked : List Question) (made : AreUnitsMade flat text means implied files outsides words state reader units next asked) → AreUnitsGiven flat text means implied files outsides words state reader seen units next asked made → next.round ≡ [] → AllDefinitionsLead reader → Holds flat ordered text means implied files outsides words state reader seen here outers → AreFollowed state units here outers next
+  units-follow [] state reader seen here outers next asked made given ends further holds =
       record {
         comings = [];
         behind = here;
@@ -343,12 +344,13 @@ module _ (flat : FlatModule) (ordered : IsOrdered flat) (text : Text) (means : �
         read = none-round state.read.known state.read.place.round reader.round outers seen here state (sym (ap (λ (r : Reader). r.round) made.0) ∙ ends) holds.round;
         follows = subst (λ (r : Reader). Follows state r seen here.layout) (sym made.0) holds.here.follows;
       }
-  units-follow (unit ∷ units) state reader seen here outers next asked made given ends holds =
+  units-follow (unit ∷ units) state reader seen here outers next asked made given ends further holds =
       let one = unit-steps state reader seen here outers holds
-      (here-told state.read.known state.read.place.here.context reader.setting seen here.layout holds.here.follows, all-told state.read.known seen state.read.place.round reader.round outers holds.round) unit made.0 made.1 made.3
+      (here-told state.read.known state.read.place.here.context reader.setting seen here.layout holds.here.follows, all-told state.read.known seen state.read.place.round reader.round outers holds.round) further.0 unit made.0 made.1 made.3
       (unit-named state reader seen holds.nested unit made.0 given.1) given.0.0 given.0.1 in
       let others =
-      units-follow units (after text outsides words state unit) made.0 (seen_behind text outsides words state unit made.0 seen) (here_behind text outsides words state here outers unit one.coming) (round_behind text outsides words here outers one.coming) next made.2 made.4 given.2 ends one.holds in
+      units-follow units (after text outsides words state unit) made.0 (seen_behind text outsides words state unit made.0 seen) (here_behind text outsides words state here outers unit one.coming) (round_behind text outsides words here outers one.coming) next made.2 made.4 given.2 ends
+      (unit-further flat text means implied files outsides words state reader seen unit made.0 made.1 further given.1 made.3) one.holds in
       record {
         comings = one.coming ∷ others.comings;
         behind = others.behind;
@@ -403,7 +405,8 @@ module _ (flat : FlatModule) (ordered : IsOrdered flat) (means : ℕ → Option 
         };
       } in
       let all =
-      units-follow flat ordered (text_of source units) means implied files outsides (words_of units) units.units (first outsides source units) (first-reader flat ordered means implied files outsides source units symbols leads) (first_seen flat means implied files outsides source units symbols) here [] final asked made given.given given.ends holds in
+      units-follow flat ordered (text_of source units) means implied files outsides (words_of units) units.units (first outsides source units) (first-reader flat ordered means implied files outsides source units symbols leads) (first_seen flat means implied files outsides source units symbols) here [] final asked made given.given given.ends
+      (extended-further flat (text_of source units) means implied files outsides (words_of units) (first_scope (text_of source units).file) (first_scope (text_of source units).file) (symbol_setting flat means implied files outsides source units symbols) (symbol_setting flat means implied files outsides source units symbols).leads units.extends leads (first-further symbols) extended, tt) holds in
       record {
         extensions = begun.extensions;
         comings = all.comings;

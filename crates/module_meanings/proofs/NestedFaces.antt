@@ -24,8 +24,9 @@ use Rattle.flattened_trees.specs.declared.End.TheVariants as end
 use Rattle.flattened_trees.specs.Agreeing.{TakesAs, TakesBehind, is_seen, lead_by, unsaid_stand}
 use Rattle.flattened_trees.specs.Leads.{FlatFace, Lead, Leads, Setting, nowhere, only}
 use Rattle.flattened_units.specs.Units.{face_under, no_face, with_symbols}
-use Rattle.module_meanings.specs.Faces.{IsFaceBy, LeadsAs, LeadsFurther}
+use Rattle.module_meanings.specs.Faces.{IsFaceBy, LeadsAs}
 use Rattle.module_meanings.specs.Premises.{symbol_leads}
+use Rattle.module_meanings.proofs.Further.{LeadsFurther}
 use Rattle.module_meanings.proofs.Nesting.{own-at}
 
 -- ---- leads of symbols

@@ -23,11 +23,10 @@ use Rattle.module_kinds.specs.ModuleKinds.{KindState, after, first, module_under
 use Rattle.flat_trees.proofs.Meanings.{named-equal}
 use Rattle.flattened_trees.specs.declared.End.TheVariants as end
 use Rattle.flattened_trees.specs.Flattened.{asked_at}
-use Rattle.flattened_trees.specs.Leads.{FlatFace, Lead, Setting, behind, behind_instance, only, with_parameters}
+use Rattle.flattened_trees.specs.Leads.{FlatFace, Setting, behind, behind_instance, only, with_parameters}
 use Rattle.flattened_trees.specs.NodeForms.{constant_node}
 use Rattle.flattened_trees.specs.Questions.{IsShallow, IsShallowInstance, Question, over}
 use Rattle.flattened_units.specs.Units.{IsModuleMade, Reader, face_in, nested_face, no_face, no_leads, with_symbols}
-use Rattle.module_meanings.specs.Faces.{LeadsFurther}
 use Rattle.module_meanings.specs.Following.{IsMeantSo}
 use Rattle.module_meanings.specs.Premises.{IsBegunGiven, IsEndedGiven, IsFileAt, IsModuleGiven}
 use Rattle.module_meanings.proofs.Modules.{module-means, module-meant}
@@ -220,27 +219,20 @@ begun-given symbols e =
 abbrev f : Meaning
 f = Declared (entity.Definition []) (own text (at 2))
 
--- F leads to its definition
-f-further : LeadsFurther (setting2.leads f [])
-f-further = record {
-  leaf = λ kind e. let same : end.Definition 0 ≡ end.Leaf kind = ap (λ (lead : Lead). lead.end) e in cc same;
-  place = λ place order e. let same : end.Definition 0 ≡ end.Place place order = ap (λ (lead : Lead). lead.end) e in cc same;
-}
-
 ended-given : IsEndedGiven flat text means implied files outsides words state2 reader2 setting0 []
 ended-given =
     record {
       once = ((tt, tt), tt);
       distinct = tt;
       apart = λ m is. cc is;
-      exported = λ name m found behind. by_name name m (same_named name (Word (codes "F"))) refl found;
+      usable = λ name m found behind. by_name name m (same_named name (Word (codes "F"))) refl found;
     }
   where
-    by_name : (name : Named) (m : Meaning) (b : Bool) → same_named name (Word (codes "F")) ≡ b → cond b (Some f) None ≡ Some m → (meaning_of state2.read.place.here.context name ≡ Some m) × LeadsFurther (setting2.leads m [])
+    by_name : (name : Named) (m : Meaning) (b : Bool) → same_named name (Word (codes "F")) ≡ b → cond b (Some f) None ≡ Some m → meaning_of state2.read.place.here.context name ≡ Some m
     by_name name m true is found =
         let named : name ≡ Word (codes "F") = named-equal name (Word (codes "F")) is in
         let same : f ≡ m = cc found in
-        subst (λ n. (meaning_of state2.read.place.here.context name ≡ Some n) × LeadsFurther (setting2.leads n [])) same (ap (meaning_of state2.read.place.here.context) named, f-further)
+        subst (λ n. meaning_of state2.read.place.here.context name ≡ Some n) same (ap (meaning_of state2.read.place.here.context) named)
     by_name name m false is found = cc found
 
 -- N can be named behind its end

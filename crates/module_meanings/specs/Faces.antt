@@ -2,7 +2,6 @@
 -- there, and so without what these stand for.
 use Rattle.std.specs.Prelude.{◌≡◌, ℕ, ◌+◌, ◌<◌, Bool, true, false, List, [], ◌∷◌, Some, length}
 use Rattle.std.specs.List.{AllByRecursion}
-use Rattle.tla_symbols.specs.declared.level.Kind.{Kind}
 use Rattle.tla_model.specs.Tables.{Named}
 use Rattle.tla_model.specs.Entities.{Meaning}
 use Rattle.module_model.specs.Exports.{behind_instance, entry_of, onward}
@@ -48,11 +47,6 @@ pub record IsReaderWithin (flat : FlatModule) (reader : Reader) : Type 0 where
   pub round : AllByRecursion (λ setting. LeadsWithin flat setting.leads) reader.round
   pub faces : OfAllKnown (IsFaceWithin flat) reader.faces.here
   pub behind : AllByRecursion (λ nested. OfAllKnown (IsFaceWithin flat) nested.1) reader.faces.round
-
--- a name leads to no leaf and to no place
-pub record LeadsFurther (lead : Lead) : Type 0 where
-  pub leaf : (kind : Kind) → lead ≡ only (end.Leaf kind) [] → ⊥
-  pub place : (place order : ℕ) → lead ≡ only (end.Place place order) [] → ⊥
 
 module _ (flat : FlatModule) where
   -- a module is that to its instances, by where names lead here and by which are new: its names stand so behind the symbols of the modules

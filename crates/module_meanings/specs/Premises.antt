@@ -31,7 +31,7 @@ use Rattle.flattened_trees.specs.Questions.{Question}
 use Rattle.flattened_trees.specs.Readable.{IsReadableDefinition, IsReadableThrough}
 use Rattle.flattened_meanings.specs.Faces.{NamesModules}
 use Rattle.flattened_units.specs.Units.{AreUnitsMade, IsModuleMade, Reader, face_in, meanings_of, no_leads, symbol_setting, with_symbols}
-use Rattle.module_meanings.specs.Faces.{IsExtendedBy, IsFaceBy, IsPlaced, LeadsFurther}
+use Rattle.module_meanings.specs.Faces.{IsExtendedBy, IsFaceBy, IsPlaced}
 
 -- ---- what is known behind instances
 
@@ -197,14 +197,14 @@ module _ (flat : FlatModule) (text : Text) (means : ℕ → Option Meaning) (imp
   IsUnitGiven state reader seen unit next = IsUnitGivenBy IsFaceAt state reader seen unit next
 
   -- a nested module at its end: what it exports has names of its own; no two of its own symbols mean the same, and none of them one of
-  -- the modules round it; and its definitions and instances can be used there, and lead to definitions or through instances
+  -- the modules round it; and its definitions and instances can be used there
   pub record IsEndedGiven (state : KindState) (reader : Reader) (outer : Setting) (round : List Setting) : Type 0 where
     pub once : IsOnce state.read.place.here.exports
     pub distinct : AreDistinct (drop (length outer.frame) reader.setting.frame)
     pub apart : (meaning : Meaning) → is_among (drop (length outer.frame) reader.setting.frame) meaning ≡ true → symbol_leads round outer.frame meaning [] ≡ nowhere
-    pub exported :
+    pub usable :
         (name : Named) (meaning : Meaning) → entry_of (exports_of state.read.place.here.exports) name ≡ Some meaning → is_meant stands_behind meaning ≡ true
-        → (meaning_of state.read.place.here.context name ≡ Some meaning) × LeadsFurther (reader.setting.leads meaning [])
+        → meaning_of state.read.place.here.context name ≡ Some meaning
 
   -- the same of a unit, if it ends one
   abbrev pub IsEndGiven : UnitTree → KindState → Reader → List Setting → Type 0
