@@ -2,6 +2,7 @@ mod Feeding
 mod Following
 mod Keyed
 mod Leaded
+pub mod Led
 mod Listing
 mod Numbered
 mod Placed

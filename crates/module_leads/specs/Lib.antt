@@ -4,4 +4,5 @@ pub mod Keys
 pub mod Layers
 pub mod Leading
 pub mod Paths
+pub mod There
 pub mod Ways
