@@ -196,9 +196,9 @@ pub fn faces_go_together()
         (named_in text outsides words modules name) }
 {}
 
-/// Behind each instance that a unit names it is known what its module has, and modules that it names
-/// have the faces that are theirs, where faces are. It is asked that files have no declaration of the
-/// module.
+/// Behind each instance that a unit names it is known what its module has, and modules that it
+/// names have the faces that are theirs, where faces are. It is asked that no file has a declaration
+/// of the module.
 pub fn named_instances_are_known()
     ensures { (name bytes : List ℕ) (units : ModuleUnits) (files : List ℕ → ModuleView)
         (outsides : List ℕ → Outside) (faces : List ℕ → FlatFace) (means : ℕ → Option Meaning)
