@@ -1,42 +1,25 @@
 -- Names that modules bring come from these: they are the same entities there, and what is known behind them is what the modules have.
-use Rattle.std.proofs.Common.{◌≡◌, Bool, true, false, cond, [], ◌∷◌, ◌++◌, inl, inr, Some, refl, sym, ap, subst, ◌∙◌, map}
+use Rattle.std.proofs.Common.{◌≡◌, Bool, true, false, [], ◌∷◌, ◌++◌, inl, inr, Some, refl, sym, ap, subst, ◌∙◌, map}
 use Rattle.std.specs.List.{AllByRecursion}
-use Rattle.std.proofs.lemmas.Bool.{and_parts, false≢true}
+use Rattle.std.proofs.lemmas.Bool.{false≢true}
 use Rattle.tla_model.specs.declared.ids.Callee.{Callee}
 use Rattle.tla_model.specs.declared.ids.DeclId.{DeclId}
 use Rattle.tla_model.specs.declared.ids.UnitId.{UnitId}
 use Rattle.tla_model.specs.declared.names.Meaning.TheVariants.{BuiltIn, Declared}
 use Rattle.tla_model.specs.Tables.{Named, same_named}
-use Rattle.tla_model.specs.Entities.{Entity, Meaning, same_decl, same_meaning, same_units}
+use Rattle.tla_model.specs.Entities.{Entity, Meaning, same_meaning}
 use Rattle.tla_model.specs.Contexts.{Context, meaning_of}
-use Rattle.tla_model.proofs.Same.{decl-equal}
 use Rattle.module_model.specs.Exports.{Behind, Exports, Known, ModuleView, behind_meaning, exported, instantiable, is_meant, onward, stands_behind}
 use Rattle.module_model.specs.Instances.{brought_by, brought_entries, through}
-use Rattle.tree_kinds.specs.Standing.{name_among, same_standing}
-use Rattle.tree_kinds.proofs.Standings.{standing-means}
 use Rattle.flat_kinds.specs.Declarations.{Declarations, EachOnce, IsDeclared, IsViewDeclared}
 use Rattle.module_meanings.specs.Premises.{AllCome, ComesAs}
 use Rattle.accepted_modules.specs.Behind.{Behinds, IsViewBehind, all_known}
 use Rattle.accepted_modules.proofs.Behind.{each-there, meaning-behind}
 use Rattle.accepted_modules.proofs.Contexts.{HoldsOf, built-in-is}
 use Rattle.accepted_modules.proofs.Holding.{OrBuiltIn}
+use Rattle.accepted_modules.proofs.Naming.{among-there, same-declared}
 use Rattle.accepted_modules.proofs.Tables.{IsThere, once-passing, there-first, there-holds, there-passed}
 use Rattle.accepted_modules.proofs.Telling.{Told}
-
--- ---- entries that mean the same
-
--- the name among entries is that of one that means the same
-pub among-there : (entries : Exports) (m : Meaning) (name : Named) → name_among entries m ≡ Some name → (n : Meaning) × IsThere entries name n × (same_meaning m n ≡ true)
-among-there [] m name at = absurd (cc)
-among-there (entry ∷ rest) m name at = by (same_standing m entry.1) refl (among-there rest m name) at
-  where
-    by : (b : Bool) → same_standing m entry.1 ≡ b → (name_among rest m ≡ Some name → (n : Meaning) × IsThere rest name n × (same_meaning m n ≡ true)) → cond b (Some entry.0) (name_among rest m) ≡ Some name
-        → (n : Meaning) × IsThere (entry ∷ rest) name n × (same_meaning m n ≡ true)
-    by true is others at = (entry.1, inl (cc at, refl), standing-means m entry.1 is)
-    by false is others at = let later = others at in (later.0, inr later.1, later.2)
-
-pub same-declared : (e f : Entity) (a b : Callee) → same_meaning (Declared e a) (Declared f b) ≡ true → a.decl ≡ b.decl
-same-declared e f a b same = decl-equal a.decl b.decl (and_parts (same_decl a.decl b.decl) (same_units a.via b.via) same).0
 
 -- ---- entries that come from a module
 

@@ -24,15 +24,15 @@ use Rattle.accepted_modules.proofs.Tables.{put-keeps}
 
 -- ---- no faults
 
-faults-append : (a b : List Finding) → faults (a ++ b) ≡ faults a ++ faults b
+pub faults-append : (a b : List Finding) → faults (a ++ b) ≡ faults a ++ faults b
 faults-append [] b = refl
 faults-append (f ∷ a) b = ap (λ fs. fault f ++ fs) (faults-append a b) ∙ sym (append_assoc (fault f) (faults a) (faults b))
 
-left-empty : {A : Type 0} (a b : List A) → a ++ b ≡ [] → a ≡ []
+pub left-empty : {A : Type 0} (a b : List A) → a ++ b ≡ [] → a ≡ []
 left-empty [] b none = refl
 left-empty (x ∷ a) b none = absurd (cc none)
 
-right-empty : {A : Type 0} (a b : List A) → a ++ b ≡ [] → b ≡ []
+pub right-empty : {A : Type 0} (a b : List A) → a ++ b ≡ [] → b ≡ []
 right-empty [] b none = none
 right-empty (x ∷ a) b none = absurd (cc none)
 

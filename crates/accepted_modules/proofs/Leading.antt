@@ -1,6 +1,5 @@
 -- Names that units leave lead behind them where symbols do by themselves.
 use Rattle.std.proofs.Common.{◌≡◌, ℕ, suc, Bool, true, false, cond, List, [], ◌∷◌, ◌++◌, ◌⊎◌, inl, inr, Option, Some, None, refl, sym, ap, subst, ◌∙◌, map, length}
-use Rattle.std.specs.Prelude.{◌||◌}
 use Rattle.std.specs.Str.{bytes_eq}
 use Rattle.std.proofs.lemmas.Bool.{false≢true}
 use Rattle.std.proofs.Math.Seq.{drop-append_seam}
@@ -19,7 +18,7 @@ use Rattle.module_model.specs.Exports.{Exports, exported, instantiable, is_meant
 use Rattle.module_model.specs.Modules.{Reading, left, text_of}
 use Rattle.module_model.specs.Resolution.{ReadState, instance_brings, words_of}
 use Rattle.kind_text.specs.FlatModule.{FlatModule}
-use Rattle.tree_kinds.specs.Standing.{Outside, name_among, same_standing}
+use Rattle.tree_kinds.specs.Standing.{Outside, name_among}
 use Rattle.module_kinds.specs.ModuleKinds as k
 use Rattle.module_kinds.specs.ModuleKinds.{KindState, after, views}
 use Rattle.flat_kinds.specs.Declarations.{AreDeclared, Declarations, IsDeclared, IsNoDefinition, IsOutsideDeclared}
@@ -27,26 +26,17 @@ use Rattle.flat_kinds.specs.Readings.{BringNone, Leaves, extended_entries, is_am
 use Rattle.flat_kinds.specs.Symbols.{same_symbol}
 use Rattle.flat_trees.specs.Layouts.{order_of}
 use Rattle.flattened_trees.specs.declared.End.TheVariants as end
-use Rattle.flattened_trees.specs.Leads.{FlatFace, Lead, Leads, Setting, behind, only, with_lead, with_leads}
+use Rattle.flattened_trees.specs.Leads.{FlatFace, Lead, Leads, Setting, behind, only, with_leads}
 use Rattle.flattened_trees.specs.Questions.{Question}
 use Rattle.flattened_units.specs.Units.{AreExtended, AreUnitsMade, IsEnded, IsModuleMade, IsUnitMade, Reader, coming_lead, face_in, no_leads, with_brought, with_symbols}
 use Rattle.module_meanings.specs.Premises.{symbol_leads}
 use Rattle.accepted_modules.specs.Leading.{LeadsByItself}
-use Rattle.accepted_modules.proofs.Coming.{among-there, same-declared}
+use Rattle.accepted_modules.proofs.Naming.{among-there, leads-left, same-declared}
 use Rattle.accepted_modules.proofs.Tables.{there-holds, there-passed}
 use Rattle.accepted_modules.proofs.Symbols.{module-round}
 use Rattle.accepted_modules.proofs.Views.{read-same}
 
 -- ---- what leaves a name
-
-leads-left : (leads : Leads) (defined : List Meaning) (lead : List Named → Lead) (m : Meaning) (names : List Named) → is_among defined m ≡ false → with_leads leads defined lead m names ≡ leads m names
-leads-left leads [] lead m names apart = refl
-leads-left leads (other ∷ rest) lead m names apart = by (same_standing m other) refl apart (leads-left (with_lead leads other lead) rest lead m names)
-  where
-    by : (b : Bool) → same_standing m other ≡ b → (b || is_among rest m) ≡ false → (is_among rest m ≡ false → with_leads (with_lead leads other lead) rest lead m names ≡ with_lead leads other lead m names)
-        → with_leads (with_lead leads other lead) rest lead m names ≡ leads m names
-    by true is apart later = absurd (cc apart)
-    by false is apart later = later apart ∙ ap (λ b. cond b (lead names) (leads m names)) is
 
 brought-left : (leads : Leads) (entries : Exports) (j : ℕ) (face : FlatFace) (m : Meaning) (names : List Named) → name_among entries m ≡ None → with_brought leads entries j face m names ≡ leads m names
 brought-left leads entries j face m names none = ap (coming_lead j face (leads m names) names) none

@@ -4,6 +4,7 @@ mod Contexts
 mod Holding
 mod Telling
 mod Behind
+mod Naming
 mod Coming
 mod Brought
 mod Beside
@@ -17,3 +18,4 @@ mod Symbols
 mod Placed
 mod Leading
 mod Declaring
+mod Sharing

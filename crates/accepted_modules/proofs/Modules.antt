@@ -7,7 +7,7 @@ use Rattle.unit_grammar.specs.Units.{ModuleUnits}
 use Rattle.module_model.specs.declared.face.Face.{Face}
 use Rattle.module_model.specs.declared.imported.Import.{Import}
 use Rattle.module_model.specs.Given.{face_of, imported}
-use Rattle.module_model.specs.Exports.{ModuleView, face_outside, files_of, import_outside}
+use Rattle.module_model.specs.Exports.{ModuleView, exported, face_outside, files_of, import_outside, parameters_in}
 use Rattle.module_model.specs.Imports.{Imports, import_of}
 use Rattle.module_model.specs.Resolution.{outside_in}
 use Rattle.readable_laws.specs.Steady.{IsSteadyView}
@@ -32,6 +32,10 @@ beside-of (a_module {files = files} {bytes = bytes} {units = units} front over) 
 pub offered-of : {view : ModuleView} → ComesOfModules view → AllNamed IsOffered view
 offered-of no_module = record { entries = tt; parameters = tt; once = tt }
 offered-of (a_module {files = files} {bytes = bytes} {units = units} front over) = outside-offered files bytes units (λ title. offered-of (over title))
+
+pub parameters-of : {view : ModuleView} → ComesOfModules view → view.parameters ≡ parameters_in (exported view)
+parameters-of no_module = refl
+parameters-of (a_module front over) = refl
 
 pub imports-come : (imports : Imports) → ((name : List ℕ) (face : Face) → imported imports name ≡ Some face → ComesOfModules (face_outside face)) → (name : List ℕ) → ComesOfModules (files_of imports name)
 imports-come imports each name = by (import_of imports name) (each name)

@@ -19,8 +19,7 @@ use Rattle.module_model.specs.Exports.{Exports, ModuleView, exported, exports_by
 use Rattle.module_model.specs.Modules.{text_of, unread}
 use Rattle.module_model.specs.NamedModules.{module_at}
 use Rattle.module_model.specs.Resolution.{words_of}
-use Rattle.tree_kinds.specs.Standing.{Outside, name_among, same_standing}
-use Rattle.tree_kinds.proofs.Standings.{standing-itself}
+use Rattle.tree_kinds.specs.Standing.{Outside, name_among}
 use Rattle.module_kinds.specs.ModuleKinds as k
 use Rattle.module_kinds.specs.ModuleKinds.{views}
 use Rattle.flat_trees.specs.Instances.{symbols_of}
@@ -36,6 +35,7 @@ use Rattle.accepted_modules.specs.Offered.{IsOffered}
 use Rattle.accepted_modules.proofs.Contexts.{extends-hold}
 use Rattle.accepted_modules.proofs.Behind.{each-there}
 use Rattle.accepted_modules.proofs.Holding.{module-says, nothing-holds}
+use Rattle.accepted_modules.proofs.Naming.{named-there}
 use Rattle.accepted_modules.proofs.Symbols.{IsSymbol, symbols-stay}
 use Rattle.accepted_modules.proofs.Tables.{IsThere, entry-there, there-holds}
 use Rattle.accepted_modules.proofs.Views.{extends-keep, first-together, state-view}
@@ -53,37 +53,28 @@ symbol-order (Declared e x) BuiltIn same = cc same
 symbol-order (Declared e x) (Declared f y) same = declared-order e f x y (and_parts (same_declared e f) (same_meaning (Declared e x) (Declared f y)) same).0
 
 -- a symbol is the same as itself
-symbol-itself : (m : Meaning) → IsSymbol m → same_symbol m m ≡ true
+pub symbol-itself : (m : Meaning) → IsSymbol m → same_symbol m m ≡ true
 symbol-itself (Declared (entity.Constant n) callee) symbol = and_from (nat_eq n n) (same_meaning (Declared (entity.Constant n) callee) (Declared (entity.Constant n) callee)) (eq-eqb n n refl) (meaning-itself (Declared (entity.Constant n) callee))
 symbol-itself (Declared entity.Variable callee) symbol = meaning-itself (Declared entity.Variable callee)
 symbol-itself BuiltIn symbol = cc symbol
 symbol-itself (Declared _ callee) symbol = cc symbol
 
--- a symbol among those at places leads to its own
-pub symbol-placed : (leads : Leads) (entries : Exports) (place : ℕ) (name : Named) (m : Meaning) → IsThere entries name m → IsSymbol m → IsPlaced (with_symbols leads (meanings_of entries) place) m
-symbol-placed leads [] place name m there symbol = absurd there
-symbol-placed leads (entry ∷ rest) place name m there symbol = by (same_symbol m entry.1) refl (λ later. symbol-placed leads rest (suc place) name m later symbol) there
+-- what is the same as a symbol at a place leads to a place
+pub alike-placed : (leads : Leads) (entries : Exports) (place : ℕ) (name : Named) (other m : Meaning) → IsThere entries name other → same_symbol m other ≡ true → IsPlaced (with_symbols leads (meanings_of entries) place) m
+alike-placed leads [] place name other m there same = absurd there
+alike-placed leads (entry ∷ rest) place name other m there same = by (same_symbol m entry.1) refl (λ later. alike-placed leads rest (suc place) name other m later same) there
   where
-    by : (b : Bool) → same_symbol m entry.1 ≡ b → (IsThere rest name m → IsPlaced (with_symbols leads (meanings_of rest) (suc place)) m) → IsThere (entry ∷ rest) name m
+    by : (b : Bool) → same_symbol m entry.1 ≡ b → (IsThere rest name other → IsPlaced (with_symbols leads (meanings_of rest) (suc place)) m) → IsThere (entry ∷ rest) name other
         → (p : ℕ) × (cond b (only (end.Place place (order_of entry.1)) []) (with_symbols leads (meanings_of rest) (suc place) m []) ≡ only (end.Place p (order_of m)) [])
     by true is later there = (place, ap (λ n. only (end.Place place n) []) (sym (symbol-order m entry.1 is)))
-    by false is later (inl same) = absurd (false≢true (sym is ∙ (ap (same_symbol m) same.1 ∙ symbol-itself m symbol)))
+    by false is later (inl here) = absurd (false≢true (sym is ∙ (ap (same_symbol m) here.1 ∙ same)))
     by false is later (inr there) = later there
 
--- ---- what is brought
+-- so does a symbol at a place itself
+pub symbol-placed : (leads : Leads) (entries : Exports) (place : ℕ) (name : Named) (m : Meaning) → IsThere entries name m → IsSymbol m → IsPlaced (with_symbols leads (meanings_of entries) place) m
+symbol-placed leads entries place name m there symbol = alike-placed leads entries place name m m there (symbol-itself m symbol)
 
--- an entry is named among its own
-named-there : (entries : Exports) (name : Named) (m : Meaning) → IsThere entries name m → name_among entries m ≡ None → ⊥
-named-there [] name m there none = absurd there
-named-there (entry ∷ rest) name m (inl same) none =
-    let found : same_standing m entry.1 ≡ true = ap (same_standing m) same.1 ∙ standing-itself m in
-    let e : cond true (Some entry.0) (name_among rest m) ≡ None = ap (λ b. cond b (Some entry.0) (name_among rest m)) (sym found) ∙ none in
-    cc e
-named-there (entry ∷ rest) name m (inr there) none = by (same_standing m entry.1) none (named-there rest name m there)
-  where
-    by : (b : Bool) → cond b (Some entry.0) (name_among rest m) ≡ None → (name_among rest m ≡ None → ⊥) → ⊥
-    by true none later = cc none
-    by false none later = later none
+-- ---- what is brought
 
 there-kept : (test : Named × Meaning → Bool) (entries : Exports) (name : Named) (m : Meaning) → IsThere entries name m → test (name, m) ≡ true → IsThere (filter test entries) name m
 there-kept test [] name m there is = absurd there
@@ -96,6 +87,14 @@ there-kept test (entry ∷ rest) name m there is = by (test entry) refl (λ late
     by false fails later (inr there) = later there
 
 -- ---- behind what a module extends
+
+-- a name means the same module to names and to what these stand for
+pub view-same : (outsides : List ℕ → Outside) (source : List ℕ) (units : ModuleUnits) (name : List ℕ)
+    → (k.named_in (text_of source units) outsides (words_of units) (first_scope (text_of source units).file) name).view ≡ module_at (views (text_of source units) outsides (words_of units)) (unread (text_of source units)).modules name
+view-same outsides source units name =
+    let here : Text = text_of source units in
+    state-view here outsides (words_of units) (k.first outsides source units) (first-together outsides source units) name
+    ∙ ap (λ ms. module_at (views here outsides (words_of units)) ms name) (extends-keep here (exports_by (views here outsides (words_of units))) (unread here) units.extends).modules
 
 module _ (outsides : List ℕ → Outside) (source : List ℕ) (units : ModuleUnits) (given : (name : List ℕ) → AllNamed IsOffered (outsides name).view) where
   abbrev here : Text
@@ -112,17 +111,12 @@ module _ (outsides : List ℕ → Outside) (source : List ℕ) (units : ModuleUn
   abbrev start : Environment ModuleView
   start = (unread (text_of source units)).modules
 
-  view-same : (name : List ℕ) → (k.named_in here outsides (words_of units) (first_scope here.file) name).view ≡ module_at (views here outsides (words_of units)) (unread (text_of source units)).modules name
-  view-same name =
-      state-view here outsides (words_of units) (k.first outsides source units) (first-together outsides source units) name
-      ∙ ap (λ ms. module_at (views here outsides (words_of units)) ms name) (extends-keep here (exports_by (views here outsides (words_of units))) (unread here) units.extends).modules
-
   one-or-symbol : (l : Lexeme) → ((m : Meaning) → IsNotBrought m → name_among (extended_entries here outsides (words_of units) (first_scope here.file) l) m ≡ None)
       → AllByRecursion (λ entry. OrSymbol entry.0 entry.1) (exported (module_at (views here outsides (words_of units)) (unread (text_of source units)).modules (spelled here.source l)))
   one-or-symbol l none =
       let view : ModuleView = module_at (views here outsides (words_of units)) (unread here).modules (spelled here.source l) in
       let offered : AllNamed IsOffered view = module-says (AllNamed IsOffered) (views here outsides (words_of units)) (unread here).modules (spelled here.source l) (nothing-holds IsOffered) given (tt, tt) in
-      let same = view-same (spelled here.source l) in
+      let same = view-same outsides source units (spelled here.source l) in
       each-there (λ entry. OrSymbol entry.0 entry.1) (exported view)
       (λ name m there. inr (λ unbrought. by name m there (there-holds (λ entry. IsOffered entry.0 entry.1) (exported view) name m offered.entries there) (subst (λ (v : ModuleView). name_among (instantiable (exported v)) m ≡ None) same (none m unbrought))))
     where

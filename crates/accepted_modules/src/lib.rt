@@ -28,7 +28,7 @@ ghost use Rattle.module_model.specs.Given.{imported};
 ghost use Rattle.module_model.specs.Imports.{Imports};
 ghost use Rattle.module_model.specs.Exports.{face_outside, files_of};
 ghost use Rattle.module_model.specs.Exports.{Exports, Known, ModuleView, entry_of, exported};
-ghost use Rattle.module_model.specs.Exports.{exports_by};
+ghost use Rattle.module_model.specs.Exports.{exports_by, parameters_in};
 ghost use Rattle.module_model.specs.Modules.{exports_under, text_of};
 ghost use Rattle.module_model.specs.Resolution.{findings, instance_brings, known_in};
 ghost use Rattle.module_model.specs.Resolution.{module_named, outside_in, words_of};
@@ -46,7 +46,7 @@ ghost use Rattle.flattened_units.specs.Units.{face_in, meanings_of, symbol_setti
 ghost use Rattle.flattened_units.specs.Units.{no_leads, with_symbols};
 ghost use Rattle.flat_kinds.specs.Declarations.{AreUnitsDeclared, Declarations, EachOnce};
 ghost use Rattle.flat_kinds.specs.Declarations.{IsNoDefinition, IsOutsideDeclared};
-ghost use Rattle.flat_kinds.specs.Declarations.{declared_names};
+ghost use Rattle.flat_kinds.specs.Declarations.{IsDeclared as declared_so, declared_names};
 ghost use Rattle.flat_kinds.specs.Readings.{BringNone, Leaves, extended_entries};
 ghost use Rattle.module_meanings.specs.Faces.{IsPlaced};
 ghost use Rattle.module_meanings.specs.Premises.{AllCome};
@@ -197,8 +197,8 @@ pub fn faces_go_together()
 {}
 
 /// Behind each instance that a unit names it is known what its module has, and modules that it
-/// names have the faces that are theirs, where faces are. It is asked that no file has a declaration
-/// of the module.
+/// names have the faces that are theirs, where faces are. It is asked that no file has a name that
+/// the module declares.
 pub fn named_instances_are_known()
     ensures { (name bytes : List ℕ) (units : ModuleUnits) (files : List ℕ → ModuleView)
         (outsides : List ℕ → Outside) (faces : List ℕ → FlatFace) (means : ℕ → Option Meaning)
@@ -248,11 +248,14 @@ pub fn faultless_units_are_read()
 }
 
 /// Views that come of modules, over others that do, are steady; no name of these is built in, and
-/// all are symbols, definitions and instances. Imports whose faces come of modules are such views.
+/// all are symbols, definitions and instances; the symbols are their parameters. Imports whose
+/// faces come of modules are such views.
 pub fn modules_come_steady()
     ensures steady { (view : ModuleView) → ComesOfModules view → IsSteadyView view }
     ensures beside { (view : ModuleView) → ComesOfModules view → AllNamed IsBeside view }
     ensures offered { (view : ModuleView) → ComesOfModules view → AllNamed IsOffered view }
+    ensures parameters { (view : ModuleView) → ComesOfModules view
+        → view.parameters ≡ parameters_in (exported view) }
     ensures imports { (imports : Imports)
         → ((name : List ℕ) (face : Face) → imported imports name ≡ Some face
         → ComesOfModules (face_outside face))
@@ -264,7 +267,8 @@ pub fn modules_come_steady()
 /// Each symbol that can be used in a module, outside of nested ones, is a parameter of the module,
 /// once; so are those that a unit of one without faults declares. So they have places, where these
 /// have. What none of the modules brings that it extends is such a symbol, or built in. All that
-/// a module exports are symbols, definitions and instances, if that is so of files.
+/// a module exports are symbols, definitions and instances, if that is so of files. Symbols of
+/// the modules that it extends have places too, where it has no faults.
 pub fn symbols_are_parameters()
     ensures offered { (files : List ℕ → ModuleView) (source : List ℕ) (units : ModuleUnits)
         → ((name : List ℕ) → AllNamed IsOffered (files name))
@@ -301,6 +305,16 @@ pub fn symbols_are_parameters()
         → ((is_meant stands_for_parameter m ≡ true) × IsPlaced (with_symbols no_leads
         (symbols_of (outside outsides source units)) 0) m)
         ⊎ ((used : Named) × (meaning_of built_in used ≡ Some m)) }
+    ensures shared { (declares : Declarations) (outsides : List ℕ → Outside) (source : List ℕ)
+        (units : ModuleUnits) (a : List Lexeme) → DerivesModule units a
+        → ((n : List ℕ) → AllNamed (declared_so declares) (outsides n).view)
+        → ((n : List ℕ) → (outsides n).view.parameters ≡ parameters_in (exported (outsides n).view))
+        → faults (findings (views (text_of source units) outsides (words_of units)) source units)
+        ≡ []
+        → AllByRecursion (λ l. AllByRecursion (λ m. is_meant stands_for_parameter m ≡ true
+        → IsPlaced (with_symbols no_leads (symbols_of (outside outsides source units)) 0) m)
+        (symbols_of (named_in (text_of source units) outsides (words_of units)
+        (first_scope (text_of source units).file) (spelled source l)))) units.extends }
 {}
 
 /// A name that a unit leaves leads behind it where symbols do by themselves, in the module that is

@@ -1,4 +1,4 @@
-use Rattle.accepted_modules.proofs.Modules.{beside-of, imports-come, offered-of, steady-of}
+use Rattle.accepted_modules.proofs.Modules.{beside-of, imports-come, offered-of, parameters-of, steady-of}
 use Rattle.accepted_modules.proofs.modules_come_steady.Goals as goal
 
 pub returns-clause-steady : goal.returns-clause-steady
@@ -9,6 +9,9 @@ returns-clause-beside c = λ view is. beside-of is
 
 pub returns-clause-offered : goal.returns-clause-offered
 returns-clause-offered c = λ view is. offered-of is
+
+pub returns-clause-parameters : goal.returns-clause-parameters
+returns-clause-parameters c = λ view is. parameters-of is
 
 pub returns-clause-imports : goal.returns-clause-imports
 returns-clause-imports c = imports-come

@@ -4,6 +4,7 @@ use Rattle.module_model.specs.Exports.{exported, is_meant, stands_for_parameter}
 use Rattle.module_model.specs.Resolution.{outside_in}
 use Rattle.accepted_modules.proofs.Declaring.{unit-parameters}
 use Rattle.accepted_modules.proofs.Placed.{first-others, symbol-placed}
+use Rattle.accepted_modules.proofs.Sharing.{extended-shared}
 use Rattle.accepted_modules.proofs.Symbols.{outside-offered, symbols-stay}
 use Rattle.accepted_modules.proofs.Tables.{entry-there, once-passing}
 use Rattle.accepted_modules.proofs.symbols_are_parameters.Goals as goal
@@ -26,3 +27,6 @@ returns-clause-placed c = λ leads parameters place name m at symbol. symbol-pla
 
 pub returns-clause-extended : goal.returns-clause-extended
 returns-clause-extended c = first-others
+
+pub returns-clause-shared : goal.returns-clause-shared
+returns-clause-shared c = extended-shared
