@@ -1,0 +1,10 @@
+use Rattle.std.proofs.Common.{◌∙◌}
+use Rattle.module_model.specs.Exports.{exported, instantiable}
+use Rattle.unit_scope.proofs.Onward.{named-here}
+use Rattle.brought_entries.proofs.modules.extended_entries.Goals as goal
+
+pub returns : goal.returns
+returns c = λ text over state at.
+    let read = c.args.reader.now in
+    let named = c.named_module-named.ensures.shown read.scope.nested.items ∙ (λ i. named-here text over read state at i c.args.name.now) in
+    c.in_ok-found.ensures ∙ (λ i. instantiable (exported (named i)))
