@@ -1,16 +1,16 @@
-mod Leads
-mod Contexts
+pub mod Leads
+pub mod Contexts
 mod Knowing
 mod Units
 mod Bringing
 mod Extending
-mod Beginning
-mod Staying
-mod Nesting
-mod Entering
-mod Further
-mod NestedFaces
-mod Modules
+pub mod Beginning
+pub mod Staying
+pub mod Nesting
+pub mod Entering
+pub mod Further
+pub mod NestedFaces
+pub mod Modules
 mod Meant
 mod Instancing
 mod Leaves

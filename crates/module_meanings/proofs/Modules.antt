@@ -22,13 +22,13 @@ use Rattle.tree_kinds.specs.Standing.{Outside}
 use Rattle.module_kinds.specs.ModuleKinds.{KindState, after, first, known_at, last, named, nested_outside, read_all, views}
 use Rattle.flat_trees.specs.Stands.{Stand}
 use Rattle.flat_trees.specs.Layouts.{Layout, StandsBefore}
-use Rattle.flat_kinds.specs.Readings.{KeepsState, exported_stand, is_among, layout_after, stand_in}
+use Rattle.flat_kinds.specs.Readings.{Extension, KeepsState, exported_stand, is_among, layout_after, stand_in}
 use Rattle.flat_kinds.specs.Symbols.{AreDistinct}
-use Rattle.flat_kinds.specs.Modules.{AreRead, Begins, Coming, Current, Ends, Stands, IsRead, KeepsAll, first_current, here_behind, module_stands, round_behind}
+use Rattle.flat_kinds.specs.Modules.{AreRead, Begins, Coming, Current, Ends, Stands, IsExtended, IsRead, KeepsAll, first_current, here_behind, module_stands, round_behind}
 use Rattle.flat_kinds.proofs.Modules.{module-begins, module-read, unit-all}
 use Rattle.flat_kinds.proofs.Symbols.{places-before}
 use Rattle.flattened_trees.specs.Agreeing.{AreNew, TakesBehind, is_seen, unsaid_stand}
-use Rattle.flattened_trees.specs.Leads.{FlatFace, Setting}
+use Rattle.flattened_trees.specs.Leads.{FlatFace, Leads, Setting}
 use Rattle.flattened_trees.specs.Questions.{Question}
 use Rattle.flattened_units.specs.Units.{AreUnitsMade, IsBegun, IsDefinitionMade, IsEnded, IsInstanceMade, IsModuleMade, IsUnitMade, Reader, face_under, meanings_of, nested_face, symbol_setting}
 use Rattle.module_meanings.specs.Faces.{IsFaceBy, LeadsAs}
@@ -284,14 +284,14 @@ module _ (flat : FlatModule) (ordered : IsOrdered flat) (text : Text) (means : �
 
   module _ (state : KindState) (reader : Reader) (seen : List Meaning) {symbols : Meaning → Stand} {outers : List Current} (nested : HoldsNested flat state.modules reader.setting.frame reader.round reader.faces seen symbols outers) where
     -- new names of a tree were not seen
-    new-unseen : (names : List Meaning) (m : Meaning) → AreNew seen names → is_seen names m ≡ true → not (is_seen seen m) ≡ true
+    pub new-unseen : (names : List Meaning) (m : Meaning) → AreNew seen names → is_seen names m ≡ true → not (is_seen seen m) ≡ true
     new-unseen names m new is = not_seen (is_seen seen m) refl
       where
         not_seen : (b : Bool) → is_seen seen m ≡ b → not b ≡ true
         not_seen true before = let never : false ≡ true = sym (ap not is) ∙ names-other seen names m new before in cc never
         not_seen false before = refl
 
-    tree-named : (x : Tree) → IsTreeGivenBy flat text means implied files outsides words (IsFileAt flat text means implied files outsides words) state reader seen x → IsTreeGiven flat text means implied files outsides words state reader seen x
+    pub tree-named : (x : Tree) → IsTreeGivenBy flat text means implied files outsides words (IsFileAt flat text means implied files outsides words) state reader seen x → IsTreeGiven flat text means implied files outsides words state reader seen x
     tree-named x given =
         record {
           fresh = given.fresh;
@@ -308,7 +308,7 @@ module _ (flat : FlatModule) (ordered : IsOrdered flat) (text : Text) (means : �
               (subst (λ (o : Option (Option FlatFace)). IsFileBy flat text means implied files outsides words state reader new name o) e asked));
         }
 
-    unit-named : (unit : UnitTree) (next : Reader) → IsUnitGivenBy flat text means implied files outsides words (IsFileAt flat text means implied files outsides words) state reader seen unit next → IsUnitGiven flat text means implied files outsides words state reader seen unit next
+    pub unit-named : (unit : UnitTree) (next : Reader) → IsUnitGivenBy flat text means implied files outsides words (IsFileAt flat text means implied files outsides words) state reader seen unit next → IsUnitGiven flat text means implied files outsides words state reader seen unit next
     unit-named (OperatorDefinition local x) next given = record { given = tree-named x given.given; readable = given.readable }
     unit-named (FunctionDefinition local x) next given = record { given = tree-named x given.given; readable = given.readable }
     unit-named (ModuleDefinition local x) next given = record { given = tree-named x given.given; readable = given.readable }
@@ -320,6 +320,13 @@ module _ (flat : FlatModule) (ordered : IsOrdered flat) (text : Text) (means : �
     unit-named (Line dashes) next given = tt
     unit-named (ModuleBegin dashes name extends) next given = given
     unit-named (ModuleEnd closing) next given = tt
+
+  -- what comes of a unit, where the modules that its trees name are what is known of them
+  pub given-steps : (state : KindState) (reader : Reader) (seen : List Meaning) (here : Current) (outers : List Current) (unit : UnitTree) (next : Reader) (asked : List Question) → IsUnitMade flat text means implied files outsides words state reader unit next asked → IsBroughtGiven flat text means implied files outsides words state reader seen unit → IsEndGiven flat text means implied files outsides words unit state reader reader.round → IsUnitGivenBy flat text means implied files outsides words (IsFileAt flat text means implied files outsides words) state reader seen unit next → AllDefinitionsLead reader → Holds flat ordered text means implied files outsides words state reader seen here outers → Steps state reader seen here outers unit next
+  given-steps state reader seen here outers unit next asked made brought end given further holds =
+      unit-steps state reader seen here outers holds
+      (here-told state.read.known state.read.place.here.context reader.setting seen here.layout holds.here.follows, all-told state.read.known seen state.read.place.round reader.round outers holds.round) further.0 unit next asked made
+      (unit-named state reader seen holds.nested unit next given) brought end
 
   -- what comes of units, up to a module behind these, with no other round it
   pub record AreFollowed (state : KindState) (units : List UnitTree) (here : Current) (outers : List Current) (next : Reader) : Type 0 where
@@ -345,9 +352,7 @@ module _ (flat : FlatModule) (ordered : IsOrdered flat) (text : Text) (means : �
         follows = subst (λ (r : Reader). Follows state r seen here.layout) (sym made.0) holds.here.follows;
       }
   units-follow (unit ∷ units) state reader seen here outers next asked made given ends further holds =
-      let one = unit-steps state reader seen here outers holds
-      (here-told state.read.known state.read.place.here.context reader.setting seen here.layout holds.here.follows, all-told state.read.known seen state.read.place.round reader.round outers holds.round) further.0 unit made.0 made.1 made.3
-      (unit-named state reader seen holds.nested unit made.0 given.1) given.0.0 given.0.1 in
+      let one = given-steps state reader seen here outers unit made.0 made.1 made.3 given.0.0 given.0.1 given.1 further holds in
       let others =
       units-follow units (after text outsides words state unit) made.0 (seen_behind text outsides words state unit made.0 seen) (here_behind text outsides words state here outers unit one.coming) (round_behind text outsides words here outers one.coming) next made.2 made.4 given.2 ends
       (unit-further flat text means implied files outsides words state reader seen unit made.0 made.1 further given.1 made.3) one.holds in
@@ -378,40 +383,60 @@ unseen-tail symbols m none = by_same (same_meaning m BuiltIn) none
     by_same false e = e
 
 module _ (flat : FlatModule) (ordered : IsOrdered flat) (means : ℕ → Option Meaning) (implied : ℕ → List Meaning) (files : List ℕ → FlatFace) (outsides : List ℕ → Outside) (source : List ℕ) (units : ModuleUnits) (symbols : List Meaning) where
-  pub module-meant : (final : Reader) (asked : List Question) (made : IsModuleMade flat means implied files outsides source units symbols final asked) → IsModuleGiven flat means implied files outsides source units symbols final asked made → IsBuiltSo flat outsides source units symbols final
-  module-meant final asked (leads, extended, made) given =
+  -- the module behind what it extends, before its units
+  pub record IsBegunWith (leads : Leads) : Type 0 where
+    pub extensions : List Extension
+    pub extended : IsExtended outsides source units flat (symbol-stands flat ordered means implied files outsides source units symbols) (length symbols) extensions
+    pub holds :
+        Holds flat ordered (text_of source units) means implied files outsides (words_of units) (first outsides source units) (first-reader flat ordered means implied files outsides source units symbols leads) (first_seen flat means implied files outsides source units symbols)
+        (first_current outsides source units (symbol-stands flat ordered means implied files outsides source units symbols) (length symbols) extensions) []
+    pub further : AllDefinitionsLead (first-reader flat ordered means implied files outsides source units symbols leads)
+
+  pub module-begun : (final : Reader) (asked : List Question) (made : IsModuleMade flat means implied files outsides source units symbols final asked) → IsModuleGiven flat means implied files outsides source units symbols final asked made → IsBegunWith made.0
+  module-begun final asked (leads, extended, made) given =
       let begun = begun-so flat ordered means implied files outsides source units symbols leads extended given.extended in
       let stands = symbol-stands flat ordered means implied files outsides source units symbols in
       let here = first_current outsides source units stands (length symbols) begun.extensions in
-      let follows = first-follows flat ordered means implied files outsides source units symbols leads begun given.extended in
       let extended-here = begun.are here.layout refl in
-      let holds : Holds flat ordered (text_of source units) means implied files outsides (words_of units) (first outsides source units) (first-reader flat ordered means implied files outsides source units symbols leads) (first_seen flat means implied files outsides source units symbols) here [] =
       record {
-        here = record {
-          follows = follows;
-          leads = symbols-lead unsaid_stand _ symbols 0 none-leads;
-          alike = symbols-alike unsaid_stand symbols 0 unsaid-alike;
-          before = λ m. let e : 0 + length symbols ≡ length symbols = omega arith in subst (λ n. StandsBefore n (stands m)) e (places-before unsaid_stand symbols 0 m (unsaid-before m));
+        extensions = begun.extensions;
+        extended = extended-here;
+        holds = record {
+          here = record {
+            follows = first-follows flat ordered means implied files outsides source units symbols leads begun given.extended;
+            leads = symbols-lead unsaid_stand _ symbols 0 none-leads;
+            alike = symbols-alike unsaid_stand symbols 0 unsaid-alike;
+            before = λ m. let e : 0 + length symbols ≡ length symbols = omega arith in subst (λ n. StandsBefore n (stands m)) e (places-before unsaid_stand symbols 0 m (unsaid-before m));
+          };
+          round = tt;
+          keeps = module-begins flat outsides source units stands (length symbols) begun.extensions extended-here;
+          nested = record {
+            nest = tt;
+            built = refl;
+            unsaid = λ m none. let parts = unseen-parts (BuiltIn ∷ symbols) _ m none in symbols-unseen unsaid_stand symbols 0 m (unseen-tail symbols m parts.0);
+            unsaid_round = tt;
+            here = (refl, tt, tt);
+            behind = tt;
+          };
         };
-        round = tt;
-        keeps = module-begins flat outsides source units stands (length symbols) begun.extensions extended-here;
-        nested = record {
-          nest = tt;
-          built = refl;
-          unsaid = λ m none. let parts = unseen-parts (BuiltIn ∷ symbols) _ m none in symbols-unseen unsaid_stand symbols 0 m (unseen-tail symbols m parts.0);
-          unsaid_round = tt;
-          here = (refl, tt, tt);
-          behind = tt;
-        };
-      } in
+        further = (
+          extended-further flat (text_of source units) means implied files outsides (words_of units) (first_scope (text_of source units).file) (first_scope (text_of source units).file) (symbol_setting flat means implied files outsides source units symbols) (symbol_setting flat means implied files outsides source units symbols).leads units.extends leads (first-further symbols) extended,
+          tt,
+        );
+      }
+
+  pub module-meant : (final : Reader) (asked : List Question) (made : IsModuleMade flat means implied files outsides source units symbols final asked) → IsModuleGiven flat means implied files outsides source units symbols final asked made → IsBuiltSo flat outsides source units symbols final
+  module-meant final asked made given =
+      let begun = module-begun final asked made given in
+      let here = first_current outsides source units (symbol-stands flat ordered means implied files outsides source units symbols) (length symbols) begun.extensions in
       let all =
-      units-follow flat ordered (text_of source units) means implied files outsides (words_of units) units.units (first outsides source units) (first-reader flat ordered means implied files outsides source units symbols leads) (first_seen flat means implied files outsides source units symbols) here [] final asked made given.given given.ends
-      (extended-further flat (text_of source units) means implied files outsides (words_of units) (first_scope (text_of source units).file) (first_scope (text_of source units).file) (symbol_setting flat means implied files outsides source units symbols) (symbol_setting flat means implied files outsides source units symbols).leads units.extends leads (first-further symbols) extended, tt) holds in
+      units-follow flat ordered (text_of source units) means implied files outsides (words_of units) units.units (first outsides source units) (first-reader flat ordered means implied files outsides source units symbols made.0) (first_seen flat means implied files outsides source units symbols) here [] final asked made.2 given.given given.ends
+      begun.further begun.holds in
       record {
         extensions = begun.extensions;
         comings = all.comings;
         behind = all.behind;
-        built = record { extended = extended-here; read = all.read };
+        built = record { extended = begun.extended; read = all.read };
         seen = all.seen;
         follows = all.follows;
         leads = λ name names. exported-lead all.behind.layout.stands final.setting.leads (exports_of (last outsides source units).read.place.here.exports) name names all.follows.settings.leads;
