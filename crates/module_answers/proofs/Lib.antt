@@ -1,0 +1,3 @@
+mod Frames
+mod Rounds
+mod Levels

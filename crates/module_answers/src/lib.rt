@@ -1,0 +1,32 @@
+//! What the nodes of the units of a module answer is what is found in the module: of levels and of
+//! depths.
+//!
+//! No code: each function states a law that proofs above cite. Knows nothing of how nodes are
+//! built, and of how kinds and depths are found.
+#![tactic(auto)]
+
+ghost use Rattle.std.specs.Prelude.{◌≡◌, ℕ, List, Option};
+ghost use Rattle.unit_grammar.specs.Units.{ModuleUnits};
+ghost use Rattle.tla_model.specs.Entities.{Meaning};
+ghost use Rattle.kind_text.specs.FlatModule.{FlatModule, IsOrdered};
+ghost use Rattle.tree_kinds.specs.Standing.{Outside};
+ghost use Rattle.module_kinds.specs.ModuleKinds.{level_findings};
+ghost use Rattle.flattened_trees.specs.Answers.{level_answers};
+ghost use Rattle.flattened_trees.specs.Leads.{FlatFace};
+ghost use Rattle.flattened_trees.specs.Questions.{Question};
+ghost use Rattle.flattened_units.specs.Units.{IsModuleMade, Reader};
+ghost use Rattle.module_meanings.specs.Premises.{IsModuleGiven};
+ghost use Rattle.module_answers.specs.Shaped.{IsModuleShaped};
+
+/// What the kinds of the nodes of a module answer to what is asked of these is what is found of
+/// levels in the module and in those that are nested in it, in the order of the text.
+pub fn module_levels_are_found()
+    ensures { (flat : FlatModule) (means : ℕ → Option Meaning) (implied : ℕ → List Meaning)
+        (files : List ℕ → FlatFace) (outsides : List ℕ → Outside) (source : List ℕ)
+        (units : ModuleUnits) (symbols : List Meaning) (last : Reader) (asked : List Question)
+        (made : IsModuleMade flat means implied files outsides source units symbols last asked)
+        → IsOrdered flat
+        → IsModuleGiven flat means implied files outsides source units symbols last asked made
+        → IsModuleShaped flat means implied files outsides source units symbols last asked made
+        → level_answers flat asked ≡ level_findings outsides source units }
+{}
