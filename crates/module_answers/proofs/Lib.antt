@@ -1,3 +1,6 @@
 mod Frames
 mod Rounds
 mod Levels
+mod Depths
+mod Bringing
+mod Deepening

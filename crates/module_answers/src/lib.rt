@@ -10,12 +10,13 @@ ghost use Rattle.unit_grammar.specs.Units.{ModuleUnits};
 ghost use Rattle.tla_model.specs.Entities.{Meaning};
 ghost use Rattle.kind_text.specs.FlatModule.{FlatModule, IsOrdered};
 ghost use Rattle.tree_kinds.specs.Standing.{Outside};
-ghost use Rattle.module_kinds.specs.ModuleKinds.{level_findings};
-ghost use Rattle.flattened_trees.specs.Answers.{level_answers};
+ghost use Rattle.module_kinds.specs.ModuleKinds.{level_findings, too_deep};
+ghost use Rattle.flattened_trees.specs.Answers.{deep_answers, level_answers};
 ghost use Rattle.flattened_trees.specs.Leads.{FlatFace};
 ghost use Rattle.flattened_trees.specs.Questions.{Question};
 ghost use Rattle.flattened_units.specs.Units.{IsModuleMade, Reader};
 ghost use Rattle.module_meanings.specs.Premises.{IsModuleGiven};
+ghost use Rattle.module_answers.specs.Deep.{IsDeepSo, IsModuleArranged};
 ghost use Rattle.module_answers.specs.Shaped.{IsModuleShaped};
 
 /// What the kinds of the nodes of a module answer to what is asked of these is what is found of
@@ -29,4 +30,27 @@ pub fn module_levels_are_found()
         → IsModuleGiven flat means implied files outsides source units symbols last asked made
         → IsModuleShaped flat means implied files outsides source units symbols last asked made
         → level_answers flat asked ≡ level_findings outsides source units }
+{}
+
+/// What the nodes of a module answer, which extends none and has no nested ones, is which of its
+/// definitions, assumptions and theorems are too deep, in the order of the text; and its names lead
+/// to what is as deep as they are outside of it.
+pub fn module_depths_are_found()
+    ensures names { (flat : FlatModule) (means : ℕ → Option Meaning) (implied : ℕ → List Meaning)
+        (files : List ℕ → FlatFace) (outsides : List ℕ → Outside) (source : List ℕ)
+        (units : ModuleUnits) (symbols : List Meaning) (last : Reader) (asked : List Question)
+        (made : IsModuleMade flat means implied files outsides source units symbols last asked)
+        → IsOrdered flat
+        → IsModuleGiven flat means implied files outsides source units symbols last asked made
+        → IsModuleArranged flat means implied files outsides source units symbols last asked made
+        → deep_answers flat asked ≡ too_deep outsides source units }
+    ensures outside { (flat : FlatModule) (means : ℕ → Option Meaning)
+        (implied : ℕ → List Meaning) (files : List ℕ → FlatFace) (outsides : List ℕ → Outside)
+        (source : List ℕ) (units : ModuleUnits) (symbols : List Meaning) (last : Reader)
+        (asked : List Question)
+        (made : IsModuleMade flat means implied files outsides source units symbols last asked)
+        → IsOrdered flat
+        → IsModuleGiven flat means implied files outsides source units symbols last asked made
+        → IsModuleArranged flat means implied files outsides source units symbols last asked made
+        → IsDeepSo flat outsides source units symbols last }
 {}

@@ -1,7 +1,7 @@
 pub mod Leads
 pub mod Contexts
 mod Knowing
-mod Units
+pub mod Units
 mod Bringing
 mod Extending
 pub mod Beginning

@@ -1,0 +1,262 @@
+-- What the nodes of the units of a module answer is what is too deep in them, and how deep the module is outside.
+use Rattle.std.proofs.Common.{◌≡◌, inl, inr, ℕ, suc, Bool, true, false, cond, List, [], ◌∷◌, ◌++◌, Option, Some, None, map, refl, sym, ap, ◌∙◌, subst, length, append-nil}
+use Rattle.std.specs.Prelude.{◌⊎◌, is_some}
+use Rattle.std.specs.List.{AllByRecursion}
+use Rattle.tla_symbols.specs.declared.lexeme.Lexeme.{Lexeme}
+use Rattle.tla_tree.specs.declared.form.Form.TheVariants as Form
+use Rattle.tla_tree.specs.Syntax.{Tree, Node}
+use Rattle.unit_grammar.specs.Units.{UnitTree, Variables, Constants, OperatorDefinition, FunctionDefinition, ModuleDefinition, Instance, Assumption, Theorem, Line, ModuleBegin, ModuleEnd, ModuleUnits}
+use Rattle.tla_model.specs.declared.entity.Entity.TheVariants as entity
+use Rattle.tla_model.specs.declared.names.Binder.{Binder}
+use Rattle.tla_model.specs.declared.names.Meaning.TheVariants.{BuiltIn, Declared}
+use Rattle.tla_model.specs.Contexts.{Context, meaning_of}
+use Rattle.tla_model.specs.Entities.{Entity, Meaning, Text, all_placed, meant, variables}
+use Rattle.tla_model.specs.Tables.{Named}
+use Rattle.module_scope.specs.Environments.{first as first_scope}
+use Rattle.module_model.specs.Exports.{Known, behind_meaning, entry_of, exports_of}
+use Rattle.module_model.specs.Modules.{constants, declare_all, text_of}
+use Rattle.module_model.specs.Resolution.{words_of}
+use Rattle.kind_text.specs.FlatModule.{FlatModule, IsOrdered}
+use Rattle.level_text.specs.Depth.{depth as depth_at, is_too_deep}
+use Rattle.tree_kinds.specs.Standing.{Outside}
+use Rattle.tree_kinds.specs.TreeDepths.{Depths, deep_names, no_depths, reached_by}
+use Rattle.module_kinds.specs.ModuleKinds.{KindState, after, beneath, deep_from, deep_in, deep_word, extended_depths, first, known_at, last, named, read_all, too_deep}
+use Rattle.flat_trees.specs.Stands.{Stand, Place}
+use Rattle.flat_trees.specs.Layouts.{order_of}
+use Rattle.flat_kinds.specs.Modules.{Current, first_current, here_behind, round_behind}
+use Rattle.flat_kinds.specs.Readings.{exported_stand, extended_stands, stand_in}
+use Rattle.flat_kinds.specs.Symbols.{same_symbol, symbols_at}
+use Rattle.flat_depths.specs.Depths.{HasDepths, HaveDepths}
+use Rattle.flattened_trees.specs.Agreeing.{TakesAs, is_seen, unsaid_stand}
+use Rattle.flattened_trees.specs.Answers.{deep_answers}
+use Rattle.flattened_trees.specs.Leads.{FlatFace, Leads}
+use Rattle.flattened_trees.specs.Questions.{Question, IsConstant, over}
+use Rattle.flattened_trees.specs.Flattened.{IsFlattened}
+use Rattle.flattened_depths.specs.Arranged.{IsArranged}
+use Rattle.flattened_depths.specs.Rounds.{TakesParameters}
+use Rattle.flattened_depths.proofs.Facts.{asked-joins}
+use Rattle.flattened_depths.proofs.Knowing.{tree-asked, tree-deep}
+use Rattle.flattened_meanings.proofs.Fresh.{IsOneOf}
+use Rattle.flattened_units.specs.Units.{AreExtended, AreUnitsMade, IsModuleMade, IsUnitMade, Reader, face_in, symbol_setting}
+use Rattle.module_meanings.specs.Faces.{IsPlaced}
+use Rattle.module_meanings.specs.Premises.{AreTold, AreUnitsGiven, IsFileAt, IsModuleGiven, IsUnitGivenBy, first_seen, seen_behind}
+use Rattle.module_meanings.proofs.Beginning.{first-reader, symbol-stands}
+use Rattle.module_meanings.proofs.Contexts.{declared-means, one-is-seen, seen-left, seen-right, unseen-parts}
+use Rattle.module_meanings.proofs.Entering.{Holds}
+use Rattle.module_meanings.proofs.Further.{AllDefinitionsLead, unit-further}
+use Rattle.module_meanings.proofs.Leads.{exported-lead, none-leads, symbols-lead}
+use Rattle.module_meanings.proofs.Modules.{IsBegunWith, given-steps, module-begun}
+use Rattle.module_meanings.proofs.Nesting.{here-told}
+use Rattle.module_meanings.proofs.Units.{IsSymbolic, constants-symbolic, placed-one, placed-takes, variables-symbolic}
+use Rattle.module_answers.specs.Deep.{AreUnitsArranged, IsDeepBehind, IsDeepSo, IsModuleArranged, IsUnitArranged}
+use Rattle.module_answers.specs.Shaped.{IsClaimGiven}
+use Rattle.module_answers.proofs.Bringing.{instance-deep}
+use Rattle.module_answers.proofs.Depths.{Answered, Deep, deep-at, definition-deep, known-round}
+
+module _ (flat : FlatModule) (ordered : IsOrdered flat) (text : Text) (means : ℕ → Option Meaning) (implied : ℕ → List Meaning) (files : List ℕ → FlatFace) (outsides : List ℕ → Outside) (words : List ℕ) where
+  module _ (state : KindState) (reader : Reader) (seen : List Meaning) (stands : Meaning → Stand) (told : AreTold state.read.known state.read.place.here.context) (deep : Deep flat text state.read.known state.read.place.here.context state.depths reader.setting seen stands) where
+    -- what is known behind a unit
+    abbrev AnswersUnit : UnitTree → Reader → List Question → Type 0
+    AnswersUnit unit next asked =
+        Answered flat text (after text outsides words state unit).read.known (after text outsides words state unit).read.place.here.context (after text outsides words state unit).depths next.setting
+        (seen_behind text outsides words state unit next seen) asked (deep_in text outsides words state unit)
+
+    abbrev at : (unit : UnitTree) → Deep flat text (known_at text outsides words state unit) state.read.place.here.context state.depths reader.setting seen stands
+    at unit = deep-at flat ordered text means implied files outsides words state reader seen stands told deep unit
+
+    -- ---- claims
+
+    claim-answers : (unit : UnitTree) (word : Lexeme) (x : Tree) (i : ℕ) (a more : List Question) (asked : List Question) (inside : List ℕ → Named → Stand) → IsClaimGiven flat text means implied files outsides words state reader seen unit x → IsArranged (IsDeepBehind flat text means implied files outsides words state reader unit inside) x → IsFlattened text means implied (face_in flat text means implied files outsides words reader.faces) flat reader.setting x i a → deep_answers flat more ≡ [] → deep_answers flat asked ≡ cond (is_too_deep (depth_at flat i)) (word ∷ []) [] ++ deep_answers flat (a ++ more) → deep_answers flat asked ≡ deep_word text outsides words state unit word x ++ deep_names text (known_at text outsides words state unit) (named text outsides words state) (beneath text outsides words state) x
+    claim-answers unit word x i a more asked inside given arranged made none asks =
+        let known = known_at text outsides words state unit in
+        let modules = named text outsides words state in
+        let around = beneath text outsides words state in
+        let faces = face_in flat text means implied files outsides words reader.faces in
+        let knows = known-round flat text known state.read.place.here.context state.depths reader.setting seen stands (at unit) in
+        asks
+        ∙ ap (λ n. cond (is_too_deep n) (word ∷ []) [] ++ deep_answers flat (a ++ more)) (tree-deep flat text known modules means implied faces inside ordered seen _ reader.setting around knows x i a given.given.fresh arranged given.readable made)
+        ∙ ap (λ ys. deep_word text outsides words state unit word x ++ ys)
+        (asked-joins flat a more ∙ ap (λ ys. deep_answers flat a ++ ys) none ∙ append-nil (deep_answers flat a)
+        ∙ tree-asked flat text known modules means implied faces inside ordered seen _ reader.setting around knows x i a given.given.fresh arranged given.readable made)
+
+    -- ---- declarations
+
+    declared-deep : (unit : UnitTree) (binders : List Binder) → ((m : Meaning) → IsOneOf text binders m → IsSymbolic m) → AllByRecursion (IsPlaced reader.setting.leads) (map (meant text) binders) → Deep flat text (known_at text outsides words state unit) (declare_all text false state.read.place.here binders).context state.depths reader.setting (map (meant text) binders ++ seen) stands
+    declared-deep unit binders symbolic placed =
+        record {
+          round = record {
+            leads = deep.round.leads;
+            unsaid = λ m none. deep.round.unsaid m (unseen-parts (map (meant text) binders) seen m none).1;
+            plain = λ m none. deep.round.plain m (unseen-parts (map (meant text) binders) seen m none).1;
+            deep = deep.round.deep;
+            parameters = deep.round.parameters;
+          };
+          usable = record {
+            orders = λ name m e. by_orders name m (declared-means text binders false state.read.place.here name m e);
+            usable = λ name m e. by_seen name m (declared-means text binders false state.read.place.here name m e);
+          };
+        }
+      where
+        by_orders : (name : Named) (m : Meaning) → (meaning_of state.read.place.here.context name ≡ Some m) ⊎ IsOneOf text binders m → TakesAs (stands m) (behind_meaning (known_at text outsides words state unit) (Some m)) m
+        by_orders name m (inl before) = (at unit).usable.orders name m before
+        by_orders name m (inr one) = placed-takes stands reader.setting.leads (behind_meaning (known_at text outsides words state unit) (Some m)) m deep.round.leads (placed-one text reader.setting.leads binders m placed one) (symbolic m one)
+
+        by_seen : (name : Named) (m : Meaning) → (meaning_of state.read.place.here.context name ≡ Some m) ⊎ IsOneOf text binders m → is_seen (map (meant text) binders ++ seen) m ≡ true
+        by_seen name m (inl before) = seen-right (map (meant text) binders) seen m (deep.usable.usable name m before)
+        by_seen name m (inr one) = seen-left (map (meant text) binders) seen m (one-is-seen text binders m one)
+
+    -- ---- units
+
+    -- the reader is left as it is
+    same-reader : (known : Known) (context : Context) (depths : Depths) (names : List Meaning) (next : Reader) → next ≡ reader → Deep flat text known context depths reader.setting names stands → Deep flat text known context depths next.setting names stands
+    same-reader known context depths names next is here = subst (λ (r : Reader). Deep flat text known context depths r.setting names stands) (sym is) here
+
+    unit-answers : (unit : UnitTree) (next : Reader) (asked : List Question) → IsUnitMade flat text means implied files outsides words state reader unit next asked → IsUnitGivenBy flat text means implied files outsides words (IsFileAt flat text means implied files outsides words) state reader seen unit next → IsUnitArranged flat text means implied files outsides words state reader seen unit → AnswersUnit unit next asked
+    unit-answers (OperatorDefinition local (Node form s parts)) next asked made given (inside, arranged) =
+        definition-deep flat ordered text means implied files outsides words state reader seen stands told deep (OperatorDefinition local (Node form s parts)) (is_some local) form s parts next asked inside made given arranged
+    unit-answers (FunctionDefinition local (Node form s parts)) next asked made given (inside, arranged) =
+        definition-deep flat ordered text means implied files outsides words state reader seen stands told deep (FunctionDefinition local (Node form s parts)) (is_some local) form s parts next asked inside made given arranged
+    unit-answers (ModuleDefinition local (Node form s parts)) next asked made given (inside, arranged) =
+        definition-deep flat ordered text means implied files outsides words state reader seen stands told deep (ModuleDefinition local (Node form s parts)) (is_some local) form s parts next asked inside made given arranged
+    unit-answers (Instance local (Node (Form.Instance l) s rights)) next asked made given arranged =
+        instance-deep flat ordered text means implied files outsides words state reader seen stands told deep local l s rights next asked made given arranged
+    unit-answers (Instance local x) next asked made given arranged = absurd arranged
+    unit-answers (Assumption word name (Node form s parts)) next asked (i, a, is, same, parted) given (inside, claim, arranged) =
+        let unit : UnitTree = Assumption word name (Node form s parts) in
+        record {
+          stands = stands;
+          deep = same-reader _ _ _ _ next same (at unit);
+          answers = claim-answers unit word (Node form s parts) i a (over reader.setting.frame (IsConstant s i ∷ [])) asked inside claim arranged is refl (ap (deep_answers flat) parted);
+        }
+    unit-answers (Theorem word name (Node form s parts)) next asked (i, a, is, same, parted) given (inside, claim, arranged) =
+        let unit : UnitTree = Theorem word name (Node form s parts) in
+        record {
+          stands = stands;
+          deep = same-reader _ _ _ _ next same (at unit);
+          answers = claim-answers unit word (Node form s parts) i a [] asked inside claim arranged is refl (ap (deep_answers flat) parted);
+        }
+    unit-answers (Variables names) next asked made given arranged =
+        record { stands = stands; deep = same-reader _ _ _ _ next made.0 (declared-deep (Variables names) (variables names) (variables-symbolic text names) given); answers = ap (deep_answers flat) made.1 }
+    unit-answers (Constants declarations) next asked made given arranged =
+        record {
+          stands = stands;
+          deep = same-reader _ _ _ _ next made.0 (declared-deep (Constants declarations) (constants declarations) (constants-symbolic text (all_placed declarations)) given);
+          answers = ap (deep_answers flat) made.1;
+        }
+    unit-answers (Line dashes) next asked made given arranged =
+        record { stands = stands; deep = same-reader _ _ _ _ next made.0 (at (Line dashes)); answers = ap (deep_answers flat) made.1 }
+    unit-answers (ModuleBegin dashes name extends) next asked made given arranged = absurd arranged
+    unit-answers (ModuleEnd closing) next asked made given arranged = absurd arranged
+
+  -- what is known behind units, and what these answer
+  pub record AllAnswered (state : KindState) (next : Reader) (asked : List Question) (found : List Lexeme) : Type 0 where
+    pub seen : List Meaning
+    pub stands : Meaning → Stand
+    pub deep : Deep flat text state.read.known state.read.place.here.context state.depths next.setting seen stands
+    pub answers : deep_answers flat asked ≡ found
+
+  pub units-answer : (units : List UnitTree) (state : KindState) (reader : Reader) (seen : List Meaning) (here : Current) (outers : List Current) (stands : Meaning → Stand) (next : Reader) (asked : List Question) (made : AreUnitsMade flat text means implied files outsides words state reader units next asked) → AreUnitsGiven flat text means implied files outsides words state reader seen units next asked made → AreUnitsArranged flat text means implied files outsides words state reader seen units next asked made → AllDefinitionsLead reader → Holds flat ordered text means implied files outsides words state reader seen here outers → Deep flat text state.read.known state.read.place.here.context state.depths reader.setting seen stands → AllAnswered (read_all text outsides words state units) next asked (deep_from text outsides words state units)
+  units-answer [] state reader seen here outers stands next asked made given arranged further holds deep =
+      record {
+        seen = seen;
+        stands = stands;
+        deep = subst (λ (r : Reader). Deep flat text state.read.known state.read.place.here.context state.depths r.setting seen stands) (sym made.0) deep;
+        answers = ap (deep_answers flat) made.1;
+      }
+  units-answer (unit ∷ units) state reader seen here outers stands next asked made given arranged further holds deep =
+      let told = here-told state.read.known state.read.place.here.context reader.setting seen here.layout holds.here.follows in
+      let one = given-steps flat ordered text means implied files outsides words state reader seen here outers unit made.0 made.1 made.3 given.0.0 given.0.1 given.1 further holds in
+      let first = unit-answers state reader seen stands told deep unit made.0 made.1 made.3 given.1 arranged.0 in
+      let others =
+      units-answer units (after text outsides words state unit) made.0 (seen_behind text outsides words state unit made.0 seen) (here_behind text outsides words state here outers unit one.coming) (round_behind text outsides words here outers one.coming) first.stands next made.2 made.4 given.2 arranged.1
+      (unit-further flat text means implied files outsides words state reader seen unit made.0 made.1 further given.1 made.3) one.holds first.deep in
+      record {
+        seen = others.seen;
+        stands = others.stands;
+        deep = others.deep;
+        answers = ap (deep_answers flat) made.5 ∙ asked-joins flat made.1 made.2 ∙ ap (λ xs. xs ++ deep_answers flat made.2) first.answers ∙ ap (λ ys. deep_in text outsides words state unit ++ ys) others.answers;
+      }
+
+-- ---- modules
+
+unsaid-plain : (flat : FlatModule) (m : Meaning) → HasDepths flat 0 (unsaid_stand m) (no_depths m)
+unsaid-plain flat BuiltIn = refl
+unsaid-plain flat (Declared e x) = by_entity e
+  where
+    by_entity : (f : Entity) → HasDepths flat 0 (unsaid_stand (Declared f x)) (no_depths (Declared f x))
+    by_entity (entity.Bound state) = refl
+    by_entity f = tt
+
+unsaid-takes : (flat : FlatModule) (m : Meaning) → TakesParameters flat (unsaid_stand m)
+unsaid-takes flat BuiltIn = tt
+unsaid-takes flat (Declared e x) = by_entity e
+  where
+    by_entity : (f : Entity) → TakesParameters flat (unsaid_stand (Declared f x))
+    by_entity (entity.Bound state) = tt
+    by_entity f = tt
+
+symbols-plain : (flat : FlatModule) (base : Meaning → Stand) (symbols : List Meaning) (place : ℕ) (m : Meaning) → HasDepths flat 0 (base m) (no_depths m) × TakesParameters flat (base m) → HasDepths flat 0 (symbols_at base symbols place m) (no_depths m) × TakesParameters flat (symbols_at base symbols place m)
+symbols-plain flat base [] place m has = has
+symbols-plain flat base (s ∷ rest) place m has = by_same (same_symbol m s) (symbols-plain flat base rest (suc place) m has)
+  where
+    by_same : (b : Bool) → HasDepths flat 0 (symbols_at base rest (suc place) m) (no_depths m) × TakesParameters flat (symbols_at base rest (suc place) m) → HasDepths flat 0 (cond b (Place place (order_of s)) (symbols_at base rest (suc place) m)) (no_depths m) × TakesParameters flat (cond b (Place place (order_of s)) (symbols_at base rest (suc place) m))
+    by_same true others = (refl, tt)
+    by_same false others = others
+
+module _ (flat : FlatModule) (ordered : IsOrdered flat) (means : ℕ → Option Meaning) (implied : ℕ → List Meaning) (files : List ℕ → FlatFace) (outsides : List ℕ → Outside) (source : List ℕ) (units : ModuleUnits) (symbols : List Meaning) where
+  abbrev begins : KindState
+  begins = first outsides source units
+
+  abbrev stands-first : Meaning → Stand
+  stands-first = symbol-stands flat ordered means implied files outsides source units symbols
+
+  first-deep : (leads : Leads) → units.extends ≡ [] → AreExtended flat (text_of source units) means implied files outsides (words_of units) (first_scope (text_of source units).file) (first_scope (text_of source units).file) (symbol_setting flat means implied files outsides source units symbols) (symbol_setting flat means implied files outsides source units symbols).leads units.extends leads → IsBegunWith flat ordered means implied files outsides source units symbols leads → Deep flat (text_of source units) begins.read.known begins.read.place.here.context begins.depths (first-reader flat ordered means implied files outsides source units symbols leads).setting (first_seen flat means implied files outsides source units symbols) stands-first
+  first-deep leads alone extended begun =
+      let setting = symbol_setting flat means implied files outsides source units symbols in
+      let same : leads ≡ setting.leads =
+      subst (λ (ls : List Lexeme). AreExtended flat (text_of source units) means implied files outsides (words_of units) (first_scope (text_of source units).file) (first_scope (text_of source units).file) setting setting.leads ls leads) alone extended in
+      let none : begins.depths ≡ no_depths = ap (λ (ls : List Lexeme). extended_depths (text_of source units) outsides (words_of units) (first_scope (text_of source units).file) no_depths ls) alone in
+      let stay : extended_stands (text_of source units) outsides (words_of units) (first_scope (text_of source units).file) stands-first units.extends begun.extensions ≡ stands-first =
+      ap (λ (ls : List Lexeme). extended_stands (text_of source units) outsides (words_of units) (first_scope (text_of source units).file) stands-first ls begun.extensions) alone in
+      let follows = begun.holds.here.follows in
+      record {
+        round = record {
+          leads = λ m names. ap (λ (l : Leads). l m names) same ∙ symbols-lead unsaid_stand _ symbols 0 none-leads m names;
+          unsaid = begun.holds.nested.unsaid;
+          plain = λ m e. ap (λ (d : Depths). d m []) none;
+          deep = subst (λ (d : Depths). HaveDepths flat stands-first d) (sym none) (λ m. (symbols-plain flat unsaid_stand symbols 0 m (unsaid-plain flat m, unsaid-takes flat m)).0);
+          parameters = λ m. (symbols-plain flat unsaid_stand symbols 0 m (unsaid-plain flat m, unsaid-takes flat m)).1;
+        };
+        usable = record {
+          orders = λ name m e. subst (λ (s : Meaning → Stand). TakesAs (s m) (behind_meaning begins.read.known (Some m)) m) stay (follows.orders name m e);
+          usable = follows.all_seen;
+        };
+      }
+
+  module-all : (final : Reader) (asked : List Question) (made : IsModuleMade flat means implied files outsides source units symbols final asked) → IsModuleGiven flat means implied files outsides source units symbols final asked made → IsModuleArranged flat means implied files outsides source units symbols final asked made → AllAnswered flat ordered (text_of source units) means implied files outsides (words_of units) (last outsides source units) final asked (too_deep outsides source units)
+  module-all final asked made given arranged =
+      let begun = module-begun flat ordered means implied files outsides source units symbols final asked made given in
+      units-answer flat ordered (text_of source units) means implied files outsides (words_of units) units.units begins (first-reader flat ordered means implied files outsides source units symbols made.0) (first_seen flat means implied files outsides source units symbols)
+      (first_current outsides source units stands-first (length symbols) begun.extensions) [] stands-first final asked made.2 given.given arranged.arranged begun.further begun.holds (first-deep made.0 arranged.alone made.1 begun)
+
+  pub module-names : (final : Reader) (asked : List Question) (made : IsModuleMade flat means implied files outsides source units symbols final asked) → IsModuleGiven flat means implied files outsides source units symbols final asked made → IsModuleArranged flat means implied files outsides source units symbols final asked made → deep_answers flat asked ≡ too_deep outsides source units
+  module-names final asked made given arranged = (module-all final asked made given arranged).answers
+
+  pub module-outside : (final : Reader) (asked : List Question) (made : IsModuleMade flat means implied files outsides source units symbols final asked) → IsModuleGiven flat means implied files outsides source units symbols final asked made → IsModuleArranged flat means implied files outsides source units symbols final asked made → IsDeepSo flat outsides source units symbols final
+  module-outside final asked made given arranged =
+      let all = module-all final asked made given arranged in
+      let entries = exports_of (last outsides source units).read.place.here.exports in
+      record {
+        inner = exported_stand all.stands entries;
+        leads = λ name names. exported-lead all.stands final.setting.leads entries name names all.deep.round.leads;
+        deep = λ name. by_deep all.stands all.deep.round.deep (entry_of entries name);
+        parameters = λ name. by_takes all.stands all.deep.round.parameters (entry_of entries name);
+      }
+    where
+      by_deep : (stands : Meaning → Stand) → HaveDepths flat stands (last outsides source units).depths → (found : Option Meaning) → HasDepths flat 0 (stand_in stands found) (λ path. reached_by (last outsides source units).depths found path)
+      by_deep stands have None = tt
+      by_deep stands have (Some m) = have m
+
+      by_takes : (stands : Meaning → Stand) → ((m : Meaning) → TakesParameters flat (stands m)) → (found : Option Meaning) → TakesParameters flat (stand_in stands found)
+      by_takes stands each None = tt
+      by_takes stands each (Some m) = each m
