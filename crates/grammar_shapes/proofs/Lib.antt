@@ -1,0 +1,4 @@
+mod Nameless
+mod Parts
+mod Trees
+mod Units
