@@ -1,0 +1,4 @@
+mod New
+mod Units
+mod Kept
+mod First
