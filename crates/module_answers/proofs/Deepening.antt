@@ -20,11 +20,11 @@ use Rattle.kind_text.specs.FlatModule.{FlatModule, IsOrdered}
 use Rattle.level_text.specs.Depth.{depth as depth_at, is_too_deep}
 use Rattle.tree_kinds.specs.Standing.{Outside}
 use Rattle.tree_kinds.specs.TreeDepths.{Depths, deep_names, no_depths, reached_by}
-use Rattle.module_kinds.specs.ModuleKinds.{KindState, after, beneath, deep_from, deep_in, deep_word, extended_depths, first, known_at, last, named, read_all, too_deep}
+use Rattle.module_kinds.specs.ModuleKinds.{KindState, after, beneath, deep_from, deep_in, deep_word, first, known_at, last, named, read_all, too_deep}
 use Rattle.flat_trees.specs.Stands.{Stand, Place}
 use Rattle.flat_trees.specs.Layouts.{order_of}
 use Rattle.flat_kinds.specs.Modules.{Current, first_current, here_behind, round_behind}
-use Rattle.flat_kinds.specs.Readings.{exported_stand, extended_stands, stand_in}
+use Rattle.flat_kinds.specs.Readings.{exported_stand, stand_in}
 use Rattle.flat_kinds.specs.Symbols.{same_symbol, symbols_at}
 use Rattle.flat_depths.specs.Depths.{HasDepths, HaveDepths}
 use Rattle.flattened_trees.specs.Agreeing.{TakesAs, is_seen, unsaid_stand}
@@ -37,7 +37,7 @@ use Rattle.flattened_depths.specs.Rounds.{TakesParameters}
 use Rattle.flattened_depths.proofs.Facts.{asked-joins}
 use Rattle.flattened_depths.proofs.Knowing.{tree-asked, tree-deep}
 use Rattle.flattened_meanings.proofs.Fresh.{IsOneOf}
-use Rattle.flattened_units.specs.Units.{AreExtended, AreUnitsMade, IsModuleMade, IsUnitMade, Reader, face_in, symbol_setting}
+use Rattle.flattened_units.specs.Units.{AreUnitsMade, IsModuleMade, IsUnitMade, Reader, face_in, symbol_setting}
 use Rattle.module_meanings.specs.Faces.{IsPlaced}
 use Rattle.module_meanings.specs.Premises.{AreTold, AreUnitsGiven, IsFileAt, IsModuleGiven, IsUnitGivenBy, first_seen, seen_behind}
 use Rattle.module_meanings.proofs.Beginning.{first-reader, symbol-stands}
@@ -51,6 +51,7 @@ use Rattle.module_meanings.proofs.Units.{IsSymbolic, constants-symbolic, placed-
 use Rattle.module_answers.specs.Deep.{AreUnitsArranged, IsDeepBehind, IsDeepSo, IsModuleArranged, IsUnitArranged}
 use Rattle.module_answers.specs.Shaped.{IsClaimGiven}
 use Rattle.module_answers.proofs.Bringing.{instance-deep}
+use Rattle.module_answers.proofs.Extended.{all-extended-deep, none-brought}
 use Rattle.module_answers.proofs.Depths.{Answered, Deep, deep-at, definition-deep, known-round}
 
 module _ (flat : FlatModule) (ordered : IsOrdered flat) (text : Text) (means : ℕ → Option Meaning) (implied : ℕ → List Meaning) (files : List ℕ → FlatFace) (outsides : List ℕ → Outside) (words : List ℕ) where
@@ -210,34 +211,43 @@ module _ (flat : FlatModule) (ordered : IsOrdered flat) (means : ℕ → Option 
   abbrev stands-first : Meaning → Stand
   stands-first = symbol-stands flat ordered means implied files outsides source units symbols
 
-  first-deep : (leads : Leads) → units.extends ≡ [] → AreExtended flat (text_of source units) means implied files outsides (words_of units) (first_scope (text_of source units).file) (first_scope (text_of source units).file) (symbol_setting flat means implied files outsides source units symbols) (symbol_setting flat means implied files outsides source units symbols).leads units.extends leads → IsBegunWith flat ordered means implied files outsides source units symbols leads → Deep flat (text_of source units) begins.read.known begins.read.place.here.context begins.depths (first-reader flat ordered means implied files outsides source units symbols leads).setting (first_seen flat means implied files outsides source units symbols) stands-first
-  first-deep leads alone extended begun =
+  -- the stands behind what the module extends
+  record FirstDeep (leads : Leads) : Type 0 where
+    stands : Meaning → Stand
+    deep : Deep flat (text_of source units) begins.read.known begins.read.place.here.context begins.depths (first-reader flat ordered means implied files outsides source units symbols leads).setting (first_seen flat means implied files outsides source units symbols) stands
+
+  first-deep : (final : Reader) (asked : List Question) (made : IsModuleMade flat means implied files outsides source units symbols final asked) → IsModuleGiven flat means implied files outsides source units symbols final asked made → IsModuleArranged flat means implied files outsides source units symbols final asked made → IsBegunWith flat ordered means implied files outsides source units symbols made.0 → FirstDeep made.0
+  first-deep final asked made given arranged begun =
       let setting = symbol_setting flat means implied files outsides source units symbols in
-      let same : leads ≡ setting.leads =
-      subst (λ (ls : List Lexeme). AreExtended flat (text_of source units) means implied files outsides (words_of units) (first_scope (text_of source units).file) (first_scope (text_of source units).file) setting setting.leads ls leads) alone extended in
-      let none : begins.depths ≡ no_depths = ap (λ (ls : List Lexeme). extended_depths (text_of source units) outsides (words_of units) (first_scope (text_of source units).file) no_depths ls) alone in
-      let stay : extended_stands (text_of source units) outsides (words_of units) (first_scope (text_of source units).file) stands-first units.extends begun.extensions ≡ stands-first =
-      ap (λ (ls : List Lexeme). extended_stands (text_of source units) outsides (words_of units) (first_scope (text_of source units).file) stands-first ls begun.extensions) alone in
+      let plain = λ (m : Meaning). symbols-plain flat unsaid_stand symbols 0 m (unsaid-plain flat m, unsaid-takes flat m) in
+      let all =
+      all-extended-deep flat ordered (text_of source units) means implied files outsides (words_of units) begins.read.known begins.read.place.here.context (first_scope (text_of source units).file) (first_scope (text_of source units).file) setting setting.leads
+      units.extends stands-first no_depths setting.leads made.0 (symbols-lead unsaid_stand _ symbols 0 none-leads) (λ m. (plain m).0) (λ m. (plain m).1) given.extended.each arranged.extended made.1 in
       let follows = begun.holds.here.follows in
       record {
-        round = record {
-          leads = λ m names. ap (λ (l : Leads). l m names) same ∙ symbols-lead unsaid_stand _ symbols 0 none-leads m names;
-          unsaid = begun.holds.nested.unsaid;
-          plain = λ m e. ap (λ (d : Depths). d m []) none;
-          deep = subst (λ (d : Depths). HaveDepths flat stands-first d) (sym none) (λ m. (symbols-plain flat unsaid_stand symbols 0 m (unsaid-plain flat m, unsaid-takes flat m)).0);
-          parameters = λ m. (symbols-plain flat unsaid_stand symbols 0 m (unsaid-plain flat m, unsaid-takes flat m)).1;
-        };
-        usable = record {
-          orders = λ name m e. subst (λ (s : Meaning → Stand). TakesAs (s m) (behind_meaning begins.read.known (Some m)) m) stay (follows.orders name m e);
-          usable = follows.all_seen;
+        stands = all.final;
+        deep = record {
+          round = record {
+            leads = all.leads;
+            unsaid = λ m e. let parts = unseen-parts (BuiltIn ∷ symbols) _ m e in all.unsaid m parts.1 ∙ begun.holds.nested.unsaid m e;
+            plain = λ m e. let parts = unseen-parts (BuiltIn ∷ symbols) _ m e in all.plain m parts.1;
+            deep = all.deep;
+            parameters = all.parameters;
+          };
+          usable = record {
+            orders = λ name m e. all.takes name m e
+                (λ none. subst (λ (s : Stand). TakesAs s (behind_meaning begins.read.known (Some m)) m) (none-brought (text_of source units) outsides (words_of units) (first_scope (text_of source units).file) units.extends begun.extensions stands-first m none) (follows.orders name m e));
+            usable = follows.all_seen;
+          };
         };
       }
 
   module-all : (final : Reader) (asked : List Question) (made : IsModuleMade flat means implied files outsides source units symbols final asked) → IsModuleGiven flat means implied files outsides source units symbols final asked made → IsModuleArranged flat means implied files outsides source units symbols final asked made → AllAnswered flat ordered (text_of source units) means implied files outsides (words_of units) (last outsides source units) final asked (too_deep outsides source units)
   module-all final asked made given arranged =
       let begun = module-begun flat ordered means implied files outsides source units symbols final asked made given in
+      let at-first = first-deep final asked made given arranged begun in
       units-answer flat ordered (text_of source units) means implied files outsides (words_of units) units.units begins (first-reader flat ordered means implied files outsides source units symbols made.0) (first_seen flat means implied files outsides source units symbols)
-      (first_current outsides source units stands-first (length symbols) begun.extensions) [] stands-first final asked made.2 given.given arranged.arranged begun.further begun.holds (first-deep made.0 arranged.alone made.1 begun)
+      (first_current outsides source units stands-first (length symbols) begun.extensions) [] at-first.stands final asked made.2 given.given arranged.arranged begun.further begun.holds at-first.deep
 
   pub module-names : (final : Reader) (asked : List Question) (made : IsModuleMade flat means implied files outsides source units symbols final asked) → IsModuleGiven flat means implied files outsides source units symbols final asked made → IsModuleArranged flat means implied files outsides source units symbols final asked made → deep_answers flat asked ≡ too_deep outsides source units
   module-names final asked made given arranged = (module-all final asked made given arranged).answers

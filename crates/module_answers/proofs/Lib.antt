@@ -3,4 +3,5 @@ mod Rounds
 mod Levels
 mod Depths
 mod Bringing
+mod Extended
 mod Deepening

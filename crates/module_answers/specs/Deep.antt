@@ -1,20 +1,22 @@
 -- What the units of a module without nested ones are so that its nodes answer what is too deep in it, beside what lets these mean the module;
 -- and how deep it is outside.
-use Rattle.std.specs.Prelude.{◌≡◌, ℕ, true, List, [], ◌∷◌, Option}
+use Rattle.std.specs.Prelude.{ℕ, true, List, [], ◌∷◌, Option}
+use Rattle.std.specs.List.{AllByRecursion}
 use Rattle.tla_symbols.specs.declared.lexeme.Lexeme.{Lexeme}
 use Rattle.tla_tree.specs.declared.form.Form.TheVariants as Form
 use Rattle.tla_tree.specs.Syntax.{Tree, Node}
 use Rattle.unit_grammar.specs.Units.{UnitTree, OperatorDefinition, FunctionDefinition, ModuleDefinition, Instance, Assumption, Theorem, ModuleBegin, ModuleEnd, ModuleUnits}
 use Rattle.tla_model.specs.Entities.{Meaning, Text}
+use Rattle.tla_model.specs.Lexemes.{spelled}
 use Rattle.tla_model.specs.Tables.{Named}
-use Rattle.module_scope.specs.Environments.{first as first_scope}
-use Rattle.module_model.specs.Exports.{behind_instance}
+use Rattle.module_scope.specs.Environments.{Scope, first as first_scope}
+use Rattle.module_model.specs.Exports.{Known, behind_instance}
 use Rattle.module_model.specs.Modules.{text_of}
 use Rattle.module_model.specs.Resolution.{words_of}
 use Rattle.kind_text.specs.FlatModule.{FlatModule}
 use Rattle.tree_kinds.specs.Standing.{Outside}
 use Rattle.tree_kinds.specs.Expanding.{module_of}
-use Rattle.module_kinds.specs.ModuleKinds.{KindState, after, first, known_at, named, outside}
+use Rattle.module_kinds.specs.ModuleKinds.{KindState, after, first, known_at, named, named_in, outside}
 use Rattle.flat_trees.specs.Stands.{Stand}
 use Rattle.flat_depths.specs.Depths.{IsDeepModule}
 use Rattle.flattened_trees.specs.Leads.{FlatFace}
@@ -68,10 +70,21 @@ module _ (flat : FlatModule) (text : Text) (means : ℕ → Option Meaning) (imp
       IsUnitArranged state reader seen unit
       × AreUnitsArranged (after text outsides words state unit) made.0 (seen_behind text outsides words state unit made.0 seen) units next made.2 made.4
 
+  -- modules that are extended: their names lead where these stand, as deep as outside of them
+  abbrev pub AreDeepExtended : Known → Scope Outside → Scope FlatFace → List Lexeme → Type 0
+  AreDeepExtended known modules faces ls =
+      AllByRecursion
+      (λ l.
+      (inner : Named → Stand)
+      × LeadsAs flat text known (named_in text outsides words modules) (face_in flat text means implied files outsides words faces) l inner
+      (behind_instance (named_in text outsides words modules (spelled text.source l)).view)) ls
+
 module _ (flat : FlatModule) (means : ℕ → Option Meaning) (implied : ℕ → List Meaning) (files : List ℕ → FlatFace) (outsides : List ℕ → Outside) (source : List ℕ) (units : ModuleUnits) where
-  -- a module that extends none, as it comes with these symbols
+  -- a module, as it comes with these symbols
   pub record IsModuleArranged (symbols : List Meaning) (last : Reader) (asked : List Question) (made : IsModuleMade flat means implied files outsides source units symbols last asked) : Type 0 where
-    pub alone : units.extends ≡ []
+    pub extended :
+        AreDeepExtended flat (text_of source units) means implied files outsides (words_of units) (first outsides source units).read.known (first_scope (text_of source units).file)
+        (first_scope (text_of source units).file) units.extends
     pub arranged :
         AreUnitsArranged flat (text_of source units) means implied files outsides (words_of units) (first outsides source units)
         (record {

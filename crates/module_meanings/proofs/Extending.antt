@@ -158,7 +158,7 @@ module _ (flat : FlatModule) (ordered : IsOrdered flat) where
 -- ---- all of them
 
 -- what none of the entries means that a module exports, none means that it brings
-unseen-passing : (entries : Exports) (m : Meaning) → is_seen (meanings_of entries) m ≡ false → name_among (instantiable entries) m ≡ None
+pub unseen-passing : (entries : Exports) (m : Meaning) → is_seen (meanings_of entries) m ≡ false → name_among (instantiable entries) m ≡ None
 unseen-passing [] m none = refl
 unseen-passing (entry ∷ rest) m none = by_same (same_meaning m entry.1) refl none (unseen-passing rest m)
   where

@@ -3,7 +3,7 @@ pub mod Contexts
 mod Knowing
 pub mod Units
 mod Bringing
-mod Extending
+pub mod Extending
 pub mod Beginning
 pub mod Staying
 pub mod Nesting
