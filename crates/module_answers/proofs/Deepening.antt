@@ -11,33 +11,35 @@ use Rattle.tla_model.specs.declared.names.Binder.{Binder}
 use Rattle.tla_model.specs.declared.names.Meaning.TheVariants.{BuiltIn, Declared}
 use Rattle.tla_model.specs.Contexts.{Context, meaning_of}
 use Rattle.tla_model.specs.Entities.{Entity, Meaning, Text, all_placed, meant, variables}
+use Rattle.tla_model.specs.Lexemes.{spelled}
 use Rattle.tla_model.specs.Tables.{Named}
 use Rattle.module_scope.specs.Environments.{first as first_scope}
-use Rattle.module_model.specs.Exports.{Known, behind_meaning, entry_of, exports_of}
+use Rattle.module_model.specs.Exports.{Behind, Known, behind_meaning, entry_of, exports_of, onward}
 use Rattle.module_model.specs.Modules.{constants, declare_all, text_of}
 use Rattle.module_model.specs.Resolution.{words_of}
 use Rattle.kind_text.specs.FlatModule.{FlatModule, IsOrdered}
 use Rattle.level_text.specs.Depth.{depth as depth_at, is_too_deep}
 use Rattle.tree_kinds.specs.Standing.{Outside}
+use Rattle.tree_kinds.specs.Expanding.{module_of}
 use Rattle.tree_kinds.specs.TreeDepths.{Depths, deep_names, no_depths, reached_by}
-use Rattle.module_kinds.specs.ModuleKinds.{KindState, after, beneath, deep_from, deep_in, deep_word, first, known_at, last, named, read_all, too_deep}
+use Rattle.module_kinds.specs.ModuleKinds.{KindState, after, beneath, deep_from, deep_in, deep_word, first, known_at, last, named, outside, read_all, too_deep}
 use Rattle.flat_trees.specs.Stands.{Stand, Place}
 use Rattle.flat_trees.specs.Layouts.{order_of}
 use Rattle.flat_kinds.specs.Modules.{Current, first_current, here_behind, round_behind}
 use Rattle.flat_kinds.specs.Readings.{exported_stand, stand_in}
 use Rattle.flat_kinds.specs.Symbols.{same_symbol, symbols_at}
-use Rattle.flat_depths.specs.Depths.{HasDepths, HaveDepths}
-use Rattle.flattened_trees.specs.Agreeing.{TakesAs, is_seen, unsaid_stand}
+use Rattle.flat_depths.specs.Depths.{HasDepths, HaveDepths, IsDeepModule}
+use Rattle.flattened_trees.specs.Agreeing.{TakesAs, TakesBehind, is_seen, unsaid_stand}
 use Rattle.flattened_trees.specs.Answers.{deep_answers}
 use Rattle.flattened_trees.specs.Leads.{FlatFace, Leads}
 use Rattle.flattened_trees.specs.Questions.{Question, IsConstant, over}
 use Rattle.flattened_trees.specs.Flattened.{IsFlattened}
 use Rattle.flattened_depths.specs.Arranged.{IsArranged}
-use Rattle.flattened_depths.specs.Rounds.{TakesParameters}
+use Rattle.flattened_depths.specs.Rounds.{LeadsAs, TakesParameters}
 use Rattle.flattened_depths.proofs.Facts.{asked-joins}
 use Rattle.flattened_depths.proofs.Knowing.{tree-asked, tree-deep}
 use Rattle.flattened_meanings.proofs.Fresh.{IsOneOf}
-use Rattle.flattened_units.specs.Units.{AreUnitsMade, IsModuleMade, IsUnitMade, Reader, face_in, symbol_setting}
+use Rattle.flattened_units.specs.Units.{AreUnitsMade, IsModuleMade, IsUnitMade, Reader, exported_leads, face_in, symbol_setting}
 use Rattle.module_meanings.specs.Faces.{IsPlaced}
 use Rattle.module_meanings.specs.Premises.{AreTold, AreUnitsGiven, IsFileAt, IsModuleGiven, IsUnitGivenBy, first_seen, seen_behind}
 use Rattle.module_meanings.proofs.Beginning.{first-reader, symbol-stands}
@@ -260,13 +262,24 @@ module _ (flat : FlatModule) (ordered : IsOrdered flat) (means : ℕ → Option 
         inner = exported_stand all.stands entries;
         leads = λ name names. exported-lead all.stands final.setting.leads entries name names all.deep.round.leads;
         deep = λ name. by_deep all.stands all.deep.round.deep (entry_of entries name);
-        parameters = λ name. by_takes all.stands all.deep.round.parameters (entry_of entries name);
+        parameters = λ name. by_parameters all.stands all.deep.round.parameters (entry_of entries name);
+        takes = λ name used m e there. subst (λ (found : Option Meaning). TakesAs (stand_in all.stands found) (behind_meaning (last outsides source units).read.known (Some m)) m) (sym e) (all.deep.usable.orders used m there);
       }
     where
       by_deep : (stands : Meaning → Stand) → HaveDepths flat stands (last outsides source units).depths → (found : Option Meaning) → HasDepths flat 0 (stand_in stands found) (λ path. reached_by (last outsides source units).depths found path)
       by_deep stands have None = tt
       by_deep stands have (Some m) = have m
 
-      by_takes : (stands : Meaning → Stand) → ((m : Meaning) → TakesParameters flat (stands m)) → (found : Option Meaning) → TakesParameters flat (stand_in stands found)
-      by_takes stands each None = tt
-      by_takes stands each (Some m) = each m
+      by_parameters : (stands : Meaning → Stand) → ((m : Meaning) → TakesParameters flat (stands m)) → (found : Option Meaning) → TakesParameters flat (stand_in stands found)
+      by_parameters stands each None = tt
+      by_parameters stands each (Some m) = each m
+
+-- a module that is so deep is what is asked of one that is named
+pub module-led : (flat : FlatModule) (outsides : List ℕ → Outside) (source : List ℕ) (units : ModuleUnits) (symbols : List Meaning) (final : Reader) (text : Text) (known : Known) (named_outsides : List ℕ → Outside) (faces : List ℕ → FlatFace) (l : Lexeme) (held : Behind) (deep : IsDeepSo flat outsides source units symbols final) → module_of text known named_outsides l ≡ outside outsides source units → ((name : Named) (names : List Named) → (faces (spelled text.source l)).leads (name ∷ names) ≡ exported_leads final.setting.leads (exports_of (last outsides source units).read.place.here.exports) (name ∷ names)) → ((name : Named) (next : Meaning) → entry_of (held []) name ≡ Some next → TakesBehind (deep.inner name) (onward held name) next) → LeadsAs flat text known named_outsides faces l deep.inner held
+module-led flat outsides source units symbols final text known named_outsides faces l held deep same leads takes =
+    record {
+      leads = λ name names. leads name names ∙ deep.leads name names;
+      deep = subst (λ (o : Outside). IsDeepModule flat deep.inner o) (sym same) deep.deep;
+      parameters = deep.parameters;
+      takes = takes;
+    }

@@ -1,24 +1,26 @@
 -- What the units of a module without nested ones are so that its nodes answer what is too deep in it, beside what lets these mean the module;
 -- and how deep it is outside.
-use Rattle.std.specs.Prelude.{ℕ, true, List, [], ◌∷◌, Option}
+use Rattle.std.specs.Prelude.{◌≡◌, ℕ, true, List, [], ◌∷◌, Option, Some}
 use Rattle.std.specs.List.{AllByRecursion}
 use Rattle.tla_symbols.specs.declared.lexeme.Lexeme.{Lexeme}
 use Rattle.tla_tree.specs.declared.form.Form.TheVariants as Form
 use Rattle.tla_tree.specs.Syntax.{Tree, Node}
 use Rattle.unit_grammar.specs.Units.{UnitTree, OperatorDefinition, FunctionDefinition, ModuleDefinition, Instance, Assumption, Theorem, ModuleBegin, ModuleEnd, ModuleUnits}
+use Rattle.tla_model.specs.Contexts.{meaning_of}
 use Rattle.tla_model.specs.Entities.{Meaning, Text}
 use Rattle.tla_model.specs.Lexemes.{spelled}
 use Rattle.tla_model.specs.Tables.{Named}
 use Rattle.module_scope.specs.Environments.{Scope, first as first_scope}
-use Rattle.module_model.specs.Exports.{Known, behind_instance}
+use Rattle.module_model.specs.Exports.{Known, behind_instance, behind_meaning, entry_of, exports_of}
 use Rattle.module_model.specs.Modules.{text_of}
 use Rattle.module_model.specs.Resolution.{words_of}
 use Rattle.kind_text.specs.FlatModule.{FlatModule}
 use Rattle.tree_kinds.specs.Standing.{Outside}
 use Rattle.tree_kinds.specs.Expanding.{module_of}
-use Rattle.module_kinds.specs.ModuleKinds.{KindState, after, first, known_at, named, named_in, outside}
+use Rattle.module_kinds.specs.ModuleKinds.{KindState, after, first, known_at, last, named, named_in, outside}
 use Rattle.flat_trees.specs.Stands.{Stand}
 use Rattle.flat_depths.specs.Depths.{IsDeepModule}
+use Rattle.flattened_trees.specs.Agreeing.{TakesAs}
 use Rattle.flattened_trees.specs.Leads.{FlatFace}
 use Rattle.flattened_trees.specs.Questions.{Question}
 use Rattle.flattened_depths.specs.Arranged.{AreArranged, BindsNothing, IsArranged, IsArrangedDefinition}
@@ -94,9 +96,14 @@ module _ (flat : FlatModule) (means : ℕ → Option Meaning) (implied : ℕ →
         })
         (first_seen flat means implied files outsides source units symbols) units.units last asked made.2
 
--- the names of a module lead where these stand, as deep as outside of it; instances on the way take what is said of them
+-- the names of a module lead where these stand, as deep as outside of it; instances on the way take what is said of them; and names that can
+-- be used behind its units take what they take there
 pub record IsDeepSo (flat : FlatModule) (outsides : List ℕ → Outside) (source : List ℕ) (units : ModuleUnits) (symbols : List Meaning) (final : Reader) : Type 0 where
   pub inner : Named → Stand
   pub leads : LeadOutside flat outsides source units symbols final inner
   pub deep : IsDeepModule flat inner (outside outsides source units)
   pub parameters : (name : Named) → TakesParameters flat (inner name)
+  pub takes :
+      (name used : Named) (meaning : Meaning) → entry_of (exports_of (last outsides source units).read.place.here.exports) name ≡ Some meaning
+      → meaning_of (last outsides source units).read.place.here.context used ≡ Some meaning
+      → TakesAs (inner name) (behind_meaning (last outsides source units).read.known (Some meaning)) meaning

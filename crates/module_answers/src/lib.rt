@@ -5,16 +5,23 @@
 //! built, and of how kinds and depths are found.
 #![tactic(auto)]
 
-ghost use Rattle.std.specs.Prelude.{◌≡◌, ℕ, List, Option};
+ghost use Rattle.std.specs.Prelude.{◌≡◌, ℕ, List, [], ◌∷◌, Option, Some};
+ghost use Rattle.tla_symbols.specs.declared.lexeme.Lexeme.{Lexeme};
 ghost use Rattle.unit_grammar.specs.Units.{ModuleUnits};
-ghost use Rattle.tla_model.specs.Entities.{Meaning};
+ghost use Rattle.tla_model.specs.Entities.{Meaning, Text};
+ghost use Rattle.tla_model.specs.Lexemes.{spelled};
+ghost use Rattle.tla_model.specs.Tables.{Named};
+ghost use Rattle.module_model.specs.Exports.{Behind, Known, entry_of, exports_of, onward};
 ghost use Rattle.kind_text.specs.FlatModule.{FlatModule, IsOrdered};
 ghost use Rattle.tree_kinds.specs.Standing.{Outside};
-ghost use Rattle.module_kinds.specs.ModuleKinds.{level_findings, too_deep};
+ghost use Rattle.tree_kinds.specs.Expanding.{module_of};
+ghost use Rattle.module_kinds.specs.ModuleKinds.{last, level_findings, outside, too_deep};
+ghost use Rattle.flattened_trees.specs.Agreeing.{TakesBehind};
 ghost use Rattle.flattened_trees.specs.Answers.{deep_answers, level_answers};
 ghost use Rattle.flattened_trees.specs.Leads.{FlatFace};
 ghost use Rattle.flattened_trees.specs.Questions.{Question};
-ghost use Rattle.flattened_units.specs.Units.{IsModuleMade, Reader};
+ghost use Rattle.flattened_depths.specs.Rounds.{LeadsAs};
+ghost use Rattle.flattened_units.specs.Units.{IsModuleMade, Reader, exported_leads};
 ghost use Rattle.module_meanings.specs.Premises.{IsModuleGiven};
 ghost use Rattle.module_answers.specs.Deep.{IsDeepSo, IsModuleArranged};
 ghost use Rattle.module_answers.specs.Shaped.{IsModuleShaped};
@@ -53,4 +60,22 @@ pub fn module_depths_are_found()
         → IsModuleGiven flat means implied files outsides source units symbols last asked made
         → IsModuleArranged flat means implied files outsides source units symbols last asked made
         → IsDeepSo flat outsides source units symbols last }
+{}
+
+/// A module that is so deep is what is asked of one that a tree names, where its names take what is
+/// known of them there: to a module definition, to an INSTANCE without a name, and to a module that
+/// extends it.
+pub fn deep_modules_are_named()
+    ensures { (flat : FlatModule) (outsides : List ℕ → Outside) (source : List ℕ)
+        (units : ModuleUnits) (symbols : List Meaning) (last_reader : Reader) (text : Text)
+        (known : Known) (named : List ℕ → Outside) (faces : List ℕ → FlatFace) (l : Lexeme)
+        (held : Behind) (deep : IsDeepSo flat outsides source units symbols last_reader)
+        → module_of text known named l ≡ outside outsides source units
+        → ((name : Named) (names : List Named)
+        → (faces (spelled text.source l)).leads (name ∷ names)
+        ≡ exported_leads last_reader.setting.leads
+        (exports_of (last outsides source units).read.place.here.exports) (name ∷ names))
+        → ((name : Named) (next : Meaning) → entry_of (held []) name ≡ Some next
+        → TakesBehind (deep.inner name) (onward held name) next)
+        → LeadsAs flat text known named faces l deep.inner held }
 {}
