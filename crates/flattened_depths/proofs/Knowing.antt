@@ -134,7 +134,7 @@ module _ (flat : FlatModule) (known : Known) where
       }
 
   -- in a flat module that has more
-  takes-kept : (more : FlatModule) (extends : Extends flat more) (stand : Stand) → IsWithin flat stand → TakesParameters flat stand → TakesParameters more stand
+  pub takes-kept : (more : FlatModule) (extends : Extends flat more) (stand : Stand) → IsWithin flat stand → TakesParameters flat stand → TakesParameters more stand
   takes-kept more extends Unsaid there takes = tt
   takes-kept more extends (Leaf kind) there takes = tt
   takes-kept more extends (Place place order) there takes = tt

@@ -5,3 +5,4 @@ mod Depths
 mod Bringing
 mod Extended
 mod Deepening
+mod Growing

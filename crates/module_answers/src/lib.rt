@@ -12,7 +12,7 @@ ghost use Rattle.tla_model.specs.Entities.{Meaning, Text};
 ghost use Rattle.tla_model.specs.Lexemes.{spelled};
 ghost use Rattle.tla_model.specs.Tables.{Named};
 ghost use Rattle.module_model.specs.Exports.{Behind, Known, entry_of, exports_of, onward};
-ghost use Rattle.kind_text.specs.FlatModule.{FlatModule, IsOrdered};
+ghost use Rattle.kind_text.specs.FlatModule.{Extends, FlatModule, IsOrdered};
 ghost use Rattle.tree_kinds.specs.Standing.{Outside};
 ghost use Rattle.tree_kinds.specs.Expanding.{module_of};
 ghost use Rattle.module_kinds.specs.ModuleKinds.{last, level_findings, outside, too_deep};
@@ -20,6 +20,7 @@ ghost use Rattle.flattened_trees.specs.Agreeing.{TakesBehind};
 ghost use Rattle.flattened_trees.specs.Answers.{deep_answers, level_answers};
 ghost use Rattle.flattened_trees.specs.Leads.{FlatFace};
 ghost use Rattle.flattened_trees.specs.Questions.{Question};
+ghost use Rattle.flattened_trees.specs.Within.{IsLeadWithin};
 ghost use Rattle.flattened_depths.specs.Rounds.{LeadsAs};
 ghost use Rattle.flattened_units.specs.Units.{IsModuleMade, Reader, exported_leads};
 ghost use Rattle.module_meanings.specs.Premises.{IsModuleGiven};
@@ -78,4 +79,17 @@ pub fn deep_modules_are_named()
         → ((name : Named) (next : Meaning) → entry_of (held []) name ≡ Some next
         → TakesBehind (deep.inner name) (onward held name) next)
         → LeadsAs flat text known named faces l deep.inner held }
+{}
+
+/// A module that is so deep in a flat module is so in one that has more, where its names lead to
+/// what is there already.
+pub fn deep_modules_grow()
+    ensures { (flat more : FlatModule) (outsides : List ℕ → Outside) (source : List ℕ)
+        (units : ModuleUnits) (symbols : List Meaning) (last_reader : Reader)
+        → Extends flat more → IsOrdered flat
+        → ((name : Named) (names : List Named) → IsLeadWithin flat
+        (exported_leads last_reader.setting.leads
+        (exports_of (last outsides source units).read.place.here.exports) (name ∷ names)))
+        → IsDeepSo flat outsides source units symbols last_reader
+        → IsDeepSo more outsides source units symbols last_reader }
 {}

@@ -34,7 +34,7 @@ module _ (flat : FlatModule) where
   lead-within (Brought j inner) all = ((all []).path.0, lead-within inner (λ names. let behind = all names in record { path = behind.path.1; end = behind.end }))
 
   -- names that lead so outside of a module
-  names-within : (inner : Named → Stand) (leads : List Named → Lead) → ((name : Named) (names : List Named) → leads (name ∷ names) ≡ lead_by (inner name) names) → ((name : Named) (names : List Named) → IsLeadWithin flat (leads (name ∷ names))) → (name : Named) → IsWithin flat (inner name)
+  pub names-within : (inner : Named → Stand) (leads : List Named → Lead) → ((name : Named) (names : List Named) → leads (name ∷ names) ≡ lead_by (inner name) names) → ((name : Named) (names : List Named) → IsLeadWithin flat (leads (name ∷ names))) → (name : Named) → IsWithin flat (inner name)
   names-within inner leads same all name = lead-within (inner name) (λ names. subst (IsLeadWithin flat) (same name names) (all name names))
 
   -- ---- symbols

@@ -14,7 +14,7 @@ pub mod Modules
 mod Meant
 mod Instancing
 mod Leaves
-mod Growing
+pub mod Growing
 mod Symbols
 mod Samples
 mod Within
