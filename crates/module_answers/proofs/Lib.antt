@@ -6,3 +6,4 @@ mod Bringing
 mod Extended
 mod Deepening
 mod Growing
+mod Samples

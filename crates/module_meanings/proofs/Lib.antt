@@ -16,5 +16,5 @@ mod Instancing
 mod Leaves
 pub mod Growing
 mod Symbols
-mod Samples
+pub mod Samples
 mod Within

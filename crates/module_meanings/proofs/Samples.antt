@@ -67,10 +67,10 @@ abbrev names : UnitTree
 names = ModuleDefinition None instancing
 
 -- MODULE M | MODULE N | F == 1 | end | I == INSTANCE N, its names alone and the number
-abbrev source : List ℕ
+abbrev pub source : List ℕ
 source = codes "MNF1IN"
 
-abbrev units : ModuleUnits
+abbrev pub units : ModuleUnits
 units = record { name = at 0; extends = []; units = begins ∷ (defines ∷ (ends ∷ (names ∷ []))) }
 
 abbrev text : Text
@@ -79,27 +79,27 @@ text = text_of source units
 abbrev words : List ℕ
 words = words_of units
 
-abbrev outsides : List ℕ → Outside
+abbrev pub outsides : List ℕ → Outside
 outsides name = no_module
 
-abbrev files : List ℕ → FlatFace
+abbrev pub files : List ℕ → FlatFace
 files name = no_face
 
-abbrev means : ℕ → Option Meaning
+abbrev pub means : ℕ → Option Meaning
 means from = None
 
-abbrev implied : ℕ → List Meaning
+abbrev pub implied : ℕ → List Meaning
 implied from = []
 
 -- the number, F over it, and the instance
-abbrev flat : FlatModule
+abbrev pub flat : FlatModule
 flat = record {
   nodes = constant_node ∷ [];
   definitions = record { outer = 0; root = 0 } ∷ [];
   instances = record { outer = 0; parameters = 0; guards = true; replacements = [] } ∷ [];
 }
 
-ordered : IsOrdered flat
+pub ordered : IsOrdered flat
 ordered zero n is = let same : constant_node ≡ n = cc in subst (IsMadeOfEarlier flat 0) same (record { parts = tt; uses = tt })
 ordered (suc i) n is = cc is
 
@@ -141,7 +141,7 @@ face = nested_face flat text means implied files outsides words state2 state0.re
 abbrev reader3 : Reader
 reader3 = record { setting = setting0; round = []; faces = ended face reader2.faces.here reader2.faces.round }
 
-abbrev reader4 : Reader
+abbrev pub reader4 : Reader
 reader4 = record reader3 { setting = behind text setting0 instancing (behind_instance 0 face) }
 
 -- ---- the nodes
@@ -155,10 +155,10 @@ defined_asked = over [] (IsShallow (at 2) 0 ∷ []) ++ (number_asked ++ [])
 abbrev named_asked : List Question
 named_asked = over [] (IsShallowInstance (at 4) 0 ∷ []) ++ ([] ++ [])
 
-abbrev asked : List Question
+abbrev pub asked : List Question
 asked = [] ++ (defined_asked ++ ([] ++ (named_asked ++ [])))
 
-abbrev made : IsModuleMade flat means implied files outsides source units [] reader4 asked
+abbrev pub made : IsModuleMade flat means implied files outsides source units [] reader4 asked
 made = (
   setting0.leads,
   refl,
@@ -240,7 +240,7 @@ nested-named : (new : Meaning → Bool) (name : List ℕ) → bytes_eq name (cod
 nested-named new name is =
     subst (λ (n : List ℕ). IsFileAt flat text means implied files outsides words state3 reader3 new n) (sym ((bytes_eq-Decides name (codes "N")).0 is)) (λ m. inr refl)
 
-given : IsModuleGiven flat means implied files outsides source units [] reader4 asked made
+pub given : IsModuleGiven flat means implied files outsides source units [] reader4 asked made
 given =
     record {
       extended = record { each = tt; others = λ name m is none. inr (name, is) };
