@@ -2,3 +2,4 @@ mod New
 mod Units
 mod Kept
 mod First
+mod Brought

@@ -6,16 +6,24 @@
 
 ghost use Rattle.std.specs.Prelude.{◌≡◌, ℕ, List, [], ◌∷◌, ◌++◌, Option};
 ghost use Rattle.std.specs.List.{AllByRecursion};
-ghost use Rattle.tla_tree.specs.Syntax.{Cons, Nil, Tree as TreeOf};
+ghost use Rattle.tla_symbols.specs.declared.lexeme.Lexeme.{Lexeme};
+ghost use Rattle.tla_symbols.specs.declared.lexeme.Span.{Span};
+ghost use Rattle.tla_tree.specs.declared.form.Form.TheVariants as Form;
+ghost use Rattle.tla_tree.specs.Syntax.{Cons, Nil, Node, Tree as TreeOf, Trees};
+ghost use Rattle.tla_model.specs.declared.names.Binder.{Binder};
+ghost use Rattle.tla_model.specs.Lexemes.{spelled};
 ghost use Rattle.tla_model.specs.Entities.{Meaning, Text, declared_by, declaring, within};
-ghost use Rattle.unit_grammar.specs.Units.{ModuleUnits, UnitTree};
+ghost use Rattle.unit_grammar.specs.Units.{Instance, ModuleBegin, ModuleUnits, UnitTree};
 ghost use Rattle.front_laws.specs.Fronts.{IsFront, Tree};
 ghost use Rattle.module_model.specs.Modules.{text_of};
+ghost use Rattle.module_scope.specs.Environments.{begun};
 ghost use Rattle.module_model.specs.Exports.{exported};
+ghost use Rattle.module_model.specs.NamedModules.{view_of};
+ghost use Rattle.module_model.specs.Resolution.{module_named};
 ghost use Rattle.module_model.specs.Instances.{unit_trees};
 ghost use Rattle.kind_text.specs.FlatModule.{FlatModule};
 ghost use Rattle.tree_kinds.specs.Standing.{Outside};
-ghost use Rattle.module_kinds.specs.ModuleKinds.{KindState};
+ghost use Rattle.module_kinds.specs.ModuleKinds.{KindState, named_in, views};
 ghost use Rattle.flattened_trees.specs.Agreeing.{IsFresh};
 ghost use Rattle.flattened_trees.specs.Leads.{FlatFace};
 ghost use Rattle.flattened_units.specs.Units.{Reader, meanings_of};
@@ -71,4 +79,25 @@ pub fn first_names_are_elsewhere()
         → AllByRecursion (IsElsewhere (text_of source units) (symbols_in units.units)) symbols
         → AllByRecursion (IsElsewhere (text_of source units) (symbols_in units.units))
         (first_seen flat means implied files outsides source units symbols) }
+{}
+
+/// What a unit brings is so: through an INSTANCE without a name, where the names of its module are;
+/// and for a nested module, where its symbols are and the names of the modules that it extends.
+pub fn brought_names_are_elsewhere()
+    ensures instances { (text : Text) (outsides : List ℕ → Outside) (words : List ℕ)
+        (state : KindState) (local : Option Lexeme) (l : Lexeme) (s : Span) (parts : Trees)
+        (next : Reader) (others : List Binder)
+        → AllByRecursion (IsElsewhere text others) (meanings_of (exported
+        (view_of text (module_named text (views text outsides words) words state.read) l)))
+        → AllByRecursion (IsElsewhere text others) (brought_by text outsides words state
+        (Instance local (Node (Form.Instance l) s parts)) next) }
+    ensures nested { (text : Text) (outsides : List ℕ → Outside) (words : List ℕ)
+        (state : KindState) (dashes name : Lexeme) (extends : List Lexeme) (next : Reader)
+        (others : List Binder)
+        → AllByRecursion (IsElsewhere text others) next.setting.frame
+        → AllByRecursion (λ l. AllByRecursion (IsElsewhere text others) (meanings_of (exported
+        (named_in text outsides words (begun state.modules (spelled text.source name))
+        (spelled text.source l)).view))) extends
+        → AllByRecursion (IsElsewhere text others) (brought_by text outsides words state
+        (ModuleBegin dashes name extends) next) }
 {}
