@@ -2,7 +2,6 @@
 ghost use Rattle.std.specs.Prelude.{◌≡◌, ◌++◌, ◌∷◌, [], IfOk, OnOk};
 ghost use Rattle.std.specs.Option.{option_copied};
 ghost use Rattle.module_model.specs.Exports.{exports_of, of_symbols, of_words};
-ghost use Rattle.module_model.specs.Instances.{through};
 ghost use Rattle.name_context.specs.AsTables.{taken_words, words_of};
 ghost use Rattle.name_exports.specs.Brought.{behind_through, passed_through};
 ghost use Rattle.tla_model.specs.Tables as tables;
@@ -10,11 +9,11 @@ ghost use Rattle.tree_names.specs.Parameters.{entries_in, entry_in, named_in};
 
 use crate::ways::copied_name;
 use indexmap::IndexMap;
-use name_exports::Exported;
+use name_exports::{Exported, passed};
 use std::alloc::Global;
-use tla_model::{Callee, Meaning, NameTable, UnitId};
+use tla_model::{Meaning, NameTable, UnitId};
 use tla_symbols::Op;
-use tool_list::{Chars, List, Memory, SharedList};
+use tool_list::{Chars, List, Memory};
 use tree_names::{Name, Parameter};
 
 // Appends an entry.
@@ -118,54 +117,6 @@ pub fn nested_entries(alloc: Global, exports: &Exported<'_>) -> Result<List<Para
     push_own_words(alloc, &mut entries, words)?;
     push_symbols(&mut entries, exports.symbols())?;
     Ok(entries)
-}
-
-// These units, with one behind them.
-fn with_unit(alloc: Global, via: &[UnitId], unit: &UnitId) -> Result<SharedList<UnitId>, Memory>
-    ensures { IfOk result (λ units. units ≡ via.now ++ unit.now ∷ []) }
-{
-    let mut units = List::new(alloc);
-    for before in via {
-        units.push(before.copied()?)?;
-    }
-    units.push(unit.copied()?)?;
-    units.into_shared()
-}
-
-// A callee that came through one more unit.
-fn called_through(alloc: Global, unit: &UnitId, callee: &Callee) -> Result<Callee, Memory>
-    ensures { IfOk result (λ called. called
-        ≡ record callee.now { via = callee.now.via ++ unit.now ∷ [] }) }
-{
-    Ok(Callee {
-        instance: callee.instance,
-        decl: callee.decl.copied()?,
-        via: with_unit(alloc, callee.via.as_slice(), unit)?,
-    })
-}
-
-// What a name means that came through one more unit.
-fn meant_through(alloc: Global, unit: &UnitId, meaning: &Meaning) -> Result<Meaning, Memory>
-    ensures { IfOk result (λ meant. meant ≡ through unit.now meaning.now) }
-{
-    match meaning {
-        Meaning::BuiltIn => Ok(Meaning::BuiltIn),
-        Meaning::Declared { entity, callee } => Ok(Meaning::Declared {
-            entity: entity.copied()?,
-            callee: called_through(alloc, unit, callee)?,
-        }),
-    }
-}
-
-// What a name means behind an INSTANCE: through its unit, or the same where there is none.
-fn passed(alloc: Global, unit: Option<&UnitId>, meaning: &Meaning) -> Result<Meaning, Memory>
-    ensures { IfOk result (λ meant. meant
-        ≡ passed_through (option_copied unit.entry) meaning.now) }
-{
-    match unit {
-        Some(unit) => meant_through(alloc, unit, meaning),
-        None => meaning.copied(),
-    }
 }
 
 // Appends an entry, if it is brought.

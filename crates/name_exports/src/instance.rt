@@ -53,8 +53,8 @@ fn meant_through(alloc: Global, unit: &UnitId, meaning: &Meaning) -> Result<Mean
     }
 }
 
-// What a name means behind an INSTANCE: through its unit, or the same where there is none.
-fn passed(alloc: Global, unit: Option<&UnitId>, meaning: &Meaning) -> Result<Meaning, Memory>
+/// What a name means behind an INSTANCE: through its unit, or the same where there is none.
+pub fn passed(alloc: Global, unit: Option<&UnitId>, meaning: &Meaning) -> Result<Meaning, Memory>
     ensures { IfOk result (λ meant. meant
         ≡ passed_through (option_copied unit.entry) meaning.now) }
 {

@@ -12,5 +12,5 @@ mod same;
 
 pub use exported::Exported;
 pub use extend::{bring_import, bring_nested};
-pub use instance::{bring_nested_through, bring_through};
+pub use instance::{bring_nested_through, bring_through, passed};
 pub use names::Names;
