@@ -8,7 +8,7 @@ use Rattle.tla_model.specs.declared.names.Meaning.TheVariants.{BuiltIn, Declared
 use Rattle.tla_model.specs.Tables.{Named}
 use Rattle.tla_model.specs.Entities.{Meaning}
 use Rattle.module_model.specs.Exports.{Exports, entry_of}
-use Rattle.kind_text.specs.FlatModule.{Extends, FlatModule, UsesDefinition, UsesInstance}
+use Rattle.kind_text.specs.FlatModule.{Extends, FlatModule, UsesInstance}
 use Rattle.tree_kinds.specs.Standing.{name_among, same_standing}
 use Rattle.flat_trees.specs.Layouts.{order_of}
 use Rattle.flat_kinds.specs.Symbols.{same_symbol}
@@ -111,11 +111,11 @@ module _ (flat : FlatModule) where
     round = there.round;
   }
 
-  pub defined-there : (known : Leading) (meanings : List Meaning) (d : ℕ) → UsesDefinition flat (length flat.nodes) d → AllLeadWithin flat known
-      → AllLeadWithin flat (leading known (with_leads known.leads meanings (only (end.Definition d))))
-  defined-there known meanings d used there = record {
+  pub defined-there : (known : Leading) (meanings : List Meaning) (e : end.the_data) → IsEndWithin flat e → AllLeadWithin flat known
+      → AllLeadWithin flat (leading known (with_leads known.leads meanings (only e)))
+  defined-there known meanings e used there = record {
     faces = there.faces;
-    leads = leads-there meanings known.leads (only (end.Definition d)) there.leads (λ names. only-there (end.Definition d) names used);
+    leads = leads-there meanings known.leads (only e) there.leads (λ names. only-there e names used);
     round = there.round;
   }
 

@@ -2,7 +2,6 @@
 ghost use Rattle.std.specs.Prelude.{◌≡◌, ◌∷◌, IfOk, OnOk, Some, length, map};
 ghost use Rattle.name_context.specs.AsTables.{meant_by};
 ghost use Rattle.tree_names.specs.Parameters.{entries_in};
-ghost use Rattle.flattened_trees.specs.declared.End.TheVariants as end;
 ghost use Rattle.flattened_trees.specs.Leads.{behind_instance, only, with_leads};
 ghost use Rattle.flattened_units.specs.Units.{face_by, with_brought};
 ghost use Rattle.tree_flattener.specs.Found.{lead_in};
@@ -175,18 +174,13 @@ impl ModuleLeads {
         Ok(())
     }
 
-    /// Defines these by a definition with this number.
-    pub fn define(&mut self, meanings: &[Meaning], definition: usize) -> Result<(), Memory>
+    /// Defines these: where no name follows, they lead to this.
+    pub fn define(&mut self, meanings: &[Meaning], to: End) -> Result<(), Memory>
         ensures known { OnOk result (leading_in self.new ≡ known.leading (leading_in self.old)
-            (with_leads (leading_in self.old).leads meanings.now
-            (only (end.Definition definition)))) }
+            (with_leads (leading_in self.old).leads meanings.now (only to))) }
         ensures sound { OnOk result (IsSound self.old → IsSound self.new) }
     {
-        put_all(
-            &mut self.here,
-            meanings,
-            &Way::To(End::Definition(definition)),
-        )?;
+        put_all(&mut self.here, meanings, &Way::To(to))?;
         Ok(())
     }
 

@@ -1,6 +1,5 @@
 use Rattle.std.proofs.Common.{length, refl, subst, sym}
 use Rattle.std.specs.Prelude.{IfSome}
-use Rattle.flattened_trees.specs.declared.End.TheVariants as end
 use Rattle.flattened_trees.specs.Leads.{only, with_leads}
 use Rattle.module_leads.specs.declared.ways.Way.TheVariants as way
 use Rattle.module_leads.specs.Faces.{faces_of}
@@ -15,14 +14,14 @@ returns-clause-known c =
     let round = c.args.self.now.round.items in
     let old = c.args.self.now.here in
     let new = c.put_all.new.layer in
-    let lead = only (end.Definition c.args.definition) in
+    let lead = only c.args.to in
     led faces round old new (with_leads (leads_by (faces_of faces) (way_by round old)) c.args.meanings.now lead)
-    (defined-leads (faces_of faces) round old new c.args.meanings.now (way.To (end.Definition c.args.definition)) lead c.in_ok-put_all.ensures (λ names. refl))
+    (defined-leads (faces_of faces) round old new c.args.meanings.now (way.To c.args.to) lead c.in_ok-put_all.ensures (λ names. refl))
 
 pub returns-clause-sound : goal.returns-clause-sound
 returns-clause-sound c = λ sound. record {
   outer = sound.outer;
   inner = λ m.
       subst (λ o. IfSome o (IsWayWithin (length c.args.self.now.faces.items))) (sym (c.in_ok-put_all.ensures.ways m))
-      (put-within (length c.args.self.now.faces.items) c.args.meanings.now (own_way c.args.self.now.here) (way.To (end.Definition c.args.definition)) tt sound.inner m);
+      (put-within (length c.args.self.now.faces.items) c.args.meanings.now (own_way c.args.self.now.here) (way.To c.args.to) tt sound.inner m);
 }
