@@ -1,6 +1,6 @@
 -- When nodes of a flat module are what the units of a module write, where names lead behind each unit, and what is asked of it. What
 -- names a module has is told by its state.
-use Rattle.std.specs.Prelude.{◌≡◌, ℕ, suc, false, List, [], ◌∷◌, ◌++◌, Option, Some, None, drop, if◌then◌else◌, length, map, slice_get}
+use Rattle.std.specs.Prelude.{◌≡◌, ℕ, suc, false, true, List, [], ◌∷◌, ◌++◌, Option, Some, None, drop, if◌then◌else◌, length, map, slice_get}
 use Rattle.tla_symbols.specs.declared.lexeme.Lexeme.{Lexeme}
 use Rattle.tla_tree.specs.declared.form.Form.TheVariants as Form
 use Rattle.tla_tree.specs.Syntax.{Tree, Node, span}
@@ -53,7 +53,7 @@ exported_leads leads entries (name ∷ names) = lead_of leads (entry_of entries 
 
 -- no module, or one round this place
 abbrev pub no_face : FlatFace
-no_face = record { parameters = []; outer = 0; leads = λ names. nowhere; is_constant = false }
+no_face = record { parameters = []; outer = 0; leads = λ names. nowhere; is_constant = true }
 
 -- a nested module that can be named, or else the file
 abbrev pub face_under : (List ℕ → FlatFace) → Option (Option FlatFace) → List ℕ → FlatFace

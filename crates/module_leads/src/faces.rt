@@ -169,12 +169,12 @@ pub(crate) fn face_outer(faces: &[ModuleFace], face: Option<usize>) -> usize
     }
 }
 
-/// Whether a module is constant.
+/// Whether a module is constant, as one is that is not there.
 pub(crate) fn face_is_constant(faces: &[ModuleFace], face: Option<usize>) -> bool
     ensures { result ≡ (face_at (faces_of faces.now) face).is_constant }
 {
     match face_before(faces, faces.len(), face) {
         Some((_, face)) => face.is_constant,
-        None => false,
+        None => true,
     }
 }
