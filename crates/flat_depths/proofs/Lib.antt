@@ -4,4 +4,4 @@ pub mod Joining
 pub mod Replacing
 pub mod Definitions
 pub mod Growing
-mod Units
+pub mod Units

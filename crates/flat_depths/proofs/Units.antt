@@ -57,7 +57,8 @@ module _ (text : Text) (files : List ℕ → Outside) (words : List ℕ) where
       meaning path none
   brought-left state unit (Node form s parts) meaning path none = refl
 
-  meaning-left : (state : KindState) (unit : UnitTree) (meaning : Meaning) (path : List Named) → Leaves text files words state unit meaning → depths_behind text files words state unit meaning path ≡ state.depths meaning path
+  -- what a unit leaves is as deep as before
+  pub meaning-left : (state : KindState) (unit : UnitTree) (meaning : Meaning) (path : List Named) → Leaves text files words state unit meaning → depths_behind text files words state unit meaning path ≡ state.depths meaning path
   meaning-left state (OperatorDefinition local x) meaning path leaves = depths-left state.depths (map (meant text) (definition x)) _ meaning path leaves
   meaning-left state (FunctionDefinition local x) meaning path leaves = depths-left state.depths (map (meant text) (definition x)) _ meaning path leaves
   meaning-left state (ModuleDefinition local x) meaning path leaves = depths-left state.depths (map (meant text) (definition x)) _ meaning path leaves
