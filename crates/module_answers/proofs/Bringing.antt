@@ -10,7 +10,7 @@ use Rattle.tla_model.specs.Contexts.{meaning_of}
 use Rattle.tla_model.specs.Entities.{Meaning, Text}
 use Rattle.tla_model.specs.Lexemes.{spelled}
 use Rattle.tla_model.specs.Tables.{Named}
-use Rattle.module_model.specs.Exports.{Exports, Known, behind_meaning}
+use Rattle.module_model.specs.Exports.{Exports, Known, behind_instance, behind_meaning}
 use Rattle.module_model.specs.Resolution.{instance_brings}
 use Rattle.kind_text.specs.FlatModule.{FlatModule, IsOrdered}
 use Rattle.level_text.specs.Depth.{parameters_of}
@@ -26,14 +26,14 @@ use Rattle.flattened_trees.specs.Agreeing.{KeepsOrders, TakesAs, is_seen}
 use Rattle.flattened_trees.specs.Answers.{deep_answers}
 use Rattle.flattened_trees.specs.Leads.{FlatFace}
 use Rattle.flattened_trees.specs.Questions.{Question}
-use Rattle.flattened_depths.specs.Rounds.{TakesParameters}
+use Rattle.flattened_depths.specs.Arranged.{AreArranged, BindsNothing}
+use Rattle.flattened_depths.specs.Rounds.{LeadsAs, LeadsBehind, TakesParameters}
 use Rattle.flattened_depths.proofs.Knowing.{instance-asked, instance-known}
 use Rattle.flattened_units.specs.Units.{IsInstanceMade, Reader, face_in, meanings_of}
 use Rattle.module_meanings.specs.Premises.{AreTold, IsFileAt, IsInstanceGivenBy}
 use Rattle.module_meanings.proofs.Contexts.{IsEntry, entry-named, entry-seen, joined-means, orders-more, seen-left, seen-right, told-more, unseen-entries, unseen-parts}
 use Rattle.module_meanings.proofs.Leads.{brought-lead}
 use Rattle.module_meanings.proofs.Units.{comes-takes}
-use Rattle.module_answers.specs.Deep.{IsArrangedBringing}
 use Rattle.module_answers.proofs.Depths.{Answered, Deep, deep-at, known-round}
 
 module _ (flat : FlatModule) (ordered : IsOrdered flat) (text : Text) (means : ℕ → Option Meaning) (implied : ℕ → List Meaning) (files : List ℕ → FlatFace) (outsides : List ℕ → Outside) (words : List ℕ) (state : KindState) (reader : Reader) (seen : List Meaning) (stands : Meaning → Stand) (told : AreTold state.read.known state.read.place.here.context) (deep : Deep flat text state.read.known state.read.place.here.context state.depths reader.setting seen stands) (local : Option Lexeme) (l : Lexeme) (s : Span) (rights : Trees) where
@@ -65,8 +65,8 @@ module _ (flat : FlatModule) (ordered : IsOrdered flat) (text : Text) (means : �
   abbrev from : List Named → Reached
   from path = deeper (replaced_depth text known modules (beneath text outsides words state) x) ((module_of text known modules l).depths path)
 
-  pub instance-deep : (next : Reader) (asked : List Question) → IsInstanceMade flat text means implied files outsides words state reader x next asked → IsInstanceGivenBy flat text means implied files outsides words (IsFileAt flat text means implied files outsides words) state reader seen unit x → IsArrangedBringing flat text means implied files outsides words state reader unit x → Answered flat text then.read.known then.read.place.here.context then.depths next.setting (meanings_of entries ++ seen) asked (deep_names text known modules (beneath text outsides words state) x)
-  instance-deep next asked (sides, roots, j, a, b, are, made, is, asks) given (inside, inner, none, arranged, names) =
+  pub instance-deep : (next : Reader) (asked : List Question) (inside : List ℕ → Named → Stand) (inner : Named → Stand) → IsInstanceMade flat text means implied files outsides words state reader x next asked → IsInstanceGivenBy flat text means implied files outsides words (IsFileAt flat text means implied files outsides words) state reader seen unit x → BindsNothing (Form.Instance l) rights → AreArranged (LeadsBehind flat text known modules faces inside) true rights → LeadsAs flat text known modules faces l inner (behind_instance (module_of text known modules l).view) → Answered flat text then.read.known then.read.place.here.context then.depths next.setting (meanings_of entries ++ seen) asked (deep_names text known modules (beneath text outsides words state) x)
+  instance-deep next asked inside inner (sides, roots, j, a, b, are, made, is, asks) given none arranged names =
       let here = deep-at flat ordered text means implied files outsides words state reader seen stands told deep unit in
       let around = beneath text outsides words state in
       let knows = known-round flat text known state.read.place.here.context state.depths reader.setting seen stands here in

@@ -24,7 +24,7 @@ use Rattle.flattened_trees.specs.Answers.{deep_answers}
 use Rattle.flattened_trees.specs.Leads.{FlatFace, Setting}
 use Rattle.flattened_trees.specs.Questions.{Question}
 use Rattle.flattened_depths.specs.Arranged.{IsArrangedDefinition}
-use Rattle.flattened_depths.specs.Rounds.{IsKnownRound}
+use Rattle.flattened_depths.specs.Rounds.{IsKnownRound, LeadsBehind}
 use Rattle.flattened_depths.proofs.Chains.{definition-good}
 use Rattle.flattened_depths.proofs.Counting.{New, first-unlike, new-fewer, new-from, rest-none, seen-none, times, times-joins, within-counts}
 use Rattle.flattened_depths.proofs.Rounds.{Among, Round, Usable, behind-round}
@@ -34,7 +34,6 @@ use Rattle.flattened_meanings.proofs.Rounds.{stands-in}
 use Rattle.flattened_units.specs.Units.{IsDefinitionMade, Reader, face_in}
 use Rattle.module_meanings.specs.Premises.{AreTold, IsDefinitionGivenBy, IsFileAt}
 use Rattle.module_meanings.proofs.Contexts.{declared-means, one-is-seen, orders-more, seen-left, seen-right}
-use Rattle.module_answers.specs.Deep.{IsDeepBehind}
 
 module _ (flat : FlatModule) (text : Text) where
   -- names lead where these stand, as deep as what stands there
@@ -92,7 +91,7 @@ module _ (flat : FlatModule) (ordered : IsOrdered flat) (text : Text) (means : �
 
   -- ---- a definition
 
-  pub definition-deep : (unit : UnitTree) (local : Bool) (form : Form.the_data) (s : Span) (parts : Trees) (next : Reader) (asked : List Question) (inside : List ℕ → Named → Stand) → IsDefinitionMade flat text means implied files outsides words reader (Node form s parts) next asked → IsDefinitionGivenBy flat text means implied files outsides words (IsFileAt flat text means implied files outsides words) state reader seen unit (Node form s parts) → IsArrangedDefinition (IsDeepBehind flat text means implied files outsides words state reader unit inside) (Node form s parts) → Answered flat text (known_at text outsides words state unit) (declare_all text local state.read.place.here (defined form parts)).context (with_depth state.depths (map (meant text) (defined form parts)) (defined_depth text (known_at text outsides words state unit) (named text outsides words state) (beneath text outsides words state) (Node form s parts))) next.setting (map (meant text) (defined form parts) ++ seen) asked (deep_names text (known_at text outsides words state unit) (named text outsides words state) (beneath text outsides words state) (Node form s parts))
+  pub definition-deep : (unit : UnitTree) (local : Bool) (form : Form.the_data) (s : Span) (parts : Trees) (next : Reader) (asked : List Question) (inside : List ℕ → Named → Stand) → IsDefinitionMade flat text means implied files outsides words reader (Node form s parts) next asked → IsDefinitionGivenBy flat text means implied files outsides words (IsFileAt flat text means implied files outsides words) state reader seen unit (Node form s parts) → IsArrangedDefinition (LeadsBehind flat text (known_at text outsides words state unit) (named text outsides words state) faces inside) (Node form s parts) → Answered flat text (known_at text outsides words state unit) (declare_all text local state.read.place.here (defined form parts)).context (with_depth state.depths (map (meant text) (defined form parts)) (defined_depth text (known_at text outsides words state unit) (named text outsides words state) (beneath text outsides words state) (Node form s parts))) next.setting (map (meant text) (defined form parts) ++ seen) asked (deep_names text (known_at text outsides words state unit) (named text outsides words state) (beneath text outsides words state) (Node form s parts))
   definition-deep unit local form s parts next asked inside (lead, roots, made, is) given arranged =
       let known = known_at text outsides words state unit in
       let modules = named text outsides words state in

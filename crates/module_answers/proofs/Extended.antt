@@ -34,7 +34,7 @@ use Rattle.module_meanings.proofs.Contexts.{unseen-parts}
 use Rattle.module_meanings.proofs.Extending.{unseen-passing}
 use Rattle.module_meanings.proofs.Leads.{brought-lead}
 use Rattle.module_meanings.proofs.Units.{comes-takes}
-use Rattle.module_answers.specs.Deep.{AreDeepExtended}
+use Rattle.module_answers.proofs.Nested.{AllLead}
 
 -- what no module brings that is extended stands as before
 pub none-brought : (text : Text) (outsides : List ℕ → Outside) (words : List ℕ) (modules : Scope Outside) (ls : List Lexeme) (es : List Extension) (stands : Meaning → Stand) (m : Meaning) → BringNone text outsides words modules ls m → extended_stands text outsides words modules stands ls es m ≡ stands m
@@ -98,7 +98,7 @@ module _ (flat : FlatModule) (ordered : IsOrdered flat) (text : Text) (means : �
     pub unsaid : (m : Meaning) → is_seen (extended_meanings text outsides words modules ls) m ≡ false → final m ≡ stands m
     pub plain : (m : Meaning) → is_seen (extended_meanings text outsides words modules ls) m ≡ false → extended_depths text outsides words modules depths ls m [] ≡ depths m []
 
-  pub all-extended-deep : (ls : List Lexeme) (stands : Meaning → Stand) (depths : Depths) (leads next : Leads) → LeadsBy stands leads → HaveDepths flat stands depths → ((m : Meaning) → TakesParameters flat (stands m)) → AllByRecursion IsEachGiven ls → AreDeepExtended flat text means implied files outsides words known modules faces ls → AreExtended flat text means implied files outsides words modules faces setting leads ls next → ExtendedDeep stands depths ls next
+  pub all-extended-deep : (ls : List Lexeme) (stands : Meaning → Stand) (depths : Depths) (leads next : Leads) → LeadsBy stands leads → HaveDepths flat stands depths → ((m : Meaning) → TakesParameters flat (stands m)) → AllByRecursion IsEachGiven ls → AllLead flat text means implied files outsides words known modules faces ls → AreExtended flat text means implied files outsides words modules faces setting leads ls next → ExtendedDeep stands depths ls next
   all-extended-deep [] stands depths leads next all have few each deep is =
       record {
         final = stands;

@@ -1,9 +1,13 @@
 mod Frames
 mod Rounds
 mod Levels
+mod Arranging
+mod Nested
 mod Depths
 mod Bringing
 mod Extended
+mod Staying
+mod Entering
 mod Deepening
 mod Growing
 mod Samples

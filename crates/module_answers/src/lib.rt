@@ -40,9 +40,9 @@ pub fn module_levels_are_found()
         → level_answers flat asked ≡ level_findings outsides source units }
 {}
 
-/// What the nodes of a module without nested ones answer is which of its definitions, assumptions
-/// and theorems are too deep, in the order of the text; and its names lead to what is as deep as
-/// they are outside of it.
+/// What the nodes of a module answer is which definitions, assumptions and theorems are too deep in
+/// it and in the modules that are nested in it, in the order of the text; and its names lead to what
+/// is as deep as they are outside of it.
 pub fn module_depths_are_found()
     ensures names { (flat : FlatModule) (means : ℕ → Option Meaning) (implied : ℕ → List Meaning)
         (files : List ℕ → FlatFace) (outsides : List ℕ → Outside) (source : List ℕ)
