@@ -18,12 +18,12 @@ use Rattle.flattened_units.specs.Units.{IsEnded, IsUnitMade, Reader, face_in, fa
 use Rattle.accepted_modules.specs.Faces.{FacesReadAs, AreReadAs, AreRoundReadAs, ReadsAs, IsReadAs}
 
 -- what a name means is known so
-abbrev IsFoundAs : Option (Option FlatFace) → Option (Option Outside) → Type 0
+abbrev pub IsFoundAs : Option (Option FlatFace) → Option (Option Outside) → Type 0
 IsFoundAs None None = Unit {0}
 IsFoundAs (Some face) (Some outside) = IsReadAs face outside
 IsFoundAs face outside = ⊥
 
-found-as : (faces : Environment FlatFace) (modules : Environment Outside) (name : List ℕ) → AreReadAs faces modules → IsFoundAs (meaning faces name) (meaning modules name)
+pub found-as : (faces : Environment FlatFace) (modules : Environment Outside) (name : List ℕ) → AreReadAs faces modules → IsFoundAs (meaning faces name) (meaning modules name)
 found-as [] [] name all = tt
 found-as [] (named ∷ modules) name all = absurd all
 found-as (face ∷ faces) [] name all = absurd all

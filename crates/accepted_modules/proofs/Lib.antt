@@ -1,21 +1,21 @@
-mod Views
-mod Tables
-mod Contexts
-mod Holding
+pub mod Views
+pub mod Tables
+pub mod Contexts
+pub mod Holding
 mod Telling
 mod Behind
-mod Naming
+pub mod Naming
 mod Coming
 mod Brought
 mod Beside
 mod Instanced
 mod Starts
-mod Faces
+pub mod Faces
 mod Knowing
-mod Reading
+pub mod Reading
 mod Modules
-mod Symbols
-mod Placed
-mod Leading
-mod Declaring
+pub mod Symbols
+pub mod Placed
+pub mod Leading
+pub mod Declaring
 mod Sharing

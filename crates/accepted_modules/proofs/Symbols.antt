@@ -175,7 +175,7 @@ left-have known inner (outer ∷ round) all = by round all.1
 
 -- ---- units
 
-no-symbol : (m : Meaning) → is_meant stands_behind m ≡ true → IsSymbol m → ⊥
+pub no-symbol : (m : Meaning) → is_meant stands_behind m ≡ true → IsSymbol m → ⊥
 no-symbol BuiltIn behind symbol = cc symbol
 no-symbol (Declared (entity.Definition orders) callee) behind symbol = cc symbol
 no-symbol (Declared (entity.Instance orders) callee) behind symbol = cc symbol
@@ -208,12 +208,12 @@ brought-behind unit view = by view.parameters
     by [] = all-behind (exported view)
     by (parameter ∷ rest) = behind-passed unit (instantiable (exported view)) (all-behind (exported view))
 
-brings-behind : (text : Text) (files : List ℕ → ModuleView) (words : List ℕ) (state : ReadState) (x : Tree) → AllByRecursion IsBehind (instance_brings text files words state x)
+pub brings-behind : (text : Text) (files : List ℕ → ModuleView) (words : List ℕ) (state : ReadState) (x : Tree) → AllByRecursion IsBehind (instance_brings text files words state x)
 brings-behind text files words state (Node (Form.Instance l) s parts) = brought-behind (unit_of text words l) (view_of text (module_named text files words state) l)
 brings-behind text files words state (Node Form.Let s parts) = tt
 brings-behind text files words state (Node _ s parts) = tt
 
-defined-behind : (text : Text) (x : Tree) → AllByRecursion (λ binder. is_meant stands_behind (meant text binder) ≡ true) (definition x)
+pub defined-behind : (text : Text) (x : Tree) → AllByRecursion (λ binder. is_meant stands_behind (meant text binder) ≡ true) (definition x)
 defined-behind text (Node (Form.OperatorDefinition l) s parts) = (refl, tt)
 defined-behind text (Node (Form.PrefixDefinition l) s parts) = (refl, tt)
 defined-behind text (Node (Form.InfixDefinition l) s parts) = (refl, tt)
@@ -228,7 +228,7 @@ defined-none text x = all-weaker (λ (binder : Binder). is_meant stands_behind (
 -- ---- what is exported stays
 
 -- what one module exports another does too
-abbrev Grows : Reading → Reading → Type 0
+abbrev pub Grows : Reading → Reading → Type 0
 Grows old new = (name : Named) (m : Meaning) → find old.exports name ≡ Some m → find new.exports name ≡ Some m
 
 -- the module of the text, of those round a place
@@ -244,13 +244,13 @@ either-grows : (b : Bool) (reading other : Reading) → Grows reading other → 
 either-grows true reading other grows = λ name m at. at
 either-grows false reading other grows = grows
 
-joined-grows : (local : Bool) (reading : Reading) (entries : Exports) → Grows reading (joined local reading entries)
+pub joined-grows : (local : Bool) (reading : Reading) (entries : Exports) → Grows reading (joined local reading entries)
 joined-grows local reading [] = λ name m at. at
 joined-grows local reading (entry ∷ rest) =
     let other : Reading = with_entry local reading entry.0 entry.1 in
     λ name m at. joined-grows local (cond (clashes reading.context entry) reading other) rest name m (either-grows (clashes reading.context entry) reading other (entry-grows local reading entry.0 entry.1) name m at)
 
-declared-grows : (text : Text) (local : Bool) (reading : Reading) (binders : List Binder) → Grows reading (declare_all text local reading binders)
+pub declared-grows : (text : Text) (local : Bool) (reading : Reading) (binders : List Binder) → Grows reading (declare_all text local reading binders)
 declared-grows text local reading [] = λ name m at. at
 declared-grows text local reading (binder ∷ rest) =
     let own = name_of text.source binder.name in

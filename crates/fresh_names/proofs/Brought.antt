@@ -31,7 +31,7 @@ module _ (text : Text) (others : List Binder) where
       by true more = (all.0, more)
       by false more = more
 
-  through-elsewhere : (unit : UnitId) (meaning : Meaning) → IsElsewhere text others (through unit meaning)
+  pub through-elsewhere : (unit : UnitId) (meaning : Meaning) → IsElsewhere text others (through unit meaning)
   through-elsewhere unit BuiltIn = tt
   through-elsewhere unit (Declared entity callee) = inl (came-through callee.via unit)
 

@@ -21,12 +21,12 @@ use Rattle.module_meanings.specs.Premises.{seen_behind}
 use Rattle.fresh_names.specs.Seen.{IsDeclaredBy, IsElsewhere, brought_by, symbols_in}
 
 module _ (text : Text) where
-  left : (a b : List Binder) (decl : DeclId) → IsDeclaredBy text a decl → IsDeclaredBy text (a ++ b) decl
+  pub left : (a b : List Binder) (decl : DeclId) → IsDeclaredBy text a decl → IsDeclaredBy text (a ++ b) decl
   left [] b decl declared = absurd declared
   left (binder ∷ a) b decl (inl same) = inl same
   left (binder ∷ a) b decl (inr later) = inr (left a b decl later)
 
-  right : (a b : List Binder) (decl : DeclId) → IsDeclaredBy text b decl → IsDeclaredBy text (a ++ b) decl
+  pub right : (a b : List Binder) (decl : DeclId) → IsDeclaredBy text b decl → IsDeclaredBy text (a ++ b) decl
   right [] b decl declared = declared
   right (binder ∷ a) b decl declared = inr (right a b decl declared)
 
@@ -43,14 +43,14 @@ module _ (text : Text) where
   abbrev pub Within : List Binder → List Binder → Type 0
   Within a b = (decl : DeclId) → IsDeclaredBy text a decl → IsDeclaredBy text b decl
 
-  joined : (a b c : List Binder) → Within a c → Within b c → Within (a ++ b) c
+  pub joined : (a b c : List Binder) → Within a c → Within b c → Within (a ++ b) c
   joined a b c first second decl declared = by (either a b decl declared)
     where
       by : IsDeclaredBy text a decl ⊎ IsDeclaredBy text b decl → IsDeclaredBy text c decl
       by (inl one) = first decl one
       by (inr other) = second decl other
 
-  wider : (a b : List Binder) → Within a b → (meaning : Meaning) → IsElsewhere text a meaning → IsElsewhere text b meaning
+  pub wider : (a b : List Binder) → Within a b → (meaning : Meaning) → IsElsewhere text a meaning → IsElsewhere text b meaning
   wider a b among BuiltIn elsewhere = tt
   wider a b among (Declared entity callee) (inl through) = inl through
   wider a b among (Declared entity callee) (inr (inl foreign)) = inr (inl foreign)
@@ -70,7 +70,7 @@ module _ (text : Text) where
   bound-append binding [] b = refl
   bound-append binding (x ∷ a) b = ap (λ (xs : List Binder). record { name = x.0; entity = entity_of binding x.1 } ∷ xs) (bound-append binding a b)
 
-  placed-within : (binding : Binding) (parts : Trees) → Within (bound_as binding (all_placed parts)) (declared_among binding parts)
+  pub placed-within : (binding : Binding) (parts : Trees) → Within (bound_as binding (all_placed parts)) (declared_among binding parts)
   placed-within binding Nil decl declared = declared
   placed-within binding (Cons (Node form s parts) rest) decl declared =
       joined (bound_as binding (placed form)) (bound_as binding (all_placed rest)) (declared_among binding (Cons (Node form s parts) rest))
@@ -86,7 +86,7 @@ module _ (text : Text) where
       left (declared_in (binding_of form) x ++ defined form (Cons x rest)) (declared_among (binding_of form) rest) decl
       (right (declared_in (binding_of form) x) (defined form (Cons x rest)) decl declared)
 
-  definition-within : (x : Tree) → Within (definition x) (within x)
+  pub definition-within : (x : Tree) → Within (definition x) (within x)
   definition-within (Node form s parts) decl declared =
       right (bound_as (as_binding.Bound false) (placed form)) (if follows_first form then declared_round form parts else defined form parts ++ declared_among (binding_in (as_binding.Bound false) form) parts) decl
       (by (follows_first form))
@@ -97,7 +97,7 @@ module _ (text : Text) where
 
   -- ---- units
 
-  symbols-within : (units : List UnitTree) → Within (symbols_in units) (declaring units)
+  pub symbols-within : (units : List UnitTree) → Within (symbols_in units) (declaring units)
   symbols-within [] decl declared = declared
   symbols-within (Variables names ∷ units) decl declared =
       joined (variables names) (symbols_in units) (declaring (Variables names ∷ units)) (left (variables names) (declaring units))
@@ -119,7 +119,7 @@ module _ (text : Text) where
       joined (declaring before) (symbols_in (unit ∷ behind)) (declaring before ++ declaring behind) (left (declaring before) (declaring behind))
       (λ decl declared. right (declaring before) (declaring behind) decl (tree-symbols unit x behind e decl declared))
 
-  before-within : (before more : List UnitTree) → Within (declaring before) (declaring (before ++ more))
+  pub before-within : (before more : List UnitTree) → Within (declaring before) (declaring (before ++ more))
   before-within [] more decl declared = absurd declared
   before-within (unit ∷ before) more decl declared =
       joined (declared_by unit) (declaring before) (declaring ((unit ∷ before) ++ more)) (left (declared_by unit) (declaring (before ++ more)))

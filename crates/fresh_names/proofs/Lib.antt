@@ -1,5 +1,5 @@
 mod New
 mod Units
-mod Kept
-mod First
-mod Brought
+pub mod Kept
+pub mod First
+pub mod Brought

@@ -1,8 +1,8 @@
 pub mod Leads
 pub mod Contexts
-mod Knowing
+pub mod Knowing
 pub mod Units
-mod Bringing
+pub mod Bringing
 pub mod Extending
 pub mod Beginning
 pub mod Staying
@@ -11,10 +11,10 @@ pub mod Entering
 pub mod Further
 pub mod NestedFaces
 pub mod Modules
-mod Meant
-mod Instancing
-mod Leaves
+pub mod Meant
+pub mod Instancing
+pub mod Leaves
 pub mod Growing
-mod Symbols
+pub mod Symbols
 pub mod Samples
-mod Within
+pub mod Within

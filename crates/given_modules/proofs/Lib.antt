@@ -1,0 +1,4 @@
+mod Ahead
+mod Elsewhere
+mod Fresh
+mod AtUnits

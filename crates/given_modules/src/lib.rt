@@ -1,0 +1,39 @@
+//! That modules without faults are given as laws on their nodes ask.
+//!
+//! No code: each function states a law. Knows nothing of how nodes are built, and of how modules are
+//! checked.
+#![tactic(auto)]
+
+ghost use Rattle.std.specs.Prelude.{◌≡◌, ℕ, List, Option};
+ghost use Rattle.unit_grammar.specs.Units.{ModuleUnits};
+ghost use Rattle.front_laws.specs.Fronts.{IsFront, Tree as TreeFront};
+ghost use Rattle.tla_model.specs.Entities.{Meaning};
+ghost use Rattle.module_model.specs.Modules.{text_of};
+ghost use Rattle.kind_text.specs.FlatModule.{FlatModule};
+ghost use Rattle.tree_kinds.specs.Standing.{Outside};
+ghost use Rattle.module_kinds.specs.ModuleKinds.{outside};
+ghost use Rattle.flat_trees.specs.Instances.{symbols_of};
+ghost use Rattle.flattened_trees.specs.Leads.{FlatFace};
+ghost use Rattle.flattened_trees.specs.Questions.{Question};
+ghost use Rattle.flattened_units.specs.Units.{IsModuleMade, Reader};
+ghost use Rattle.accepted_modules.specs.Behind.{IsForeignView};
+ghost use Rattle.given_modules.specs.Fresh.{IsModuleFresh};
+
+use accepted_modules::readers_end;
+use fresh_names::declared_names_are_new;
+
+/// The names of all trees of a module that is the front of some bytes are new, each at its unit, if
+/// no file has a name that the module declares.
+pub fn units_stay_fresh()
+    ensures { (flat : FlatModule) (means : ℕ → Option Meaning) (implied : ℕ → List Meaning)
+        (files : List ℕ → FlatFace) (outsides : List ℕ → Outside) (name bytes : List ℕ)
+        (units : ModuleUnits) (symbols : List Meaning) (last : Reader) (asked : List Question)
+        (made : IsModuleMade flat means implied files outsides bytes units symbols last asked)
+        → IsFront name bytes (TreeFront units)
+        → ((title : List ℕ) → IsForeignView (text_of bytes units).file (outsides title).view)
+        → symbols ≡ symbols_of (outside outsides bytes units)
+        → IsModuleFresh flat means implied files outsides bytes units symbols last asked made }
+{
+    readers_end();
+    declared_names_are_new();
+}
