@@ -107,6 +107,31 @@ abbrev mutual
   trees-nameable source Nil = tt
   trees-nameable source (Cons x rest) = (tree-nameable source x, trees-nameable source rest)
 
+-- ---- what is known of a module
+
+-- each file is to trees what a flat module has for it
+abbrev pub AreFilesNamed : FlatModule → (List ℕ → FlatFace) → (List ℕ → Outside) → Type 0
+AreFilesNamed flat files outsides = (name : List ℕ) (new : Meaning → Bool) (leads : Leads) → LeavesLead leads → new BuiltIn ≡ false → IsFaceBy flat new leads (files name) (outsides name)
+
+-- each unit can be read, by faces that are those of the modules
+abbrev pub AreUnitsRead : (ℕ → Option Meaning) → (ℕ → List Meaning) → (List ℕ → Outside) → List ℕ → ModuleUnits → Type 0
+AreUnitsRead means implied outsides source units =
+    (faces : List ℕ → FlatFace) (before behind : List UnitTree) (unit : UnitTree) → units.units ≡ before ++ unit ∷ behind
+    → ((name : List ℕ) → ReadsAs (faces name) (named (text_of source units) outsides (words_of units) (kinds_behind outsides source units before) name))
+    → IsReadableUnit (text_of source units) (known_at (text_of source units) outsides (words_of units) (kinds_behind outsides source units before) unit)
+    (named (text_of source units) outsides (words_of units) (kinds_behind outsides source units before)) means implied faces
+    (kinds_behind outsides source units before).read.place.here.context unit
+
+-- what is known of a module, and of the files that it names
+pub record IsKnown (flat : FlatModule) (means : ℕ → Option Meaning) (implied : ℕ → List Meaning) (files : List ℕ → FlatFace) (outsides : List ℕ → Outside) (source : List ℕ) (units : ModuleUnits) (declares : Declarations) : Type 0 where
+  pub foreign : (name : List ℕ) → IsForeignView (text_of source units).file (outsides name).view
+  pub declared : (name : List ℕ) → IsOutsideDeclared declares (outsides name)
+  pub names : AreUnitsDeclared declares (text_of source units) units.units
+  pub named : AreFilesNamed flat files outsides
+  pub reads : (name : List ℕ) → ReadsAs (files name) (outsides name)
+  pub new : AreNewThere source units
+  pub read : AreUnitsRead means implied outsides source units
+
 -- ---- units
 
 module _ (flat : FlatModule) (means : ℕ → Option Meaning) (implied : ℕ → List Meaning) (files : List ℕ → FlatFace) (outsides : List ℕ → Outside) (source : List ℕ) (units : ModuleUnits)
@@ -198,11 +223,7 @@ module _ (flat : FlatModule) (means : ℕ → Option Meaning) (implied : ℕ →
 
   -- ---- modules that trees name
 
-  -- each file is to trees what a flat module has for it
-  abbrev pub AreFilesNamed : Type 0
-  AreFilesNamed = (name : List ℕ) (new : Meaning → Bool) (leads : Leads) → LeavesLead leads → new BuiltIn ≡ false → IsFaceBy flat new leads (files name) (outsides name)
-
-  pub file-at : AreFilesNamed → (before behind : List UnitTree) (state : KindState) (reader : Reader) (seen : List Meaning) → IsMet before behind state reader seen → (new : Meaning → Bool) → new BuiltIn ≡ false → (name : List ℕ)
+  pub file-at : AreFilesNamed flat files outsides → (before behind : List UnitTree) (state : KindState) (reader : Reader) (seen : List Meaning) → IsMet before behind state reader seen → (new : Meaning → Bool) → new BuiltIn ≡ false → (name : List ℕ)
       → IsFileAt flat text means implied files outsides words state reader new name
   file-at good before behind state reader seen is new built name = by (module_meaning reader.faces.here name) (module_meaning state.modules.here name) refl refl (found-as reader.faces.here state.modules.here name is.faces.here)
     where
@@ -214,7 +235,7 @@ module _ (flat : FlatModule) (means : ℕ → Option Meaning) (implied : ℕ →
       by (Some face) p e f found = is.leads.0
 
   -- the tree of a unit is given
-  pub tree-given : AreFilesNamed → AreNewThere source units → (before behind : List UnitTree) (unit : UnitTree) (state : KindState) (reader : Reader) (seen : List Meaning) (x : Tree) → IsMet before (unit ∷ behind) state reader seen → unit_trees unit ≡ Cons x Nil
+  pub tree-given : AreFilesNamed flat files outsides → AreNewThere source units → (before behind : List UnitTree) (unit : UnitTree) (state : KindState) (reader : Reader) (seen : List Meaning) (x : Tree) → IsMet before (unit ∷ behind) state reader seen → unit_trees unit ≡ Cons x Nil
       → IsTreeGivenBy flat text means implied files outsides words (IsFileAt flat text means implied files outsides words) state reader seen x
   tree-given good new before behind unit state reader seen x is tree = record {
     fresh = tree-fresh flat means implied files outsides source units foreign new before behind unit state reader seen x is.seen_so tree;
@@ -239,15 +260,7 @@ module _ (flat : FlatModule) (means : ℕ → Option Meaning) (implied : ℕ →
       by (Some (Some face)) (Some None) found = absurd found
       by (Some (Some face)) (Some (Some one)) found = found
 
-  -- each unit can be read, by faces that are those of the modules
-  abbrev pub AreUnitsRead : Type 0
-  AreUnitsRead =
-      (faces : List ℕ → FlatFace) (before behind : List UnitTree) (unit : UnitTree) → units.units ≡ before ++ unit ∷ behind
-      → ((name : List ℕ) → ReadsAs (faces name) (named text outsides words (kinds_behind outsides source units before) name))
-      → IsReadableUnit text (known_at text outsides words (kinds_behind outsides source units before) unit) (named text outsides words (kinds_behind outsides source units before)) means implied faces
-      (kinds_behind outsides source units before).read.place.here.context unit
-
-  pub unit-read : AreUnitsRead → ((name : List ℕ) → ReadsAs (files name) (outsides name)) → (before behind : List UnitTree) (unit : UnitTree) (state : KindState) (reader : Reader) (seen : List Meaning) → IsMet before (unit ∷ behind) state reader seen
+  pub unit-read : AreUnitsRead means implied outsides source units → ((name : List ℕ) → ReadsAs (files name) (outsides name)) → (before behind : List UnitTree) (unit : UnitTree) (state : KindState) (reader : Reader) (seen : List Meaning) → IsMet before (unit ∷ behind) state reader seen
       → IsReadableUnit text (known_at text outsides words state unit) (named text outsides words state) means implied (face_in flat text means implied files outsides words reader.faces) state.read.place.here.context unit
   unit-read read reads before behind unit state reader seen is =
       let at = is.seen_so.at in

@@ -2,3 +2,4 @@ mod Ahead
 mod Elsewhere
 mod Fresh
 mod AtUnits
+mod Shaped

@@ -9,18 +9,26 @@ ghost use Rattle.unit_grammar.specs.Units.{ModuleUnits};
 ghost use Rattle.front_laws.specs.Fronts.{IsFront, Tree as TreeFront};
 ghost use Rattle.tla_model.specs.Entities.{Meaning};
 ghost use Rattle.module_model.specs.Modules.{text_of};
+ghost use Rattle.module_model.specs.Resolution.{findings, words_of};
 ghost use Rattle.kind_text.specs.FlatModule.{FlatModule};
 ghost use Rattle.tree_kinds.specs.Standing.{Outside};
-ghost use Rattle.module_kinds.specs.ModuleKinds.{outside};
+ghost use Rattle.module_kinds.specs.ModuleKinds.{outside, views};
 ghost use Rattle.flat_trees.specs.Instances.{symbols_of};
+ghost use Rattle.flat_kinds.specs.Declarations.{Declarations};
 ghost use Rattle.flattened_trees.specs.Leads.{FlatFace};
 ghost use Rattle.flattened_trees.specs.Questions.{Question};
 ghost use Rattle.flattened_units.specs.Units.{IsModuleMade, Reader};
-ghost use Rattle.accepted_modules.specs.Behind.{IsForeignView};
+ghost use Rattle.module_answers.specs.Shaped.{IsModuleShaped};
+ghost use Rattle.readable_laws.specs.Uses.{implied_by, means_by};
+ghost use Rattle.accepted_modules.specs.Behind.{Behinds, IsForeignView};
 ghost use Rattle.given_modules.specs.Fresh.{IsModuleFresh};
+ghost use Rattle.given_modules.specs.Good.{AreGoodFiles, IsFaultless};
 
-use accepted_modules::readers_end;
+use accepted_modules::{faultless_units_are_read, modules_come_steady, readers_end};
+use flat_kinds::places_are_declared;
 use fresh_names::declared_names_are_new;
+use grammar_shapes::fronts_are_shaped;
+use lexeme_laws::names_begin_apart;
 
 /// The names of all trees of a module that is the front of some bytes are new, each at its unit, if
 /// no file has a name that the module declares.
@@ -36,4 +44,28 @@ pub fn units_stay_fresh()
 {
     readers_end();
     declared_names_are_new();
+}
+
+/// A module without faults, over good files, is shaped as what its nodes answer of levels asks: its
+/// assumptions and theorems can be read, where what is meant and what stands in is what is found.
+pub fn faultless_modules_are_shaped()
+    ensures { (flat : FlatModule) (declares : Declarations) (behinds : Behinds)
+        (files : List ℕ → FlatFace) (outsides : List ℕ → Outside) (name bytes : List ℕ)
+        (units : ModuleUnits) (symbols : List Meaning) (last : Reader) (asked : List Question)
+        → let found = findings (views (text_of bytes units) outsides (words_of units)) bytes units
+        in (made : IsModuleMade flat (means_by found) (implied_by found) files outsides bytes units
+        symbols last asked)
+        → AreGoodFiles flat declares behinds (text_of bytes units).file files outsides
+        → IsFaultless declares outsides name bytes units
+        → symbols ≡ symbols_of (outside outsides bytes units)
+        → IsModuleShaped flat (means_by found) (implied_by found) files outsides bytes units symbols
+        last asked made }
+{
+    faultless_units_are_read();
+    modules_come_steady();
+    readers_end();
+    places_are_declared();
+    declared_names_are_new();
+    fronts_are_shaped();
+    names_begin_apart();
 }
