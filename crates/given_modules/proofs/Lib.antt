@@ -3,3 +3,6 @@ mod Elsewhere
 mod Fresh
 mod AtUnits
 mod Shaped
+mod Nothing
+mod Placed
+mod Given

@@ -5,6 +5,7 @@
 #![tactic(auto)]
 
 ghost use Rattle.std.specs.Prelude.{◌≡◌, ℕ, List, Option};
+ghost use Rattle.std.specs.List.{AllByRecursion};
 ghost use Rattle.unit_grammar.specs.Units.{ModuleUnits};
 ghost use Rattle.front_laws.specs.Fronts.{IsFront, Tree as TreeFront};
 ghost use Rattle.tla_model.specs.Entities.{Meaning};
@@ -18,13 +19,16 @@ ghost use Rattle.flat_kinds.specs.Declarations.{Declarations};
 ghost use Rattle.flattened_trees.specs.Leads.{FlatFace};
 ghost use Rattle.flattened_trees.specs.Questions.{Question};
 ghost use Rattle.flattened_units.specs.Units.{IsModuleMade, Reader};
+ghost use Rattle.module_meanings.specs.Following.{IsPlain};
+ghost use Rattle.module_meanings.specs.Premises.{IsModuleGiven};
 ghost use Rattle.module_answers.specs.Shaped.{IsModuleShaped};
 ghost use Rattle.readable_laws.specs.Uses.{implied_by, means_by};
 ghost use Rattle.accepted_modules.specs.Behind.{Behinds, IsForeignView};
 ghost use Rattle.given_modules.specs.Fresh.{IsModuleFresh};
 ghost use Rattle.given_modules.specs.Good.{AreGoodFiles, IsFaultless};
 
-use accepted_modules::{faultless_units_are_read, modules_come_steady, readers_end};
+use accepted_modules::{brought_names_come, faultless_units_are_read, modules_come_steady};
+use accepted_modules::{readers_end, symbols_are_parameters};
 use flat_kinds::places_are_declared;
 use fresh_names::declared_names_are_new;
 use grammar_shapes::fronts_are_shaped;
@@ -68,4 +72,30 @@ pub fn faultless_modules_are_shaped()
     declared_names_are_new();
     fronts_are_shaped();
     names_begin_apart();
+}
+
+/// A module without faults and without nested ones, over good files, is given as what its nodes mean
+/// asks, where what is meant and what stands in is what is found.
+pub fn faultless_modules_are_given()
+    ensures { (flat : FlatModule) (declares : Declarations) (behinds : Behinds)
+        (files : List ℕ → FlatFace) (outsides : List ℕ → Outside) (name bytes : List ℕ)
+        (units : ModuleUnits) (symbols : List Meaning) (last : Reader) (asked : List Question)
+        → let found = findings (views (text_of bytes units) outsides (words_of units)) bytes units
+        in (made : IsModuleMade flat (means_by found) (implied_by found) files outsides bytes units
+        symbols last asked)
+        → AreGoodFiles flat declares behinds (text_of bytes units).file files outsides
+        → IsFaultless declares outsides name bytes units
+        → symbols ≡ symbols_of (outside outsides bytes units)
+        → AllByRecursion IsPlain units.units
+        → IsModuleGiven flat (means_by found) (implied_by found) files outsides bytes units symbols
+        last asked made }
+{
+    faultless_units_are_read();
+    modules_come_steady();
+    readers_end();
+    places_are_declared();
+    declared_names_are_new();
+    names_begin_apart();
+    brought_names_come();
+    symbols_are_parameters();
 }
