@@ -6,3 +6,5 @@ mod Shaped
 mod Nothing
 mod Placed
 mod Given
+mod Usable
+mod GoodModules

@@ -9,23 +9,24 @@ ghost use Rattle.std.specs.List.{AllByRecursion};
 ghost use Rattle.unit_grammar.specs.Units.{ModuleUnits};
 ghost use Rattle.front_laws.specs.Fronts.{IsFront, Tree as TreeFront};
 ghost use Rattle.tla_model.specs.Entities.{Meaning};
+ghost use Rattle.module_model.specs.Exports.{Known};
 ghost use Rattle.module_model.specs.Modules.{text_of};
 ghost use Rattle.module_model.specs.Resolution.{findings, words_of};
-ghost use Rattle.kind_text.specs.FlatModule.{FlatModule};
+ghost use Rattle.kind_text.specs.FlatModule.{Extends, FlatModule, IsOrdered};
 ghost use Rattle.tree_kinds.specs.Standing.{Outside};
-ghost use Rattle.module_kinds.specs.ModuleKinds.{outside, views};
+ghost use Rattle.module_kinds.specs.ModuleKinds.{last, nowhere, outside, views};
 ghost use Rattle.flat_trees.specs.Instances.{symbols_of};
 ghost use Rattle.flat_kinds.specs.Declarations.{Declarations};
 ghost use Rattle.flattened_trees.specs.Leads.{FlatFace};
 ghost use Rattle.flattened_trees.specs.Questions.{Question};
-ghost use Rattle.flattened_units.specs.Units.{IsModuleMade, Reader};
+ghost use Rattle.flattened_units.specs.Units.{IsModuleMade, Reader, no_face};
 ghost use Rattle.module_meanings.specs.Following.{IsPlain};
 ghost use Rattle.module_meanings.specs.Premises.{IsModuleGiven};
 ghost use Rattle.module_answers.specs.Shaped.{IsModuleShaped};
 ghost use Rattle.readable_laws.specs.Uses.{implied_by, means_by};
-ghost use Rattle.accepted_modules.specs.Behind.{Behinds, IsForeignView};
+ghost use Rattle.accepted_modules.specs.Behind.{Behinds, IsForeignView, with_own};
 ghost use Rattle.given_modules.specs.Fresh.{IsModuleFresh};
-ghost use Rattle.given_modules.specs.Good.{AreGoodFiles, IsFaultless};
+ghost use Rattle.given_modules.specs.Good.{AreGoodFiles, IsFaultless, IsGoodFile, face_of};
 
 use accepted_modules::{brought_names_come, faultless_units_are_read, modules_come_steady};
 use accepted_modules::{readers_end, symbols_are_parameters};
@@ -98,4 +99,38 @@ pub fn faultless_modules_are_given()
     names_begin_apart();
     brought_names_come();
     symbols_are_parameters();
+}
+
+/// A module that is given is good itself, with the face that it has by the reader behind its units,
+/// where what stands behind its own declarations is what is known in the end. A good file that has
+/// no name of a module stays good with what is known of that one; a module that is not there is
+/// good; and all this stays so in a flat module that has more.
+pub fn given_modules_are_good()
+    ensures itself { (flat : FlatModule) (declares : Declarations) (behinds : Behinds)
+        (means : ℕ → Option Meaning) (implied : ℕ → List Meaning) (files : List ℕ → FlatFace)
+        (outsides : List ℕ → Outside) (name bytes : List ℕ) (units : ModuleUnits)
+        (symbols : List Meaning) (last_reader : Reader) (asked : List Question)
+        (made : IsModuleMade flat means implied files outsides bytes units symbols last_reader asked)
+        → IsOrdered flat
+        → AreGoodFiles flat declares behinds (text_of bytes units).file files outsides
+        → IsFaultless declares outsides name bytes units
+        → symbols ≡ symbols_of (outside outsides bytes units)
+        → IsModuleGiven flat means implied files outsides bytes units symbols last_reader asked made
+        → IsGoodFile flat declares
+        (with_own (text_of bytes units).file (last outsides bytes units).read.known behinds)
+        (face_of outsides bytes units last_reader) (outside outsides bytes units) }
+    ensures others { (flat : FlatModule) (declares : Declarations) (behinds : Behinds)
+        (title : List ℕ) (known : Known) (face : FlatFace) (named : Outside)
+        → IsGoodFile flat declares behinds face named → IsForeignView title named.view
+        → IsGoodFile flat declares (with_own title known behinds) face named }
+    ensures nothing { (flat : FlatModule) (declares : Declarations) (behinds : Behinds)
+        → IsGoodFile flat declares behinds no_face nowhere }
+    ensures grows { (flat more : FlatModule) (declares : Declarations) (behinds : Behinds)
+        (face : FlatFace) (named : Outside) → Extends flat more → IsOrdered flat
+        → IsGoodFile flat declares behinds face named
+        → IsGoodFile more declares behinds face named }
+{
+    places_are_declared();
+    names_begin_apart();
+    brought_names_come();
 }
