@@ -38,7 +38,7 @@ right-empty (x ∷ a) b none = absurd (cc none)
 
 module _ (text : Text) where
   -- names that are no fault are refused nowhere
-  none-refused : (context : Context) (binders : List Binder) → faults (all_refused text context binders) ≡ [] → all_refused text context binders ≡ []
+  pub none-refused : (context : Context) (binders : List Binder) → faults (all_refused text context binders) ≡ [] → all_refused text context binders ≡ []
   none-refused context [] none = refl
   none-refused context (binder ∷ rest) none =
       let here : List Finding = taken_findings text context binder.name in
@@ -51,7 +51,7 @@ module _ (text : Text) where
       by false none later = later
 
   -- what is there stays where names are declared
-  declared-stays : (local : Bool) (reading : Reading) (binders : List Binder) (name : Named) (there : Option Meaning) → find reading.context name ≡ Some there → find (declare_all text local reading binders).context name ≡ Some there
+  pub declared-stays : (local : Bool) (reading : Reading) (binders : List Binder) (name : Named) (there : Option Meaning) → find reading.context name ≡ Some there → find (declare_all text local reading binders).context name ≡ Some there
   declared-stays local reading [] name there at = at
   declared-stays local reading (binder ∷ rest) name there at =
       declared-stays local (cond (has reading.context (name_of text.source binder.name)) reading (with_entry local reading (name_of text.source binder.name) (meant text binder))) rest name there (by (has reading.context (name_of text.source binder.name)))
@@ -61,7 +61,7 @@ module _ (text : Text) where
       by false = put-keeps reading.context (name_of text.source binder.name) (Some (meant text binder)) name there at
 
   -- names that are refused nowhere can be used
-  declared-means : (local : Bool) (reading : Reading) (binders : List Binder) → all_refused text reading.context binders ≡ [] → AllByRecursion (λ binder. meaning_of (declare_all text local reading binders).context (name_of text.source binder.name) ≡ Some (meant text binder)) binders
+  pub declared-means : (local : Bool) (reading : Reading) (binders : List Binder) → all_refused text reading.context binders ≡ [] → AllByRecursion (λ binder. meaning_of (declare_all text local reading binders).context (name_of text.source binder.name) ≡ Some (meant text binder)) binders
   declared-means local reading [] none = tt
   declared-means local reading (binder ∷ rest) none =
       by (find reading.context (name_of text.source binder.name)) refl none
@@ -80,7 +80,7 @@ module _ (text : Text) where
       by None at none later = (ap usable (declared-stays local other rest name (Some (meant text binder)) (put-new reading.context name (Some (meant text binder)) at)), later none)
 
   module _ (files : List ℕ → ModuleView) (words paths : List ℕ) where
-    unit-faultless : (state : ReadState) (before : List UnitTree) (unit : UnitTree) (behind : List UnitTree) → faults (found_from text files words paths state (before ++ unit ∷ behind)) ≡ [] → faults (found_in text files words paths (read_all text files words state before) unit) ≡ []
+    pub unit-faultless : (state : ReadState) (before : List UnitTree) (unit : UnitTree) (behind : List UnitTree) → faults (found_from text files words paths state (before ++ unit ∷ behind)) ≡ [] → faults (found_in text files words paths (read_all text files words state before) unit) ≡ []
     unit-faultless state [] unit behind none =
         left-empty (faults (found_in text files words paths state unit)) (faults (found_from text files words paths (after text files words state unit) behind))
         (sym (faults-append (found_in text files words paths state unit) (found_from text files words paths (after text files words state unit) behind)) ∙ none)

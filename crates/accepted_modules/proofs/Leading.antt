@@ -42,7 +42,7 @@ brought-left : (leads : Leads) (entries : Exports) (j : ℕ) (face : FlatFace) (
 brought-left leads entries j face m names none = ap (coming_lead j face (leads m names) names) none
 
 -- symbols lead so, by where the name leads beside them
-symbols-on : (one two : Leads) (symbols : List Meaning) (place : ℕ) (m : Meaning) (names : List Named) → one m names ≡ two m names → with_symbols one symbols place m names ≡ with_symbols two symbols place m names
+pub symbols-on : (one two : Leads) (symbols : List Meaning) (place : ℕ) (m : Meaning) (names : List Named) → one m names ≡ two m names → with_symbols one symbols place m names ≡ with_symbols two symbols place m names
 symbols-on one two [] place m names same = same
 symbols-on one two (symbol ∷ rest) place m names same = ap (λ lead. cond (same_symbol m symbol) (only (end.Place place (order_of symbol)) names) lead) (symbols-on one two rest (suc place) m names same)
 
@@ -57,7 +57,7 @@ with-leading m setting leads olds [] same is = λ names. same names ∙ is names
 with-leading m setting leads olds (outer ∷ round) same is = ((λ names. same names ∙ is.0 names), is.1)
 
 -- as many modules are round both
-abbrev AreAsDeep : List Setting → List Reading → Type 0
+abbrev pub AreAsDeep : List Setting → List Reading → Type 0
 AreAsDeep [] [] = Unit {0}
 AreAsDeep (setting ∷ settings) (reading ∷ readings) = AreAsDeep settings readings
 AreAsDeep settings readings = ⊥

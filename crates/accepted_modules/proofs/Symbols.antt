@@ -70,9 +70,9 @@ abbrev pub IsSymbol : Meaning → Type 0
 IsSymbol m = is_meant stands_for_parameter m ≡ true
 
 -- names that a module exports are there, and symbols that can be used are exported, or come from outside
-record HasSymbols (outer : Named → Meaning → Type 0) (reading : Reading) : Type 0 where
-  names : (name : Named) (m : Meaning) → find reading.exports name ≡ Some m → has reading.context name ≡ true
-  symbols : (name : Named) (m : Meaning) → meaning_of reading.context name ≡ Some m → IsSymbol m → (find reading.exports name ≡ Some m) ⊎ outer name m
+pub record HasSymbols (outer : Named → Meaning → Type 0) (reading : Reading) : Type 0 where
+  pub names : (name : Named) (m : Meaning) → find reading.exports name ≡ Some m → has reading.context name ≡ true
+  pub symbols : (name : Named) (m : Meaning) → meaning_of reading.context name ≡ Some m → IsSymbol m → (find reading.exports name ≡ Some m) ⊎ outer name m
 
 module _ (outer : Named → Meaning → Type 0) where
   -- a name that is new, or there already
@@ -147,17 +147,17 @@ module _ (outer : Named → Meaning → Type 0) where
   extends-has text files reading (l ∷ rest) is = extends-has text files (extended reading (brings text files reading l)) rest (joined-has false reading (brings text files reading l) is (λ l. absurd (cc l)))
 
 -- what the modules round one let be used in it
-abbrev Outer : List Reading → Named → Meaning → Type 0
+abbrev pub Outer : List Reading → Named → Meaning → Type 0
 Outer [] name m = ⊥
 Outer (outer ∷ round) name m = meaning_of outer.context name ≡ Some m
 
 -- the same of a module and of those round it
-abbrev HaveSymbols : Reading → List Reading → Type 0
+abbrev pub HaveSymbols : Reading → List Reading → Type 0
 HaveSymbols here [] = HasSymbols (Outer []) here
 HaveSymbols here (outer ∷ round) = HasSymbols (Outer (outer ∷ round)) here × HaveSymbols outer round
 
 -- the module that is read itself
-here-has : (here : Reading) (round : List Reading) → HaveSymbols here round → HasSymbols (Outer round) here
+pub here-has : (here : Reading) (round : List Reading) → HaveSymbols here round → HasSymbols (Outer round) here
 here-has here [] all = all
 here-has here (outer ∷ round) all = all.0
 
@@ -289,7 +289,7 @@ module _ (text : Text) (files : List ℕ → ModuleView) (words : List ℕ) wher
       never (Symbol op) m at = cc at
   after-have state (ModuleEnd closing) is = left-have state.known state.place.here state.place.round is
 
-  all-have : (state : ReadState) (units : List UnitTree) → HaveSymbols state.place.here state.place.round → HaveSymbols (read_all text files words state units).place.here (read_all text files words state units).place.round
+  pub all-have : (state : ReadState) (units : List UnitTree) → HaveSymbols state.place.here state.place.round → HaveSymbols (read_all text files words state units).place.here (read_all text files words state units).place.round
   all-have state [] is = is
   all-have state (unit ∷ units) is = all-have (after text files words state unit) units (after-have state unit is)
 
@@ -398,7 +398,7 @@ units-offered text [] = tt
 units-offered text (unit ∷ rest) = (unit-offered text unit, units-offered text rest)
 
 module _ (files : List ℕ → ModuleView) (source : List ℕ) (units : ModuleUnits) where
-  first-have : HaveSymbols (first files source units).place.here []
+  pub first-have : HaveSymbols (first files source units).place.here []
   first-have =
       extends-has (Outer []) (text_of source units) (exports_by files) (unread (text_of source units)) units.extends
       (record { names = λ other m at. absurd (never other m at); symbols = λ other m at symbol. absurd (built other m at symbol) })

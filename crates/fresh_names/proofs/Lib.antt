@@ -1,4 +1,4 @@
-mod New
+pub mod New
 mod Units
 pub mod Kept
 pub mod First

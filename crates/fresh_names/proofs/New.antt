@@ -68,7 +68,7 @@ module _ (file source : List ℕ) (all : List Binder) where
   text = record { file = file; source = source; starts = starts_of all }
 
   -- where none of these names begins with another, it is none of them
-  none-declared : (others : List Binder) (binder : Binder) → AllByRecursion (IsThere all) others → IsThere all binder → beginning binder.name.span.start others ≡ 0 → IsDeclaredBy text others (declaration text binder.name) → ⊥
+  pub none-declared : (others : List Binder) (binder : Binder) → AllByRecursion (IsThere all) others → IsThere all binder → beginning binder.name.span.start others ≡ 0 → IsDeclaredBy text others (declaration text binder.name) → ⊥
   none-declared [] binder there one none declared = declared
   none-declared (other ∷ others) binder there one none (inl same) =
       let starts : other.name.span.start ≡ binder.name.span.start = same-start all other.name.span.start binder.name.span.start there.0 one (ap (λ (decl : DeclId). decl.place) (sym same)) in
