@@ -6,5 +6,9 @@ mod Shaped
 mod Nothing
 mod Placed
 mod Given
+mod Inside
 mod Usable
 mod GoodModules
+mod Exported
+mod NestedExtending
+mod Coming

@@ -1,6 +1,6 @@
 -- What a module exports can be used in it, as what it means there.
 use Rattle.std.proofs.Common.{◌≡◌, ℕ, Bool, true, false, cond, List, [], ◌∷◌, ◌++◌, ◌⊎◌, inl, inr, Option, Some, None, is_some, refl, sym, ap, subst, ◌∙◌}
-use Rattle.std.specs.Prelude.{not}
+use Rattle.std.specs.Prelude.{not, ◌||◌}
 use Rattle.std.specs.List.{AllByRecursion}
 use Rattle.std.proofs.lemmas.Bool.{and_parts}
 use Rattle.list_laws.proofs.Lists.{all-left, all-weaker}
@@ -19,7 +19,7 @@ use Rattle.tla_model.proofs.Same.{decl-equal, units-equal}
 use Rattle.module_scope.specs.Environments.{Environment, meaning}
 use Rattle.module_model.specs.Exports.{Exports, Known, ModuleView, entry_of, exported, exports_by, exports_of}
 use Rattle.module_model.specs.Instances.{through}
-use Rattle.module_model.specs.Modules.{Place, Reading, begun_in, brings, clashes, constants, declare_all, differs, extended, extends_all, joined, left, nested, text_of, unread, with_entry}
+use Rattle.module_model.specs.Modules.{Place, Reading, begun_in, brings, brings_clash, clashes, constants, declare_all, differs, extended, extends_all, joined, left, nested, text_of, unread, with_entry}
 use Rattle.module_model.specs.NamedModules.{module_at, module_under}
 use Rattle.module_model.specs.Resolution.{ReadState, after, first, instance_brings, outside_in, read_all, words_of}
 use Rattle.module_model.proofs.Entries.{entry-of-table}
@@ -35,6 +35,7 @@ use Rattle.accepted_modules.proofs.Holding.{AreOwn, HoldsPlace, HoldsReading, Of
 use Rattle.accepted_modules.proofs.Symbols.{put-new}
 use Rattle.accepted_modules.proofs.Tables.{put-finds, put-keeps}
 use Rattle.accepted_modules.proofs.Views.{joined-keeps, own-read}
+use Rattle.given_modules.proofs.Inside.{joined-continues}
 
 -- no path leads to what a name means
 abbrev pub IsDirect : Meaning → Type 0
@@ -80,7 +81,7 @@ module _ (declares : Declarations) where
       let entity : e ≡ f = ap (λ (p : Named × Entity). p.1) (sym is.0 ∙ ap declares decl ∙ also.0) in
       λ i. Declared (entity i) (record { instance = number i; decl = decl i; via = via i })
 
-  passes-one : (unit : UnitId) (name : Named) (m : Meaning) → IsOne name m → IsOne name (through unit m)
+  pub passes-one : (unit : UnitId) (name : Named) (m : Meaning) → IsOne name m → IsOne name (through unit m)
   passes-one unit name BuiltIn is = is
   passes-one unit name (Declared e callee) is = is
 
@@ -126,23 +127,46 @@ module _ (declares : Declarations) where
           which other n (inr same) =
               subst (λ k. find (put reading.context name (Some m)) k ≡ Some (Some n)) (sym same.0) (subst (λ k. find (put reading.context name (Some m)) name ≡ Some (Some k)) same.1 (there new))
 
-  joined-usable : (local : Bool) (reading : Reading) (entries : Exports) → IsUsable reading → AllByRecursion (OfEntry IsOne) entries → IsUsable (joined local reading entries)
+  -- what does not clash is new, or there already
+  not-clashing : (reading : Reading) (entry : Named × Meaning) → IsUsable reading → IsOne entry.0 entry.1 → (o : Option (Option Meaning)) → find reading.context entry.0 ≡ o → differs o entry.1 ≡ false → IsNewOr reading entry.0 entry.1
+  not-clashing reading entry is one None at apart = inl at
+  not-clashing reading entry is one (Some None) at apart = absurd (cc apart)
+  not-clashing reading entry is one (Some (Some other)) at apart = inr (at ∙ ap (λ m. Some (Some m)) (same-one entry.0 entry.0 other entry.1 (same (same_meaning other entry.1) refl apart) (is.ones entry.0 other (ap usable at)) one))
+    where
+      same : (b : Bool) → same_meaning other entry.1 ≡ b → not b ≡ false → same_meaning other entry.1 ≡ true
+      same true e apart = e
+      same false e apart = absurd (cc apart)
+
+  pub joined-usable : (local : Bool) (reading : Reading) (entries : Exports) → IsUsable reading → AllByRecursion (OfEntry IsOne) entries → IsUsable (joined local reading entries)
   joined-usable local reading [] is all = is
   joined-usable local reading (entry ∷ rest) is all =
       joined-usable local (cond (clashes reading.context entry) reading (with_entry local reading entry.0 entry.1)) rest (by (clashes reading.context entry) refl) all.1
     where
-      new : (o : Option (Option Meaning)) → find reading.context entry.0 ≡ o → differs o entry.1 ≡ false → IsNewOr reading entry.0 entry.1
-      new None at apart = inl at
-      new (Some None) at apart = absurd (cc apart)
-      new (Some (Some other)) at apart = inr (at ∙ ap (λ m. Some (Some m)) (same-one entry.0 entry.0 other entry.1 (same (same_meaning other entry.1) refl apart) (is.ones entry.0 other (ap usable at)) all.0))
-        where
-          same : (b : Bool) → same_meaning other entry.1 ≡ b → not b ≡ false → same_meaning other entry.1 ≡ true
-          same true e apart = e
-          same false e apart = absurd (cc apart)
-
       by : (b : Bool) → clashes reading.context entry ≡ b → IsUsable (cond b reading (with_entry local reading entry.0 entry.1))
       by true e = is
-      by false e = entry-usable local reading entry.0 entry.1 is all.0 (new (find reading.context entry.0) refl e)
+      by false e = entry-usable local reading entry.0 entry.1 is all.0 (not-clashing reading entry is all.0 (find reading.context entry.0) refl e)
+
+  -- what is brought with no clash can be used
+  pub joined-there : (reading : Reading) (entries : Exports) → IsUsable reading → AllByRecursion (OfEntry IsOne) entries → brings_clash reading entries ≡ false → AllByRecursion (λ (entry : Named × Meaning). find (joined false reading entries).context entry.0 ≡ Some (Some entry.1)) entries
+  joined-there reading [] is all none = tt
+  joined-there reading (entry ∷ rest) is all none = by (clashes reading.context entry) refl none (λ usable_there clash. joined-there (with_entry false reading entry.0 entry.1) rest usable_there all.1 clash)
+    where
+      new : clashes reading.context entry ≡ false → IsNewOr reading entry.0 entry.1
+      new apart = not-clashing reading entry is all.0 (find reading.context entry.0) refl apart
+
+      there : IsNewOr reading entry.0 entry.1 → find (put reading.context entry.0 (Some entry.1)) entry.0 ≡ Some (Some entry.1)
+      there (inl free) = put-new reading.context entry.0 (Some entry.1) free
+      there (inr found) = put-keeps reading.context entry.0 (Some entry.1) entry.0 (Some entry.1) found
+
+      by : (b : Bool) → clashes reading.context entry ≡ b → (b || brings_clash (cond b reading (with_entry false reading entry.0 entry.1)) rest) ≡ false
+          → (IsUsable (with_entry false reading entry.0 entry.1) → brings_clash (with_entry false reading entry.0 entry.1) rest ≡ false
+          → AllByRecursion (λ (one : Named × Meaning). find (joined false (with_entry false reading entry.0 entry.1) rest).context one.0 ≡ Some (Some one.1)) rest)
+          → AllByRecursion (λ (one : Named × Meaning). find (joined false (cond b reading (with_entry false reading entry.0 entry.1)) rest).context one.0 ≡ Some (Some one.1)) (entry ∷ rest)
+      by true e clash later = absurd (cc clash)
+      by false e clash later = (
+        joined-continues false (with_entry false reading entry.0 entry.1) rest entry.0 (Some entry.1) (there (new e)),
+        later (entry-usable false reading entry.0 entry.1 is all.0 (new e)) clash,
+      )
 
   declared-usable : (text : Text) (local : Bool) (reading : Reading) (binders : List Binder) → IsUsable reading → AllByRecursion (λ (b : Binder). IsOne (name_of text.source b.name) (meant text b)) binders → IsUsable (declare_all text local reading binders)
   declared-usable text local reading [] is all = is
@@ -206,7 +230,7 @@ module _ (declares : Declarations) where
         (after-usable state unit own.0 holds is)
 
   -- names of a text are such
-  names-one : (text : Text) (binders : List Binder) → AllByRecursion (λ (b : Binder). IsDeclared declares (name_of text.source b.name) (meant text b)) binders → AllByRecursion (λ (b : Binder). IsOne (name_of text.source b.name) (meant text b)) binders
+  pub names-one : (text : Text) (binders : List Binder) → AllByRecursion (λ (b : Binder). IsDeclared declares (name_of text.source b.name) (meant text b)) binders → AllByRecursion (λ (b : Binder). IsOne (name_of text.source b.name) (meant text b)) binders
   names-one text [] all = tt
   names-one text (b ∷ rest) all = ((all.0, refl), names-one text rest all.1)
 
