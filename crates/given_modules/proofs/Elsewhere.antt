@@ -155,7 +155,8 @@ module _ (outsides : List ℕ → Outside) (source : List ℕ) (units : ModuleUn
       (all-hold P text files words passes (λ name. foreign-holds text P each (outsides name).view (foreign name)) (first files source units) before own
       (first-holds P files source units passes (λ name. foreign-holds text P each (outsides name).view (foreign name))))
 
-  elsewhere-holds : (before : List UnitTree) → HoldsPlace (ComesElsewhere text (declaring before)) (kinds_behind outsides source units before).read.place
+  -- what can be used and exported behind these units comes from elsewhere or from them
+  pub elsewhere-holds : (before : List UnitTree) → HoldsPlace (ComesElsewhere text (declaring before)) (kinds_behind outsides source units before).read.place
   elsewhere-holds before =
       behind-holds (ComesElsewhere text (declaring before)) (λ unit name m is. through-elsewhere text (declaring before) unit m) (foreign-elsewhere text (declaring before)) before
       (units-own text (declaring before) before (λ decl declared. declared))

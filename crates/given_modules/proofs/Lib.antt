@@ -12,3 +12,5 @@ mod GoodModules
 mod Exported
 mod NestedExtending
 mod Coming
+mod Disjoint
+mod NestedGiven

@@ -31,7 +31,7 @@ use Rattle.accepted_modules.specs.Coming.{ComesOfModules, a_module, no_module}
 use Rattle.accepted_modules.specs.Named.{AllNamed}
 use Rattle.accepted_modules.specs.States.{kinds_behind}
 use Rattle.accepted_modules.proofs.Contexts.{HoldsOf, brings-exported, built-in-is, put-holds}
-use Rattle.accepted_modules.proofs.Holding.{AreOwn, HoldsPlace, HoldsReading, OfEntry, Own, added-known, after-holds, first-holds, instance-hold, module-says, nothing-holds, outside-holds}
+use Rattle.accepted_modules.proofs.Holding.{AreOwn, HoldsPlace, HoldsReading, OfEntry, Own, added-known, after-holds, all-hold, first-holds, instance-hold, module-says, nothing-holds, outside-holds}
 use Rattle.accepted_modules.proofs.Symbols.{put-new}
 use Rattle.accepted_modules.proofs.Tables.{put-finds, put-keeps}
 use Rattle.accepted_modules.proofs.Views.{joined-keeps, own-read}
@@ -252,6 +252,16 @@ module _ (declares : Declarations) where
           extends-usable text files words given start.modules start units.extends refl (tt, tt) (record { names = λ other m at. absurd (empty-never other m at); ones = built }),
           tt,
         )
+
+    -- all names there are one with their declarations
+    pub behind-ones : (before behind : List UnitTree) → units.units ≡ before ++ behind → HoldsPlace IsOne (kinds_behind outsides source units before).read.place
+    behind-ones before behind split =
+        let all = all-left (λ (unit : UnitTree). AreNamesDeclared declares text (declared_names unit)) before behind (subst (AreUnitsDeclared declares text) split names) in
+        subst (HoldsPlace IsOne) (λ i. (sym (own-read outsides source units before) i).place)
+        (all-hold IsOne text files words passes-one given (first files source units) before
+        (all-weaker (λ (unit : UnitTree). AreNamesDeclared declares text (declared_names unit)) (λ (unit : UnitTree). AllByRecursion (Own IsOne text) (declared_names unit))
+        (λ unit declared. all-weaker (λ (b : Binder). IsOne (name_of text.source b.name) (meant text b)) (Own IsOne text) (λ b one none. one) (declared_names unit) (names-one text (declared_names unit) declared)) before all)
+        (first-holds IsOne files source units passes-one given))
 
     -- wherever a unit is read
     pub behind-usable : (before behind : List UnitTree) → units.units ≡ before ++ behind → AreUsable (kinds_behind outsides source units before).read.place

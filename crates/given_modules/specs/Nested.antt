@@ -1,0 +1,43 @@
+-- What is asked besides of a module with nested ones: what these bring is new in the modules round them, or stands there as before, and they
+-- extend files alone.
+use Rattle.std.specs.Prelude.{◌≡◌, ℕ, List, [], ◌∷◌, Option, Some}
+use Rattle.std.specs.List.{AllByRecursion}
+use Rattle.unit_grammar.specs.Units.{ModuleBegin, ModuleUnits, UnitTree}
+use Rattle.tla_model.specs.Entities.{Meaning, Text}
+use Rattle.tla_model.specs.Lexemes.{spelled}
+use Rattle.module_scope.specs.Environments.{begun, first as first_scope, meaning as module_meaning}
+use Rattle.module_model.specs.Modules.{text_of}
+use Rattle.module_model.specs.Resolution.{words_of}
+use Rattle.kind_text.specs.FlatModule.{FlatModule}
+use Rattle.tree_kinds.specs.Standing.{Outside}
+use Rattle.module_kinds.specs.ModuleKinds.{KindState, after, first}
+use Rattle.flattened_trees.specs.Leads.{FlatFace}
+use Rattle.flattened_trees.specs.Questions.{Question}
+use Rattle.flattened_units.specs.Units.{AreUnitsMade, IsModuleMade, Reader}
+use Rattle.module_meanings.specs.Premises.{IsBroughtGiven, first_seen, seen_behind}
+
+module _ (flat : FlatModule) (text : Text) (means : ℕ → Option Meaning) (implied : ℕ → List Meaning) (files : List ℕ → FlatFace) (outsides : List ℕ → Outside) (words : List ℕ) where
+  -- a nested module extends none that is nested too
+  abbrev pub ExtendsFiles : KindState → UnitTree → Type 0
+  ExtendsFiles state (ModuleBegin dashes name extends) =
+      AllByRecursion (λ l. (nested : Outside) → module_meaning (begun state.modules (spelled text.source name)).here (spelled text.source l) ≡ Some (Some nested) → ⊥) extends
+  ExtendsFiles state unit = Unit {0}
+
+  -- units, one after another, as they come: what each brings is given, and nested modules extend files
+  abbrev pub AreUnitsBringing : (state : KindState) (reader : Reader) (seen : List Meaning) (units : List UnitTree) (next : Reader) (asked : List Question) → AreUnitsMade flat text means implied files outsides words state reader units next asked → Type 0
+  AreUnitsBringing state reader seen [] next asked made = Unit {0}
+  AreUnitsBringing state reader seen (unit ∷ units) next asked made =
+      IsBroughtGiven flat text means implied files outsides words state reader seen unit × ExtendsFiles state unit
+      × AreUnitsBringing (after text outsides words state unit) made.0 (seen_behind text outsides words state unit made.0 seen) units next made.2 made.4
+
+module _ (flat : FlatModule) (means : ℕ → Option Meaning) (implied : ℕ → List Meaning) (files : List ℕ → FlatFace) (outsides : List ℕ → Outside) (source : List ℕ) (units : ModuleUnits) where
+  -- a module, as it comes with these symbols
+  abbrev pub IsModuleBringing : (symbols : List Meaning) (last : Reader) (asked : List Question) → IsModuleMade flat means implied files outsides source units symbols last asked → Type 0
+  IsModuleBringing symbols last asked made =
+      AreUnitsBringing flat (text_of source units) means implied files outsides (words_of units) (first outsides source units)
+      (record {
+        setting = record { leads = made.0; frame = symbols; olds = [] };
+        round = [];
+        faces = first_scope (text_of source units).file;
+      })
+      (first_seen flat means implied files outsides source units symbols) units.units last asked made.2
