@@ -54,7 +54,7 @@ module _ (declares : Declarations) where
   symbol-no_definition e is = refl
 
   -- what is the same symbol as one that is declared so is no definition
-  same-no_definition : (m s : Meaning) → same_symbol m s ≡ true → IsSymbol declares s → IsNoDefinition declares m
+  pub same-no_definition : (m s : Meaning) → same_symbol m s ≡ true → IsSymbol declares s → IsNoDefinition declares m
   same-no_definition BuiltIn s same is = tt
   same-no_definition (Declared e a) BuiltIn same is = absurd is
   same-no_definition (Declared e a) (Declared f b) same is =

@@ -14,3 +14,4 @@ mod NestedExtending
 mod Coming
 mod Disjoint
 mod NestedGiven
+mod NestedUnits

@@ -4,6 +4,7 @@ use Rattle.std.specs.Prelude.{not, ◌||◌}
 use Rattle.std.specs.List.{AllByRecursion}
 use Rattle.std.specs.Str.{bytes_eq}
 use Rattle.std.proofs.lemmas.Bool.{and_parts}
+use Rattle.std.proofs.lemmas.List.{append-nil}
 use Rattle.std.proofs.Math.Seq.{drop-append_seam}
 use Rattle.list_laws.proofs.Lists.{all-weaker}
 use Rattle.tla_symbols.specs.declared.lexeme.Lexeme.{Lexeme}
@@ -25,14 +26,15 @@ use Rattle.module_model.specs.Bindings.{faults}
 use Rattle.module_model.specs.Exports.{Exports, ModuleView, entry_of, exported, exports_by, exports_of, is_meant, parameters_in, stands_for_parameter}
 use Rattle.module_model.specs.Instances.{own_parameters, paths_in}
 use Rattle.module_model.specs.Modules.{Reading, all_clashing, constants, declare_all, text_of, unread}
-use Rattle.module_model.specs.Resolution.{findings, first as first_read, found_from, found_in, words_of}
+use Rattle.module_model.specs.Resolution.{ReadState, findings, first as first_read, found_from, found_in, words_of}
 use Rattle.kind_text.specs.FlatModule.{FlatModule}
 use Rattle.tree_kinds.specs.Standing.{Environment, Outside, is_bound, same_standing}
-use Rattle.module_kinds.specs.ModuleKinds.{KindState, after, first, read_all, views}
+use Rattle.module_kinds.specs.ModuleKinds.{KindState, after, first, last, outside, read_all, views}
 use Rattle.flat_trees.specs.Instances.{symbols_of}
 use Rattle.flat_kinds.specs.Declarations.{Declarations, EachOnce}
 use Rattle.flat_kinds.specs.Readings.{is_among}
 use Rattle.flat_kinds.specs.Symbols.{AreDistinct, same_declared, same_symbol}
+use Rattle.flat_kinds.proofs.Declarations.{read-same}
 use Rattle.flat_kinds.proofs.Distinct.{ended-symbols}
 use Rattle.flattened_trees.specs.Leads.{FlatFace, Leads, Setting, nowhere}
 use Rattle.flattened_trees.specs.Questions.{Question}
@@ -60,7 +62,7 @@ use Rattle.given_modules.proofs.Placed.{constants-are, lead-placed, variables-ar
 use Rattle.given_modules.proofs.Usable.{IsOne, IsUsable, behind-ones, behind-usable, exported-usable}
 
 -- all entries are so where each that is there is
-all-there : (P : Named × Meaning → Type 0) (entries : Exports) → ((name : Named) (m : Meaning) → IsThere entries name m → P (name, m)) → AllByRecursion P entries
+pub all-there : (P : Named × Meaning → Type 0) (entries : Exports) → ((name : Named) (m : Meaning) → IsThere entries name m → P (name, m)) → AllByRecursion P entries
 all-there P [] each = tt
 all-there P (entry ∷ rest) each = (each entry.0 entry.1 (inl (refl, refl)), all-there P rest (λ name m there. each name m (inr there)))
 
@@ -85,7 +87,7 @@ declared-free (entity.Bound state) f same callee = absurd (cc same)
 declared-free e f same callee = refl
 
 -- the same symbol means the same, and is not bound
-symbol-means : (m o : Meaning) → same_symbol m o ≡ true → (same_meaning m o ≡ true) × (is_bound m ≡ false)
+pub symbol-means : (m o : Meaning) → same_symbol m o ≡ true → (same_meaning m o ≡ true) × (is_bound m ≡ false)
 symbol-means BuiltIn o same = absurd (cc same)
 symbol-means (Declared e a) BuiltIn same = absurd (cc same)
 symbol-means (Declared e a) (Declared f b) same =
@@ -102,7 +104,7 @@ standing-free m o same symbol =
     by false free is = refl
 
 -- a name that means the same as one of these leads nowhere round
-abbrev IsApartFrom : List Setting → List Meaning → Meaning → Type 0
+abbrev pub IsApartFrom : List Setting → List Meaning → Meaning → Type 0
 IsApartFrom round frame o = (m : Meaning) → same_meaning m o ≡ true → is_bound m ≡ false → symbol_leads round frame m [] ≡ nowhere
 
 -- own symbols of nested modules are none of those round them
@@ -133,7 +135,7 @@ module _ (flat : FlatModule) (means : ℕ → Option Meaning) (implied : ℕ →
 
   -- ---- what is known where a unit is read
 
-  usable-at : (before behind : List UnitTree) (state : KindState) → IsAt outsides source units before behind state → IsUsable declares state.read.place.here
+  pub usable-at : (before behind : List UnitTree) (state : KindState) → IsAt outsides source units before behind state → IsUsable declares state.read.place.here
   usable-at before behind state at =
       subst (λ (s : KindState). IsUsable declares s.read.place.here) (sym at.same) (behind-usable declares outsides source units ones k.names before behind at.split).0
 
@@ -162,6 +164,24 @@ module _ (flat : FlatModule) (means : ℕ → Option Meaning) (implied : ℕ →
       let own = own-there outer.context entries name m there in
       let used = exports-coming before behind state at name m own.0 own.1 in
       record { symbol = own.1; comes = inl used.0 }))
+
+  -- all symbols of the module can be used in the end
+  pub last-coming : (final : Reader) → (last outsides source units).read.place.round ≡ [] → final.round ≡ [] → final.setting.frame ≡ symbols_of (outside outsides source units) → IsComingAt text flat means implied files outsides words declares [] (last outsides source units) final
+  last-coming final place round frame =
+      let state : KindState = last outsides source units in
+      let at : IsAt outsides source units units.units [] state = record { split = sym (append-nil units.units); same = refl } in
+      let entries : Exports = exports_of state.read.place.here.exports in
+      subst (λ readings. AreComing text declares [] state.read.place.here readings final.setting.frame final.round) (sym place)
+      (subst (λ settings. AreComing text declares [] state.read.place.here [] final.setting.frame settings) (sym round)
+      (subst (λ (ms : List Meaning). AllByRecursion (IsComing text declares [] state.read.place.here.context) ms) (sym frame)
+      (subst (λ (s : ReadState). AllByRecursion (IsComing text declares [] state.read.place.here.context) (meanings_of (parameters_in (exports_of s.place.here.exports))))
+      (read-same text outsides words (first outsides source units) units.units)
+      (entries-mean (IsComing text declares [] state.read.place.here.context) (parameters_in entries)
+      (all-there (λ entry. IsComing text declares [] state.read.place.here.context entry.1) (parameters_in entries)
+      (λ name m there.
+      let one = there-passed (λ (entry : Named × Meaning). is_meant stands_for_parameter entry.1) entries name m there in
+      let used = exports-coming units.units [] state at name m one.0 one.1 in
+      record { symbol = one.1; comes = inl used.0 }))))))
 
   -- symbols of the module and of those round it can be used, or come later
   pub coming-ahead : (before behind : List UnitTree) (state : KindState) (reader next : Reader) (asked : List Question) → IsAt outsides source units before behind state → AreUnitsMade flat text means implied files outsides words state reader behind next asked

@@ -185,6 +185,10 @@ module _ (declares : Declarations) where
   empty-never (Word bytes) m at = cc at
   empty-never (Symbol op) m at = cc at
 
+  -- a nested module before what it extends
+  pub nested-usable : (text : Text) (reading : Reading) (name : Lexeme) → IsUsable reading → IsUsable (nested text reading name)
+  nested-usable text reading name is = record { names = λ other m at. absurd (empty-never other m at); ones = is.ones }
+
   module _ (text : Text) (files : List ℕ → ModuleView) (words : List ℕ) (given : (name : List ℕ) → AllNamed IsOne (files name)) where
     extends-usable : (modules : Environment ModuleView) (reading : Reading) (ls : List Lexeme) → reading.modules ≡ modules → OfAllKnown (AllNamed IsOne) modules → IsUsable reading → IsUsable (extends_all text (exports_by files) reading ls)
     extends-usable modules reading [] same all is = is

@@ -27,13 +27,14 @@ ghost use Rattle.readable_laws.specs.Uses.{implied_by, means_by};
 ghost use Rattle.accepted_modules.specs.Behind.{Behinds, IsForeignView, with_own};
 ghost use Rattle.given_modules.specs.Fresh.{IsModuleFresh};
 ghost use Rattle.given_modules.specs.Good.{AreGoodFiles, IsFaultless, IsGoodFile, face_of};
+ghost use Rattle.given_modules.specs.Nested.{IsModuleBringing};
 
 use accepted_modules::{brought_names_come, faultless_units_are_read, modules_come_steady};
 use accepted_modules::{readers_end, symbols_are_parameters};
 use flat_kinds::places_are_declared;
 use fresh_names::declared_names_are_new;
 use grammar_shapes::fronts_are_shaped;
-use lexeme_laws::names_begin_apart;
+use lexeme_laws::{lexemes_are_held_once, names_begin_apart};
 
 /// The names of all trees of a module that is the front of some bytes are new, each at its unit, if
 /// no file has a name that the module declares.
@@ -75,10 +76,12 @@ pub fn faultless_modules_are_shaped()
     names_begin_apart();
 }
 
-/// A module without faults and without nested ones, over good files, is given as what its nodes mean
-/// asks, where what is meant and what stands in is what is found.
+/// A module without faults, over good files, is given as what its nodes mean asks, where what is
+/// meant and what stands in is what is found: one without nested modules, and one with nested ones,
+/// if what these bring is new in the modules round them, or stands there as before, and if they
+/// extend files alone.
 pub fn faultless_modules_are_given()
-    ensures { (flat : FlatModule) (declares : Declarations) (behinds : Behinds)
+    ensures plain { (flat : FlatModule) (declares : Declarations) (behinds : Behinds)
         (files : List ℕ → FlatFace) (outsides : List ℕ → Outside) (name bytes : List ℕ)
         (units : ModuleUnits) (symbols : List Meaning) (last : Reader) (asked : List Question)
         → let found = findings (views (text_of bytes units) outsides (words_of units)) bytes units
@@ -90,12 +93,26 @@ pub fn faultless_modules_are_given()
         → AllByRecursion IsPlain units.units
         → IsModuleGiven flat (means_by found) (implied_by found) files outsides bytes units symbols
         last asked made }
+    ensures nested { (flat : FlatModule) (declares : Declarations) (behinds : Behinds)
+        (files : List ℕ → FlatFace) (outsides : List ℕ → Outside) (name bytes : List ℕ)
+        (units : ModuleUnits) (symbols : List Meaning) (last : Reader) (asked : List Question)
+        → let found = findings (views (text_of bytes units) outsides (words_of units)) bytes units
+        in (made : IsModuleMade flat (means_by found) (implied_by found) files outsides bytes units
+        symbols last asked)
+        → AreGoodFiles flat declares behinds (text_of bytes units).file files outsides
+        → IsFaultless declares outsides name bytes units
+        → symbols ≡ symbols_of (outside outsides bytes units)
+        → IsModuleBringing flat (means_by found) (implied_by found) files outsides bytes units
+        symbols last asked made
+        → IsModuleGiven flat (means_by found) (implied_by found) files outsides bytes units symbols
+        last asked made }
 {
     faultless_units_are_read();
     modules_come_steady();
     readers_end();
     places_are_declared();
     declared_names_are_new();
+    lexemes_are_held_once();
     names_begin_apart();
     brought_names_come();
     symbols_are_parameters();
