@@ -1,4 +1,4 @@
--- Modules without faults and without nested ones are given.
+-- Units of modules without faults are given, and what these extend.
 use Rattle.std.proofs.Common.{◌≡◌, ℕ, Bool, true, false, cond, List, [], ◌∷◌, ◌++◌, ◌⊎◌, inl, inr, Option, Some, None, refl, sym, ap, subst, ◌∙◌, map}
 use Rattle.std.specs.List.{AllByRecursion}
 use Rattle.std.specs.Str.{bytes_eq}
@@ -109,91 +109,6 @@ module _ (flat : FlatModule) (means : ℕ → Option Meaning) (implied : ℕ →
   unit-given before behind (ModuleBegin dashes name extends) state reader seen next is plain placed = absurd plain
   unit-given before behind (ModuleEnd closing) state reader seen next is plain placed = absurd plain
 
-  -- ---- outside of nested modules
-
-  -- no module is round a reader, and its symbols are those of the module
-  pub record IsOutermost (state : KindState) (reader : Reader) : Type 0 where
-    pub place : state.read.place.round ≡ []
-    pub round : reader.round ≡ []
-    pub frame : reader.setting.frame ≡ symbols_of (outside outsides source units)
-
-  ends : (before behind : List UnitTree) (state : KindState) (reader : Reader) (seen : List Meaning) → Met before behind state reader seen → IsOutermost state reader → (state_behind (views text outsides words) source units before).place.round ≡ []
-  ends before behind state reader seen is outer = ap (λ s. s.place.round) (sym (ap (λ (s : KindState). s.read) is.seen_so.at.same ∙ own-read outsides source units before)) ∙ outer.place
-
-  led : (binders : List Binder) (reader : Reader) {state : KindState} → IsOutermost state reader → SymbolsLead reader.setting reader.round → AllByRecursion (IsPlaced (with_symbols no_leads (symbols_of (outside outsides source units)) 0)) (map (meant text) binders)
-      → AllByRecursion (IsPlaced reader.setting.leads) (map (meant text) binders)
-  led binders reader outer lead all =
-      all-weaker (IsPlaced (with_symbols no_leads (symbols_of (outside outsides source units)) 0)) (IsPlaced reader.setting.leads)
-      (λ m placed.
-      lead-placed reader.setting reader.round m lead
-      (subst (λ (round : List Setting). IsPlaced (symbol_leads round reader.setting.frame) m) (sym outer.round) (subst (λ (frame : List Meaning). IsPlaced (with_symbols no_leads frame 0) m) (sym outer.frame) placed)))
-      (map (meant text) binders) all
-
-  -- the symbols that a unit declares there have places
-  pub outer-placed : (before behind : List UnitTree) (unit : UnitTree) (state : KindState) (reader : Reader) (seen : List Meaning) → Met before (unit ∷ behind) state reader seen → IsOutermost state reader → HasPlaced reader unit
-  outer-placed before behind (Variables names) state reader seen is outer =
-      led (variables names) reader outer is.leads.0
-      (binders-placed text no_leads (outside_in (views text outsides words) source units).parameters 0 (variables names) (variables-are text names)
-      (unit-parameters (views text outsides words) source units accepted.lexemes before (Variables names) behind accepted.derives accepted.faultless is.seen_so.at.split (ends before (Variables names ∷ behind) state reader seen is outer)))
-  outer-placed before behind (Constants declarations) state reader seen is outer =
-      led (constants declarations) reader outer is.leads.0
-      (binders-placed text no_leads (outside_in (views text outsides words) source units).parameters 0 (constants declarations) (constants-are text (all_placed declarations))
-      (unit-parameters (views text outsides words) source units accepted.lexemes before (Constants declarations) behind accepted.derives accepted.faultless is.seen_so.at.split (ends before (Constants declarations ∷ behind) state reader seen is outer)))
-  outer-placed before behind (OperatorDefinition local x) state reader seen is outer = tt
-  outer-placed before behind (FunctionDefinition local x) state reader seen is outer = tt
-  outer-placed before behind (ModuleDefinition local x) state reader seen is outer = tt
-  outer-placed before behind (Instance local x) state reader seen is outer = tt
-  outer-placed before behind (Assumption word name x) state reader seen is outer = tt
-  outer-placed before behind (Theorem word name x) state reader seen is outer = tt
-  outer-placed before behind (Line dashes) state reader seen is outer = tt
-  outer-placed before behind (ModuleBegin dashes name extends) state reader seen is outer = tt
-  outer-placed before behind (ModuleEnd closing) state reader seen is outer = tt
-
-  -- a unit that begins and ends no nested module leaves that so
-  pub plain-outermost : (unit : UnitTree) (state : KindState) (reader next : Reader) (asked : List Question) → IsPlain unit → IsUnitMade flat text means implied files outsides words state reader unit next asked → IsOutermost state reader → IsOutermost (after text outsides words state unit) next
-  plain-outermost (OperatorDefinition local x) state reader next asked plain made is = subst (λ (r : Reader). IsOutermost (after text outsides words state (OperatorDefinition local x)) r) (sym made.3) (record { place = is.place; round = is.round; frame = is.frame })
-  plain-outermost (FunctionDefinition local x) state reader next asked plain made is = subst (λ (r : Reader). IsOutermost (after text outsides words state (FunctionDefinition local x)) r) (sym made.3) (record { place = is.place; round = is.round; frame = is.frame })
-  plain-outermost (ModuleDefinition local x) state reader next asked plain made is = subst (λ (r : Reader). IsOutermost (after text outsides words state (ModuleDefinition local x)) r) (sym made.3) (record { place = is.place; round = is.round; frame = is.frame })
-  plain-outermost (Instance local x) state reader next asked plain made is = by x made
-    where
-      by : (x : Tree) → IsUnitMade flat text means implied files outsides words state reader (Instance local x) next asked → IsOutermost (after text outsides words state (Instance local x)) next
-      by (Node (Form.Instance l) s rights) made =
-          subst (λ (r : Reader). IsOutermost (after text outsides words state (Instance local (Node (Form.Instance l) s rights))) r) (sym made.7) (record { place = is.place; round = is.round; frame = is.frame })
-      by (Node Form.Let s rights) made = subst (λ (r : Reader). IsOutermost (after text outsides words state (Instance local (Node Form.Let s rights))) r) (sym made.0) (record { place = is.place; round = is.round; frame = is.frame })
-      by (Node form s rights) made = subst (λ (r : Reader). IsOutermost (after text outsides words state (Instance local (Node form s rights))) r) (sym made.0) (record { place = is.place; round = is.round; frame = is.frame })
-  plain-outermost (Assumption word name x) state reader next asked plain made is = subst (λ (r : Reader). IsOutermost (after text outsides words state (Assumption word name x)) r) (sym made.3) (record { place = is.place; round = is.round; frame = is.frame })
-  plain-outermost (Theorem word name x) state reader next asked plain made is = subst (λ (r : Reader). IsOutermost (after text outsides words state (Theorem word name x)) r) (sym made.3) (record { place = is.place; round = is.round; frame = is.frame })
-  plain-outermost (Variables names) state reader next asked plain made is = subst (λ (r : Reader). IsOutermost (after text outsides words state (Variables names)) r) (sym made.0) (record { place = is.place; round = is.round; frame = is.frame })
-  plain-outermost (Constants declarations) state reader next asked plain made is = subst (λ (r : Reader). IsOutermost (after text outsides words state (Constants declarations)) r) (sym made.0) (record { place = is.place; round = is.round; frame = is.frame })
-  plain-outermost (Line dashes) state reader next asked plain made is = subst (λ (r : Reader). IsOutermost (after text outsides words state (Line dashes)) r) (sym made.0) (record { place = is.place; round = is.round; frame = is.frame })
-  plain-outermost (ModuleBegin dashes name extends) state reader next asked plain made is = absurd plain
-  plain-outermost (ModuleEnd closing) state reader next asked plain made is = absurd plain
-
-  -- nothing is asked there of what is brought and of ends
-  plain-brought : (unit : UnitTree) (state : KindState) (reader : Reader) (seen : List Meaning) → IsPlain unit → reader.round ≡ [] → IsBroughtGiven flat text means implied files outsides words state reader seen unit × IsEndGiven flat text means implied files outsides words unit state reader reader.round
-  plain-brought (Instance local x) state reader seen plain none = ((λ some. absurd (some none)), tt)
-  plain-brought (OperatorDefinition local x) state reader seen plain none = (tt, tt)
-  plain-brought (FunctionDefinition local x) state reader seen plain none = (tt, tt)
-  plain-brought (ModuleDefinition local x) state reader seen plain none = (tt, tt)
-  plain-brought (Assumption word name x) state reader seen plain none = (tt, tt)
-  plain-brought (Theorem word name x) state reader seen plain none = (tt, tt)
-  plain-brought (Variables names) state reader seen plain none = (tt, tt)
-  plain-brought (Constants declarations) state reader seen plain none = (tt, tt)
-  plain-brought (Line dashes) state reader seen plain none = (tt, tt)
-  plain-brought (ModuleBegin dashes name extends) state reader seen plain none = absurd plain
-  plain-brought (ModuleEnd closing) state reader seen plain none = absurd plain
-
-  units-given : (before behind : List UnitTree) (state : KindState) (reader : Reader) (seen : List Meaning) (next : Reader) (asked : List Question) (made : AreUnitsMade flat text means implied files outsides words state reader behind next asked) → next.round ≡ []
-      → AllByRecursion IsPlain behind → Met before behind state reader seen → IsOutermost state reader → AreUnitsGiven flat text means implied files outsides words state reader seen behind next asked made
-  units-given before [] state reader seen next asked made none plain is outer = tt
-  units-given before (unit ∷ behind) state reader seen next asked made none plain is outer = (
-    plain-brought unit state reader seen plain.0 outer.round,
-    unit-given before behind unit state reader seen made.0 is plain.0 (outer-placed before behind unit state reader seen is outer),
-    units-given (before ++ unit ∷ []) behind (after text outsides words state unit) made.0 (seen_behind text outsides words state unit made.0 seen) next made.2 made.4 none plain.1
-        (met-next flat means implied files outsides source units k.foreign declares k.declared k.names before behind unit state reader seen made.0 next made.1 made.2 is made.3 made.4 none)
-        (plain-outermost unit state reader made.0 made.1 plain.0 made.3 outer),
-  )
-
   -- ---- what the module extends
 
   -- names that modules bring which it extends, and those that none brings
@@ -271,14 +186,4 @@ module _ (flat : FlatModule) (means : ℕ → Option Meaning) (implied : ℕ →
       extended-given = record {
         each = each-given units.extends sound.shared sound.come;
         others = λ name m at none. subst (λ (ms : List Meaning). (IsSymbol m × IsPlaced (with_symbols no_leads ms 0) m) ⊎ ((used : Named) × (meaning_of built_in used ≡ Some m))) (sym same) (sound.others name m at none);
-      }
-
-      -- a module without nested ones is given
-      pub plain-given : (final : Reader) (asked : List Question) (made : IsModuleMade flat means implied files outsides source units symbols final asked) → final.round ≡ [] → AllByRecursion IsPlain units.units
-          → IsModuleGiven flat means implied files outsides source units symbols final asked made
-      plain-given final asked made none plain = record {
-        extended = extended-given;
-        given = units-given [] units.units (first outsides source units) _ _ final asked made.2 none plain
-            (met-first flat means implied files outsides source units k.foreign declares k.declared k.names symbols made.0 same made.1) (record { place = refl; round = refl; frame = same });
-        ends = none;
       }

@@ -15,3 +15,4 @@ mod Coming
 mod Disjoint
 mod NestedGiven
 mod NestedUnits
+mod Quiet

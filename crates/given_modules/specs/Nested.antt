@@ -1,8 +1,8 @@
 -- What is asked besides of a module with nested ones: what these bring is new in the modules round them, or stands there as before, and they
--- extend files alone.
-use Rattle.std.specs.Prelude.{◌≡◌, ℕ, List, [], ◌∷◌, Option, Some}
+-- extend files alone. Or they bring nothing.
+use Rattle.std.specs.Prelude.{◌≡◌, ℕ, suc, ◌-◌, List, [], ◌∷◌, Option, Some}
 use Rattle.std.specs.List.{AllByRecursion}
-use Rattle.unit_grammar.specs.Units.{ModuleBegin, ModuleUnits, UnitTree}
+use Rattle.unit_grammar.specs.Units.{Instance, ModuleBegin, ModuleEnd, ModuleUnits, UnitTree}
 use Rattle.tla_model.specs.Entities.{Meaning, Text}
 use Rattle.tla_model.specs.Lexemes.{spelled}
 use Rattle.module_scope.specs.Environments.{begun, first as first_scope, meaning as module_meaning}
@@ -15,6 +15,24 @@ use Rattle.flattened_trees.specs.Leads.{FlatFace}
 use Rattle.flattened_trees.specs.Questions.{Question}
 use Rattle.flattened_units.specs.Units.{AreUnitsMade, IsModuleMade, Reader}
 use Rattle.module_meanings.specs.Premises.{IsBroughtGiven, first_seen, seen_behind}
+
+-- a unit that nested modules do not bring names by: a nested module that begins extends nothing, and an INSTANCE without a name stands in no
+-- nested module, by how many are round it
+abbrev pub IsQuiet : ℕ → UnitTree → Type 0
+IsQuiet depth (ModuleBegin dashes name extends) = extends ≡ []
+IsQuiet depth (Instance local x) = depth ≡ 0
+IsQuiet depth unit = Unit {0}
+
+-- how many are round the next unit
+abbrev pub depth_behind : ℕ → UnitTree → ℕ
+depth_behind depth (ModuleBegin dashes name extends) = suc depth
+depth_behind depth (ModuleEnd closing) = depth - 1
+depth_behind depth unit = depth
+
+-- nested modules among these units bring nothing
+abbrev pub AreQuiet : ℕ → List UnitTree → Type 0
+AreQuiet depth [] = Unit {0}
+AreQuiet depth (unit ∷ units) = IsQuiet depth unit × AreQuiet (depth_behind depth unit) units
 
 module _ (flat : FlatModule) (text : Text) (means : ℕ → Option Meaning) (implied : ℕ → List Meaning) (files : List ℕ → FlatFace) (outsides : List ℕ → Outside) (words : List ℕ) where
   -- a nested module extends none that is nested too

@@ -5,7 +5,6 @@
 #![tactic(auto)]
 
 ghost use Rattle.std.specs.Prelude.{◌≡◌, ℕ, List, Option};
-ghost use Rattle.std.specs.List.{AllByRecursion};
 ghost use Rattle.unit_grammar.specs.Units.{ModuleUnits};
 ghost use Rattle.front_laws.specs.Fronts.{IsFront, Tree as TreeFront};
 ghost use Rattle.tla_model.specs.Entities.{Meaning};
@@ -20,14 +19,13 @@ ghost use Rattle.flat_kinds.specs.Declarations.{Declarations};
 ghost use Rattle.flattened_trees.specs.Leads.{FlatFace};
 ghost use Rattle.flattened_trees.specs.Questions.{Question};
 ghost use Rattle.flattened_units.specs.Units.{IsModuleMade, Reader, no_face};
-ghost use Rattle.module_meanings.specs.Following.{IsPlain};
 ghost use Rattle.module_meanings.specs.Premises.{IsModuleGiven};
 ghost use Rattle.module_answers.specs.Shaped.{IsModuleShaped};
 ghost use Rattle.readable_laws.specs.Uses.{implied_by, means_by};
 ghost use Rattle.accepted_modules.specs.Behind.{Behinds, IsForeignView, with_own};
 ghost use Rattle.given_modules.specs.Fresh.{IsModuleFresh};
 ghost use Rattle.given_modules.specs.Good.{AreGoodFiles, IsFaultless, IsGoodFile, face_of};
-ghost use Rattle.given_modules.specs.Nested.{IsModuleBringing};
+ghost use Rattle.given_modules.specs.Nested.{AreQuiet, IsModuleBringing};
 
 use accepted_modules::{brought_names_come, faultless_units_are_read, modules_come_steady};
 use accepted_modules::{readers_end, symbols_are_parameters};
@@ -77,11 +75,11 @@ pub fn faultless_modules_are_shaped()
 }
 
 /// A module without faults, over good files, is given as what its nodes mean asks, where what is
-/// meant and what stands in is what is found: one without nested modules, and one with nested ones,
-/// if what these bring is new in the modules round them, or stands there as before, and if they
-/// extend files alone.
+/// meant and what stands in is what is found: one whose nested modules bring nothing, as one without
+/// nested ones; and any other, if what its nested modules bring is new in the modules round them, or
+/// stands there as before, and if they extend files alone.
 pub fn faultless_modules_are_given()
-    ensures plain { (flat : FlatModule) (declares : Declarations) (behinds : Behinds)
+    ensures quiet { (flat : FlatModule) (declares : Declarations) (behinds : Behinds)
         (files : List ℕ → FlatFace) (outsides : List ℕ → Outside) (name bytes : List ℕ)
         (units : ModuleUnits) (symbols : List Meaning) (last : Reader) (asked : List Question)
         → let found = findings (views (text_of bytes units) outsides (words_of units)) bytes units
@@ -90,7 +88,7 @@ pub fn faultless_modules_are_given()
         → AreGoodFiles flat declares behinds (text_of bytes units).file files outsides
         → IsFaultless declares outsides name bytes units
         → symbols ≡ symbols_of (outside outsides bytes units)
-        → AllByRecursion IsPlain units.units
+        → AreQuiet 0 units.units
         → IsModuleGiven flat (means_by found) (implied_by found) files outsides bytes units symbols
         last asked made }
     ensures nested { (flat : FlatModule) (declares : Declarations) (behinds : Behinds)
