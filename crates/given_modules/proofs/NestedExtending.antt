@@ -101,8 +101,7 @@ module _ (text : Text) (files : List ℕ → ModuleView) (modules : Environment 
       let later : List Finding = all_clashing text (exports_by files) next ls in
       let view : AllNamed (IsOne declares) (module_at files modules (spelled text.source l)) = module-says (AllNamed (IsOne declares)) files modules (spelled text.source l) (nothing-holds (IsOne declares)) given all in
       let ones = subst (λ (es : Exports). AllByRecursion (OfEntry (IsOne declares)) es) (sym (brings-same reading l same)) view.entries in
-      let there = joined-there declares reading entries is ones (no-clash (brings_clash reading entries) l later none) in
-      (
+      let there = joined-there declares reading entries is ones (no-clash (brings_clash reading entries) l later none) in (
         subst (λ (es : Exports). AllByRecursion (λ (entry : Named × Meaning). find (extends_all text (exports_by files) next ls).context entry.0 ≡ Some (Some entry.1)) es) (brings-same reading l same)
             (all-weaker (λ (entry : Named × Meaning). find next.context entry.0 ≡ Some (Some entry.1)) (λ (entry : Named × Meaning). find (extends_all text (exports_by files) next ls).context entry.0 ≡ Some (Some entry.1))
             (λ entry at. extends-continue text (exports_by files) next ls entry.0 (Some entry.1) at) entries there),

@@ -204,8 +204,7 @@ module _ (flat : FlatModule) (means : ℕ → Option Meaning) (implied : ℕ →
       let own = own-there outer.context entries name o there in
       let used = exports-coming before (unit ∷ behind) state at name o own.0 own.1 in
       let elsewhere : IsElsewhere text (declaring before) o = there-holds (OfEntry (ComesElsewhere text (declaring before))) entries name o here own.0 in
-      let unused : has outer.context (name_in text declares o) ≡ false = ap (has outer.context) used.1 ∙ own.2 in
-      (
+      let unused : has outer.context (name_in text declares o) ≡ false = ap (has outer.context) used.1 ∙ own.2 in (
         own.1,
         λ m one free.
             leads-none text declares (unit ∷ behind) outer.context o unused (λ decl declared. apart before (unit ∷ behind) at.split o elsewhere decl declared) outer round setting.frame settings (λ n there at. at) inside coming m one free own.1,

@@ -302,8 +302,7 @@ module _ (flat : FlatModule) (means : ℕ → Option Meaning) (implied : ℕ →
       let then-met = met-next flat means implied files outsides source units k.foreign declares k.declared k.names before behind unit state reader seen made.0 next made.1 made.2 is made.3 made.4 none in
       let exported-mid = exported-ahead flat text means implied files outsides words behind (after text outsides words state unit) made.0 next made.2 made.4 exported-end in
       let apart-here = apart-ahead flat means implied files outsides source units declares k accepted ones apart before (unit ∷ behind) state reader next asked at made coming-end none in
-      let apart-mid = apart-ahead flat means implied files outsides source units declares k accepted ones apart (before ++ unit ∷ []) behind (after text outsides words state unit) made.0 next made.2 at-then made.4 coming-end none in
-      (
+      let apart-mid = apart-ahead flat means implied files outsides source units declares k accepted ones apart (before ++ unit ∷ []) behind (after text outsides words state unit) made.0 next made.2 at-then made.4 coming-end none in (
         (bringing.0, end-given flat means implied files outsides source units declares k accepted ones apart before behind unit state reader made.0 made.1 at apart-here made.3),
         any-given before behind unit state reader seen made.0 made.1 is made.3 then-met exported-mid apart-mid bringing.1,
         units-given (before ++ unit ∷ []) behind (after text outsides words state unit) made.0 (seen_behind text outsides words state unit made.0 seen) next made.2 made.4 none exported-end coming-end bringing.2 then-met,

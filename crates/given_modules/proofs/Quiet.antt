@@ -71,8 +71,7 @@ module _ (flat : FlatModule) (text : Text) (means : ℕ → Option Meaning) (imp
       → AreUnitsBringing flat text means implied files outsides words state reader seen units next asked made
   quiet-bringing [] depth state reader seen next asked made quiet deep = tt
   quiet-bringing (unit ∷ units) depth state reader seen next asked made quiet deep =
-      let one = quiet-brought depth state reader seen unit quiet.0 deep in
-      (
+      let one = quiet-brought depth state reader seen unit quiet.0 deep in (
         one.0,
         one.1,
         quiet-bringing units (depth_behind depth unit) (after text outsides words state unit) made.0 (seen_behind text outsides words state unit made.0 seen) next made.2 made.4 quiet.1 (depth-after depth state reader unit made.0 made.1 made.3 deep),

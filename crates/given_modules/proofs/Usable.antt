@@ -216,8 +216,7 @@ module _ (declares : Declarations) where
     after-usable state (Theorem word name x) own holds is = is
     after-usable state (Line dashes) own holds is = is
     after-usable state (ModuleBegin dashes name extends) own holds is =
-        let inner : Reading = nested text state.place.here name in
-        (
+        let inner : Reading = nested text state.place.here name in (
           extends-usable inner.modules inner extends refl (added-known (AllNamed IsOne) state.place.here.modules (spelled text.source name) None holds.0.modules tt)
               (record { names = λ other m at. absurd (empty-never other m at); ones = is.0.ones }),
           is,
@@ -251,8 +250,7 @@ module _ (declares : Declarations) where
     first-usable : AreUsable (first files source units).place
     first-usable =
         let start : Reading = unread text in
-        let built : HoldsOf IsOne built_in = λ name m at. subst (IsOne name) (sym (built-in-is name m at)) (tt, tt) in
-        (
+        let built : HoldsOf IsOne built_in = λ name m at. subst (IsOne name) (sym (built-in-is name m at)) (tt, tt) in (
           extends-usable text files words given start.modules start units.extends refl (tt, tt) (record { names = λ other m at. absurd (empty-never other m at); ones = built }),
           tt,
         )

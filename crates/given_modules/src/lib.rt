@@ -13,9 +13,11 @@ ghost use Rattle.module_model.specs.Modules.{text_of};
 ghost use Rattle.module_model.specs.Resolution.{findings, words_of};
 ghost use Rattle.kind_text.specs.FlatModule.{Extends, FlatModule, IsOrdered};
 ghost use Rattle.tree_kinds.specs.Standing.{Outside};
-ghost use Rattle.module_kinds.specs.ModuleKinds.{last, nowhere, outside, views};
+ghost use Rattle.module_kinds.specs.ModuleKinds.{last, level_findings, nowhere, outside};
+ghost use Rattle.module_kinds.specs.ModuleKinds.{views};
 ghost use Rattle.flat_trees.specs.Instances.{symbols_of};
 ghost use Rattle.flat_kinds.specs.Declarations.{Declarations};
+ghost use Rattle.flattened_trees.specs.Answers.{level_answers};
 ghost use Rattle.flattened_trees.specs.Leads.{FlatFace};
 ghost use Rattle.flattened_trees.specs.Questions.{Question};
 ghost use Rattle.flattened_units.specs.Units.{IsModuleMade, Reader, no_face};
@@ -27,12 +29,15 @@ ghost use Rattle.given_modules.specs.Fresh.{IsModuleFresh};
 ghost use Rattle.given_modules.specs.Good.{AreGoodFiles, IsFaultless, IsGoodFile, face_of};
 ghost use Rattle.given_modules.specs.Nested.{AreQuiet, IsModuleBringing};
 
-use accepted_modules::{brought_names_come, faultless_units_are_read, modules_come_steady};
-use accepted_modules::{readers_end, symbols_are_parameters};
+use accepted_modules::{
+    brought_names_come, faultless_units_are_read, modules_come_steady, readers_end,
+    symbols_are_parameters,
+};
 use flat_kinds::places_are_declared;
 use fresh_names::declared_names_are_new;
 use grammar_shapes::fronts_are_shaped;
 use lexeme_laws::{lexemes_are_held_once, names_begin_apart};
+use module_answers::module_levels_are_found;
 
 /// The names of all trees of a module that is the front of some bytes are new, each at its unit, if
 /// no file has a name that the module declares.
@@ -74,24 +79,22 @@ pub fn faultless_modules_are_shaped()
     names_begin_apart();
 }
 
-/// A module without faults, over good files, is given as what its nodes mean asks, where what is
-/// meant and what stands in is what is found: one whose nested modules bring nothing, as one without
-/// nested ones; and any other, if what its nested modules bring is new in the modules round them, or
-/// stands there as before, and if they extend files alone.
-pub fn faultless_modules_are_given()
-    ensures quiet { (flat : FlatModule) (declares : Declarations) (behinds : Behinds)
-        (files : List ℕ → FlatFace) (outsides : List ℕ → Outside) (name bytes : List ℕ)
+/// Nothing is asked of what nested modules bring that extend nothing and have no INSTANCE without a
+/// name; nor of a module without nested ones.
+pub fn quiet_modules_bring_nothing()
+    ensures { (flat : FlatModule) (means : ℕ → Option Meaning) (implied : ℕ → List Meaning)
+        (files : List ℕ → FlatFace) (outsides : List ℕ → Outside) (source : List ℕ)
         (units : ModuleUnits) (symbols : List Meaning) (last : Reader) (asked : List Question)
-        → let found = findings (views (text_of bytes units) outsides (words_of units)) bytes units
-        in (made : IsModuleMade flat (means_by found) (implied_by found) files outsides bytes units
-        symbols last asked)
-        → AreGoodFiles flat declares behinds (text_of bytes units).file files outsides
-        → IsFaultless declares outsides name bytes units
-        → symbols ≡ symbols_of (outside outsides bytes units)
+        (made : IsModuleMade flat means implied files outsides source units symbols last asked)
         → AreQuiet 0 units.units
-        → IsModuleGiven flat (means_by found) (implied_by found) files outsides bytes units symbols
-        last asked made }
-    ensures nested { (flat : FlatModule) (declares : Declarations) (behinds : Behinds)
+        → IsModuleBringing flat means implied files outsides source units symbols last asked made }
+{}
+
+/// A module without faults, over good files, is given as what its nodes mean asks, where what is
+/// meant and what stands in is what is found. It is asked that what its nested modules bring is new
+/// in the modules round them, or stands there as before, and that they extend files alone.
+pub fn faultless_modules_are_given()
+    ensures { (flat : FlatModule) (declares : Declarations) (behinds : Behinds)
         (files : List ℕ → FlatFace) (outsides : List ℕ → Outside) (name bytes : List ℕ)
         (units : ModuleUnits) (symbols : List Meaning) (last : Reader) (asked : List Question)
         → let found = findings (views (text_of bytes units) outsides (words_of units)) bytes units
@@ -114,6 +117,27 @@ pub fn faultless_modules_are_given()
     names_begin_apart();
     brought_names_come();
     symbols_are_parameters();
+}
+
+/// So what the nodes of such a module answer is what is found of levels in it.
+pub fn faultless_modules_answer()
+    ensures { (flat : FlatModule) (declares : Declarations) (behinds : Behinds)
+        (files : List ℕ → FlatFace) (outsides : List ℕ → Outside) (name bytes : List ℕ)
+        (units : ModuleUnits) (symbols : List Meaning) (last : Reader) (asked : List Question)
+        → let found = findings (views (text_of bytes units) outsides (words_of units)) bytes units
+        in (made : IsModuleMade flat (means_by found) (implied_by found) files outsides bytes units
+        symbols last asked)
+        → IsOrdered flat
+        → AreGoodFiles flat declares behinds (text_of bytes units).file files outsides
+        → IsFaultless declares outsides name bytes units
+        → symbols ≡ symbols_of (outside outsides bytes units)
+        → IsModuleBringing flat (means_by found) (implied_by found) files outsides bytes units
+        symbols last asked made
+        → level_answers flat asked ≡ level_findings outsides bytes units }
+{
+    faultless_modules_are_shaped();
+    faultless_modules_are_given();
+    module_levels_are_found();
 }
 
 /// A module that is given is good itself, with the face that it has by the reader behind its units,

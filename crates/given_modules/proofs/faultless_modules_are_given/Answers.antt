@@ -14,12 +14,11 @@ use Rattle.given_modules.proofs.AtUnits.{IsKnown, trees-nameable}
 use Rattle.given_modules.proofs.Given.{AreExtendedSound, IsAccepted}
 use Rattle.given_modules.proofs.Disjoint.{later-apart}
 use Rattle.given_modules.proofs.NestedUnits.{nested-given}
-use Rattle.given_modules.proofs.Quiet.{quiet-bringing}
 use Rattle.given_modules.proofs.Usable.{direct-of, view-one}
 use Rattle.given_modules.proofs.faultless_modules_are_given.Goals as goal
 
-pub returns-clause-nested : goal.returns-clause-nested
-returns-clause-nested c = λ flat declares behinds files outsides name bytes units symbols final asked made good faultless same bringing.
+pub returns : goal.returns
+returns c = λ flat declares behinds files outsides name bytes units symbols final asked made good faultless same bringing.
     let found = findings (views (text_of bytes units) outsides (words_of units)) bytes units in
     let derives = front-derives name bytes units faultless.front in
     let names = c.places_are_declared.ensures declares bytes units (c.names_begin_apart.ensures.declared name bytes units faultless.front) faultless.places in
@@ -56,9 +55,3 @@ returns-clause-nested c = λ flat declares behinds files outsides name bytes uni
     (λ before behind dashes n extends split. c.brought_names_come.ensures.nested declares behinds outsides bytes units before behind dashes n extends (λ title. (good.each title).given) good.foreign names split) symbols same final asked made
     (c.readers_end.ensures.readers flat (means_by found) (implied_by found) files outsides bytes units symbols final asked derives.0 derives.1 made)
     (ap (λ (s : ReadState). s.place.round) (read-same (text_of bytes units) outsides (words_of units) (first outsides bytes units) units.units) ∙ c.readers_end.ensures.states (views (text_of bytes units) outsides (words_of units)) bytes units derives.0 derives.1) bringing
-
-pub returns-clause-quiet : goal.returns-clause-quiet
-returns-clause-quiet c = λ flat declares behinds files outsides name bytes units symbols final asked made good faultless same quiet.
-    let found = findings (views (text_of bytes units) outsides (words_of units)) bytes units in
-    returns-clause-nested c flat declares behinds files outsides name bytes units symbols final asked made good faultless same
-    (quiet-bringing flat (text_of bytes units) (means_by found) (implied_by found) files outsides (words_of units) units.units 0 (first outsides bytes units) _ _ final asked made.2 quiet refl)
