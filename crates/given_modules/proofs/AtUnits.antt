@@ -48,7 +48,7 @@ use Rattle.given_modules.proofs.Fresh.{AreNewThere, IsSeenSo, seen-first, seen-n
 -- ---- symbols
 
 module _ (declares : Declarations) where
-  symbol-no_definition : (e : Entity) → stands_for_parameter e ≡ true → stands_behind e ≡ false
+  pub symbol-no_definition : (e : Entity) → stands_for_parameter e ≡ true → stands_behind e ≡ false
   symbol-no_definition (entity.Definition orders) is = cc is
   symbol-no_definition (entity.Instance orders) is = cc is
   symbol-no_definition e is = refl

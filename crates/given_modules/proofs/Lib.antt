@@ -16,3 +16,4 @@ mod Disjoint
 mod NestedGiven
 mod NestedUnits
 mod Quiet
+mod Again

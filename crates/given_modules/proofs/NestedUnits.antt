@@ -105,7 +105,7 @@ module _ (flat : FlatModule) (means : ℕ → Option Meaning) (implied : ℕ →
   module _ (before behind : List UnitTree) (dashes name : Lexeme) (extends : List Lexeme) (state : KindState) (reader : Reader) (seen : List Meaning) (mid : Reader) (asked : List Question) (is : Met before (ModuleBegin dashes name extends ∷ behind) state reader seen)
       (made : IsUnitMade flat text means implied files outsides words state reader (ModuleBegin dashes name extends) mid asked)
       (then-met : Met (before ++ ModuleBegin dashes name extends ∷ []) behind (after text outsides words state (ModuleBegin dashes name extends)) mid (seen_behind text outsides words state (ModuleBegin dashes name extends) mid seen))
-      (exported-mid : IsExportedAt flat text means implied files outsides words (after text outsides words state (ModuleBegin dashes name extends)) mid) (apart-mid : AreApartOwn mid.setting.frame mid.round) (only : ExtendsFiles flat text means implied files outsides words state (ModuleBegin dashes name extends))
+      (exported-mid : IsExportedAt flat text means implied files outsides words (after text outsides words state (ModuleBegin dashes name extends)) mid) (apart-mid : AreApartOwn mid.setting.frame mid.round) (only : ExtendsFiles text outsides words state (ModuleBegin dashes name extends))
       (own : List Meaning) (framed : mid.setting.frame ≡ reader.setting.frame ++ own) where
     abbrev unit : UnitTree
     unit = ModuleBegin dashes name extends
@@ -277,7 +277,7 @@ module _ (flat : FlatModule) (means : ℕ → Option Meaning) (implied : ℕ →
 
   any-given : (before behind : List UnitTree) (unit : UnitTree) (state : KindState) (reader : Reader) (seen : List Meaning) (mid : Reader) (asked : List Question) → Met before (unit ∷ behind) state reader seen → IsUnitMade flat text means implied files outsides words state reader unit mid asked
       → Met (before ++ unit ∷ []) behind (after text outsides words state unit) mid (seen_behind text outsides words state unit mid seen) → IsExportedAt flat text means implied files outsides words (after text outsides words state unit) mid → AreApartOwn mid.setting.frame mid.round
-      → ExtendsFiles flat text means implied files outsides words state unit → IsUnitGivenBy flat text means implied files outsides words (IsFileAt flat text means implied files outsides words) state reader seen unit mid
+      → ExtendsFiles text outsides words state unit → IsUnitGivenBy flat text means implied files outsides words (IsFileAt flat text means implied files outsides words) state reader seen unit mid
   any-given before behind (ModuleBegin dashes name extends) state reader seen mid asked is made then-met exported-mid apart-mid only = λ own framed. begun-given before behind dashes name extends state reader seen mid asked is made then-met exported-mid apart-mid only own framed
   any-given before behind (ModuleEnd closing) state reader seen mid asked is made then-met exported-mid apart-mid only = tt
   any-given before behind (OperatorDefinition local x) state reader seen mid asked is made then-met exported-mid apart-mid only = unit-given flat means implied files outsides source units declares k accepted before behind (OperatorDefinition local x) state reader seen mid is tt tt

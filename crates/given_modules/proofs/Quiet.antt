@@ -51,7 +51,7 @@ module _ (flat : FlatModule) (text : Text) (means : ℕ → Option Meaning) (imp
   none-round [] none = refl
   none-round (setting ∷ settings) none = absurd (omega (arith, none))
 
-  quiet-brought : (depth : ℕ) (state : KindState) (reader : Reader) (seen : List Meaning) (unit : UnitTree) → IsQuiet depth unit → IsDeep depth reader → IsBroughtGiven flat text means implied files outsides words state reader seen unit × ExtendsFiles flat text means implied files outsides words state unit
+  quiet-brought : (depth : ℕ) (state : KindState) (reader : Reader) (seen : List Meaning) (unit : UnitTree) → IsQuiet depth unit → IsDeep depth reader → IsBroughtGiven flat text means implied files outsides words state reader seen unit × ExtendsFiles text outsides words state unit
   quiet-brought depth state reader seen (Instance local x) quiet deep = ((λ some. absurd (some (none-round reader.round (deep ∙ quiet)))), tt)
   quiet-brought depth state reader seen (ModuleBegin dashes name extends) quiet deep = (
     (λ m is. inl (subst (λ (ls : List Lexeme). BringNone text outsides words (begun state.modules (spelled text.source name)) ls m) (sym quiet) tt)),

@@ -5,6 +5,7 @@
 #![tactic(auto)]
 
 ghost use Rattle.std.specs.Prelude.{◌≡◌, ℕ, List, Option};
+ghost use Rattle.std.specs.List.{AllByRecursion};
 ghost use Rattle.unit_grammar.specs.Units.{ModuleUnits};
 ghost use Rattle.front_laws.specs.Fronts.{IsFront, Tree as TreeFront};
 ghost use Rattle.tla_model.specs.Entities.{Meaning};
@@ -17,6 +18,7 @@ ghost use Rattle.module_kinds.specs.ModuleKinds.{last, level_findings, nowhere, 
 ghost use Rattle.module_kinds.specs.ModuleKinds.{views};
 ghost use Rattle.flat_trees.specs.Instances.{symbols_of};
 ghost use Rattle.flat_kinds.specs.Declarations.{Declarations};
+ghost use Rattle.flat_kinds.specs.Yields.{IsYielding, Yields};
 ghost use Rattle.flattened_trees.specs.Answers.{level_answers};
 ghost use Rattle.flattened_trees.specs.Leads.{FlatFace};
 ghost use Rattle.flattened_trees.specs.Questions.{Question};
@@ -27,7 +29,8 @@ ghost use Rattle.readable_laws.specs.Uses.{implied_by, means_by};
 ghost use Rattle.accepted_modules.specs.Behind.{Behinds, IsForeignView, with_own};
 ghost use Rattle.given_modules.specs.Fresh.{IsModuleFresh};
 ghost use Rattle.given_modules.specs.Good.{AreGoodFiles, IsFaultless, IsGoodFile, face_of};
-ghost use Rattle.given_modules.specs.Nested.{AreQuiet, IsModuleBringing};
+ghost use Rattle.given_modules.specs.Nested.{AreQuiet, HasNoInstance, IsModuleBringing};
+ghost use Rattle.given_modules.specs.Nested.{IsModuleExtending};
 
 use accepted_modules::{
     brought_names_come, faultless_units_are_read, modules_come_steady, readers_end,
@@ -80,15 +83,34 @@ pub fn faultless_modules_are_shaped()
 }
 
 /// Nothing is asked of what nested modules bring that extend nothing and have no INSTANCE without a
-/// name; nor of a module without nested ones.
-pub fn quiet_modules_bring_nothing()
-    ensures { (flat : FlatModule) (means : ℕ → Option Meaning) (implied : ℕ → List Meaning)
+/// name; nor of a module without nested ones. In a module that has no INSTANCE without a name at
+/// all, what nested modules bring that extend files is new, or stands as before: if it comes again,
+/// it has what its declaration yields, as in all files.
+pub fn nested_names_are_given()
+    ensures nothing { (flat : FlatModule) (means : ℕ → Option Meaning) (implied : ℕ → List Meaning)
         (files : List ℕ → FlatFace) (outsides : List ℕ → Outside) (source : List ℕ)
         (units : ModuleUnits) (symbols : List Meaning) (last : Reader) (asked : List Question)
         (made : IsModuleMade flat means implied files outsides source units symbols last asked)
         → AreQuiet 0 units.units
         → IsModuleBringing flat means implied files outsides source units symbols last asked made }
-{}
+    ensures extended { (yields : Yields) (flat : FlatModule) (declares : Declarations)
+        (behinds : Behinds) (means : ℕ → Option Meaning) (implied : ℕ → List Meaning)
+        (files : List ℕ → FlatFace) (outsides : List ℕ → Outside) (name bytes : List ℕ)
+        (units : ModuleUnits) (symbols : List Meaning) (last : Reader) (asked : List Question)
+        (made : IsModuleMade flat means implied files outsides bytes units symbols last asked)
+        → AreGoodFiles flat declares behinds (text_of bytes units).file files outsides
+        → IsFaultless declares outsides name bytes units
+        → symbols ≡ symbols_of (outside outsides bytes units)
+        → ((title : List ℕ) → IsYielding yields (outsides title))
+        → AllByRecursion HasNoInstance units.units
+        → IsModuleExtending outsides bytes units
+        → IsModuleBringing flat means implied files outsides bytes units symbols last asked made }
+{
+    modules_come_steady();
+    readers_end();
+    places_are_declared();
+    names_begin_apart();
+}
 
 /// A module without faults, over good files, is given as what its nodes mean asks, where what is
 /// meant and what stands in is what is found. It is asked that what its nested modules bring is new
