@@ -49,7 +49,7 @@ use Rattle.given_modules.proofs.Exported.{there-passes}
 use Rattle.given_modules.proofs.NestedGiven.{all-there}
 
 -- an entry by which a meaning is brought
-among-entry : (entries : Exports) (m : Meaning) (name : Named) → name_among entries m ≡ Some name → (e : Meaning) × IsThere entries name e × (same_standing m e ≡ true)
+pub among-entry : (entries : Exports) (m : Meaning) (name : Named) → name_among entries m ≡ Some name → (e : Meaning) × IsThere entries name e × (same_standing m e ≡ true)
 among-entry [] m name at = absurd (cc)
 among-entry (entry ∷ rest) m name at = by (same_standing m entry.1) refl (among-entry rest m name) at
   where
@@ -105,7 +105,7 @@ module _ (yields : Yields) (declares : Declarations) (flat : FlatModule) (means 
   -- ---- modules that are extended
 
   -- the name of a module means none that is nested
-  abbrev IsFile : Scope Outside → Lexeme → Type 0
+  abbrev pub IsFile : Scope Outside → Lexeme → Type 0
   IsFile modules l = (nested : Outside) → module_meaning modules.here (spelled source l) ≡ Some (Some nested) → ⊥
 
   -- what is known of the module of a name
@@ -161,7 +161,7 @@ module _ (yields : Yields) (declares : Declarations) (flat : FlatModule) (means 
       extended-kept modules parameters (with_entries standing (instantiable (exported other.view)) (other.standing parameters)) rest m all.1 (one-kept other standing parameters m (file-so modules l all.0).yields_so before)
 
   -- what stands behind these modules for what one brings
-  abbrev IsThereBehind : Scope Outside → List Lexeme → Meaning → Type 0
+  abbrev pub IsThereBehind : Scope Outside → List Lexeme → Meaning → Type 0
   IsThereBehind modules ls m = (parameters standing : Environment) → extended text outsides words modules parameters standing ls m ≡ yielded yields m parameters
 
   extended-brought : (modules : Scope Outside) (ls : List Lexeme) (m : Meaning) → AllByRecursion (IsFile modules) ls → BringNone text outsides words modules ls m ⊎ (IsForeignDefinition m × IsThereBehind modules ls m)
@@ -191,7 +191,7 @@ module _ (yields : Yields) (declares : Declarations) (flat : FlatModule) (means 
   symbol-own (Declared e callee) symbol = inr (symbol-no_definition declares (declares callee.decl).1 symbol)
 
   -- names that these modules export stand so behind them
-  extended-seen : (state : KindState) (modules : Scope Outside) (ls all : List Lexeme) → AllByRecursion (IsFile modules) all → ((m : Meaning) → IsForeignDefinition m × IsThereBehind modules all m → HasYielded yields state m)
+  pub extended-seen : (state : KindState) (modules : Scope Outside) (ls all : List Lexeme) → AllByRecursion (IsFile modules) all → ((m : Meaning) → IsForeignDefinition m × IsThereBehind modules all m → HasYielded yields state m)
       → ((m : Meaning) → BringNone text outsides words modules all m → BringNone text outsides words modules ls m) → AllByRecursion (IsFile modules) ls → AllByRecursion (StandsSeen state) (extended_meanings text outsides words modules ls)
   extended-seen state modules [] all files has less only = tt
   extended-seen state modules (l ∷ rest) all files has less only =
@@ -294,20 +294,21 @@ module _ (yields : Yields) (declares : Declarations) (flat : FlatModule) (means 
   seen-after state (Line dashes) next seen none only frame all = old-after state (Line dashes) none only seen all
   seen-after state (ModuleEnd closing) next seen none only frame all = old-after state (ModuleEnd closing) none only seen all
 
+  none-nested : (b : Bool) (nested : Outside) → cond b (Some None) None ≡ Some (Some nested) → ⊥
+  none-nested true nested is = cc is
+  none-nested false nested is = cc is
+
+  -- before the first unit all modules are files
+  pub first-files : (ls : List Lexeme) → AllByRecursion (IsFile (first_scope text.file)) ls
+  first-files [] = tt
+  first-files (l ∷ ls) = (none-nested (bytes_eq (spelled source l) text.file), first-files ls)
+
   pub seen-before : (symbols : List Meaning) → AllByRecursion (IsSymbol declares) symbols → AllByRecursion (StandsSeen (first outsides source units)) (first_seen flat means implied files outsides source units symbols)
   seen-before symbols all =
       let state : KindState = first outsides source units in
       let modules : Scope Outside = first_scope text.file in
       all-both (StandsSeen state) (BuiltIn ∷ symbols) (extended_meanings text outsides words modules units.extends) (inl tt, symbols-seen state symbols all)
-      (extended-seen state modules units.extends units.extends (each units.extends) (λ m holds parameters. holds.1 parameters parameters) (λ m nothing. nothing) (each units.extends))
-    where
-      none : (b : Bool) (nested : Outside) → cond b (Some None) None ≡ Some (Some nested) → ⊥
-      none true nested is = cc is
-      none false nested is = cc is
-
-      each : (ls : List Lexeme) → AllByRecursion (IsFile (first_scope text.file)) ls
-      each [] = tt
-      each (l ∷ ls) = (none (bytes_eq (spelled source l) text.file), each ls)
+      (extended-seen state modules units.extends units.extends (first-files units.extends) (λ m holds parameters. holds.1 parameters parameters) (λ m nothing. nothing) (first-files units.extends))
 
   -- ---- what is brought again
 

@@ -41,12 +41,12 @@ use Rattle.given_modules.proofs.NestedExtending.{joined-come}
 
 module _ (text : Text) where
   -- one of these names means this
-  abbrev IsOneOf : List Binder → Meaning → Type 0
+  abbrev pub IsOneOf : List Binder → Meaning → Type 0
   IsOneOf [] m = ⊥
   IsOneOf (b ∷ bs) m = (meant text b ≡ m) ⊎ IsOneOf bs m
 
   -- what can be used behind declarations could be before, or is one of these
-  declared-come : (local : Bool) (reading : Reading) (binders : List Binder) (name : Named) (m : Meaning) → meaning_of (declare_all text local reading binders).context name ≡ Some m → (meaning_of reading.context name ≡ Some m) ⊎ IsOneOf binders m
+  pub declared-come : (local : Bool) (reading : Reading) (binders : List Binder) (name : Named) (m : Meaning) → meaning_of (declare_all text local reading binders).context name ≡ Some m → (meaning_of reading.context name ≡ Some m) ⊎ IsOneOf binders m
   declared-come local reading [] name m at = inl at
   declared-come local reading (b ∷ bs) name m at =
       by (has reading.context (name_of text.source b.name)) (declared-come local (cond (has reading.context (name_of text.source b.name)) reading (with_entry local reading (name_of text.source b.name) (meant text b))) bs name m at)

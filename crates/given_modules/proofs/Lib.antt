@@ -17,3 +17,4 @@ mod NestedGiven
 mod NestedUnits
 mod Quiet
 mod Again
+mod Yielding

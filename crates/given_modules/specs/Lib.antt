@@ -1,3 +1,4 @@
 pub mod Fresh
 pub mod Good
 pub mod Nested
+pub mod Yielding

@@ -14,8 +14,8 @@ ghost use Rattle.module_model.specs.Modules.{text_of};
 ghost use Rattle.module_model.specs.Resolution.{findings, words_of};
 ghost use Rattle.kind_text.specs.FlatModule.{Extends, FlatModule, IsOrdered};
 ghost use Rattle.tree_kinds.specs.Standing.{Outside};
-ghost use Rattle.module_kinds.specs.ModuleKinds.{last, level_findings, nowhere, outside};
-ghost use Rattle.module_kinds.specs.ModuleKinds.{views};
+ghost use Rattle.module_kinds.specs.ModuleKinds.{KindState, last, level_findings, nowhere};
+ghost use Rattle.module_kinds.specs.ModuleKinds.{outside, views};
 ghost use Rattle.flat_trees.specs.Instances.{symbols_of};
 ghost use Rattle.flat_kinds.specs.Declarations.{Declarations};
 ghost use Rattle.flat_kinds.specs.Yields.{IsYielding, Yields};
@@ -31,12 +31,13 @@ ghost use Rattle.given_modules.specs.Fresh.{IsModuleFresh};
 ghost use Rattle.given_modules.specs.Good.{AreGoodFiles, IsFaultless, IsGoodFile, face_of};
 ghost use Rattle.given_modules.specs.Nested.{AreQuiet, HasNoInstance, IsModuleBringing};
 ghost use Rattle.given_modules.specs.Nested.{IsModuleExtending};
+ghost use Rattle.given_modules.specs.Yielding.{with_own_yields};
 
 use accepted_modules::{
     brought_names_come, faultless_units_are_read, modules_come_steady, readers_end,
     symbols_are_parameters,
 };
-use flat_kinds::places_are_declared;
+use flat_kinds::{names_come_again, places_are_declared};
 use fresh_names::declared_names_are_new;
 use grammar_shapes::fronts_are_shaped;
 use lexeme_laws::{lexemes_are_held_once, names_begin_apart};
@@ -194,4 +195,29 @@ pub fn given_modules_are_good()
     places_are_declared();
     names_begin_apart();
     brought_names_come();
+}
+
+/// A module without faults and without an INSTANCE without a name, whose nested modules extend files,
+/// brings its names for what their declarations yield, if files do: its own for what stands for
+/// them in the end. Files without its names do so still.
+pub fn declarations_yield_names()
+    ensures itself { (yields : Yields) (flat : FlatModule) (declares : Declarations)
+        (behinds : Behinds) (files : List ℕ → FlatFace) (outsides : List ℕ → Outside)
+        (name bytes : List ℕ) (units : ModuleUnits)
+        → AreGoodFiles flat declares behinds (text_of bytes units).file files outsides
+        → IsFaultless declares outsides name bytes units
+        → ((title : List ℕ) → IsYielding yields (outsides title))
+        → AllByRecursion HasNoInstance units.units → IsModuleExtending outsides bytes units
+        → IsYielding
+        (with_own_yields declares (text_of bytes units).file (last outsides bytes units) yields)
+        (outside outsides bytes units) }
+    ensures others { (yields : Yields) (declares : Declarations) (title : List ℕ)
+        (state : KindState) (named : Outside) → IsForeignView title named.view
+        → IsYielding yields named
+        → IsYielding (with_own_yields declares title state yields) named }
+{
+    modules_come_steady();
+    places_are_declared();
+    names_begin_apart();
+    names_come_again();
 }
