@@ -2,3 +2,4 @@ mod Nameless
 mod Parts
 mod Trees
 mod Units
+pub mod Arranged

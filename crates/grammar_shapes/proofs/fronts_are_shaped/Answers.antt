@@ -1,6 +1,7 @@
 use Rattle.list_laws.proofs.Lists.{all-weaker}
 use Rattle.flattened_depths.specs.Rounds.{LeadsBehind}
-use Rattle.grammar_shapes.specs.Units.{IsArrangedUnit, IsShapedUnit}
+use Rattle.grammar_shapes.specs.Units.{IsShapedUnit}
+use Rattle.grammar_shapes.proofs.Arranged.{front-arranged}
 use Rattle.grammar_shapes.proofs.Units.{IsGood, front-good}
 use Rattle.grammar_shapes.proofs.fronts_are_shaped.Goals as goal
 
@@ -9,6 +10,4 @@ returns-clause-shaped c = λ name bytes found front.
     all-weaker (IsGood (λ own l. Unit {0})) IsShapedUnit (λ unit good. good.shaped) found.units (front-good (λ own l. Unit {0}) name bytes found front)
 
 pub returns-clause-arranged : goal.returns-clause-arranged
-returns-clause-arranged c = λ flat text known named faces inside name bytes found front.
-    all-weaker (IsGood (LeadsBehind flat text known named faces inside)) (IsArrangedUnit (LeadsBehind flat text known named faces inside)) (λ unit good. good.arranged) found.units
-    (front-good (LeadsBehind flat text known named faces inside) name bytes found front)
+returns-clause-arranged c = λ flat text known named faces inside. front-arranged (LeadsBehind flat text known named faces inside)

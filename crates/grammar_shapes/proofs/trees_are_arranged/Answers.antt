@@ -1,12 +1,12 @@
 use Rattle.flattened_depths.specs.Rounds.{LeadsBehind}
-use Rattle.grammar_shapes.proofs.Trees.{definition-in, expression-in, instance-in}
+use Rattle.grammar_shapes.proofs.Arranged.{definition-arranged, expression-arranged, instance-arranged}
 use Rattle.grammar_shapes.proofs.trees_are_arranged.Goals as goal
 
 pub returns-clause-expressions : goal.returns-clause-expressions
-returns-clause-expressions c = λ flat text known named faces inside x a inner next derives. (expression-in (LeadsBehind flat text known named faces inside) derives).arranged
+returns-clause-expressions c = λ flat text known named faces inside. expression-arranged (LeadsBehind flat text known named faces inside)
 
 pub returns-clause-definitions : goal.returns-clause-definitions
-returns-clause-definitions c = λ flat text known named faces inside x a inner next derives. (definition-in (LeadsBehind flat text known named faces inside) derives).arranged
+returns-clause-definitions c = λ flat text known named faces inside. definition-arranged (LeadsBehind flat text known named faces inside)
 
 pub returns-clause-instances : goal.returns-clause-instances
-returns-clause-instances c = λ flat text known named faces inside x a inner next derives. (instance-in (LeadsBehind flat text known named faces inside) derives).arranged
+returns-clause-instances c = λ flat text known named faces inside. instance-arranged (LeadsBehind flat text known named faces inside)
