@@ -1,5 +1,5 @@
 -- What nested modules extend again stands as before, where files bring names for what their declarations yield.
-use Rattle.std.proofs.Common.{◌≡◌, ℕ, Bool, true, false, cond, List, [], ◌∷◌, ◌++◌, ◌⊎◌, inl, inr, Option, Some, None, refl, sym, ap, subst, ◌∙◌, map, length}
+use Rattle.std.proofs.Common.{◌≡◌, ℕ, Bool, true, false, cond, List, [], ◌∷◌, ◌++◌, ◌⊎◌, inl, inr, Option, Some, None, refl, sym, ap, ◌∙◌, map}
 use Rattle.std.specs.Prelude.{◌||◌, ◌&&◌, nat_eq}
 use Rattle.std.specs.List.{AllByRecursion}
 use Rattle.std.specs.Str.{bytes_eq}
@@ -8,7 +8,6 @@ use Rattle.list_laws.proofs.Lists.{all-both, all-weaker}
 use Rattle.list_laws.proofs.Texts.{text-itself}
 use Rattle.tla_symbols.specs.declared.lexeme.Lexeme.{Lexeme}
 use Rattle.unit_grammar.specs.Units.{UnitTree, Variables, Constants, OperatorDefinition, FunctionDefinition, ModuleDefinition, Instance, Assumption, Theorem, Line, ModuleBegin, ModuleEnd, ModuleUnits}
-use Rattle.tla_model.specs.declared.ids.Callee.{Callee}
 use Rattle.tla_model.specs.declared.ids.DeclId.{DeclId}
 use Rattle.tla_model.specs.declared.entity.Entity.TheVariants as entity
 use Rattle.tla_model.specs.declared.names.Binder.{Binder}
@@ -23,7 +22,7 @@ use Rattle.module_model.specs.Exports.{Exports, exported, instantiable}
 use Rattle.module_model.specs.Modules.{constants, text_of}
 use Rattle.module_model.specs.Resolution.{words_of}
 use Rattle.kind_text.specs.FlatModule.{FlatModule}
-use Rattle.tree_kinds.specs.Standing.{Environment, Outside, Steps, coming, is_bound, name_among, same_standing, with_entries}
+use Rattle.tree_kinds.specs.Standing.{Environment, Outside, coming, is_bound, name_among, same_standing, with_entries}
 use Rattle.tree_kinds.proofs.Standings.{standing-bound, standing-from, standing-itself, standing-means, standing-unlike}
 use Rattle.module_kinds.specs.ModuleKinds.{KindState, after, extended, first, module_under, named_in, outside, standing_behind}
 use Rattle.flat_kinds.specs.Declarations.{AreUnitsDeclared, Declarations, IsDeclared, IsSymbol}

@@ -1,5 +1,5 @@
 -- What is known at each unit of a module, with those round it.
-use Rattle.std.proofs.Common.{◌≡◌, ℕ, zero, suc, Bool, true, false, cond, List, [], ◌∷◌, ◌++◌, ◌⊎◌, inl, inr, Option, Some, None, refl, sym, ap, subst, ◌∙◌, map, drop, length}
+use Rattle.std.proofs.Common.{◌≡◌, ℕ, zero, suc, Bool, true, false, cond, List, [], ◌∷◌, ◌++◌, ◌⊎◌, inl, inr, Option, Some, None, refl, sym, subst, map, drop, length}
 use Rattle.std.specs.List.{AllByRecursion}
 use Rattle.std.proofs.lemmas.Bool.{and_parts}
 use Rattle.list_laws.proofs.Lists.{all-left, all-right}
@@ -32,7 +32,7 @@ use Rattle.flattened_trees.specs.Questions.{Question}
 use Rattle.flattened_meanings.specs.Faces.{NameModules, NamesModules}
 use Rattle.flattened_units.specs.Units.{AreExtended, AreUnitsMade, IsUnitMade, Reader, face_in, face_under, no_leads, symbol_setting, with_symbols}
 use Rattle.module_meanings.specs.Faces.{IsFaceBy, LeavesLead}
-use Rattle.module_meanings.specs.Premises.{AllSymbolsLead, IsFileAt, IsFileBy, IsTreeGivenBy, LeavesSymbols, SymbolsLead, first_seen, seen_behind, symbol_leads}
+use Rattle.module_meanings.specs.Premises.{AllSymbolsLead, IsFileAt, IsFileBy, IsTreeGivenBy, LeavesSymbols, first_seen, seen_behind, symbol_leads}
 use Rattle.module_meanings.proofs.Leaves.{extended-leave, first-leave, unit-leave}
 use Rattle.module_meanings.proofs.Symbols.{first-lead, unit-lead}
 use Rattle.readable_laws.specs.ReadUnits.{IsReadableUnit}

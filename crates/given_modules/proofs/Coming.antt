@@ -1,29 +1,27 @@
 -- Symbols of a module can be used in it, or are declared by units behind. So own symbols of a nested module are none of the modules round it.
-use Rattle.std.proofs.Common.{◌≡◌, ℕ, suc, Bool, true, false, cond, List, [], ◌∷◌, ◌++◌, ◌⊎◌, inl, inr, Option, Some, None, is_some, refl, sym, ap, subst, ◌∙◌, map, drop, length}
-use Rattle.std.specs.Prelude.{not}
+use Rattle.std.proofs.Common.{◌≡◌, ℕ, suc, Bool, true, false, cond, List, [], ◌∷◌, ◌++◌, ◌⊎◌, inl, inr, Option, Some, is_some, refl, sym, ap, subst, ◌∙◌, drop, length}
 use Rattle.std.specs.List.{AllByRecursion}
 use Rattle.std.proofs.lemmas.Bool.{and_parts, false≢true}
-use Rattle.tla_symbols.specs.declared.lexeme.Lexeme.{Lexeme}
 use Rattle.tla_tree.specs.declared.form.Form.TheVariants as Form
 use Rattle.tla_tree.specs.Syntax.{Tree, Node}
-use Rattle.unit_grammar.specs.Units.{UnitTree, Variables, Constants, OperatorDefinition, FunctionDefinition, ModuleDefinition, Instance, Assumption, Theorem, Line, ModuleBegin, ModuleEnd, ModuleUnits}
+use Rattle.unit_grammar.specs.Units.{UnitTree, Variables, Constants, OperatorDefinition, FunctionDefinition, ModuleDefinition, Instance, Assumption, Theorem, Line, ModuleBegin, ModuleEnd}
 use Rattle.tla_model.specs.declared.ids.DeclId.{DeclId}
 use Rattle.tla_model.specs.declared.names.Binder.{Binder}
 use Rattle.tla_model.specs.declared.names.Meaning.TheVariants.{BuiltIn, Declared}
 use Rattle.tla_model.specs.declared.entity.Entity.TheVariants as entity
 use Rattle.tla_model.specs.Contexts.{Context, meaning_of, usable}
-use Rattle.tla_model.specs.Entities.{Meaning, Text, declaration, declaring, meant, name_of, same_decl, same_meaning, same_units, variables}
+use Rattle.tla_model.specs.Entities.{Meaning, Text, declaration, meant, name_of, same_decl, same_meaning, same_units, variables}
 use Rattle.tla_model.specs.Scopes.{definition}
 use Rattle.tla_model.specs.Tables.{Named, Word, find, has}
-use Rattle.tla_model.proofs.Same.{decl-equal, decl-itself, units-equal}
-use Rattle.module_model.specs.Exports.{Exports, exports_of, is_meant, parameters_in, stands_behind, stands_for_parameter}
+use Rattle.tla_model.proofs.Same.{decl-equal, units-equal}
+use Rattle.module_model.specs.Exports.{exports_of, is_meant, stands_behind}
 use Rattle.module_model.specs.Instances.{own_parameters}
 use Rattle.module_model.specs.Modules.{Reading, constants, declare_all, joined, left, with_entry}
 use Rattle.module_model.specs.Resolution.{instance_brings}
 use Rattle.kind_text.specs.FlatModule.{FlatModule}
 use Rattle.tree_kinds.specs.Standing.{Outside, is_bound}
 use Rattle.module_kinds.specs.ModuleKinds.{KindState, after, views}
-use Rattle.flat_kinds.specs.Declarations.{Declarations, EachOnce}
+use Rattle.flat_kinds.specs.Declarations.{Declarations}
 use Rattle.flat_kinds.specs.Symbols.{same_declared, same_symbol}
 use Rattle.flat_trees.specs.Layouts.{order_of}
 use Rattle.flattened_trees.specs.declared.End.TheVariants as end

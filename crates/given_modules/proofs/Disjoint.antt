@@ -1,12 +1,11 @@
 -- What comes from elsewhere or is declared before is declared by none of the units behind.
-use Rattle.std.proofs.Common.{◌≡◌, ◌≤◌, ◌+◌, ℕ, Bool, true, false, cond, List, [], ◌∷◌, ◌++◌, ◌⊎◌, inl, inr, refl, sym, ap, subst, ◌∙◌, map, append_assoc, arith}
-use Rattle.std.specs.List.{AllByRecursion}
+use Rattle.std.proofs.Common.{◌≡◌, ◌≤◌, ◌+◌, ℕ, Bool, true, false, cond, List, [], ◌∷◌, ◌++◌, inl, inr, refl, sym, ap, subst, ◌∙◌, map, append_assoc, arith}
 use Rattle.unit_grammar.specs.Units.{ModuleUnits, UnitTree}
 use Rattle.tla_model.specs.declared.entity.Entity.TheVariants as entity
 use Rattle.tla_model.specs.declared.ids.DeclId.{DeclId}
 use Rattle.tla_model.specs.declared.names.Binder.{Binder}
 use Rattle.tla_model.specs.declared.names.Meaning.TheVariants.{BuiltIn, Declared}
-use Rattle.tla_model.specs.Entities.{Meaning, declaration, declared_by, declaring, meant, same_meaning}
+use Rattle.tla_model.specs.Entities.{Meaning, declared_by, declaring, meant, same_meaning}
 use Rattle.tla_model.specs.Lexemes.{spelled}
 use Rattle.module_model.specs.Modules.{text_of}
 use Rattle.flattened_trees.specs.Agreeing.{AreNew, is_seen}

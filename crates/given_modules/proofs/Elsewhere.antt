@@ -1,34 +1,28 @@
 -- Names that can be used in a module, and what modules export that it can name, come from elsewhere or from units before.
-use Rattle.std.proofs.Common.{◌≡◌, ℕ, Bool, true, false, cond, List, [], ◌∷◌, ◌++◌, ◌⊎◌, inl, inr, Some, None, refl, sym, subst, map}
+use Rattle.std.proofs.Common.{◌≡◌, ℕ, Bool, true, false, cond, List, [], ◌∷◌, ◌++◌, inl, inr, None, refl, sym, subst}
 use Rattle.std.specs.Prelude.{not}
 use Rattle.std.specs.List.{AllByRecursion}
-use Rattle.std.specs.Str.{bytes_eq}
-use Rattle.std.proofs.lemmas.Bool.{false≢true}
 use Rattle.list_laws.proofs.Lists.{all-left, all-weaker}
-use Rattle.tla_symbols.specs.declared.lexeme.Lexeme.{Lexeme}
 use Rattle.tla_tree.specs.Syntax.{Tree}
 use Rattle.unit_grammar.specs.Units.{UnitTree, Variables, Constants, OperatorDefinition, FunctionDefinition, ModuleDefinition, Instance, Assumption, Theorem, Line, ModuleBegin, ModuleEnd, ModuleUnits}
 use Rattle.tla_model.specs.declared.ids.UnitId.{UnitId}
 use Rattle.tla_model.specs.declared.names.Binder.{Binder}
 use Rattle.tla_model.specs.declared.names.Binding.TheVariants as as_binding
 use Rattle.tla_model.specs.declared.names.Meaning.TheVariants.{BuiltIn, Declared}
-use Rattle.tla_model.specs.Tables.{Named, find, has}
-use Rattle.tla_model.specs.Entities.{Meaning, Text, declaration, declared_by, declaring, meant, name_of, variables, within}
-use Rattle.tla_model.specs.Contexts.{built_in}
-use Rattle.tla_model.specs.Lexemes.{spelled}
+use Rattle.tla_model.specs.Tables.{Named, has}
+use Rattle.tla_model.specs.Entities.{Meaning, Text, declaration, declared_by, declaring, meant, variables}
 use Rattle.tla_model.specs.Scopes.{definition}
 use Rattle.module_scope.specs.Environments.{begun, inside, meaning}
 use Rattle.module_model.specs.Exports.{Exports, ModuleView, exported, exports_by, exports_of, is_meant, parameters_in, stands_for_parameter}
 use Rattle.module_model.specs.Instances.{own_parameters, through}
 use Rattle.module_model.specs.Modules.{Place, Reading, constants, exports_under, text_of}
-use Rattle.module_model.specs.NamedModules.{module_at, module_under, view_of}
+use Rattle.module_model.specs.NamedModules.{module_at}
 use Rattle.module_model.specs.Resolution.{first, module_named, outside_in, words_of}
 use Rattle.tree_kinds.specs.Standing.{Outside}
 use Rattle.module_kinds.specs.ModuleKinds.{named_in, nested_outside, outside, views}
 use Rattle.flat_trees.specs.Instances.{symbols_of}
 use Rattle.flat_kinds.specs.Declarations.{declared_names}
 use Rattle.flattened_units.specs.Units.{meanings_of}
-use Rattle.readable_laws.specs.Steady.{state_behind}
 use Rattle.accepted_modules.specs.Behind.{IsForeign, IsForeignView}
 use Rattle.accepted_modules.specs.Named.{AllNamed}
 use Rattle.accepted_modules.specs.States.{kinds_behind}
@@ -37,7 +31,7 @@ use Rattle.accepted_modules.proofs.Holding.{AreOwn, HoldsPlace, OfEntry, Own, ad
 use Rattle.accepted_modules.proofs.Tables.{all-passing}
 use Rattle.accepted_modules.proofs.Symbols.{IsSymbol, defined-none}
 use Rattle.accepted_modules.proofs.Views.{nested-same, own-read}
-use Rattle.fresh_names.specs.Seen.{IsDeclaredBy, IsElsewhere, symbols_in}
+use Rattle.fresh_names.specs.Seen.{IsElsewhere, symbols_in}
 use Rattle.fresh_names.proofs.Brought.{through-elsewhere}
 use Rattle.fresh_names.proofs.Kept.{Within, definition-within, left, placed-within, right}
 

@@ -1,21 +1,17 @@
 -- Symbols that can be used in a module have places, in nested ones too: they are its own, or those of a module round it.
-use Rattle.std.proofs.Common.{◌≡◌, ℕ, suc, Bool, true, false, cond, List, [], ◌∷◌, ◌++◌, ◌⊎◌, inl, inr, Option, Some, None, is_some, refl, sym, ap, subst, ◌∙◌, map, drop, length}
-use Rattle.std.specs.List.{AllByRecursion}
-use Rattle.std.proofs.Math.Seq.{drop-append_seam}
+use Rattle.std.proofs.Common.{◌≡◌, ℕ, suc, Bool, true, false, cond, List, [], ◌∷◌, ◌⊎◌, inl, inr, Option, Some, is_some, refl, sym, ap, subst, ◌∙◌, map, drop, length}
 use Rattle.list_laws.proofs.Options.{some-there}
-use Rattle.tla_symbols.specs.declared.lexeme.Lexeme.{Lexeme}
 use Rattle.tla_tree.specs.declared.form.Form.TheVariants as Form
 use Rattle.tla_tree.specs.Syntax.{Tree, Node}
-use Rattle.unit_grammar.specs.Derivation.{DerivesModule}
 use Rattle.unit_grammar.specs.Units.{UnitTree, Variables, Constants, OperatorDefinition, FunctionDefinition, ModuleDefinition, Instance, Assumption, Theorem, Line, ModuleBegin, ModuleEnd, ModuleUnits}
 use Rattle.std.specs.Prelude.{filter, not}
-use Rattle.tla_model.specs.Contexts.{Context, meaning_of, usable}
+use Rattle.tla_model.specs.Contexts.{meaning_of, usable}
 use Rattle.tla_model.specs.Entities.{Meaning, Text, variables}
 use Rattle.tla_model.specs.Scopes.{definition}
 use Rattle.tla_model.specs.Tables.{Named, Word, find, has}
 use Rattle.module_model.specs.Exports.{Exports, ModuleView, exports_of, is_meant, parameters_in, stands_for_parameter}
 use Rattle.module_model.specs.Instances.{own_parameters}
-use Rattle.module_model.specs.Modules.{Reading, constants, declare_all, joined, left, text_of}
+use Rattle.module_model.specs.Modules.{Reading, constants, left, text_of}
 use Rattle.module_model.specs.Resolution.{ReadState, first as first_read, instance_brings, words_of}
 use Rattle.module_model.proofs.Entries.{entry-of-table}
 use Rattle.kind_text.specs.FlatModule.{FlatModule}
@@ -34,7 +30,7 @@ use Rattle.module_meanings.specs.Premises.{symbol_leads}
 use Rattle.accepted_modules.specs.States.{kinds_behind}
 use Rattle.accepted_modules.proofs.Contexts.{usable-found}
 use Rattle.accepted_modules.proofs.Placed.{alike-placed, symbol-placed}
-use Rattle.accepted_modules.proofs.Symbols.{Grows, HasSymbols, HaveSymbols, IsSymbol, Outer, all-have, declared-grows, first-have, here-has, joined-grows}
+use Rattle.accepted_modules.proofs.Symbols.{Grows, HaveSymbols, IsSymbol, Outer, all-have, declared-grows, first-have, joined-grows}
 use Rattle.accepted_modules.proofs.Tables.{IsThere, entry-there}
 use Rattle.accepted_modules.proofs.Views.{own-read}
 use Rattle.given_modules.proofs.Inside.{AreInside}

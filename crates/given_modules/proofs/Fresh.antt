@@ -1,20 +1,20 @@
 -- The names of trees are new along the units of a module.
-use Rattle.std.proofs.Common.{◌≡◌, ℕ, List, [], ◌∷◌, ◌++◌, Option, refl, sym, ap, subst, ◌∙◌}
+use Rattle.std.proofs.Common.{◌≡◌, ℕ, List, [], ◌∷◌, ◌++◌, Option, refl, sym, subst}
 use Rattle.std.specs.List.{AllByRecursion}
 use Rattle.list_laws.proofs.Lists.{all-both}
 use Rattle.tla_symbols.specs.declared.lexeme.Lexeme.{Lexeme}
 use Rattle.tla_tree.specs.declared.form.Form.TheVariants as Form
-use Rattle.tla_tree.specs.Syntax.{Tree, Trees, Node, Nil, Cons}
+use Rattle.tla_tree.specs.Syntax.{Tree, Node, Nil, Cons}
 use Rattle.unit_grammar.specs.Units.{UnitTree, Variables, Constants, OperatorDefinition, FunctionDefinition, ModuleDefinition, Instance, Assumption, Theorem, Line, ModuleBegin, ModuleEnd, ModuleUnits}
 use Rattle.tla_model.specs.declared.names.Binder.{Binder}
-use Rattle.tla_model.specs.Entities.{Meaning, Text, declared_by, declaring, variables, within}
+use Rattle.tla_model.specs.Entities.{Meaning, Text, declared_by, declaring, variables}
 use Rattle.tla_model.specs.Lexemes.{spelled}
-use Rattle.module_scope.specs.Environments.{Scope, begun, first as first_scope}
+use Rattle.module_scope.specs.Environments.{begun, first as first_scope}
 use Rattle.module_model.specs.Exports.{exported}
 use Rattle.module_model.specs.Instances.{unit_trees}
 use Rattle.module_model.specs.Modules.{constants, text_of}
 use Rattle.module_model.specs.NamedModules.{unit_of, view_of}
-use Rattle.module_model.specs.Resolution.{instance_brings, module_named, words_of}
+use Rattle.module_model.specs.Resolution.{module_named, words_of}
 use Rattle.kind_text.specs.FlatModule.{FlatModule}
 use Rattle.tree_kinds.specs.Standing.{Outside}
 use Rattle.module_kinds.specs.ModuleKinds.{KindState, after, first, named_in, outside, views}
@@ -25,7 +25,6 @@ use Rattle.flattened_trees.specs.Questions.{Question}
 use Rattle.flattened_units.specs.Units.{AreUnitsMade, IsModuleMade, IsUnitMade, Reader, meanings_of}
 use Rattle.module_meanings.specs.Premises.{extended_meanings, first_seen, seen_behind}
 use Rattle.accepted_modules.specs.Behind.{IsForeignView}
-use Rattle.accepted_modules.specs.States.{kinds_behind}
 use Rattle.fresh_names.specs.Seen.{IsElsewhere, brought_by, symbols_in}
 use Rattle.fresh_names.proofs.Brought.{instance-elsewhere, modules-elsewhere}
 use Rattle.fresh_names.proofs.First.{extended-elsewhere}

@@ -1,47 +1,40 @@
 -- Units of modules without faults are given, and what these extend.
-use Rattle.std.proofs.Common.{◌≡◌, ℕ, Bool, true, false, cond, List, [], ◌∷◌, ◌++◌, ◌⊎◌, inl, inr, Option, Some, None, refl, sym, ap, subst, ◌∙◌, map}
+use Rattle.std.proofs.Common.{◌≡◌, ℕ, Bool, true, false, cond, List, [], ◌∷◌, ◌++◌, ◌⊎◌, Option, Some, None, refl, sym, subst, map}
 use Rattle.std.specs.List.{AllByRecursion}
 use Rattle.std.specs.Str.{bytes_eq}
-use Rattle.list_laws.proofs.Lists.{all-weaker}
 use Rattle.tla_symbols.specs.declared.lexeme.Lexeme.{Lexeme}
 use Rattle.tla_symbols.specs.declared.lexeme.Span.{Span}
 use Rattle.tla_tree.specs.declared.form.Form.TheVariants as Form
 use Rattle.tla_tree.specs.Syntax.{Tree, Trees, Node}
 use Rattle.unit_grammar.specs.Derivation.{DerivesModule}
 use Rattle.unit_grammar.specs.Units.{UnitTree, Variables, Constants, OperatorDefinition, FunctionDefinition, ModuleDefinition, Instance, Assumption, Theorem, Line, ModuleBegin, ModuleEnd, ModuleUnits}
-use Rattle.tla_model.specs.declared.names.Binder.{Binder}
 use Rattle.tla_model.specs.Contexts.{built_in, meaning_of}
-use Rattle.tla_model.specs.Entities.{Meaning, Text, all_placed, meant, variables}
+use Rattle.tla_model.specs.Entities.{Meaning, Text, meant, variables}
 use Rattle.tla_model.specs.Lexemes.{spelled}
 use Rattle.tla_model.specs.Tables.{Named}
 use Rattle.module_scope.specs.Environments.{first as first_scope}
 use Rattle.module_model.specs.Bindings.{faults}
-use Rattle.module_model.specs.Exports.{Exports, ModuleView, exported, parameters_in}
-use Rattle.module_model.specs.Modules.{Reading, constants, text_of}
-use Rattle.module_model.specs.Resolution.{findings, instance_brings, outside_in, words_of}
+use Rattle.module_model.specs.Exports.{Exports, exported, parameters_in}
+use Rattle.module_model.specs.Modules.{constants, text_of}
+use Rattle.module_model.specs.Resolution.{findings, instance_brings, words_of}
 use Rattle.kind_text.specs.FlatModule.{FlatModule}
 use Rattle.tree_kinds.specs.Standing.{Outside}
 use Rattle.module_kinds.specs.ModuleKinds.{KindState, after, first, module_under, named, named_in, outside, views}
 use Rattle.flat_trees.specs.Instances.{symbols_of}
 use Rattle.flat_kinds.specs.Declarations.{Declarations}
 use Rattle.flat_kinds.specs.Readings.{BringNone, extended_entries}
-use Rattle.flattened_trees.specs.Leads.{FlatFace, Setting}
-use Rattle.flattened_trees.specs.Questions.{Question}
-use Rattle.flattened_units.specs.Units.{AreUnitsMade, IsModuleMade, IsUnitMade, Reader, face_in, face_under, meanings_of, no_leads, symbol_setting, with_symbols}
+use Rattle.flattened_trees.specs.Leads.{FlatFace}
+use Rattle.flattened_units.specs.Units.{Reader, face_in, face_under, meanings_of, no_leads, symbol_setting, with_symbols}
 use Rattle.module_meanings.specs.Faces.{IsExtendedBy, IsPlaced}
 use Rattle.module_meanings.specs.Following.{IsPlain}
-use Rattle.module_meanings.specs.Premises.{AllCome, AreExtendedGiven, AreUnitsGiven, IsBroughtGiven, IsEndGiven, IsFileAt, IsModuleGiven, IsUnitGivenBy, SymbolsLead, seen_behind, symbol_leads}
-use Rattle.readable_laws.specs.Steady.{state_behind}
+use Rattle.module_meanings.specs.Premises.{AllCome, AreExtendedGiven, IsFileAt, IsUnitGivenBy, symbol_leads}
 use Rattle.accepted_modules.specs.Behind.{Behinds}
 use Rattle.accepted_modules.specs.States.{kinds_behind}
-use Rattle.accepted_modules.proofs.Declaring.{unit-parameters}
 use Rattle.accepted_modules.proofs.Symbols.{IsSymbol}
-use Rattle.accepted_modules.proofs.Views.{own-read}
 use Rattle.given_modules.specs.Good.{AreGoodFiles, IsGoodFile}
-use Rattle.given_modules.proofs.AtUnits.{IsKnown, IsMet, met-first, met-next, tree-given, unit-read}
+use Rattle.given_modules.proofs.AtUnits.{IsKnown, IsMet, tree-given, unit-read}
 use Rattle.given_modules.proofs.Elsewhere.{parameters-are}
 use Rattle.given_modules.proofs.Nothing.{nothing-good}
-use Rattle.given_modules.proofs.Placed.{binders-placed, constants-are, lead-placed, variables-are}
 
 -- names that an INSTANCE without a name brings come from its module
 abbrev pub AreBrought : (List ℕ → Outside) → List ℕ → ModuleUnits → Type 0

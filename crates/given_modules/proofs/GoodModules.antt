@@ -1,15 +1,14 @@
 -- A module that is given is good to modules that name it, and stays so.
-use Rattle.std.proofs.Common.{◌≡◌, ℕ, Bool, true, false, List, [], ◌∷◌, Option, Some, None, refl, sym, ap, subst, ◌∙◌, length}
+use Rattle.std.proofs.Common.{◌≡◌, ℕ, Bool, false, List, [], ◌∷◌, Option, Some, refl, sym, subst, length}
 use Rattle.std.specs.List.{AllByRecursion}
 use Rattle.list_laws.proofs.Lists.{all-weaker}
 use Rattle.unit_grammar.specs.Units.{ModuleUnits, UnitTree}
 use Rattle.tla_model.specs.declared.names.Meaning.TheVariants.{BuiltIn}
 use Rattle.tla_model.specs.Contexts.{Context, meaning_of}
 use Rattle.tla_model.specs.Entities.{Meaning, Text}
-use Rattle.tla_model.specs.EntityKinds.{is_meant, stands_behind}
 use Rattle.tla_model.specs.Tables.{Named}
 use Rattle.module_scope.specs.Environments.{first as first_scope}
-use Rattle.module_model.specs.Exports.{Exports, ModuleView, behind_instance, behind_meaning, entries_from, entry_of, exports_of, instantiable, onward, parameters_in}
+use Rattle.module_model.specs.Exports.{ModuleView, behind_instance, behind_meaning, entries_from, entry_of, exports_of, onward, parameters_in}
 use Rattle.module_model.specs.Modules.{text_of}
 use Rattle.module_model.specs.Resolution.{ReadState, words_of}
 use Rattle.kind_text.specs.FlatModule.{Extends, FlatModule, IsOrdered, UsesInstance}
@@ -33,13 +32,13 @@ use Rattle.flattened_units.specs.Units.{AreUnitsMade, IsModuleMade, Reader, symb
 use Rattle.module_meanings.specs.Faces.{IsExtendedBy, IsFaceBy, IsFaceWithin, IsPlaced, IsReaderWithin, LeavesLead}
 use Rattle.module_meanings.specs.Following.{IsBuiltSo, IsMeantSo}
 use Rattle.module_meanings.specs.Premises.{AreUnitsGiven, IsFileAt, IsModuleGiven, seen_behind, symbol_leads}
-use Rattle.module_meanings.proofs.Further.{AllDefinitionsLead, DefinitionsLead, extended-further, first-further, unit-further}
+use Rattle.module_meanings.proofs.Further.{AllDefinitionsLead, extended-further, first-further, unit-further}
 use Rattle.module_meanings.proofs.Growing.{extended-grows, face-grows}
 use Rattle.module_meanings.proofs.Instancing.{meant-instanced, table-own}
 use Rattle.module_meanings.proofs.Meant.{meant-extended}
 use Rattle.module_meanings.proofs.Modules.{module-meant}
 use Rattle.module_meanings.proofs.NestedFaces.{brought-entry, further-takes}
-use Rattle.module_meanings.proofs.Within.{exported-within, extended-within, first-within, unit-within}
+use Rattle.module_meanings.proofs.Within.{extended-within, first-within, unit-within}
 use Rattle.accepted_modules.specs.Behind.{Behinds}
 use Rattle.given_modules.specs.Good.{IsGoodFile, face_of}
 

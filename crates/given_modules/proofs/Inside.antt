@@ -1,5 +1,5 @@
 -- What can be used round a nested module can be used in it.
-use Rattle.std.proofs.Common.{◌≡◌, ℕ, Bool, true, false, cond, List, [], ◌∷◌, ◌++◌, Option, Some, is_some, sym, subst}
+use Rattle.std.proofs.Common.{◌≡◌, ℕ, Bool, true, false, cond, List, [], ◌∷◌, Option, Some, is_some, sym, subst}
 use Rattle.tla_symbols.specs.declared.lexeme.Lexeme.{Lexeme}
 use Rattle.unit_grammar.specs.Units.{UnitTree, Variables, Constants, OperatorDefinition, FunctionDefinition, ModuleDefinition, Instance, Assumption, Theorem, Line, ModuleBegin, ModuleEnd, ModuleUnits}
 use Rattle.tla_model.specs.Contexts.{Context}
@@ -7,7 +7,7 @@ use Rattle.tla_model.specs.Entities.{Meaning, Text, variables}
 use Rattle.tla_model.specs.Scopes.{definition}
 use Rattle.tla_model.specs.Tables.{Named, find}
 use Rattle.module_model.specs.Exports.{Exports, Known, ModuleView, exports_by}
-use Rattle.module_model.specs.Modules.{Place, Reading, brings, clashes, constants, extended, extends_all, joined, left, nested, text_of, with_entry}
+use Rattle.module_model.specs.Modules.{Reading, brings, clashes, constants, extended, extends_all, joined, left, nested, text_of, with_entry}
 use Rattle.module_model.specs.Resolution.{ReadState, after, first, instance_brings, read_all, words_of}
 use Rattle.tree_kinds.specs.Standing.{Outside}
 use Rattle.module_kinds.specs.ModuleKinds.{views}

@@ -1,41 +1,31 @@
 -- What a nested module extends is given.
-use Rattle.std.proofs.Common.{◌≡◌, ℕ, suc, Bool, true, false, cond, List, [], ◌∷◌, ◌++◌, ◌⊎◌, inl, inr, Option, Some, None, refl, sym, ap, subst, ◌∙◌, drop, length}
-use Rattle.std.specs.Prelude.{◌||◌}
+use Rattle.std.proofs.Common.{◌≡◌, ℕ, suc, Bool, true, false, cond, List, [], ◌∷◌, ◌++◌, ◌⊎◌, inl, inr, Some, None, refl, sym, ap, subst, ◌∙◌}
 use Rattle.std.specs.List.{AllByRecursion}
-use Rattle.std.specs.Str.{bytes_eq}
-use Rattle.std.proofs.Math.Seq.{drop-append_seam}
 use Rattle.list_laws.proofs.Lists.{all-weaker}
 use Rattle.tla_symbols.specs.declared.lexeme.Lexeme.{Lexeme}
-use Rattle.unit_grammar.specs.Units.{ModuleBegin, ModuleUnits, UnitTree}
 use Rattle.tla_model.specs.declared.names.Finding.TheVariants.{Clashes}
-use Rattle.tla_model.specs.Contexts.{Context, meaning_of, usable}
+use Rattle.tla_model.specs.Contexts.{meaning_of, usable}
 use Rattle.tla_model.specs.Entities.{Meaning, Text}
 use Rattle.tla_model.specs.Lexemes.{spelled}
 use Rattle.tla_model.specs.Scopes.{Finding}
 use Rattle.tla_model.specs.Tables.{Named, find}
-use Rattle.module_scope.specs.Environments.{Environment, Scope, begun, inside, meaning}
-use Rattle.module_model.specs.Bindings.{fault, faults}
-use Rattle.module_model.specs.Exports.{Exports, ModuleView, exported, exports_by, instantiable, is_meant, parameters_in, stands_behind, stands_for_parameter}
-use Rattle.module_model.specs.Modules.{Reading, all_clashing, brings, brings_clash, clashes, extended, extends_all, joined, nested, text_of, with_entry}
-use Rattle.module_model.specs.NamedModules.{module_at, module_under}
-use Rattle.module_model.specs.Resolution.{words_of}
-use Rattle.kind_text.specs.FlatModule.{FlatModule}
-use Rattle.tree_kinds.specs.Standing.{Outside, name_among}
-use Rattle.module_kinds.specs.ModuleKinds.{named_in}
+use Rattle.module_scope.specs.Environments.{Environment, meaning}
+use Rattle.module_model.specs.Bindings.{faults}
+use Rattle.module_model.specs.Exports.{Exports, ModuleView, exported, exports_by, instantiable, is_meant, stands_behind, stands_for_parameter}
+use Rattle.module_model.specs.Modules.{Reading, all_clashing, brings, brings_clash, clashes, extended, extends_all, joined, with_entry}
+use Rattle.module_model.specs.NamedModules.{module_at}
+use Rattle.tree_kinds.specs.Standing.{name_among}
 use Rattle.flat_kinds.specs.Declarations.{Declarations, OfAllKnown}
-use Rattle.flat_kinds.specs.Readings.{BringNone, extended_entries}
 use Rattle.flat_kinds.specs.Symbols.{same_symbol}
-use Rattle.flat_trees.specs.Instances.{symbols_of}
 use Rattle.flat_trees.specs.Layouts.{order_of}
 use Rattle.flattened_trees.specs.declared.End.TheVariants as end
-use Rattle.flattened_trees.specs.Leads.{FlatFace, Leads, Setting, nowhere, only}
-use Rattle.flattened_units.specs.Units.{meanings_of, with_symbols}
+use Rattle.flattened_trees.specs.Leads.{Leads, nowhere, only}
+use Rattle.flattened_units.specs.Units.{with_symbols}
 use Rattle.module_meanings.specs.Faces.{IsPlaced}
-use Rattle.module_meanings.specs.Premises.{SymbolsLead, symbol_leads}
 use Rattle.accepted_modules.specs.Named.{AllNamed}
 use Rattle.accepted_modules.specs.Offered.{IsOffered}
 use Rattle.accepted_modules.proofs.Contexts.{brings-exported, usable-found}
-use Rattle.accepted_modules.proofs.Declaring.{faults-append, left-empty, right-empty}
+use Rattle.accepted_modules.proofs.Declaring.{faults-append, right-empty}
 use Rattle.accepted_modules.proofs.Holding.{OfEntry, module-says, nothing-holds}
 use Rattle.accepted_modules.proofs.Naming.{named-there}
 use Rattle.accepted_modules.proofs.Symbols.{IsSymbol}

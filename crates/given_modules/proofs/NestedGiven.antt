@@ -1,13 +1,9 @@
 -- Modules without faults are given, with those that are nested in them.
-use Rattle.std.proofs.Common.{◌≡◌, ℕ, Bool, true, false, cond, List, [], ◌∷◌, ◌++◌, ◌⊎◌, inl, inr, Option, Some, None, refl, sym, ap, subst, ◌∙◌, map, drop, length}
+use Rattle.std.proofs.Common.{◌≡◌, ℕ, Bool, true, false, cond, List, [], ◌∷◌, ◌++◌, inl, inr, Option, Some, refl, sym, ap, subst, ◌∙◌, map, drop, length}
 use Rattle.std.specs.Prelude.{not, ◌||◌}
 use Rattle.std.specs.List.{AllByRecursion}
-use Rattle.std.specs.Str.{bytes_eq}
 use Rattle.std.proofs.lemmas.Bool.{and_parts}
 use Rattle.std.proofs.lemmas.List.{append-nil}
-use Rattle.std.proofs.Math.Seq.{drop-append_seam}
-use Rattle.list_laws.proofs.Lists.{all-weaker}
-use Rattle.tla_symbols.specs.declared.lexeme.Lexeme.{Lexeme}
 use Rattle.tla_tree.specs.declared.form.Form.TheVariants as Form
 use Rattle.tla_tree.specs.Syntax.{Tree, Node}
 use Rattle.unit_grammar.specs.Units.{UnitTree, Variables, Constants, OperatorDefinition, FunctionDefinition, ModuleDefinition, Instance, Assumption, Theorem, Line, ModuleBegin, ModuleEnd, ModuleUnits}
@@ -16,32 +12,29 @@ use Rattle.tla_model.specs.declared.ids.Callee.{Callee}
 use Rattle.tla_model.specs.declared.ids.DeclId.{DeclId}
 use Rattle.tla_model.specs.declared.names.Binder.{Binder}
 use Rattle.tla_model.specs.declared.names.Meaning.TheVariants.{BuiltIn, Declared}
-use Rattle.tla_model.specs.Contexts.{Context, meaning_of, usable}
+use Rattle.tla_model.specs.Contexts.{Context, meaning_of}
 use Rattle.tla_model.specs.Entities.{Entity, Meaning, Text, all_placed, declaring, meant, name_of, same_meaning, variables}
-use Rattle.tla_model.specs.Lexemes.{spelled}
-use Rattle.tla_model.specs.Scopes.{all_refused}
-use Rattle.tla_model.specs.Tables.{Named, find, has, same_named}
-use Rattle.module_scope.specs.Environments.{begun, inside, meaning as module_meaning}
+use Rattle.tla_model.specs.Tables.{Named, has}
+use Rattle.module_scope.specs.Environments.{inside}
 use Rattle.module_model.specs.Bindings.{faults}
 use Rattle.module_model.specs.Exports.{Exports, ModuleView, entry_of, exported, exports_by, exports_of, is_meant, parameters_in, stands_for_parameter}
 use Rattle.module_model.specs.Instances.{own_parameters, paths_in}
-use Rattle.module_model.specs.Modules.{Reading, all_clashing, constants, declare_all, text_of, unread}
-use Rattle.module_model.specs.Resolution.{ReadState, findings, first as first_read, found_from, found_in, words_of}
+use Rattle.module_model.specs.Modules.{Reading, all_clashing, constants, text_of, unread}
+use Rattle.module_model.specs.Resolution.{ReadState, first as first_read, found_from, found_in, words_of}
 use Rattle.kind_text.specs.FlatModule.{FlatModule}
-use Rattle.tree_kinds.specs.Standing.{Environment, Outside, is_bound, same_standing}
+use Rattle.tree_kinds.specs.Standing.{Outside, is_bound, same_standing}
 use Rattle.module_kinds.specs.ModuleKinds.{KindState, after, first, last, outside, read_all, views}
 use Rattle.flat_trees.specs.Instances.{symbols_of}
-use Rattle.flat_kinds.specs.Declarations.{Declarations, EachOnce}
+use Rattle.flat_kinds.specs.Declarations.{Declarations}
 use Rattle.flat_kinds.specs.Readings.{is_among}
 use Rattle.flat_kinds.specs.Symbols.{AreDistinct, same_declared, same_symbol}
 use Rattle.flat_kinds.proofs.Declarations.{read-same}
 use Rattle.flat_kinds.proofs.Distinct.{ended-symbols}
-use Rattle.flattened_trees.specs.Leads.{FlatFace, Leads, Setting, nowhere}
+use Rattle.flattened_trees.specs.Leads.{FlatFace, Setting, nowhere}
 use Rattle.flattened_trees.specs.Questions.{Question}
 use Rattle.flattened_units.specs.Units.{AreUnitsMade, IsEnded, IsUnitMade, Reader, meanings_of}
 use Rattle.module_meanings.specs.Faces.{IsPlaced}
-use Rattle.module_meanings.specs.Premises.{IsEndGiven, IsEndedGiven, SymbolsLead, symbol_leads}
-use Rattle.readable_laws.specs.Steady.{state_behind}
+use Rattle.module_meanings.specs.Premises.{IsEndGiven, SymbolsLead, symbol_leads}
 use Rattle.accepted_modules.specs.Named.{AllNamed}
 use Rattle.accepted_modules.specs.States.{kinds_behind}
 use Rattle.accepted_modules.proofs.Declaring.{declared-means, faults-append, none-refused, right-empty, unit-faultless}
@@ -50,12 +43,11 @@ use Rattle.accepted_modules.proofs.Symbols.{HaveSymbols, IsSymbol}
 use Rattle.accepted_modules.proofs.Tables.{IsThere, table-once, there-first, there-holds, there-passed}
 use Rattle.accepted_modules.proofs.Views.{own-read}
 use Rattle.fresh_names.specs.Seen.{IsDeclaredBy, IsElsewhere, symbols_in}
-use Rattle.module_model.proofs.Entries.{entry-of-table}
 use Rattle.given_modules.proofs.Ahead.{IsAt, at-next}
 use Rattle.given_modules.proofs.AtUnits.{IsKnown, keeps-at}
 use Rattle.given_modules.proofs.Coming.{AreComing, IsComing, IsComingAt, coming-before, leads-none, name_in}
 use Rattle.given_modules.proofs.Elsewhere.{ComesElsewhere, elsewhere-holds, entries-mean}
-use Rattle.given_modules.proofs.Exported.{AreExportedOwn, IsExportedAt, behind-have, usable-placed}
+use Rattle.given_modules.proofs.Exported.{IsExportedAt, behind-have, usable-placed}
 use Rattle.given_modules.proofs.Given.{HasPlaced, IsAccepted}
 use Rattle.given_modules.proofs.Inside.{AreInside, behind-inside}
 use Rattle.given_modules.proofs.Placed.{constants-are, lead-placed, variables-are}

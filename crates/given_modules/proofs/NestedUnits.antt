@@ -1,5 +1,5 @@
 -- Nested modules that begin are given, and so are modules with nested ones.
-use Rattle.std.proofs.Common.{◌≡◌, ℕ, Bool, true, false, cond, List, [], ◌∷◌, ◌++◌, ◌⊎◌, inl, inr, Option, Some, None, refl, sym, ap, subst, ◌∙◌, map, drop, length}
+use Rattle.std.proofs.Common.{◌≡◌, ℕ, true, false, cond, List, [], ◌∷◌, ◌++◌, ◌⊎◌, inl, inr, Option, Some, None, refl, sym, ap, subst, ◌∙◌, drop, length}
 use Rattle.std.specs.List.{AllByRecursion}
 use Rattle.std.proofs.Math.Seq.{drop-append_seam}
 use Rattle.list_laws.proofs.Lists.{all-right}
@@ -9,45 +9,45 @@ use Rattle.tla_model.specs.declared.entity.Entity.TheVariants as entity
 use Rattle.tla_model.specs.declared.ids.DeclId.{DeclId}
 use Rattle.tla_model.specs.declared.names.Finding.TheVariants.{Taken}
 use Rattle.tla_model.specs.declared.names.Meaning.TheVariants.{Declared}
-use Rattle.tla_model.specs.Contexts.{Context, meaning_of, usable}
+use Rattle.tla_model.specs.Contexts.{meaning_of, usable}
 use Rattle.tla_model.specs.Entities.{Meaning, Text, declaring, same_meaning}
 use Rattle.tla_model.specs.Lexemes.{spelled}
 use Rattle.tla_model.specs.Scopes.{Finding}
 use Rattle.tla_model.specs.Tables.{Named, find}
 use Rattle.module_scope.specs.Environments.{Scope, begun, inside, meaning}
 use Rattle.module_model.specs.Bindings.{faults}
-use Rattle.module_model.specs.Exports.{Exports, Known, ModuleView, exported, exports_by, is_meant, parameters_in, stands_for_parameter}
+use Rattle.module_model.specs.Exports.{Exports, ModuleView, exported, exports_by, is_meant, parameters_in, stands_for_parameter}
 use Rattle.module_model.specs.Modules.{all_clashing, exports_under, is_named, nested, text_of}
 use Rattle.module_model.specs.NamedModules.{module_at, module_under as view_under}
 use Rattle.module_model.specs.Resolution.{words_of}
 use Rattle.kind_text.specs.FlatModule.{FlatModule}
-use Rattle.tree_kinds.specs.Standing.{Environment, Outside, name_among}
-use Rattle.module_kinds.specs.ModuleKinds.{KindState, after, first, last, module_under, named_in, nowhere as no_module, outside, read_all, views}
+use Rattle.tree_kinds.specs.Standing.{Environment, Outside}
+use Rattle.module_kinds.specs.ModuleKinds.{KindState, after, first, last, module_under, named_in, outside, read_all, views}
 use Rattle.flat_kinds.specs.Declarations.{Declarations, IsSymbol as IsDeclaredSymbol, OfAllKnown}
 use Rattle.flat_kinds.specs.Readings.{BringNone, extended_entries}
 use Rattle.flat_kinds.specs.Symbols.{same_symbol}
 use Rattle.flat_trees.specs.Instances.{symbols_of}
 use Rattle.flattened_trees.specs.Leads.{FlatFace, Leads, Setting, nowhere}
 use Rattle.flattened_trees.specs.Questions.{Question}
-use Rattle.flattened_units.specs.Units.{AreUnitsMade, IsModuleMade, IsUnitMade, Reader, face_in, face_under, meanings_of, no_face, with_symbols}
+use Rattle.flattened_units.specs.Units.{AreUnitsMade, IsModuleMade, IsUnitMade, Reader, face_in, face_under, meanings_of, with_symbols}
 use Rattle.module_meanings.specs.Faces.{IsExtendedBy, IsPlaced}
-use Rattle.module_meanings.specs.Premises.{AllCome, AreExtendedGiven, AreUnitsGiven, IsBegunGiven, IsFileAt, IsModuleGiven, IsUnitGivenBy, SymbolsLead, seen_behind, symbol_leads}
+use Rattle.module_meanings.specs.Premises.{AllCome, AreUnitsGiven, IsBegunGiven, IsFileAt, IsModuleGiven, IsUnitGivenBy, seen_behind, symbol_leads}
 use Rattle.accepted_modules.specs.Behind.{Behinds}
 use Rattle.accepted_modules.specs.Faces.{FacesReadAs}
 use Rattle.accepted_modules.specs.Named.{AllNamed}
 use Rattle.accepted_modules.specs.Offered.{IsOffered}
 use Rattle.accepted_modules.specs.States.{kinds_behind}
-use Rattle.accepted_modules.proofs.Contexts.{brings-exported, usable-found}
+use Rattle.accepted_modules.proofs.Contexts.{brings-exported}
 use Rattle.accepted_modules.proofs.Declaring.{faults-append, right-empty}
 use Rattle.accepted_modules.proofs.Faces.{IsFoundAs, found-as}
-use Rattle.accepted_modules.proofs.Holding.{OfEntry, added-known}
+use Rattle.accepted_modules.proofs.Holding.{added-known}
 use Rattle.accepted_modules.proofs.Symbols.{IsSymbol}
 use Rattle.accepted_modules.proofs.Tables.{IsThere, there-holds, there-passed}
 use Rattle.accepted_modules.proofs.Views.{nested-same}
 use Rattle.fresh_names.specs.Seen.{IsDeclaredBy, IsElsewhere, symbols_in}
 use Rattle.given_modules.specs.Good.{IsGoodFile}
 use Rattle.given_modules.specs.Nested.{AreUnitsBringing, ExtendsFiles, IsModuleBringing}
-use Rattle.given_modules.proofs.Ahead.{AreFramesSo, IsAt, at-next}
+use Rattle.given_modules.proofs.Ahead.{IsAt, at-next}
 use Rattle.given_modules.proofs.AtUnits.{IsKnown, IsMet, keeps-at, met-first, met-next, same-no_definition}
 use Rattle.given_modules.proofs.Coming.{IsComingAt}
 use Rattle.given_modules.proofs.Elsewhere.{entries-mean}

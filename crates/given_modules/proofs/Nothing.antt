@@ -1,6 +1,5 @@
 -- A module that is not there is good.
 use Rattle.std.proofs.Common.{refl}
-use Rattle.std.specs.Prelude.{[]}
 use Rattle.kind_text.specs.FlatModule.{FlatModule}
 use Rattle.module_kinds.specs.ModuleKinds.{nowhere}
 use Rattle.flat_kinds.specs.Declarations.{Declarations}

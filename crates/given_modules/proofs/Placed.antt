@@ -1,15 +1,14 @@
 -- Symbols that units declare have places.
-use Rattle.std.proofs.Common.{◌≡◌, ℕ, List, [], ◌∷◌, ◌++◌, ◌⊎◌, inl, inr, Some, refl, sym, ap, subst, ◌∙◌, map}
+use Rattle.std.proofs.Common.{◌≡◌, ℕ, List, [], ◌∷◌, ◌⊎◌, inl, inr, Some, refl, sym, ap, ◌∙◌, map}
 use Rattle.std.specs.List.{AllByRecursion}
 use Rattle.tla_symbols.specs.declared.lexeme.Lexeme.{Lexeme}
-use Rattle.unit_grammar.specs.Units.{ModuleUnits}
 use Rattle.tla_model.specs.declared.names.Binder.{Binder}
 use Rattle.tla_model.specs.declared.names.Binding.TheVariants as as_binding
 use Rattle.tla_model.specs.Entities.{Meaning, Text, bound_as, meant, name_of, variables}
 use Rattle.module_model.specs.Exports.{Exports, entry_of}
 use Rattle.flat_trees.specs.Layouts.{order_of}
 use Rattle.flattened_trees.specs.declared.End.TheVariants as end
-use Rattle.flattened_trees.specs.Leads.{Leads, Setting, nowhere, only}
+use Rattle.flattened_trees.specs.Leads.{Leads, Setting, nowhere}
 use Rattle.flattened_units.specs.Units.{meanings_of, with_symbols}
 use Rattle.module_meanings.specs.Faces.{IsPlaced}
 use Rattle.module_meanings.specs.Premises.{SymbolsLead, symbol_leads}

@@ -5,7 +5,6 @@ use Rattle.std.specs.List.{AllByRecursion}
 use Rattle.std.proofs.lemmas.Bool.{and_parts}
 use Rattle.list_laws.proofs.Lists.{all-left, all-weaker}
 use Rattle.tla_symbols.specs.declared.lexeme.Lexeme.{Lexeme}
-use Rattle.tla_tree.specs.Syntax.{Tree}
 use Rattle.unit_grammar.specs.Units.{UnitTree, Variables, Constants, OperatorDefinition, FunctionDefinition, ModuleDefinition, Instance, Assumption, Theorem, Line, ModuleBegin, ModuleEnd, ModuleUnits}
 use Rattle.tla_model.specs.declared.ids.UnitId.{UnitId}
 use Rattle.tla_model.specs.declared.names.Binder.{Binder}
@@ -14,24 +13,23 @@ use Rattle.tla_model.specs.Contexts.{Context, built_in, meaning_of, usable}
 use Rattle.tla_model.specs.Entities.{Entity, Meaning, Text, meant, name_of, same_decl, same_meaning, same_units, variables}
 use Rattle.tla_model.specs.Lexemes.{spelled}
 use Rattle.tla_model.specs.Scopes.{definition}
-use Rattle.tla_model.specs.Tables.{Named, Symbol, Table, Word, empty, find, has, put}
+use Rattle.tla_model.specs.Tables.{Named, Symbol, Word, empty, find, has, put}
 use Rattle.tla_model.proofs.Same.{decl-equal, units-equal}
 use Rattle.module_scope.specs.Environments.{Environment, meaning}
 use Rattle.module_model.specs.Exports.{Exports, Known, ModuleView, entry_of, exported, exports_by, exports_of}
 use Rattle.module_model.specs.Instances.{through}
-use Rattle.module_model.specs.Modules.{Place, Reading, begun_in, brings, brings_clash, clashes, constants, declare_all, differs, extended, extends_all, joined, left, nested, text_of, unread, with_entry}
-use Rattle.module_model.specs.NamedModules.{module_at, module_under}
-use Rattle.module_model.specs.Resolution.{ReadState, after, first, instance_brings, outside_in, read_all, words_of}
+use Rattle.module_model.specs.Modules.{Place, Reading, brings, brings_clash, clashes, constants, declare_all, differs, extended, extends_all, joined, left, nested, text_of, unread, with_entry}
+use Rattle.module_model.specs.NamedModules.{module_at}
+use Rattle.module_model.specs.Resolution.{ReadState, after, first, instance_brings, read_all, words_of}
 use Rattle.module_model.proofs.Entries.{entry-of-table}
 use Rattle.tree_kinds.specs.Standing.{Outside}
 use Rattle.module_kinds.specs.ModuleKinds.{views}
 use Rattle.flat_kinds.specs.Declarations.{AreNamesDeclared, AreUnitsDeclared, Declarations, IsDeclared, OfAllKnown, declared_names}
-use Rattle.readable_laws.specs.Steady.{state_behind}
 use Rattle.accepted_modules.specs.Coming.{ComesOfModules, a_module, no_module}
 use Rattle.accepted_modules.specs.Named.{AllNamed}
 use Rattle.accepted_modules.specs.States.{kinds_behind}
 use Rattle.accepted_modules.proofs.Contexts.{HoldsOf, brings-exported, built-in-is, put-holds}
-use Rattle.accepted_modules.proofs.Holding.{AreOwn, HoldsPlace, HoldsReading, OfEntry, Own, added-known, after-holds, all-hold, first-holds, instance-hold, module-says, nothing-holds, outside-holds}
+use Rattle.accepted_modules.proofs.Holding.{AreOwn, HoldsPlace, OfEntry, Own, added-known, after-holds, all-hold, first-holds, instance-hold, module-says, nothing-holds, outside-holds}
 use Rattle.accepted_modules.proofs.Symbols.{put-new}
 use Rattle.accepted_modules.proofs.Tables.{put-finds, put-keeps}
 use Rattle.accepted_modules.proofs.Views.{joined-keeps, own-read}

@@ -1,5 +1,5 @@
 -- A module without an INSTANCE without a name brings its names for what their declarations yield, if files do.
-use Rattle.std.proofs.Common.{◌≡◌, ℕ, Bool, true, false, cond, List, [], ◌∷◌, ◌++◌, ◌⊎◌, inl, inr, Option, Some, None, is_some, refl, sym, ap, subst, ◌∙◌, map}
+use Rattle.std.proofs.Common.{◌≡◌, ℕ, Bool, true, false, cond, List, [], ◌∷◌, ◌++◌, ◌⊎◌, inl, inr, Option, Some, None, is_some, refl, sym, ap, subst, ◌∙◌}
 use Rattle.std.specs.List.{AllByRecursion}
 use Rattle.std.specs.Str.{bytes_eq}
 use Rattle.std.proofs.lemmas.Bool.{false≢true}
@@ -7,12 +7,11 @@ use Rattle.list_laws.proofs.Lists.{all-left, all-right, all-weaker}
 use Rattle.list_laws.proofs.Texts.{text-itself}
 use Rattle.tla_symbols.specs.declared.lexeme.Lexeme.{Lexeme}
 use Rattle.unit_grammar.specs.Units.{UnitTree, Variables, Constants, OperatorDefinition, FunctionDefinition, ModuleDefinition, Instance, Assumption, Theorem, Line, ModuleBegin, ModuleEnd, ModuleUnits}
-use Rattle.tla_model.specs.declared.ids.Callee.{Callee}
 use Rattle.tla_model.specs.declared.ids.DeclId.{DeclId}
 use Rattle.tla_model.specs.declared.names.Binder.{Binder}
 use Rattle.tla_model.specs.declared.names.Meaning.TheVariants.{BuiltIn, Declared}
 use Rattle.tla_model.specs.Contexts.{built_in, meaning_of}
-use Rattle.tla_model.specs.Entities.{Entity, Meaning, Text, meant, variables}
+use Rattle.tla_model.specs.Entities.{Entity, Meaning, Text, variables}
 use Rattle.tla_model.specs.EntityKinds.{is_meant, stands_behind}
 use Rattle.tla_model.specs.Lexemes.{spelled}
 use Rattle.tla_model.specs.Scopes.{definition}
@@ -20,14 +19,14 @@ use Rattle.tla_model.specs.Tables.{Named}
 use Rattle.module_scope.specs.Environments.{Environment as ModuleEnvironment, Scope, begun, first as first_scope, inside, meaning as module_meaning, outermost}
 use Rattle.module_model.specs.Exports.{Exports, ModuleView, entry_of, exported, exports_by, exports_of, instantiable}
 use Rattle.module_model.specs.Modules.{Reading, constants, declare_all, exports_under, left, nested, text_of, unread}
-use Rattle.module_model.specs.NamedModules.{module_at, module_under as view_under}
+use Rattle.module_model.specs.NamedModules.{module_under as view_under}
 use Rattle.module_model.specs.Resolution.{words_of}
 use Rattle.kind_text.specs.FlatModule.{FlatModule}
-use Rattle.tree_kinds.specs.Standing.{Environment, Outside, name_among, same_standing}
+use Rattle.tree_kinds.specs.Standing.{Environment, Outside, same_standing}
 use Rattle.tree_kinds.proofs.Standings.{standing-itself, standing-means}
 use Rattle.module_kinds.specs.ModuleKinds.{KindState, after, first, last, module_under, named_in, read_all, views}
 use Rattle.flat_kinds.specs.Declarations.{Declarations, IsDeclared}
-use Rattle.flat_kinds.specs.Yields.{HasExported, HasYielded, IsYielding, Yields, yielded}
+use Rattle.flat_kinds.specs.Yields.{HasExported, IsYielding, Yields, yielded}
 use Rattle.flattened_trees.specs.Leads.{FlatFace}
 use Rattle.flattened_units.specs.Units.{meanings_of}
 use Rattle.module_meanings.specs.Premises.{extended_meanings}
@@ -37,7 +36,7 @@ use Rattle.accepted_modules.specs.Offered.{IsOffered}
 use Rattle.accepted_modules.proofs.Contexts.{brings-exported, built-in-is}
 use Rattle.accepted_modules.proofs.Holding.{OfEntry}
 use Rattle.accepted_modules.proofs.Naming.{same-declared}
-use Rattle.accepted_modules.proofs.Tables.{IsThere, entry-there, there-holds, there-passed}
+use Rattle.accepted_modules.proofs.Tables.{IsThere, there-holds, there-passed}
 use Rattle.accepted_modules.proofs.Views.{nested-same}
 use Rattle.given_modules.specs.Nested.{AreUnitsExtending, ExtendsFiles, HasNoInstance}
 use Rattle.given_modules.specs.Yielding.{with_own_yields}

@@ -7,7 +7,7 @@ use Rattle.front_laws.specs.Fronts.{IsFront, Tree as TreeFront}
 use Rattle.tla_model.specs.declared.names.Meaning.TheVariants.{BuiltIn}
 use Rattle.tla_model.specs.Entities.{Meaning}
 use Rattle.module_model.specs.Bindings.{faults}
-use Rattle.module_model.specs.Exports.{ModuleView, exports_of}
+use Rattle.module_model.specs.Exports.{exports_of}
 use Rattle.module_model.specs.Modules.{text_of}
 use Rattle.module_model.specs.Resolution.{findings, words_of}
 use Rattle.arity_rules.specs.Arities.{arity_faults}

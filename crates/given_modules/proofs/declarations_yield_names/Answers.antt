@@ -1,8 +1,6 @@
 use Rattle.std.proofs.Common.{ℕ, List, None, [], sym}
 use Rattle.std.proofs.lemmas.List.{append-nil}
-use Rattle.tla_model.specs.Entities.{Meaning}
-use Rattle.tla_model.specs.Tables.{Named}
-use Rattle.module_model.specs.Exports.{entry_of, exports_of}
+use Rattle.module_model.specs.Exports.{exports_of}
 use Rattle.module_model.specs.Modules.{text_of}
 use Rattle.module_model.specs.Resolution.{words_of}
 use Rattle.module_kinds.specs.ModuleKinds.{first, last}

@@ -1,5 +1,4 @@
-use Rattle.std.proofs.Common.{◌∙◌, ◌≤◌, List, ℕ, Bool, ap, arith, refl, true}
-use Rattle.module_model.specs.Bindings.{faults}
+use Rattle.std.proofs.Common.{◌∙◌, ◌≤◌, List, ℕ, ap, arith, refl, true}
 use Rattle.module_model.specs.Instances.{unit_trees}
 use Rattle.module_model.specs.Modules.{text_of}
 use Rattle.module_model.specs.Resolution.{ReadState, findings, words_of}

@@ -1,5 +1,4 @@
-use Rattle.std.proofs.Common.{List, ℕ, Bool, refl, true}
-use Rattle.module_model.specs.Bindings.{faults}
+use Rattle.std.proofs.Common.{refl, true}
 use Rattle.module_model.specs.Modules.{text_of}
 use Rattle.module_model.specs.Resolution.{findings, words_of}
 use Rattle.module_kinds.specs.ModuleKinds.{views}
