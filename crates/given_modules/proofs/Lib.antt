@@ -18,3 +18,4 @@ mod NestedUnits
 mod Quiet
 mod Again
 mod Yielding
+mod NextFiles

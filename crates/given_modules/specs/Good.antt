@@ -1,7 +1,8 @@
 -- What is asked of the files that a module names: each is to those that name it what a flat module has for it, and its names are what
 -- their declarations are. And when a module is one that was accepted.
-use Rattle.std.specs.Prelude.{◌≡◌, ℕ, Bool, false, List, []}
+use Rattle.std.specs.Prelude.{◌≡◌, ℕ, Bool, false, List, [], if◌then◌else◌}
 use Rattle.std.specs.List.{AllByRecursion}
+use Rattle.std.specs.Str.{bytes_eq}
 use Rattle.unit_grammar.specs.Units.{ModuleUnits}
 use Rattle.front_laws.specs.Fronts.{IsFront, Tree as TreeFront}
 use Rattle.tla_model.specs.declared.names.Meaning.TheVariants.{BuiltIn}
@@ -59,3 +60,7 @@ face_of outsides source units final =
       leads = exported_leads final.setting.leads (exports_of (last outsides source units).read.place.here.exports);
       is_constant = (outside outsides source units).is_constant;
     }
+
+-- with one more under this name
+abbrev pub with_file : {A : Type 0} → List ℕ → A → (List ℕ → A) → List ℕ → A
+with_file title file files name = if bytes_eq name title then file else files name

@@ -29,6 +29,7 @@ ghost use Rattle.readable_laws.specs.Uses.{implied_by, means_by};
 ghost use Rattle.accepted_modules.specs.Behind.{Behinds, IsForeignView, with_own};
 ghost use Rattle.given_modules.specs.Fresh.{IsModuleFresh};
 ghost use Rattle.given_modules.specs.Good.{AreGoodFiles, IsFaultless, IsGoodFile, face_of};
+ghost use Rattle.given_modules.specs.Good.{with_file};
 ghost use Rattle.given_modules.specs.Nested.{AreQuiet, HasNoInstance, IsModuleBringing};
 ghost use Rattle.given_modules.specs.Nested.{IsModuleExtending};
 ghost use Rattle.given_modules.specs.Yielding.{with_own_yields};
@@ -166,7 +167,8 @@ pub fn faultless_modules_answer()
 /// A module that is given is good itself, with the face that it has by the reader behind its units,
 /// where what stands behind its own declarations is what is known in the end. A good file that has
 /// no name of a module stays good with what is known of that one; a module that is not there is
-/// good; and all this stays so in a flat module that has more.
+/// good; and all this stays so in a flat module that has more. So files with a module that is good
+/// are good to the next one, of which none has a name.
 pub fn given_modules_are_good()
     ensures itself { (flat : FlatModule) (declares : Declarations) (behinds : Behinds)
         (means : ℕ → Option Meaning) (implied : ℕ → List Meaning) (files : List ℕ → FlatFace)
@@ -187,6 +189,15 @@ pub fn given_modules_are_good()
         → IsGoodFile flat declares (with_own title known behinds) face named }
     ensures nothing { (flat : FlatModule) (declares : Declarations) (behinds : Behinds)
         → IsGoodFile flat declares behinds no_face nowhere }
+    ensures next { (flat more : FlatModule) (declares : Declarations) (behinds : Behinds)
+        (title next : List ℕ) (known : Known) (files : List ℕ → FlatFace)
+        (outsides : List ℕ → Outside) (face : FlatFace) (named : Outside) → Extends flat more
+        → IsOrdered flat → AreGoodFiles flat declares behinds title files outsides
+        → ((name : List ℕ) → IsForeignView next (outsides name).view)
+        → IsGoodFile more declares (with_own title known behinds) face named
+        → IsForeignView next named.view
+        → AreGoodFiles more declares (with_own title known behinds) next
+        (with_file title face files) (with_file title named outsides) }
     ensures grows { (flat more : FlatModule) (declares : Declarations) (behinds : Behinds)
         (face : FlatFace) (named : Outside) → Extends flat more → IsOrdered flat
         → IsGoodFile flat declares behinds face named

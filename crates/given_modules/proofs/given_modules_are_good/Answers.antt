@@ -11,6 +11,8 @@ use Rattle.module_model.specs.Resolution.{words_of}
 use Rattle.module_kinds.specs.ModuleKinds.{first}
 use Rattle.accepted_modules.specs.Coming.{a_module}
 use Rattle.given_modules.proofs.GoodModules.{file-grows, final-within, module-extended, module-named}
+use Rattle.accepted_modules.specs.Behind.{with_own}
+use Rattle.given_modules.proofs.NextFiles.{file-others, next-files}
 use Rattle.given_modules.proofs.Nothing.{nothing-good}
 use Rattle.given_modules.proofs.Usable.{behind-usable, direct-of, exported-usable, view-one}
 use Rattle.given_modules.proofs.given_modules_are_good.Goals as goal
@@ -36,17 +38,15 @@ returns-clause-itself c = λ flat declares behinds means implied files outsides 
     }
 
 pub returns-clause-others : goal.returns-clause-others
-returns-clause-others c = λ flat declares behinds title known face named is foreign. record {
-  comes = is.comes;
-  given = c.brought_names_come.ensures.others declares behinds title known named.view is.given foreign;
-  reads = is.reads;
-  there = is.there;
-  named = is.named;
-  extended = is.extended;
-}
+returns-clause-others c = λ flat declares behinds title known face named is foreign.
+    file-others flat declares behinds (with_own title known behinds) face named (c.brought_names_come.ensures.others declares behinds title known named.view is.given foreign) is
 
 pub returns-clause-nothing : goal.returns-clause-nothing
 returns-clause-nothing c = nothing-good
 
 pub returns-clause-grows : goal.returns-clause-grows
 returns-clause-grows c = λ flat more declares behinds face named extends ordered is. file-grows flat more extends ordered declares behinds face named is
+
+pub returns-clause-next : goal.returns-clause-next
+returns-clause-next c = λ flat more declares behinds title next known files outsides face named extends ordered good foreign itself itself_foreign.
+    next-files flat more declares behinds title next known files outsides face named extends ordered (λ view given apart. c.brought_names_come.ensures.others declares behinds title known view given apart) good foreign itself itself_foreign
