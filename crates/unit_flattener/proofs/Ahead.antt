@@ -1,0 +1,41 @@
+-- Going back from the last unit finds the own symbols that are ahead; and they are those of the first units, before those of the rest.
+use Rattle.std.proofs.Common.{◌≡◌, ℕ, List, [], ◌∷◌, ◌++◌, append_assoc, reverse, refl, ap, sym, ◌∙◌}
+use Rattle.std.proofs.lemmas.List.{append-nil, reverse-append}
+use Rattle.unit_grammar.specs.Units.{UnitTree, Variables, Constants, OperatorDefinition, FunctionDefinition, ModuleDefinition, Instance, Assumption, Theorem, Line, ModuleBegin, ModuleEnd}
+use Rattle.tla_model.specs.Entities.{Meaning, Text}
+use Rattle.module_model.specs.Exports.{ModuleView}
+use Rattle.module_model.specs.Resolution.{ReadState, after}
+use Rattle.unit_flattener.specs.Ahead.{Taken, ends_ahead, own_ahead, own_at, taken_at, taken_by}
+
+module _ (text : Text) (files : List ℕ → ModuleView) (words : List ℕ) where
+  -- what is taken before units, by all that is at their ends and by more
+  abbrev pub taken : (state : ReadState) (units : List UnitTree) (more : List (List Meaning)) → Taken
+  taken state units more = record { left = more; owned = own_ahead text files words state units }
+
+  taken-more : (state : ReadState) (units : List UnitTree) (more : List (List Meaning))
+      → taken_by units (reverse (ends_ahead text files words state units) ++ more) ≡ taken state units more
+  taken-more state [] more = refl
+  taken-more state (ModuleBegin dashes name extends ∷ units) more =
+      ap (taken_at (ModuleBegin dashes name extends)) (taken-more (after text files words state (ModuleBegin dashes name extends)) units more)
+  taken-more state (ModuleEnd closing ∷ units) more =
+      let next : ReadState = after text files words state (ModuleEnd closing) in
+      let own : List Meaning = own_at state state.place.round in
+      let ends : List (List Meaning) = ends_ahead text files words next units in
+      let turned : reverse (own ∷ ends) ++ more ≡ reverse ends ++ own ∷ more =
+      ap (λ z. z ++ more) (reverse-append (own ∷ []) ends) ∙ append_assoc (reverse ends) (own ∷ []) more in
+      ap (λ z. taken_at (ModuleEnd closing) (taken_by units z)) turned
+      ∙ ap (taken_at (ModuleEnd closing)) (taken-more next units (own ∷ more))
+  taken-more state (Variables names ∷ units) more = taken-more (after text files words state (Variables names)) units more
+  taken-more state (Constants declarations ∷ units) more = taken-more (after text files words state (Constants declarations)) units more
+  taken-more state (OperatorDefinition local x ∷ units) more = taken-more (after text files words state (OperatorDefinition local x)) units more
+  taken-more state (FunctionDefinition local x ∷ units) more = taken-more (after text files words state (FunctionDefinition local x)) units more
+  taken-more state (ModuleDefinition local x ∷ units) more = taken-more (after text files words state (ModuleDefinition local x)) units more
+  taken-more state (Instance local x ∷ units) more = taken-more (after text files words state (Instance local x)) units more
+  taken-more state (Assumption word name x ∷ units) more = taken-more (after text files words state (Assumption word name x)) units more
+  taken-more state (Theorem word name x ∷ units) more = taken-more (after text files words state (Theorem word name x)) units more
+  taken-more state (Line dashes ∷ units) more = taken-more (after text files words state (Line dashes)) units more
+
+  -- all are taken by what is at the ends
+  pub taken-ahead : (state : ReadState) (units : List UnitTree)
+      → taken_by units (reverse (ends_ahead text files words state units)) ≡ taken state units []
+  taken-ahead state units = ap (taken_by units) (sym (append-nil (reverse (ends_ahead text files words state units)))) ∙ taken-more state units []
