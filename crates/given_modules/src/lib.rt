@@ -1,7 +1,7 @@
 //! That modules without faults are given as laws on their nodes ask.
 //!
-//! No code: each function states a law. Knows nothing of how nodes are built, and of how modules are
-//! checked.
+//! No code: each function states a law. Knows nothing of how nodes are built, and of how modules
+//! are checked.
 #![tactic(auto)]
 
 ghost use Rattle.std.specs.Prelude.{◌≡◌, ℕ, List, Option};
@@ -174,7 +174,8 @@ pub fn given_modules_are_good()
         (means : ℕ → Option Meaning) (implied : ℕ → List Meaning) (files : List ℕ → FlatFace)
         (outsides : List ℕ → Outside) (name bytes : List ℕ) (units : ModuleUnits)
         (symbols : List Meaning) (last_reader : Reader) (asked : List Question)
-        (made : IsModuleMade flat means implied files outsides bytes units symbols last_reader asked)
+        (made : IsModuleMade flat means implied files outsides bytes units symbols last_reader
+        asked)
         → IsOrdered flat
         → AreGoodFiles flat declares behinds (text_of bytes units).file files outsides
         → IsFaultless declares outsides name bytes units
@@ -208,8 +209,8 @@ pub fn given_modules_are_good()
     brought_names_come();
 }
 
-/// A module without faults and without an INSTANCE without a name, whose nested modules extend files,
-/// brings its names for what their declarations yield, if files do: its own for what stands for
+/// A module without faults and without an INSTANCE without a name, whose nested modules extend
+/// files, brings its names for what their declarations yield, if files do: its own for what stands for
 /// them in the end. Files without its names do so still.
 pub fn declarations_yield_names()
     ensures itself { (yields : Yields) (flat : FlatModule) (declares : Declarations)

@@ -156,7 +156,8 @@ impl<'a> UnitFlattener<'a> {
         Ok(())
     }
 
-    /// Extends these modules: makes their instances, and keeps where the names lead that they bring.
+    /// Extends these modules: makes their instances, and keeps where the names lead that they
+    /// bring.
     pub(crate) fn extend(
         &mut self,
         alloc: Global,

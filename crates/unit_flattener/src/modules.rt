@@ -93,8 +93,8 @@ fn ended(
     ensures sound { IfOk result (λ made. IsSound made.tables.leads) }
     ensures known { IfOk result (λ made. (text : Text) (over : Over) (state : ReadState)
         → IsAt text over walker.entry.reader state → leading_in made.tables.leads
-        ≡ left (with_face (leading_in walker.entry.leads) (face_over (entries_in symbols) 0 is_constant
-        (exports_of state.place.here.exports) (leading_in walker.entry.leads).leads))) }
+        ≡ left (with_face (leading_in walker.entry.leads) (face_over (entries_in symbols) 0
+        is_constant (exports_of state.place.here.exports) (leading_in walker.entry.leads).leads))) }
 {
     let mut walker = walker;
     let table = exports(alloc, &walker.reader)?;

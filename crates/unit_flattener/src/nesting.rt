@@ -40,7 +40,8 @@ impl<'a> UnitFlattener<'a> {
         Ok(())
     }
 
-    // Goes into a nested module, before what it extends: its own symbols stand behind those round it.
+    // Goes into a nested module, before what it extends: its own symbols stand behind those round
+    // it.
     fn enter(
         &mut self,
         alloc: Global,

@@ -149,8 +149,8 @@ fn begun_in(
     Ok(begun)
 }
 
-/// The own symbols of the nested modules that begin in units, those of the first one last: what each
-/// turns out to have at its end. The reader goes behind the units.
+/// The own symbols of the nested modules that begin in units, those of the first one last: what
+/// each turns out to have at its end. The reader goes behind the units.
 pub fn own_symbols<'a>(
     alloc: Global,
     text: &ModuleText<'a>,

@@ -13,8 +13,8 @@ use tool_list::{List, Memory};
 pub struct WrittenNames {
     /// What each name and symbol means.
     pub means: IndexMap<u32, Meaning>,
-    /// The symbols that stand in for parameters which an INSTANCE does not replace, in their order, by
-    /// where the name of its module begins.
+    /// The symbols that stand in for parameters which an INSTANCE does not replace, in their order,
+    /// by where the name of its module begins.
     pub implied: IndexMap<u32, List<Meaning>>,
 }
 
@@ -81,8 +81,8 @@ fn put(alloc: Global, names: &mut WrittenNames, finding: &Finding) -> Result<(),
     }
 }
 
-/// What the names of a text mean where these findings are all that was found of it. Of two uses that
-/// begin at one place the first counts.
+/// What the names of a text mean where these findings are all that was found of it. Of two uses
+/// that begin at one place the first counts.
 pub fn written_names(alloc: Global, findings: &[Finding]) -> Result<WrittenNames, Memory>
     ensures means { IfOk result (λ names. (start : ℕ)
         → get nat_eq names.means start ≡ means_by findings.now start) }
