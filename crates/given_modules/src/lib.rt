@@ -173,17 +173,16 @@ pub fn given_modules_are_good()
     ensures itself { (flat : FlatModule) (declares : Declarations) (behinds : Behinds)
         (means : ℕ → Option Meaning) (implied : ℕ → List Meaning) (files : List ℕ → FlatFace)
         (outsides : List ℕ → Outside) (name bytes : List ℕ) (units : ModuleUnits)
-        (symbols : List Meaning) (last_reader : Reader) (asked : List Question)
-        (made : IsModuleMade flat means implied files outsides bytes units symbols last_reader
-        asked)
+        (symbols : List Meaning) (final : Reader) (asked : List Question)
+        (made : IsModuleMade flat means implied files outsides bytes units symbols final asked)
         → IsOrdered flat
         → AreGoodFiles flat declares behinds (text_of bytes units).file files outsides
         → IsFaultless declares outsides name bytes units
         → symbols ≡ symbols_of (outside outsides bytes units)
-        → IsModuleGiven flat means implied files outsides bytes units symbols last_reader asked made
+        → IsModuleGiven flat means implied files outsides bytes units symbols final asked made
         → IsGoodFile flat declares
         (with_own (text_of bytes units).file (last outsides bytes units).read.known behinds)
-        (face_of outsides bytes units last_reader) (outside outsides bytes units) }
+        (face_of outsides bytes units final) (outside outsides bytes units) }
     ensures others { (flat : FlatModule) (declares : Declarations) (behinds : Behinds)
         (title : List ℕ) (known : Known) (face : FlatFace) (named : Outside)
         → IsGoodFile flat declares behinds face named → IsForeignView title named.view
@@ -210,8 +209,8 @@ pub fn given_modules_are_good()
 }
 
 /// A module without faults and without an INSTANCE without a name, whose nested modules extend
-/// files, brings its names for what their declarations yield, if files do: its own for what stands for
-/// them in the end. Files without its names do so still.
+/// files, brings its names for what their declarations yield, if files do: its own for what stands
+/// for them in the end. Files without its names do so still.
 pub fn declarations_yield_names()
     ensures itself { (yields : Yields) (flat : FlatModule) (declares : Declarations)
         (behinds : Behinds) (files : List ℕ → FlatFace) (outsides : List ℕ → Outside)
