@@ -1,0 +1,4 @@
+pub mod Plain
+mod Entries
+pub mod Coming
+pub mod Seen
