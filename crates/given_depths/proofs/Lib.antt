@@ -2,3 +2,5 @@ pub mod Plain
 mod Entries
 pub mod Coming
 pub mod Seen
+pub mod Own
+mod Apart

@@ -4,25 +4,27 @@
 //! No code: each function states a law. Knows nothing of flat modules, and of how depths are found.
 #![tactic(auto)]
 
-ghost use Rattle.std.specs.Prelude.{◌≡◌, ◌⊎◌, ℕ, true, List, [], ◌∷◌, Option, Some};
+ghost use Rattle.std.specs.Prelude.{◌≡◌, ◌⊎◌, ℕ, true, List, [], ◌∷◌, ◌++◌, Option, Some};
 ghost use Rattle.std.specs.List.{AllByRecursion};
 ghost use Rattle.tla_symbols.specs.declared.lexeme.Lexeme.{Lexeme};
 ghost use Rattle.tla_symbols.specs.declared.lexeme.Span.{Span};
 ghost use Rattle.tla_tree.specs.declared.form.Form.TheVariants as Form;
 ghost use Rattle.tla_tree.specs.Syntax.{Node, Trees};
 ghost use Rattle.unit_grammar.specs.Units.{Instance, ModuleBegin, ModuleUnits, UnitTree};
+ghost use Rattle.front_laws.specs.Fronts.{IsFront, Tree};
 ghost use Rattle.tla_model.specs.Contexts.{meaning_of};
 ghost use Rattle.tla_model.specs.Entities.{Meaning, Text};
 ghost use Rattle.tla_model.specs.EntityKinds.{is_meant, stands_behind};
 ghost use Rattle.tla_model.specs.Lexemes.{spelled};
 ghost use Rattle.tla_model.specs.Tables.{Named};
 ghost use Rattle.module_scope.specs.Environments.{first as first_scope};
-ghost use Rattle.module_model.specs.Exports.{entry_of, exports_of};
+ghost use Rattle.module_model.specs.Exports.{Exports, entry_of, exported, exports_of};
+ghost use Rattle.module_model.specs.Exports.{instantiable};
 ghost use Rattle.module_model.specs.Modules.{Reading, text_of};
 ghost use Rattle.module_model.specs.NamedModules.{view_of};
 ghost use Rattle.module_model.specs.Resolution.{module_named, words_of};
 ghost use Rattle.kind_text.specs.FlatModule.{FlatModule};
-ghost use Rattle.tree_kinds.specs.Standing.{Outside};
+ghost use Rattle.tree_kinds.specs.Standing.{Outside, name_among};
 ghost use Rattle.tree_kinds.specs.TreeDepths.{Depths, replaced_depth};
 ghost use Rattle.module_kinds.specs.ModuleKinds.{KindState, after, beneath, first, known_at};
 ghost use Rattle.module_kinds.specs.ModuleKinds.{last, named, nested_outside, outside, read_all};
@@ -39,7 +41,11 @@ ghost use Rattle.module_meanings.specs.Premises.{first_seen, seen_behind};
 ghost use Rattle.module_answers.specs.Deep.{SeenStayDeep};
 ghost use Rattle.given_depths.specs.Given.{AreEndsGiven, AreExportsGiven, AreModulesGiven};
 ghost use Rattle.given_depths.specs.Given.{ArePlainNames, AreSeenGiven, AreSymbolsPlain, Gives};
+ghost use Rattle.given_depths.specs.Own.{AreOwnApart, HasOwnNames, IsOfNone, IsOfOthers};
+ghost use Rattle.given_depths.specs.Own.{with_own_depths};
 ghost use Rattle.given_depths.specs.Given.{GivenDepths, IsGiven, IsGivenOutside, no_reach};
+
+use lexeme_laws::names_begin_apart;
 
 /// What is by its declaration no definition and no instance has no depth, and neither has what is
 /// bound: behind what a module extends, and behind units. So own symbols of a nested module have
@@ -143,3 +149,56 @@ pub fn seen_names_stay_deep()
         → is_seen seen meaning ≡ true)
         → AreSeenGiven given state.depths seen → AreExportsGiven given state }
 {}
+
+/// A module gives depths to what it declares, and to what comes through its INSTANCEs that replace
+/// parameters: as deep as each is behind its unit, if no name is so by two units. Files that bring
+/// none of these names are as deep as before, and symbols have no depth still.
+pub fn own_depths_are_given()
+    ensures units { (given : GivenDepths) (files : List ℕ → Outside) (source : List ℕ)
+        (units : ModuleUnits) (before : List UnitTree) (unit : UnitTree)
+        (behind : List UnitTree) → units.units ≡ before ++ unit ∷ behind
+        → AreOwnApart (text_of source units) files (words_of units) (first files source units)
+        units.units
+        → HasOwnNames (text_of source units) files (words_of units)
+        (read_all (text_of source units) files (words_of units) (first files source units) before)
+        unit
+        → Gives (with_own_depths files source units given) (text_of source units) files
+        (words_of units)
+        (read_all (text_of source units) files (words_of units) (first files source units) before)
+        unit }
+    ensures files { (given : GivenDepths) (files : List ℕ → Outside) (source : List ℕ)
+        (units : ModuleUnits) (file : Outside) → IsGivenOutside given file
+        → ((meaning : Meaning) (name : Named)
+        → name_among (instantiable (exported file.view)) meaning ≡ Some name
+        → IsOfNone (text_of source units) files (words_of units) (first files source units)
+        units.units meaning)
+        → IsGivenOutside (with_own_depths files source units given) file }
+    ensures symbols { (declares : Declarations) (given : GivenDepths)
+        (files : List ℕ → Outside) (source : List ℕ) (units : ModuleUnits)
+        → ((title : List ℕ) → IsOutsideDeclared declares (files title))
+        → AreUnitsDeclared declares (text_of source units) units.units
+        → AreSymbolsPlain declares given
+        → AreSymbolsPlain declares (with_own_depths files source units given) }
+{}
+
+/// No name is declared by two units of a module that is the front of some bytes, nor comes through
+/// two of its INSTANCEs that replace parameters, which have names of their own; and no name is so
+/// that is declared in other modules and came through INSTANCEs of these.
+pub fn own_names_are_apart()
+    ensures replaces { (text : Text) (files : List ℕ → Outside) (words : List ℕ)
+        (state : KindState) (local : Option Lexeme) (l : Lexeme) (at : Span) (rights : Trees)
+        (parameter : Named × Meaning) (parameters : Exports)
+        → (view_of text (module_named text (views text files words) words state.read) l).parameters
+        ≡ parameter ∷ parameters
+        → HasOwnNames text files words state (Instance local (Node (Form.Instance l) at rights)) }
+    ensures others { (files : List ℕ → Outside) (source : List ℕ) (units : ModuleUnits)
+        (meaning : Meaning) → IsOfOthers (text_of source units).file meaning
+        → IsOfNone (text_of source units) files (words_of units) (first files source units)
+        units.units meaning }
+    ensures apart { (files : List ℕ → Outside) (name bytes : List ℕ) (units : ModuleUnits)
+        → IsFront name bytes (Tree units)
+        → AreOwnApart (text_of bytes units) files (words_of units) (first files bytes units)
+        units.units }
+{
+    names_begin_apart();
+}
