@@ -46,7 +46,7 @@ module _ (flat : FlatModule) (text : Text) (known : Known) (named : List ℕ →
     definition-good (Form.FunctionDefinition l) s parts lead roots asked below new arranged readable (is, root, d, a, operands, node, there, leads, one, joined) =
         function-good flat text known named means implied faces inside ordered seen stands setting depths context round here l s parts below new arranged readable lead roots asked is root d a operands node there leads one joined
     definition-good (Form.ModuleDefinition l) s parts lead roots asked below new arranged readable through =
-        module-good flat text known named means implied faces inside ordered seen stands setting depths context round here l s parts below new arranged readable.2 lead roots asked through
+        module-good flat text known named means implied faces inside ordered seen stands setting depths context round here l s parts below new arranged readable.1 readable.2 lead roots asked through
     definition-good form s parts lead roots asked below new arranged readable flattened = absurd arranged
 
   -- nodes are the definitions and the body of a LET

@@ -11,12 +11,10 @@ use Rattle.tla_tree.specs.Syntax.{Trees, Node, Nil, Cons}
 use Rattle.tla_model.specs.declared.names.Binding.TheVariants as as_binding
 use Rattle.tla_model.specs.Lexemes.{spelled}
 use Rattle.tla_model.specs.Tables.{Named, is_among, same_named}
-use Rattle.tla_model.specs.declared.entity.Entity.TheVariants as entity
-use Rattle.tla_model.specs.declared.names.Meaning.TheVariants.{Declared}
-use Rattle.tla_model.specs.Entities.{Meaning, Text, all_placed, bound_as, defined, is_group, meant, name_of, orders, own as own_callee, within}
+use Rattle.tla_model.specs.Entities.{Meaning, Text, all_placed, bound_as, declaration, defined, is_group, meant, name_of, orders, within}
 use Rattle.tla_model.specs.Contexts.{Context, meaning_of}
 use Rattle.tla_model.specs.Scopes.{all_grouped, binders, names_in, reserved, scope}
-use Rattle.module_model.specs.Exports.{Exports, Known, behind_meaning, entry_of}
+use Rattle.module_model.specs.Exports.{Behind, Exports, Known, at_path, behind_instance as behind_module, behind_meaning, entry_of, onward}
 use Rattle.module_model.specs.Instances.{instance_among, left_sides}
 use Rattle.kind_text.specs.FlatModule.{FlatModule, Form as NodeForm, Instance, IsOrdered, Replacement}
 use Rattle.level_text.specs.Depth.{depth as depth_at, greatest, instance_depth}
@@ -38,8 +36,8 @@ use Rattle.flattened_trees.specs.Leads.{FlatFace, Lead, Setting, behind_instance
 use Rattle.flattened_trees.specs.NodeForms.{lead_of, name_node, plain_node}
 use Rattle.flattened_trees.specs.Questions.{Question, UseAs, over}
 use Rattle.flattened_trees.specs.Flattened.{AreOperands, AreReplacing, AreRights, AreStaying, HasNode, IsThrough, Right, all_parts, asks_of, face_of, right_for, right_of}
-use Rattle.flattened_trees.specs.Readable.{AreImplied, AreReadableRights, CanStandFor, IsReadable, IsReadableThrough, parameter_order}
-use Rattle.flattened_trees.specs.Agreeing.{TakesAs, lead_by}
+use Rattle.flattened_trees.specs.Readable.{AreImplied, AreReadableRights, CanStandFor, IsKnownBehind, IsReadable, IsReadableThrough, parameter_order}
+use Rattle.flattened_trees.specs.Agreeing.{TakesAs, TakesBehind, lead_by}
 use Rattle.flattened_depths.specs.Arranged.{AreArranged, BindsNothing, IsArrangedInstance}
 use Rattle.flattened_trees.specs.Answers.{deep_answers}
 use Rattle.flattened_depths.specs.Rounds.{LeadsAs, LeadsBehind, stands_in}
@@ -292,11 +290,12 @@ module _ (flat : FlatModule) (text : Text) (known : Known) (named : List ℕ →
 
   module _ (seen : List Meaning) (stands : Meaning → Stand) (setting : Setting) (depths : Depths) (context : Context) (round : Round text flat known seen stands setting depths) (here : Usable text flat known seen stands context) (own : Lexeme) (s : Span) (parts : Trees) (below : Everywhere flat text known named means implied faces inside parts) (new : New text seen (within (Node (Form.ModuleDefinition own) s parts))) where
     pub module-good : IsArrangedInstance (LeadsBehind flat text known named faces inside) own parts
+        → IsKnownBehind text known named means implied faces own (instance_among parts)
         → IsReadableThrough text known named means implied faces (scope text context (Form.ModuleDefinition own) parts) parts
         → (lead : List Named → Lead) (roots : List ℕ) (asked : List Question)
         → IsThrough text means implied faces flat setting (with_parameters text setting (Form.ModuleDefinition own) parts) own (length (parameters_of text (Form.ModuleDefinition own) parts)) parts lead roots asked
         → DefinedGood flat text known named means implied faces inside ordered context depths (Form.ModuleDefinition own) s parts lead roots asked
-    module-good arranged readable lead roots asked through =
+    module-good arranged held readable lead roots asked through =
         let found = find own parts arranged below in
         by_found found (found.readable (scope text context (Form.ModuleDefinition own) parts) readable)
         (found.flattened setting (with_parameters text setting (Form.ModuleDefinition own) parts) own (length (parameters_of text (Form.ModuleDefinition own) parts)) lead roots asked through)
@@ -329,7 +328,7 @@ module _ (flat : FlatModule) (text : Text) (known : Known) (named : List ℕ →
               leads = module-leads j found.l (inside (spelled text.source found.l)) found.leads_behind.leads leading;
               reached = reached;
               parameters = (ap flat_depth.parameters_of there ∙ parameter-count found.grouped, found.leads_behind.parameters);
-              takes = module-takes j found.l (inside (spelled text.source found.l)) found.leads_behind;
+              takes = module-takes j found.l (inside (spelled text.source found.l)) found.leads_behind (subst (λ (o : Option Lexeme). IsKnownBehind text known named means implied faces own o) found.among held);
               deep = instance_part.0 ∙ sym (found.deep (reserved text context (Form.ModuleDefinition own) parts) context_now depths) ∙ sym (helper-depth flat text known named means implied faces inside (beneath context depths) (Form.ModuleDefinition own) s parts refl);
               names = ap (deep_answers flat) joined
                   ∙ ap (λ xs. xs ++ deep_answers flat (a ++ b)) (own-name flat text known named means implied faces inside ordered context depths (Form.ModuleDefinition own) s parts own (instance_depth (depth_at flat) (slice_get flat.instances j)) refl (ap (λ r. r.depth) reached.0))
@@ -348,6 +347,8 @@ module _ (flat : FlatModule) (text : Text) (known : Known) (named : List ℕ →
                 ∙ ap (λ xs. length (bound_as as_binding.Parameter xs)) (append-nil (all_placed parts))
                 ∙ length-map (all_placed parts) _ ∙ sym (length-map (all_placed parts) _)
 
-            module-takes : (j : ℕ) (l : Lexeme) (inner : Named → Stand) → LeadsAs flat text known named faces l inner (behind_meaning known (Some (Declared (entity.Instance []) (own_callee text own)))) → (m : Meaning) → Among text m (defined (Form.ModuleDefinition own) parts) → TakesAs (Through j (orders parts) inner) (behind_meaning known (Some m)) m
-            module-takes j l inner leading m (inl same) = subst (λ x. TakesAs (Through j (orders parts) inner) (behind_meaning known (Some x)) x) same (refl, leading.takes)
-            module-takes j l inner leading m (inr none) = absurd none
+            module-takes : (j : ℕ) (l : Lexeme) (inner : Named → Stand) → LeadsAs flat text known named faces l inner (behind_module (module_of text known named l).view) → known (declaration text own) ≡ Some (behind_module (module_of text known named l).view) → (m : Meaning) → Among text m (defined (Form.ModuleDefinition own) parts) → TakesAs (Through j (orders parts) inner) (behind_meaning known (Some m)) m
+            module-takes j l inner leading is m (inl same) =
+                subst (λ x. TakesAs (Through j (orders parts) inner) (behind_meaning known (Some x)) x) same
+                (refl, subst (λ (o : Option Behind). (name : Named) (next : Meaning) → entry_of (at_path o []) name ≡ Some next → TakesBehind (inner name) (onward (at_path o) name) next) (sym is) leading.takes)
+            module-takes j l inner leading is m (inr none) = absurd none

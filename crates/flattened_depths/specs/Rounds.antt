@@ -2,15 +2,13 @@
 use Rattle.std.specs.Prelude.{◌≡◌, ℕ, false, List, [], ◌∷◌, ◌++◌, Option, Some, None, length, map, slice_get}
 use Rattle.std.specs.List.{AllByRecursion}
 use Rattle.tla_symbols.specs.declared.lexeme.Lexeme.{Lexeme}
-use Rattle.tla_model.specs.declared.entity.Entity.TheVariants as entity
-use Rattle.tla_model.specs.declared.names.Meaning.TheVariants.{Declared}
 use Rattle.tla_model.specs.Lexemes.{spelled}
 use Rattle.tla_model.specs.Tables.{Named}
 use Rattle.tla_tree.specs.Syntax.{Tree, Trees, Node}
-use Rattle.tla_model.specs.Entities.{Meaning, Nothing, Operator, Function, Module, Text, defines, meant, orders, own as own_callee}
+use Rattle.tla_model.specs.Entities.{Meaning, Nothing, Operator, Function, Module, Text, defines, meant, orders}
 use Rattle.tla_model.specs.Contexts.{Context, built_in}
 use Rattle.tla_model.specs.Scopes.{definition}
-use Rattle.module_model.specs.Exports.{Behind, Known, behind_meaning, entry_of, onward}
+use Rattle.module_model.specs.Exports.{Behind, Known, behind_instance, entry_of, onward}
 use Rattle.kind_text.specs.FlatModule.{FlatModule, Instance, Replacement}
 use Rattle.module_model.specs.Instances.{instance_among}
 use Rattle.level_text.specs.Depth.{depth as depth_at, greatest, parameters_of}
@@ -98,9 +96,9 @@ module _ (flat : FlatModule) where
       pub parameters : (name : Named) → TakesParameters (inner name)
       pub takes : (name : Named) (next : Meaning) → entry_of (held []) name ≡ Some next → TakesBehind (inner name) (onward held name) next
 
-    -- so do those of the module of a module definition, by what stands for the names of modules
+    -- so do those of the module of a module definition, by what stands for the names of modules, and take what the module has behind an instance
     abbrev pub LeadsBehind : (List ℕ → Named → Stand) → Lexeme → Lexeme → Type 0
-    LeadsBehind inside own l = LeadsAs l (inside (spelled text.source l)) (behind_meaning known (Some (Declared (entity.Instance []) (own_callee text own))))
+    LeadsBehind inside own l = LeadsAs l (inside (spelled text.source l)) (behind_instance (module_of text known named l).view)
 
     -- the name of a definition leads to what is made of it under this number, as deep as it is written, so that behind it all is known;
     -- and these nodes are together as deep as what stands in it

@@ -1,16 +1,14 @@
 -- Nested modules that can be named lead where their names stand, as deep as outside of them.
-use Rattle.std.proofs.Common.{◌≡◌, ℕ, Bool, true, false, cond, List, [], ◌∷◌, ◌++◌, Option, Some, None, is_some, refl, sym, subst}
+use Rattle.std.proofs.Common.{◌≡◌, ℕ, Bool, true, false, cond, List, [], ◌∷◌, ◌++◌, Option, Some, None, is_some, refl, subst}
 use Rattle.std.specs.List.{AllByRecursion}
 use Rattle.std.specs.Str.{bytes_eq}
 use Rattle.tla_symbols.specs.declared.lexeme.Lexeme.{Lexeme}
 use Rattle.unit_grammar.specs.Units.{UnitTree}
-use Rattle.tla_model.specs.declared.entity.Entity.TheVariants as entity
-use Rattle.tla_model.specs.declared.names.Meaning.TheVariants.{Declared}
-use Rattle.tla_model.specs.Entities.{Meaning, Text, own as own_callee}
+use Rattle.tla_model.specs.Entities.{Meaning, Text}
 use Rattle.tla_model.specs.Lexemes.{spelled}
 use Rattle.tla_model.specs.Tables.{Named, added}
 use Rattle.module_scope.specs.Environments.{Environment, Scope, begun, ended, meaning as module_meaning}
-use Rattle.module_model.specs.Exports.{Behind, Known, at_path, behind_instance, behind_meaning, entry_of, onward}
+use Rattle.module_model.specs.Exports.{Known, behind_instance, entry_of, onward}
 use Rattle.kind_text.specs.FlatModule.{FlatModule}
 use Rattle.tree_kinds.specs.Standing.{Outside}
 use Rattle.module_kinds.specs.ModuleKinds.{KindState, known_at, module_under, named, named_in, nowhere as no_module}
@@ -182,13 +180,8 @@ module _ (flat : FlatModule) (text : Text) (means : ℕ → Option Meaning) (imp
     unfolding stands-by stands-in
     behind-leads unit inside own l asked = by_name (module_meaning reader.faces.here (spelled text.source l)) refl asked
       where
-        by_name : (o : Option (Option FlatFace)) (e : module_meaning reader.faces.here (spelled text.source l) ≡ o) → IsDeepBehindBy flat text means implied files outsides words state reader unit inside own l o → LeadsAs flat text (known_at text outsides words state unit) (named text outsides words state) (face_in flat text means implied files outsides words reader.faces) l (stands-by flat files outsides state.modules.here reader.faces.here all inside (spelled text.source l) o e) (behind_meaning (known_at text outsides words state unit) (Some (Declared (entity.Instance []) (own_callee text own))))
+        by_name : (o : Option (Option FlatFace)) (e : module_meaning reader.faces.here (spelled text.source l) ≡ o) → IsDeepBehindBy flat text means implied files outsides words state reader unit inside own l o → LeadsAs flat text (known_at text outsides words state unit) (named text outsides words state) (face_in flat text means implied files outsides words reader.faces) l (stands-by flat files outsides state.modules.here reader.faces.here all inside (spelled text.source l) o e) (behind_instance (named text outsides words state (spelled text.source l)).view)
         by_name None e file = file
         by_name (Some nested) e held =
             let is = nested-deep flat files outsides state.modules.here reader.faces.here all (spelled text.source l) nested e in
-            record {
-              leads = is.leads;
-              deep = is.deep;
-              parameters = is.parameters;
-              takes = subst (λ (o : Option Behind). (name : Named) (next : Meaning) → entry_of (at_path o []) name ≡ Some next → TakesBehind (is.inner name) (onward (at_path o) name) next) (sym held) is.takes;
-            }
+            record { leads = is.leads; deep = is.deep; parameters = is.parameters; takes = is.takes }

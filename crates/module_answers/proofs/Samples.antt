@@ -38,7 +38,7 @@ abbrev inside : List ℕ → Named → Stand
 inside title name = Unsaid
 
 arranged : IsModuleArranged flat means implied files outsides source units [] reader4 asked made
-arranged = record { extended = tt; arranged = ((λ own e. begins _ _ own e), ((inside, (refl, ((refl, tt), tt))), (tt, ((inside, (refl, (refl, refl), tt, refl)), tt)))) }
+arranged = record { extended = tt; arranged = ((λ own e. begins _ _ own e), ((inside, (refl, ((refl, tt), tt))), (tt, ((inside, (refl, (refl, refl), tt, tt)), tt)))) }
 
 pub depths-found : deep_answers flat asked ≡ too_deep outsides source units
 depths-found = module-names flat ordered means implied files outsides source units [] reader4 asked made given arranged

@@ -24,7 +24,6 @@ use Rattle.flat_depths.specs.Depths.{IsDeepModule}
 use Rattle.flattened_trees.specs.Agreeing.{TakesAs, is_seen}
 use Rattle.flattened_trees.specs.Leads.{FlatFace}
 use Rattle.flattened_trees.specs.Questions.{Question}
-use Rattle.flattened_trees.specs.Readable.{IsKnownBehind}
 use Rattle.flattened_depths.specs.Arranged.{AreArranged, BindsNothing, IsArranged, IsArrangedDefinition}
 use Rattle.flattened_depths.specs.Rounds.{LeadsAs, LeadsBehind, TakesParameters}
 use Rattle.flattened_units.specs.Units.{AreUnitsMade, IsModuleMade, Reader, face_in}
@@ -46,13 +45,11 @@ module _ (flat : FlatModule) (text : Text) (means : ℕ → Option Meaning) (imp
   abbrev pub IsDeepFile : Known → (List ℕ → Outside) → Scope FlatFace → Lexeme → Type 0
   IsDeepFile known modules faces l = IsDeepFileBy known modules faces l (module_meaning faces.here (spelled text.source l))
 
-  -- what is asked of the module of a module definition: of a file the same, by what is known behind the instance; and of a nested module
-  -- that this is what it has
+  -- what is asked of the module of a module definition: of a file the same, by what stands for the names of modules
   abbrev pub IsDeepBehindBy : KindState → Reader → UnitTree → (List ℕ → Named → Stand) → Lexeme → Lexeme → Option (Option FlatFace) → Type 0
   IsDeepBehindBy state reader unit inside own l None =
       LeadsBehind flat text (known_at text outsides words state unit) (named text outsides words state) (face_in flat text means implied files outsides words reader.faces) inside own l
-  IsDeepBehindBy state reader unit inside own l (Some nested) =
-      IsKnownBehind text (known_at text outsides words state unit) (named text outsides words state) means implied (face_in flat text means implied files outsides words reader.faces) own (Some l)
+  IsDeepBehindBy state reader unit inside own l (Some nested) = Unit {0}
 
   -- the same by its name
   abbrev pub IsDeepBehind : KindState → Reader → UnitTree → (List ℕ → Named → Stand) → Lexeme → Lexeme → Type 0
