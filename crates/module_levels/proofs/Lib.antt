@@ -1,0 +1,2 @@
+pub mod LeveledModules
+pub mod NestedModules

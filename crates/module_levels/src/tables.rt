@@ -1,0 +1,43 @@
+// What is kept of modules that became nodes.
+ghost use Rattle.std.specs.Prelude.{◌≡◌, IfOk};
+ghost use Rattle.flat_builder.specs.Building.{empty};
+ghost use Rattle.module_leads.specs.Leading.{leading_in, nothing_led};
+ghost use Rattle.module_levels.specs.Kept.{AreKept};
+
+use level_facts::KindFacts;
+use module_leads::ModuleLeads;
+use node_depths::Depths;
+use std::alloc::Global;
+use tool_list::Memory;
+use tree_flattener::Flattening;
+use unit_flattener::Tables;
+
+/// What modules are to their instances, the one flat module that their nodes are in, and what was
+/// found of the kinds and depths of these. Between modules nothing is asked, and no frame is kept.
+#[derive(Drop)]
+pub struct LevelTables {
+    pub tables: Tables,
+    pub facts: KindFacts,
+    pub depths: Depths,
+}
+
+impl LevelTables {
+    /// No module became nodes.
+    pub fn new(alloc: Global) -> Result<LevelTables, Memory>
+        ensures kept { IfOk result (λ known. AreKept known) }
+        ensures flat { IfOk result (λ known. known.tables.state.flat ≡ empty) }
+        ensures leads { IfOk result (λ known. leading_in known.tables.leads ≡ nothing_led) }
+    {
+        let state = Flattening::new(alloc);
+        let facts = KindFacts::new(alloc, state.flat.as_flat())?;
+        let depths = Depths::new(alloc, state.flat.as_flat())?;
+        Ok(LevelTables {
+            tables: Tables {
+                leads: ModuleLeads::new(alloc),
+                state,
+            },
+            facts,
+            depths,
+        })
+    }
+}
