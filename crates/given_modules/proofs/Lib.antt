@@ -1,13 +1,13 @@
-mod Ahead
+pub mod Ahead
 mod Elsewhere
-mod Fresh
-mod AtUnits
+pub mod Fresh
+pub mod AtUnits
 mod Shaped
 mod Nothing
 mod Placed
 mod Given
 mod Inside
-mod Usable
+pub mod Usable
 mod GoodModules
 mod Exported
 mod NestedExtending
