@@ -18,6 +18,7 @@ use Rattle.given_depths.specs.Own.{AreOwnApart, IsOfNone, IsOfOthers, with_own_d
 use Rattle.given_depths.proofs.Own.{file-kept, gives-own, symbols-kept}
 use Rattle.arranged_modules.specs.Files.{AreDeepFiles}
 use Rattle.arranged_modules.proofs.Along.{IsKnownDeep}
+use Rattle.arranged_modules.proofs.Others.{brought-others}
 
 -- with the depths of its own names, where no two units have the same and no other module has any
 pub known-deep : (flat : FlatModule) (declares : Declarations) (behinds : Behinds) (given : GivenDepths) (inside : List ℕ → Named → Stand) (files : List ℕ → FlatFace) (outsides : List ℕ → Outside) (name bytes : List ℕ) (units : ModuleUnits)
@@ -31,7 +32,7 @@ known-deep flat declares behinds given inside files outsides name bytes units go
   declared = λ title. (good.each title).given.names.entries;
   names = names;
   each = deep.each;
-  give = λ title. file-kept given outsides bytes units (outsides title) (deep.gives title) (λ m used is. others m (deep.others title m used is));
+  give = λ title. file-kept given outsides bytes units (outsides title) (deep.gives title) (λ m used is. others m (brought-others (text_of bytes units).file (outsides title).view m used (deep.others title) is));
   symbols = symbols-kept given outsides bytes units declares (λ title. (good.each title).given.names.entries) names deep.plain;
   own = λ before unit behind split has. gives-own given outsides bytes units before unit behind split apart has;
 }

@@ -5,4 +5,5 @@ mod Replacing
 mod NextFiles
 mod Itself
 mod Along
+mod Others
 mod Known

@@ -3,15 +3,16 @@
 use Rattle.std.specs.Prelude.{◌≡◌, ℕ, List, [], ◌∷◌, Some}
 use Rattle.tla_model.specs.Entities.{Meaning}
 use Rattle.tla_model.specs.Tables.{Named}
-use Rattle.module_model.specs.Exports.{behind_instance, entry_of, exported, instantiable, onward}
+use Rattle.module_model.specs.Exports.{behind_instance, entry_of, onward}
 use Rattle.kind_text.specs.FlatModule.{FlatModule}
-use Rattle.tree_kinds.specs.Standing.{Outside, name_among}
+use Rattle.tree_kinds.specs.Standing.{Outside}
 use Rattle.flat_trees.specs.Stands.{Stand}
 use Rattle.flat_depths.specs.Depths.{IsDeepModule}
 use Rattle.flat_kinds.specs.Declarations.{Declarations}
 use Rattle.flattened_trees.specs.Agreeing.{TakesBehind, lead_by}
 use Rattle.flattened_trees.specs.Leads.{FlatFace}
 use Rattle.flattened_depths.specs.Rounds.{TakesParameters}
+use Rattle.accepted_modules.specs.Named.{AllNamed}
 use Rattle.given_depths.specs.Given.{AreSymbolsPlain, GivenDepths, IsGivenOutside}
 use Rattle.given_depths.specs.Own.{IsOfOthers}
 
@@ -22,9 +23,13 @@ pub record IsDeepFace (flat : FlatModule) (inner : Named → Stand) (face : Flat
   pub parameters : (name : Named) → TakesParameters flat (inner name)
   pub takes : (name : Named) (next : Meaning) → entry_of (behind_instance outside.view []) name ≡ Some next → TakesBehind (inner name) (onward (behind_instance outside.view) name) next
 
--- a module brings names of other modules than this
+-- a name is declared in another module than this, and came through INSTANCEs of others
+abbrev pub IsNamedOf : List ℕ → Named → Meaning → Type 0
+IsNamedOf title name meaning = IsOfOthers title meaning
+
+-- so are all names of a module
 abbrev pub BringsOthers : List ℕ → Outside → Type 0
-BringsOthers title outside = (meaning : Meaning) (name : Named) → name_among (instantiable (exported outside.view)) meaning ≡ Some name → IsOfOthers title meaning
+BringsOthers title outside = AllNamed (IsNamedOf title) outside.view
 
 -- all files are so to the module of this title: their names lead where these stand, and are as deep as is given; none is of that module; and
 -- symbols have no depth

@@ -5,7 +5,8 @@
 //! found.
 #![tactic(auto)]
 
-ghost use Rattle.std.specs.Prelude.{◌≡◌, ℕ, List, Option};
+ghost use Rattle.std.specs.Prelude.{◌≡◌, ℕ, false, List, Option};
+ghost use Rattle.std.specs.Str.{bytes_eq};
 ghost use Rattle.unit_grammar.specs.Units.{ModuleUnits};
 ghost use Rattle.tla_model.specs.Entities.{Meaning};
 ghost use Rattle.tla_model.specs.Tables.{Named};
@@ -102,7 +103,8 @@ pub fn faultless_modules_answer_depths()
 
 /// Such a module is a file to others that leads as deep as it is, with the depths of its own names.
 /// Files do so still: with these depths they are as deep as before, and they lead so in a flat
-/// module that has more. So they do with the module, to the next one, of which they bring no names.
+/// module that has more. A module has no names of the next one, if files have none. So they do with
+/// it, to the next one.
 pub fn deep_modules_are_files()
     ensures itself { (flat : FlatModule) (declares : Declarations) (behinds : Behinds)
         (given : GivenDepths) (inside : List ℕ → Named → Stand) (files : List ℕ → FlatFace)
@@ -139,6 +141,10 @@ pub fn deep_modules_are_files()
         (units : ModuleUnits) (named : Outside) → IsGivenOutside given named
         → BringsOthers (text_of bytes units).file named
         → IsGivenOutside (with_own_depths outsides bytes units given) named }
+    ensures foreign { (outsides : List ℕ → Outside) (bytes next : List ℕ) (units : ModuleUnits)
+        → ((title : List ℕ) → BringsOthers next (outsides title))
+        → bytes_eq (text_of bytes units).file next ≡ false
+        → BringsOthers next (outside outsides bytes units) }
     ensures grows { (flat more : FlatModule) (inner : Named → Stand) (face : FlatFace)
         (named : Outside) → Extends flat more → IsOrdered flat → IsFaceWithin flat face
         → IsDeepFace flat inner face named → IsDeepFace more inner face named }
@@ -152,7 +158,7 @@ pub fn deep_modules_are_files()
         → ((title : List ℕ) → BringsOthers next (outsides title))
         → IsDeepFace more inner face (outside outsides bytes units)
         → IsGivenOutside (with_own_depths outsides bytes units given)
-        (outside outsides bytes units) → BringsOthers next (outside outsides bytes units)
+        (outside outsides bytes units) → bytes_eq (text_of bytes units).file next ≡ false
         → AreDeepFiles more declares (with_own_depths outsides bytes units given)
         (with_file (text_of bytes units).file inner inside) next
         (with_file (text_of bytes units).file face files)

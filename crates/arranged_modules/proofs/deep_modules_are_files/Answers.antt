@@ -12,6 +12,9 @@ use Rattle.arranged_modules.proofs.Along.{module-seen}
 use Rattle.arranged_modules.proofs.Itself.{itself-deep}
 use Rattle.arranged_modules.proofs.Known.{known-deep}
 use Rattle.arranged_modules.proofs.NextFiles.{face-grows, next-deep}
+use Rattle.arranged_modules.specs.Files.{IsNamedOf}
+use Rattle.arranged_modules.proofs.Others.{brought-others, outside-others}
+use Rattle.accepted_modules.proofs.Holding.{nothing-holds}
 use Rattle.arranged_modules.proofs.deep_modules_are_files.Goals as goal
 
 pub returns-clause-itself : goal.returns-clause-itself
@@ -42,19 +45,19 @@ returns-clause-given c = λ flat declares behinds given inside files outsides na
     (λ used m there behind. ended.1 m (ended.2 used m (exported-usable declares outsides bytes units ones names (last outsides bytes units).read.place.here usable used m there)))
 
 pub returns-clause-others : goal.returns-clause-others
-returns-clause-others c = λ given outsides bytes units file is others. c.own_depths_are_given.ensures.files given outsides bytes units file is (λ m used there. c.own_names_are_apart.ensures.others outsides bytes units m (others m used there))
+returns-clause-others c = λ given outsides bytes units file is others. c.own_depths_are_given.ensures.files given outsides bytes units file is (λ m used there. c.own_names_are_apart.ensures.others outsides bytes units m (brought-others (text_of bytes units).file file.view m used others there))
 
 pub returns-clause-grows : goal.returns-clause-grows
 returns-clause-grows c = λ flat more inner face file extends ordered there is. face-grows flat more extends ordered inner face file there is
 
 pub returns-clause-next : goal.returns-clause-next
-returns-clause-next c = λ flat more declares behinds given inside files outsides name bytes next units inner face extends ordered good deep faultless others is gives own_others.
+returns-clause-next c = λ flat more declares behinds given inside files outsides name bytes next units inner face extends ordered good deep faultless others is gives apart.
     let names = c.places_are_declared.ensures declares bytes units (c.names_begin_apart.ensures.declared name bytes units faultless.front) faultless.places in
     let declared = λ (title : List ℕ). (good.each title).given.names.entries in
     next-deep flat more extends ordered declares given (with_own_depths outsides bytes units given) inside (text_of bytes units).file next files outsides inner face (outside outsides bytes units) deep
     (λ title. (good.each title).there)
-    (λ title. c.own_depths_are_given.ensures.files given outsides bytes units (outsides title) (deep.gives title) (λ m used there. c.own_names_are_apart.ensures.others outsides bytes units m (deep.others title m used there)))
-    (c.own_depths_are_given.ensures.symbols declares given outsides bytes units declared names deep.plain) others is gives own_others
+    (λ title. c.own_depths_are_given.ensures.files given outsides bytes units (outsides title) (deep.gives title) (λ m used there. c.own_names_are_apart.ensures.others outsides bytes units m (brought-others (text_of bytes units).file (outsides title).view m used (deep.others title) there)))
+    (c.own_depths_are_given.ensures.symbols declares given outsides bytes units declared names deep.plain) others is gives (outside-others next (views (text_of bytes units) outsides (words_of units)) bytes units apart others)
 
 pub returns-clause-nothing : goal.returns-clause-nothing
 returns-clause-nothing c = λ flat given title. (
@@ -65,5 +68,8 @@ returns-clause-nothing c = λ flat given title. (
     takes = λ name next is. cc is;
   },
   λ m name is. cc is,
-  λ m name is. cc is,
+  nothing-holds (IsNamedOf title),
 )
+
+pub returns-clause-foreign : goal.returns-clause-foreign
+returns-clause-foreign c = λ outsides bytes next units others apart. outside-others next (views (text_of bytes units) outsides (words_of units)) bytes units apart others
