@@ -393,7 +393,7 @@ unit-offered text (Line dashes) = tt
 unit-offered text (ModuleBegin dashes name extends) = tt
 unit-offered text (ModuleEnd closing) = tt
 
-units-offered : (text : Text) (units : List UnitTree) → AreOwn IsOffered text units
+pub units-offered : (text : Text) (units : List UnitTree) → AreOwn IsOffered text units
 units-offered text [] = tt
 units-offered text (unit ∷ rest) = (unit-offered text unit, units-offered text rest)
 

@@ -38,7 +38,7 @@ module _ (outsides : List ℕ → Outside) (source : List ℕ) (units : ModuleUn
   append-kinds state [] b = refl
   append-kinds state (unit ∷ a) b = append-kinds (after (text_of source units) outsides (words_of units) state unit) a b
 
-  append-one : (a : List UnitTree) (unit : UnitTree) (b : List UnitTree) → a ++ unit ∷ b ≡ (a ++ unit ∷ []) ++ b
+  pub append-one : (a : List UnitTree) (unit : UnitTree) (b : List UnitTree) → a ++ unit ∷ b ≡ (a ++ unit ∷ []) ++ b
   append-one [] unit b = refl
   append-one (other ∷ a) unit b = ap (λ us. other ∷ us) (append-one a unit b)
 

@@ -14,8 +14,10 @@ mod NestedExtending
 mod Coming
 mod Disjoint
 mod NestedGiven
+mod NestedSymbols
 mod NestedUnits
 mod Quiet
+mod Standing
 mod Again
 mod Yielding
 mod NextFiles

@@ -59,7 +59,7 @@ all-there P [] each = tt
 all-there P (entry ∷ rest) each = (each entry.0 entry.1 (inl (refl, refl)), all-there P rest (λ name m there. each name m (inr there)))
 
 -- what is known of an own parameter of a nested module
-own-there : (context : Context) (entries : Exports) (name : Named) (m : Meaning) → IsThere (own_parameters context entries) name m → IsThere entries name m × IsSymbol m × (has context name ≡ false)
+pub own-there : (context : Context) (entries : Exports) (name : Named) (m : Meaning) → IsThere (own_parameters context entries) name m → IsThere entries name m × IsSymbol m × (has context name ≡ false)
 own-there context entries name m there =
     let one = there-passed (λ (entry : Named × Meaning). not (has context entry.0)) (parameters_in entries) name m there in
     let two = there-passed (λ (entry : Named × Meaning). is_meant stands_for_parameter entry.1) entries name m one.0 in

@@ -2,7 +2,7 @@
 use Rattle.std.proofs.Common.{◌≡◌, ℕ, true, false, cond, List, [], ◌∷◌, ◌++◌, ◌⊎◌, inl, inr, Option, Some, None, refl, sym, ap, subst, ◌∙◌, drop, length}
 use Rattle.std.specs.List.{AllByRecursion}
 use Rattle.std.proofs.Math.Seq.{drop-append_seam}
-use Rattle.list_laws.proofs.Lists.{all-right}
+use Rattle.list_laws.proofs.Lists.{all-right, all-weaker}
 use Rattle.tla_symbols.specs.declared.lexeme.Lexeme.{Lexeme}
 use Rattle.unit_grammar.specs.Units.{UnitTree, Variables, Constants, OperatorDefinition, FunctionDefinition, ModuleDefinition, Instance, Assumption, Theorem, Line, ModuleBegin, ModuleEnd, ModuleUnits}
 use Rattle.tla_model.specs.declared.entity.Entity.TheVariants as entity
@@ -16,7 +16,7 @@ use Rattle.tla_model.specs.Scopes.{Finding}
 use Rattle.tla_model.specs.Tables.{Named, find}
 use Rattle.module_scope.specs.Environments.{Scope, begun, inside, meaning}
 use Rattle.module_model.specs.Bindings.{faults}
-use Rattle.module_model.specs.Exports.{Exports, ModuleView, exported, exports_by, is_meant, parameters_in, stands_for_parameter}
+use Rattle.module_model.specs.Exports.{Exports, ModuleView, exported, exports_by}
 use Rattle.module_model.specs.Modules.{all_clashing, exports_under, is_named, nested, text_of}
 use Rattle.module_model.specs.NamedModules.{module_at, module_under as view_under}
 use Rattle.module_model.specs.Resolution.{words_of}
@@ -29,9 +29,9 @@ use Rattle.flat_kinds.specs.Symbols.{same_symbol}
 use Rattle.flat_trees.specs.Instances.{symbols_of}
 use Rattle.flattened_trees.specs.Leads.{FlatFace, Leads, Setting, nowhere}
 use Rattle.flattened_trees.specs.Questions.{Question}
-use Rattle.flattened_units.specs.Units.{AreUnitsMade, IsModuleMade, IsUnitMade, Reader, face_in, face_under, meanings_of, with_symbols}
+use Rattle.flattened_units.specs.Units.{AreUnitsMade, IsModuleMade, IsUnitMade, Reader, face_under, with_symbols}
 use Rattle.module_meanings.specs.Faces.{IsExtendedBy, IsPlaced}
-use Rattle.module_meanings.specs.Premises.{AllCome, AreUnitsGiven, IsBegunGiven, IsFileAt, IsModuleGiven, IsUnitGivenBy, seen_behind, symbol_leads}
+use Rattle.module_meanings.specs.Premises.{AllCome, AreUnitsGiven, IsBegunGivenBy, IsExtendedFile, IsExtendedFileBy, IsFileAt, IsModuleGiven, IsUnitGivenBy, seen_behind, symbol_leads}
 use Rattle.accepted_modules.specs.Behind.{Behinds}
 use Rattle.accepted_modules.specs.Faces.{FacesReadAs}
 use Rattle.accepted_modules.specs.Named.{AllNamed}
@@ -42,11 +42,10 @@ use Rattle.accepted_modules.proofs.Declaring.{faults-append, right-empty}
 use Rattle.accepted_modules.proofs.Faces.{IsFoundAs, found-as}
 use Rattle.accepted_modules.proofs.Holding.{added-known}
 use Rattle.accepted_modules.proofs.Symbols.{IsSymbol}
-use Rattle.accepted_modules.proofs.Tables.{IsThere, there-holds, there-passed}
+use Rattle.accepted_modules.proofs.Tables.{IsThere, there-holds}
 use Rattle.accepted_modules.proofs.Views.{nested-same}
 use Rattle.fresh_names.specs.Seen.{IsDeclaredBy, IsElsewhere, symbols_in}
-use Rattle.given_modules.specs.Good.{IsGoodFile}
-use Rattle.given_modules.specs.Nested.{AreUnitsBringing, ExtendsFiles, IsModuleBringing}
+use Rattle.given_modules.specs.Nested.{AreUnitsBringing, IsModuleBringing}
 use Rattle.given_modules.proofs.Ahead.{IsAt, at-next}
 use Rattle.given_modules.proofs.AtUnits.{IsKnown, IsMet, keeps-at, met-first, met-next, same-no_definition}
 use Rattle.given_modules.proofs.Coming.{IsComingAt}
@@ -54,15 +53,9 @@ use Rattle.given_modules.proofs.Elsewhere.{entries-mean}
 use Rattle.given_modules.proofs.Exported.{IsExportedAt, exported-ahead, last-exported, outermost-ahead, outermost_frame}
 use Rattle.given_modules.proofs.Given.{AreExtendedSound, IsAccepted, extended-given, unit-given}
 use Rattle.given_modules.proofs.NestedExtending.{ComesFrom, entry-symbol, extends-come, extends-there, placed-both}
-use Rattle.given_modules.proofs.NestedGiven.{AreApartOwn, IsApartFrom, all-there, apart-ahead, end-given, last-coming, placed-at, symbol-means, unit-none, unit-placed, usable-at}
-use Rattle.given_modules.proofs.Nothing.{nothing-good}
+use Rattle.given_modules.proofs.NestedGiven.{AreApartOwn, IsApartFrom, apart-ahead, end-given, last-coming, placed-at, symbol-means, unit-none, unit-placed, usable-at}
+use Rattle.given_modules.proofs.NestedSymbols.{AllHave, HasOwn, offered-named, own-behind, own-named}
 use Rattle.given_modules.proofs.Usable.{IsOne, behind-ones, nested-usable}
-
--- what is known of a module that is extended
-record IsNamedFile (flat : FlatModule) (declares : Declarations) (behinds : Behinds) (face : FlatFace) (named : Outside) : Type 0 where
-  good : IsGoodFile flat declares behinds face named
-  parameters : named.view.parameters ≡ parameters_in (exported named.view)
-  offered : AllNamed IsOffered named.view
 
 module _ (flat : FlatModule) (means : ℕ → Option Meaning) (implied : ℕ → List Meaning) (files : List ℕ → FlatFace) (outsides : List ℕ → Outside) (source : List ℕ) (units : ModuleUnits) (declares : Declarations) (k : IsKnown flat means implied files outsides source units declares)
     (accepted : IsAccepted outsides source units) (ones : (name : List ℕ) → AllNamed (IsOne declares) (outsides name).view)
@@ -88,24 +81,10 @@ module _ (flat : FlatModule) (means : ℕ → Option Meaning) (implied : ℕ →
   abbrev Met : List UnitTree → List UnitTree → KindState → Reader → List Meaning → Type 0
   Met before behind state reader seen = IsMet flat means implied files outsides source units k.foreign declares k.declared k.names before behind state reader seen
 
-  -- the module of a name inside of a nested one, where it is none that is nested
-  named-file : (faces : Scope FlatFace) (modules : Scope Outside) → FacesReadAs faces modules → (t : List ℕ) → ((one : Outside) → meaning modules.here t ≡ Some (Some one) → ⊥)
-      → IsNamedFile flat declares behinds (face_in flat text means implied files outsides words faces t) (named_in text outsides words modules t)
-  named-file faces modules is t none = by (meaning faces.here t) (meaning modules.here t) none (found-as faces.here modules.here t is.here)
-    where
-      by : (o : Option (Option FlatFace)) (p : Option (Option Outside)) → ((one : Outside) → p ≡ Some (Some one) → ⊥) → IsFoundAs o p → IsNamedFile flat declares behinds (face_under files o t) (module_under outsides p t)
-      by None None none found = record { good = sound.good.each t; parameters = sound.parameters t; offered = offered t }
-      by None (Some other) none found = absurd found
-      by (Some other) None none found = absurd found
-      by (Some None) (Some None) none found = record { good = nothing-good flat declares behinds; parameters = refl; offered = record { entries = tt; parameters = tt; once = tt } }
-      by (Some None) (Some (Some one)) none found = absurd found
-      by (Some (Some face)) (Some None) none found = absurd found
-      by (Some (Some face)) (Some (Some one)) none found = absurd (none one refl)
-
   module _ (before behind : List UnitTree) (dashes name : Lexeme) (extends : List Lexeme) (state : KindState) (reader : Reader) (seen : List Meaning) (mid : Reader) (asked : List Question) (is : Met before (ModuleBegin dashes name extends ∷ behind) state reader seen)
       (made : IsUnitMade flat text means implied files outsides words state reader (ModuleBegin dashes name extends) mid asked)
       (then-met : Met (before ++ ModuleBegin dashes name extends ∷ []) behind (after text outsides words state (ModuleBegin dashes name extends)) mid (seen_behind text outsides words state (ModuleBegin dashes name extends) mid seen))
-      (exported-mid : IsExportedAt flat text means implied files outsides words (after text outsides words state (ModuleBegin dashes name extends)) mid) (apart-mid : AreApartOwn mid.setting.frame mid.round) (only : ExtendsFiles text outsides words state (ModuleBegin dashes name extends))
+      (exported-mid : IsExportedAt flat text means implied files outsides words (after text outsides words state (ModuleBegin dashes name extends)) mid) (apart-mid : AreApartOwn mid.setting.frame mid.round)
       (own : List Meaning) (framed : mid.setting.frame ≡ reader.setting.frame ++ own) where
     abbrev unit : UnitTree
     unit = ModuleBegin dashes name extends
@@ -183,8 +162,13 @@ module _ (flat : FlatModule) (means : ℕ → Option Meaning) (implied : ℕ →
     faces-then : FacesReadAs faces modules
     faces-then = subst (λ (fs : Scope FlatFace). FacesReadAs fs modules) (ap (λ (r : Reader). r.faces) made.0.2.1) then-met.faces
 
-    abbrev IsFile : Lexeme → Type 0
-    IsFile l = (one : Outside) → meaning modules.here (spelled source l) ≡ Some (Some one) → ⊥
+    -- symbols of modules that can be named inside are among what these export
+    own-inside : (t : List ℕ) → HasOwn (named_in text outsides words modules t)
+    own-inside t = own-named outsides source units sound.parameters then.modules (subst (λ (s : KindState). AllHave HasOwn s.modules) (sym at-then.same) (own-behind outsides source units (before ++ unit ∷ []))) t
+
+    -- all that these export is offered
+    offered-inside : (t : List ℕ) → AllNamed IsOffered (named_in text outsides words modules t).view
+    offered-inside t = offered-named outsides source units offered (before ++ unit ∷ []) then at-then.same t
 
     -- what the modules export can be used inside
     there-then : AllByRecursion (λ l. AllByRecursion (λ (entry : Named × Meaning). find then.read.place.here.context entry.0 ≡ Some (Some entry.1)) (exported (module_at names (inside state.read.place.here.modules title) (spelled source l)))) extends
@@ -199,49 +183,53 @@ module _ (flat : FlatModule) (means : ℕ → Option Meaning) (implied : ℕ →
         (right-empty (faults taken) (faults clashing) (sym (faults-append taken clashing) ∙ none))
 
     -- symbols of one of these modules have places inside
-    symbols-led : (l : Lexeme) → (named_in text outsides words modules (spelled source l)).view.parameters ≡ parameters_in (exported (named_in text outsides words modules (spelled source l)).view)
-        → AllByRecursion (λ (entry : Named × Meaning). find then.read.place.here.context entry.0 ≡ Some (Some entry.1)) (exported (module_at names (inside state.read.place.here.modules title) (spelled source l)))
-        → AllByRecursion (λ m. IsPlaced symbols m × (leads m [] ≡ symbols m [])) (symbols_of (named_in text outsides words modules (spelled source l)))
-    symbols-led l same there =
-        let view : ModuleView = (named_in text outsides words modules (spelled source l)).view in
-        let used = subst (AllByRecursion (λ (entry : Named × Meaning). find then.read.place.here.context entry.0 ≡ Some (Some entry.1))) (same-at (spelled source l)) there in
-        subst (λ (es : Exports). AllByRecursion (λ m. IsPlaced symbols m × (leads m [] ≡ symbols m [])) (meanings_of es)) (sym same)
-        (entries-mean (λ m. IsPlaced symbols m × (leads m [] ≡ symbols m [])) (parameters_in (exported view))
-        (all-there (λ entry. IsPlaced symbols entry.1 × (leads entry.1 [] ≡ symbols entry.1 [])) (parameters_in (exported view))
-        (λ n m one.
-        let both = there-passed (λ (entry : Named × Meaning). is_meant stands_for_parameter entry.1) (exported view) n m one in
-        let at = there-holds (λ (entry : Named × Meaning). find then.read.place.here.context entry.0 ≡ Some (Some entry.1)) (exported view) n m used both.0 in
-        let placed = inner-placed n m (ap usable at) both.1 in
-        (placed, inner-led m placed))))
+    symbols-led : (t : List ℕ)
+        → AllByRecursion (λ (entry : Named × Meaning). find then.read.place.here.context entry.0 ≡ Some (Some entry.1)) (exported (module_at names (inside state.read.place.here.modules title) t))
+        → AllByRecursion (λ m. IsPlaced symbols m × (leads m [] ≡ symbols m [])) (symbols_of (named_in text outsides words modules t))
+    symbols-led t there =
+        let view : ModuleView = (named_in text outsides words modules t).view in
+        let used = subst (AllByRecursion (λ (entry : Named × Meaning). find then.read.place.here.context entry.0 ≡ Some (Some entry.1))) (same-at t) there in
+        entries-mean (λ m. IsPlaced symbols m × (leads m [] ≡ symbols m [])) view.parameters
+        (all-weaker (λ (entry : Named × Meaning). IsThere (exported view) entry.0 entry.1 × IsSymbol entry.1) (λ (entry : Named × Meaning). IsPlaced symbols entry.1 × (leads entry.1 [] ≡ symbols entry.1 []))
+        (λ entry both.
+        let at = there-holds (λ (one : Named × Meaning). find then.read.place.here.context one.0 ≡ Some (Some one.1)) (exported view) entry.0 entry.1 used both.0 in
+        let placed = inner-placed entry.0 entry.1 (ap usable at) both.1 in
+        (placed, inner-led entry.1 placed)) view.parameters (own-inside t))
 
     -- one of these modules is extended so
-    one-extended : (l : Lexeme) → IsFile l → AllByRecursion (λ (entry : Named × Meaning). find then.read.place.here.context entry.0 ≡ Some (Some entry.1)) (exported (module_at names (inside state.read.place.here.modules title) (spelled source l)))
-        → IsExtendedBy flat leads symbols (face_in flat text means implied files outsides words faces (spelled source l)) (named_in text outsides words modules (spelled source l))
-    one-extended l none there =
-        let file = named-file faces modules faces-then (spelled source l) none in
-        let face : FlatFace = face_in flat text means implied files outsides words faces (spelled source l) in
-        let one : Outside = named_in text outsides words modules (spelled source l) in
-        let seam : symbol_leads (reader.setting ∷ reader.round) (reader.setting.frame ++ own) ≡ symbols = ap (λ (os : List Meaning). with_symbols base os count) (drop-append_seam reader.setting.frame own) in
-        subst (λ (s : Leads). AllByRecursion (λ m. IsPlaced s m × (leads m [] ≡ s m [])) (symbols_of one) → IsExtendedBy flat leads s face one) seam
-        (file.good.extended leads (reader.setting ∷ reader.round) (reader.setting.frame ++ own)) (symbols-led l file.parameters there)
+    one-extended : (t : List ℕ) → AllByRecursion (λ (entry : Named × Meaning). find then.read.place.here.context entry.0 ≡ Some (Some entry.1)) (exported (module_at names (inside state.read.place.here.modules title) t))
+        → IsExtendedFile flat text means implied files outsides words modules faces leads symbols t
+    one-extended t there = by (meaning faces.here t) (meaning modules.here t) refl refl (found-as faces.here modules.here t faces-then.here)
+      where
+        seam : symbol_leads (reader.setting ∷ reader.round) (reader.setting.frame ++ own) ≡ symbols
+        seam = ap (λ (os : List Meaning). with_symbols base os count) (drop-append_seam reader.setting.frame own)
 
-    each-extended : (ls : List Lexeme) → AllByRecursion IsFile ls
+        by : (o : Option (Option FlatFace)) (p : Option (Option Outside)) → meaning faces.here t ≡ o → meaning modules.here t ≡ p → IsFoundAs o p → IsExtendedFileBy flat text means implied files outsides words modules faces leads symbols t o
+        by None None e f found =
+            subst (λ (o : Option (Option FlatFace)). IsExtendedBy flat leads symbols (face_under files o t) (named_in text outsides words modules t)) (sym e)
+            (subst (λ (p : Option (Option Outside)). IsExtendedBy flat leads symbols (files t) (module_under outsides p t)) (sym f)
+            (subst (λ (s : Leads). AllByRecursion (λ m. IsPlaced s m × (leads m [] ≡ s m [])) (symbols_of (outsides t)) → IsExtendedBy flat leads s (files t) (outsides t)) seam
+            ((sound.good.each t).extended leads (reader.setting ∷ reader.round) (reader.setting.frame ++ own))
+            (subst (λ (p : Option (Option Outside)). AllByRecursion (λ m. IsPlaced symbols m × (leads m [] ≡ symbols m [])) (symbols_of (module_under outsides p t))) f (symbols-led t there))))
+        by None (Some other) e f found = absurd found
+        by (Some face) p e f found = symbols-led t there
+
+    each-extended : (ls : List Lexeme)
         → AllByRecursion (λ l. AllByRecursion (λ (entry : Named × Meaning). find then.read.place.here.context entry.0 ≡ Some (Some entry.1)) (exported (module_at names (inside state.read.place.here.modules title) (spelled source l)))) ls
         → AllByRecursion (λ l. AllCome then.read.known then.read.place.here.context (named_in text outsides words modules (spelled source l)).view (extended_entries text outsides words modules l)) ls
         → AllByRecursion
         (λ l.
-        IsExtendedBy flat leads symbols (face_in flat text means implied files outsides words faces (spelled source l)) (named_in text outsides words modules (spelled source l))
+        IsExtendedFile flat text means implied files outsides words modules faces leads symbols (spelled source l)
         × AllCome then.read.known then.read.place.here.context (named_in text outsides words modules (spelled source l)).view (extended_entries text outsides words modules l)) ls
-    each-extended [] none there come = tt
-    each-extended (l ∷ ls) none there come = ((one-extended l none.0 there.0, come.0), each-extended ls none.1 there.1 come.1)
+    each-extended [] there come = tt
+    each-extended (l ∷ ls) there come = ((one-extended (spelled source l) there.0, come.0), each-extended ls there.1 come.1)
 
     -- what none of them brings is a symbol, if one exports it
-    from-symbol : (ls : List Lexeme) (n : Named) (m : Meaning) → AllByRecursion IsFile ls → ComesFrom text names (inside state.read.place.here.modules title) ls n m → BringNone text outsides words modules ls m → IsSymbol m
-    from-symbol [] n m only comes none = absurd comes
-    from-symbol (l ∷ ls) n m only (inl there) none =
-        let file = named-file faces modules faces-then (spelled source l) only.0 in
-        entry-symbol (exported (named_in text outsides words modules (spelled source l)).view) n m (subst (λ (es : Exports). IsThere es n m) (same-at (spelled source l)) there) file.offered.entries none.0
-    from-symbol (l ∷ ls) n m only (inr comes) none = from-symbol ls n m only.1 comes none.1
+    from-symbol : (ls : List Lexeme) (n : Named) (m : Meaning) → ComesFrom text names (inside state.read.place.here.modules title) ls n m → BringNone text outsides words modules ls m → IsSymbol m
+    from-symbol [] n m comes none = absurd comes
+    from-symbol (l ∷ ls) n m (inl there) none =
+        entry-symbol (exported (named_in text outsides words modules (spelled source l)).view) n m (subst (λ (es : Exports). IsThere es n m) (same-at (spelled source l)) there) (offered-inside (spelled source l)).entries none.0
+    from-symbol (l ∷ ls) n m (inr comes) none = from-symbol ls n m comes none.1
 
     others-given : (n : Named) (m : Meaning) → meaning_of then.read.place.here.context n ≡ Some m → BringNone text outsides words modules extends m
         → (IsSymbol m × IsPlaced leads m) ⊎ ((used : Named) × (meaning_of state.read.place.here.context used ≡ Some m))
@@ -250,16 +238,16 @@ module _ (flat : FlatModule) (means : ℕ → Option Meaning) (implied : ℕ →
         by : (meaning_of state.read.place.here.context n ≡ Some m) ⊎ ComesFrom text names (inside state.read.place.here.modules title) extends n m → (IsSymbol m × IsPlaced leads m) ⊎ ((used : Named) × (meaning_of state.read.place.here.context used ≡ Some m))
         by (inl before_it) = inr (n, before_it)
         by (inr comes) =
-            let symbol = from-symbol extends n m only comes none in
+            let symbol = from-symbol extends n m comes none in
             let placed = inner-placed n m at symbol in
             inl (symbol, (placed.0, inner-led m placed ∙ placed.1))
 
-    pub begun-given : IsBegunGiven flat text means implied files outsides words state reader own dashes name extends
+    pub begun-given : IsBegunGivenBy flat text means implied files outsides words (IsExtendedFile flat text means implied files outsides words) state reader own dashes name extends
     begun-given = record {
       new = own-new;
       extended = record {
         each =
-            each-extended extends only there-then
+            each-extended extends there-then
             (subst
             (λ (s : KindState).
             AllByRecursion
@@ -277,20 +265,20 @@ module _ (flat : FlatModule) (means : ℕ → Option Meaning) (implied : ℕ →
 
   any-given : (before behind : List UnitTree) (unit : UnitTree) (state : KindState) (reader : Reader) (seen : List Meaning) (mid : Reader) (asked : List Question) → Met before (unit ∷ behind) state reader seen → IsUnitMade flat text means implied files outsides words state reader unit mid asked
       → Met (before ++ unit ∷ []) behind (after text outsides words state unit) mid (seen_behind text outsides words state unit mid seen) → IsExportedAt flat text means implied files outsides words (after text outsides words state unit) mid → AreApartOwn mid.setting.frame mid.round
-      → ExtendsFiles text outsides words state unit → IsUnitGivenBy flat text means implied files outsides words (IsFileAt flat text means implied files outsides words) state reader seen unit mid
-  any-given before behind (ModuleBegin dashes name extends) state reader seen mid asked is made then-met exported-mid apart-mid only = λ own framed. begun-given before behind dashes name extends state reader seen mid asked is made then-met exported-mid apart-mid only own framed
-  any-given before behind (ModuleEnd closing) state reader seen mid asked is made then-met exported-mid apart-mid only = tt
-  any-given before behind (OperatorDefinition local x) state reader seen mid asked is made then-met exported-mid apart-mid only = unit-given flat means implied files outsides source units declares k accepted before behind (OperatorDefinition local x) state reader seen mid is tt tt
-  any-given before behind (FunctionDefinition local x) state reader seen mid asked is made then-met exported-mid apart-mid only = unit-given flat means implied files outsides source units declares k accepted before behind (FunctionDefinition local x) state reader seen mid is tt tt
-  any-given before behind (ModuleDefinition local x) state reader seen mid asked is made then-met exported-mid apart-mid only = unit-given flat means implied files outsides source units declares k accepted before behind (ModuleDefinition local x) state reader seen mid is tt tt
-  any-given before behind (Instance local x) state reader seen mid asked is made then-met exported-mid apart-mid only = unit-given flat means implied files outsides source units declares k accepted before behind (Instance local x) state reader seen mid is tt tt
-  any-given before behind (Variables vs) state reader seen mid asked is made then-met exported-mid apart-mid only =
+      → IsUnitGivenBy flat text means implied files outsides words (IsFileAt flat text means implied files outsides words) state reader seen unit mid
+  any-given before behind (ModuleBegin dashes name extends) state reader seen mid asked is made then-met exported-mid apart-mid = λ own framed. begun-given before behind dashes name extends state reader seen mid asked is made then-met exported-mid apart-mid own framed
+  any-given before behind (ModuleEnd closing) state reader seen mid asked is made then-met exported-mid apart-mid = tt
+  any-given before behind (OperatorDefinition local x) state reader seen mid asked is made then-met exported-mid apart-mid = unit-given flat means implied files outsides source units declares k accepted before behind (OperatorDefinition local x) state reader seen mid is tt tt
+  any-given before behind (FunctionDefinition local x) state reader seen mid asked is made then-met exported-mid apart-mid = unit-given flat means implied files outsides source units declares k accepted before behind (FunctionDefinition local x) state reader seen mid is tt tt
+  any-given before behind (ModuleDefinition local x) state reader seen mid asked is made then-met exported-mid apart-mid = unit-given flat means implied files outsides source units declares k accepted before behind (ModuleDefinition local x) state reader seen mid is tt tt
+  any-given before behind (Instance local x) state reader seen mid asked is made then-met exported-mid apart-mid = unit-given flat means implied files outsides source units declares k accepted before behind (Instance local x) state reader seen mid is tt tt
+  any-given before behind (Variables vs) state reader seen mid asked is made then-met exported-mid apart-mid =
       unit-placed flat means implied files outsides source units declares k accepted ones apart before behind (Variables vs) state reader mid asked is.seen_so.at is.leads.0 exported-mid made
-  any-given before behind (Constants declarations) state reader seen mid asked is made then-met exported-mid apart-mid only =
+  any-given before behind (Constants declarations) state reader seen mid asked is made then-met exported-mid apart-mid =
       unit-placed flat means implied files outsides source units declares k accepted ones apart before behind (Constants declarations) state reader mid asked is.seen_so.at is.leads.0 exported-mid made
-  any-given before behind (Assumption word name x) state reader seen mid asked is made then-met exported-mid apart-mid only = tt
-  any-given before behind (Theorem word name x) state reader seen mid asked is made then-met exported-mid apart-mid only = tt
-  any-given before behind (Line dashes) state reader seen mid asked is made then-met exported-mid apart-mid only = tt
+  any-given before behind (Assumption word name x) state reader seen mid asked is made then-met exported-mid apart-mid = tt
+  any-given before behind (Theorem word name x) state reader seen mid asked is made then-met exported-mid apart-mid = tt
+  any-given before behind (Line dashes) state reader seen mid asked is made then-met exported-mid apart-mid = tt
 
   units-given : (before behind : List UnitTree) (state : KindState) (reader : Reader) (seen : List Meaning) (next : Reader) (asked : List Question) (made : AreUnitsMade flat text means implied files outsides words state reader behind next asked) → next.round ≡ []
       → IsExportedAt flat text means implied files outsides words (read_all text outsides words state behind) next → IsComingAt text flat means implied files outsides words declares [] (read_all text outsides words state behind) next
@@ -304,8 +292,8 @@ module _ (flat : FlatModule) (means : ℕ → Option Meaning) (implied : ℕ →
       let apart-here = apart-ahead flat means implied files outsides source units declares k accepted ones apart before (unit ∷ behind) state reader next asked at made coming-end none in
       let apart-mid = apart-ahead flat means implied files outsides source units declares k accepted ones apart (before ++ unit ∷ []) behind (after text outsides words state unit) made.0 next made.2 at-then made.4 coming-end none in (
         (bringing.0, end-given flat means implied files outsides source units declares k accepted ones apart before behind unit state reader made.0 made.1 at apart-here made.3),
-        any-given before behind unit state reader seen made.0 made.1 is made.3 then-met exported-mid apart-mid bringing.1,
-        units-given (before ++ unit ∷ []) behind (after text outsides words state unit) made.0 (seen_behind text outsides words state unit made.0 seen) next made.2 made.4 none exported-end coming-end bringing.2 then-met,
+        any-given before behind unit state reader seen made.0 made.1 is made.3 then-met exported-mid apart-mid,
+        units-given (before ++ unit ∷ []) behind (after text outsides words state unit) made.0 (seen_behind text outsides words state unit made.0 seen) next made.2 made.4 none exported-end coming-end bringing.1 then-met,
       )
 
   -- a module with nested ones is given

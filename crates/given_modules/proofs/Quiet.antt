@@ -1,13 +1,12 @@
 -- Where nested modules bring nothing, nothing is asked of what they bring.
-use Rattle.std.proofs.Common.{◌≡◌, ◌-◌, ℕ, suc, List, [], ◌∷◌, Option, Some, inl, refl, sym, ap, subst, ◌∙◌, length, arith}
-use Rattle.std.specs.List.{AllByRecursion}
+use Rattle.std.proofs.Common.{◌≡◌, ◌-◌, ℕ, suc, List, [], ◌∷◌, Option, inl, refl, sym, ap, subst, ◌∙◌, length, arith}
 use Rattle.tla_symbols.specs.declared.lexeme.Lexeme.{Lexeme}
 use Rattle.tla_tree.specs.declared.form.Form.TheVariants as Form
 use Rattle.tla_tree.specs.Syntax.{Tree, Node}
 use Rattle.unit_grammar.specs.Units.{UnitTree, Variables, Constants, OperatorDefinition, FunctionDefinition, ModuleDefinition, Instance, Assumption, Theorem, Line, ModuleBegin, ModuleEnd}
 use Rattle.tla_model.specs.Entities.{Meaning, Text}
 use Rattle.tla_model.specs.Lexemes.{spelled}
-use Rattle.module_scope.specs.Environments.{begun, meaning}
+use Rattle.module_scope.specs.Environments.{begun}
 use Rattle.module_model.specs.Modules.{Reading}
 use Rattle.kind_text.specs.FlatModule.{FlatModule}
 use Rattle.tree_kinds.specs.Standing.{Outside}
@@ -17,7 +16,7 @@ use Rattle.flattened_trees.specs.Leads.{FlatFace, Setting}
 use Rattle.flattened_trees.specs.Questions.{Question}
 use Rattle.flattened_units.specs.Units.{AreUnitsMade, IsEnded, IsUnitMade, Reader}
 use Rattle.module_meanings.specs.Premises.{IsBroughtGiven, seen_behind}
-use Rattle.given_modules.specs.Nested.{AreQuiet, AreUnitsBringing, ExtendsFiles, IsQuiet, depth_behind}
+use Rattle.given_modules.specs.Nested.{AreQuiet, AreUnitsBringing, IsQuiet, depth_behind}
 
 module _ (flat : FlatModule) (text : Text) (means : ℕ → Option Meaning) (implied : ℕ → List Meaning) (files : List ℕ → FlatFace) (outsides : List ℕ → Outside) (words : List ℕ) where
   -- so many modules are round a reader
@@ -51,28 +50,24 @@ module _ (flat : FlatModule) (text : Text) (means : ℕ → Option Meaning) (imp
   none-round [] none = refl
   none-round (setting ∷ settings) none = absurd (omega (arith, none))
 
-  quiet-brought : (depth : ℕ) (state : KindState) (reader : Reader) (seen : List Meaning) (unit : UnitTree) → IsQuiet depth unit → IsDeep depth reader → IsBroughtGiven flat text means implied files outsides words state reader seen unit × ExtendsFiles text outsides words state unit
-  quiet-brought depth state reader seen (Instance local x) quiet deep = ((λ some. absurd (some (none-round reader.round (deep ∙ quiet)))), tt)
-  quiet-brought depth state reader seen (ModuleBegin dashes name extends) quiet deep = (
-    (λ m is. inl (subst (λ (ls : List Lexeme). BringNone text outsides words (begun state.modules (spelled text.source name)) ls m) (sym quiet) tt)),
-    subst (AllByRecursion (λ l. (nested : Outside) → meaning (begun state.modules (spelled text.source name)).here (spelled text.source l) ≡ Some (Some nested) → ⊥)) (sym quiet) tt,
-  )
-  quiet-brought depth state reader seen (OperatorDefinition local x) quiet deep = (tt, tt)
-  quiet-brought depth state reader seen (FunctionDefinition local x) quiet deep = (tt, tt)
-  quiet-brought depth state reader seen (ModuleDefinition local x) quiet deep = (tt, tt)
-  quiet-brought depth state reader seen (Assumption word name x) quiet deep = (tt, tt)
-  quiet-brought depth state reader seen (Theorem word name x) quiet deep = (tt, tt)
-  quiet-brought depth state reader seen (Variables names) quiet deep = (tt, tt)
-  quiet-brought depth state reader seen (Constants declarations) quiet deep = (tt, tt)
-  quiet-brought depth state reader seen (Line dashes) quiet deep = (tt, tt)
-  quiet-brought depth state reader seen (ModuleEnd closing) quiet deep = (tt, tt)
+  quiet-brought : (depth : ℕ) (state : KindState) (reader : Reader) (seen : List Meaning) (unit : UnitTree) → IsQuiet depth unit → IsDeep depth reader → IsBroughtGiven flat text means implied files outsides words state reader seen unit
+  quiet-brought depth state reader seen (Instance local x) quiet deep = λ some. absurd (some (none-round reader.round (deep ∙ quiet)))
+  quiet-brought depth state reader seen (ModuleBegin dashes name extends) quiet deep =
+      λ m is. inl (subst (λ (ls : List Lexeme). BringNone text outsides words (begun state.modules (spelled text.source name)) ls m) (sym quiet) tt)
+  quiet-brought depth state reader seen (OperatorDefinition local x) quiet deep = tt
+  quiet-brought depth state reader seen (FunctionDefinition local x) quiet deep = tt
+  quiet-brought depth state reader seen (ModuleDefinition local x) quiet deep = tt
+  quiet-brought depth state reader seen (Assumption word name x) quiet deep = tt
+  quiet-brought depth state reader seen (Theorem word name x) quiet deep = tt
+  quiet-brought depth state reader seen (Variables names) quiet deep = tt
+  quiet-brought depth state reader seen (Constants declarations) quiet deep = tt
+  quiet-brought depth state reader seen (Line dashes) quiet deep = tt
+  quiet-brought depth state reader seen (ModuleEnd closing) quiet deep = tt
 
   pub quiet-bringing : (units : List UnitTree) (depth : ℕ) (state : KindState) (reader : Reader) (seen : List Meaning) (next : Reader) (asked : List Question) (made : AreUnitsMade flat text means implied files outsides words state reader units next asked) → AreQuiet depth units → length reader.round ≡ depth
       → AreUnitsBringing flat text means implied files outsides words state reader seen units next asked made
   quiet-bringing [] depth state reader seen next asked made quiet deep = tt
-  quiet-bringing (unit ∷ units) depth state reader seen next asked made quiet deep =
-      let one = quiet-brought depth state reader seen unit quiet.0 deep in (
-        one.0,
-        one.1,
-        quiet-bringing units (depth_behind depth unit) (after text outsides words state unit) made.0 (seen_behind text outsides words state unit made.0 seen) next made.2 made.4 quiet.1 (depth-after depth state reader unit made.0 made.1 made.3 deep),
-      )
+  quiet-bringing (unit ∷ units) depth state reader seen next asked made quiet deep = (
+    quiet-brought depth state reader seen unit quiet.0 deep,
+    quiet-bringing units (depth_behind depth unit) (after text outsides words state unit) made.0 (seen_behind text outsides words state unit made.0 seen) next made.2 made.4 quiet.1 (depth-after depth state reader unit made.0 made.1 made.3 deep),
+  )

@@ -31,7 +31,6 @@ ghost use Rattle.given_modules.specs.Fresh.{IsModuleFresh};
 ghost use Rattle.given_modules.specs.Good.{AreGoodFiles, IsFaultless, IsGoodFile, face_of};
 ghost use Rattle.given_modules.specs.Good.{with_file};
 ghost use Rattle.given_modules.specs.Nested.{AreQuiet, HasNoInstance, IsModuleBringing};
-ghost use Rattle.given_modules.specs.Nested.{IsModuleExtending};
 ghost use Rattle.given_modules.specs.Yielding.{with_own_yields};
 
 use accepted_modules::{
@@ -86,8 +85,8 @@ pub fn faultless_modules_are_shaped()
 
 /// Nothing is asked of what nested modules bring that extend nothing and have no INSTANCE without a
 /// name; nor of a module without nested ones. In a module that has no INSTANCE without a name at
-/// all, what nested modules bring that extend files is new, or stands as before: if it comes again,
-/// it has what its declaration yields, as in all files.
+/// all, what nested modules bring is new, or stands as before: if it comes again from a file, it
+/// has what its declaration yields, as in all files; and a nested module brings what stands there.
 pub fn nested_names_are_given()
     ensures nothing { (flat : FlatModule) (means : ℕ → Option Meaning) (implied : ℕ → List Meaning)
         (files : List ℕ → FlatFace) (outsides : List ℕ → Outside) (source : List ℕ)
@@ -105,18 +104,18 @@ pub fn nested_names_are_given()
         → symbols ≡ symbols_of (outside outsides bytes units)
         → ((title : List ℕ) → IsYielding yields (outsides title))
         → AllByRecursion HasNoInstance units.units
-        → IsModuleExtending outsides bytes units
         → IsModuleBringing flat means implied files outsides bytes units symbols last asked made }
 {
     modules_come_steady();
     readers_end();
     places_are_declared();
+    declared_names_are_new();
     names_begin_apart();
 }
 
 /// A module without faults, over good files, is given as what its nodes mean asks, where what is
 /// meant and what stands in is what is found. It is asked that what its nested modules bring is new
-/// in the modules round them, or stands there as before, and that they extend files alone.
+/// in the modules round them, or stands there as before.
 pub fn faultless_modules_are_given()
     ensures { (flat : FlatModule) (declares : Declarations) (behinds : Behinds)
         (files : List ℕ → FlatFace) (outsides : List ℕ → Outside) (name bytes : List ℕ)
@@ -208,9 +207,9 @@ pub fn given_modules_are_good()
     brought_names_come();
 }
 
-/// A module without faults and without an INSTANCE without a name, whose nested modules extend
-/// files, brings its names for what their declarations yield, if files do: its own for what stands
-/// for them in the end. Files without its names do so still.
+/// A module without faults and without an INSTANCE without a name brings its names for what their
+/// declarations yield, if files do: its own for what stands for them in the end. Files without its
+/// names do so still.
 pub fn declarations_yield_names()
     ensures itself { (yields : Yields) (flat : FlatModule) (declares : Declarations)
         (behinds : Behinds) (files : List ℕ → FlatFace) (outsides : List ℕ → Outside)
@@ -218,7 +217,7 @@ pub fn declarations_yield_names()
         → AreGoodFiles flat declares behinds (text_of bytes units).file files outsides
         → IsFaultless declares outsides name bytes units
         → ((title : List ℕ) → IsYielding yields (outsides title))
-        → AllByRecursion HasNoInstance units.units → IsModuleExtending outsides bytes units
+        → AllByRecursion HasNoInstance units.units
         → IsYielding
         (with_own_yields declares (text_of bytes units).file (last outsides bytes units) yields)
         (outside outsides bytes units) }
@@ -229,6 +228,7 @@ pub fn declarations_yield_names()
 {
     modules_come_steady();
     places_are_declared();
+    declared_names_are_new();
     names_begin_apart();
     names_come_again();
 }

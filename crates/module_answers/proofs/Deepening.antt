@@ -49,6 +49,8 @@ use Rattle.module_meanings.proofs.Entering.{Holds}
 use Rattle.module_meanings.proofs.Further.{AllDefinitionsLead, DefinitionsLead, unit-further}
 use Rattle.module_meanings.proofs.Leads.{exported-lead, none-leads, symbols-lead}
 use Rattle.module_meanings.proofs.Modules.{IsBegunWith, given-steps, module-begun}
+use Rattle.module_meanings.proofs.NestedExtended.{begun-whole}
+use Rattle.module_meanings.proofs.NestedFaces.{HoldsNested}
 use Rattle.module_meanings.proofs.Nesting.{AreAllTold, all-told, here-told}
 use Rattle.module_meanings.proofs.Units.{IsSymbolic, constants-symbolic, placed-one, placed-takes, variables-symbolic}
 use Rattle.module_answers.specs.Deep.{AreUnitsArranged, IsArrangedAt, IsDeepBehind, IsDeepSo, IsModuleArranged, IsUnitArranged}
@@ -211,15 +213,19 @@ module _ (flat : FlatModule) (ordered : IsOrdered flat) (text : Text) (means : �
           answers = one.answers;
         }
 
-    all-answer : (unit : UnitTree) (next : Reader) (asked : List Question) → IsUnitMade flat text means implied files outsides words state reader unit next asked → IsUnitGivenBy flat text means implied files outsides words (IsFileAt flat text means implied files outsides words) state reader seen unit next → IsEndGiven flat text means implied files outsides words unit state reader reader.round → IsUnitArranged flat text means implied files outsides words state reader seen unit next → AnswersBehind unit next asked
-    all-answer (ModuleBegin dashes name extends) next asked made given end arranged =
-        record { all = begun-all flat ordered text means implied files outsides words state reader seen all told dashes name extends next given arranged made.0; answers = ap (deep_answers flat) made.1 }
-    all-answer (ModuleEnd closing) next asked made given end arranged =
+    all-answer : {symbols : Meaning → Stand} {outers : List Current} → HoldsNested flat state.modules reader.setting.frame reader.round reader.faces seen symbols outers → (unit : UnitTree) (next : Reader) (asked : List Question) → IsUnitMade flat text means implied files outsides words state reader unit next asked → IsUnitGivenBy flat text means implied files outsides words (IsFileAt flat text means implied files outsides words) state reader seen unit next → IsEndGiven flat text means implied files outsides words unit state reader reader.round → IsUnitArranged flat text means implied files outsides words state reader seen unit next → AnswersBehind unit next asked
+    all-answer nested (ModuleBegin dashes name extends) next asked made given end arranged =
+        record {
+          all = begun-all flat ordered text means implied files outsides words state reader seen all told dashes name extends next
+              (λ own framed. begun-whole flat text means implied files outsides words state reader seen nested own dashes name extends (given own framed)) arranged made.0;
+          answers = ap (deep_answers flat) made.1;
+        }
+    all-answer nested (ModuleEnd closing) next asked made given end arranged =
         record {
           all = ended-all flat ordered text means implied files outsides words state reader seen all closing next state.read.place.round reader.round all.others refl all.around.round end further made.0;
           answers = ap (deep_answers flat) made.1;
         }
-    all-answer unit next asked made given end arranged = plain-answers unit next asked tt made given arranged
+    all-answer nested unit next asked made given end arranged = plain-answers unit next asked tt made given arranged
 
   -- what is known behind units, and what these answer
   pub record UnitsAnswered (state : KindState) (next : Reader) (asked : List Question) (found : List Lexeme) : Type 0 where
@@ -238,7 +244,7 @@ module _ (flat : FlatModule) (ordered : IsOrdered flat) (text : Text) (means : �
   units-answer (unit ∷ units) state reader seen here outers next asked made given arranged further holds all =
       let told : AreAllTold state = (here-told state.read.known state.read.place.here.context reader.setting seen here.layout holds.here.follows, all-told state.read.known seen state.read.place.round reader.round outers holds.round) in
       let one = given-steps flat ordered text means implied files outsides words state reader seen here outers unit made.0 made.1 made.3 given.0.0 given.0.1 given.1 further holds in
-      let first = all-answer state reader seen told further.0 all unit made.0 made.1 made.3 given.1 given.0.1 arranged.0 in
+      let first = all-answer state reader seen told further.0 all holds.nested unit made.0 made.1 made.3 given.1 given.0.1 arranged.0 in
       let others =
       units-answer units (after text outsides words state unit) made.0 (seen_behind text outsides words state unit made.0 seen) (here_behind text outsides words state here outers unit one.coming) (round_behind text outsides words here outers one.coming) next made.2 made.4 given.2 arranged.1
       (unit-further flat text means implied files outsides words state reader seen unit made.0 made.1 further given.1 made.3) one.holds first.all in

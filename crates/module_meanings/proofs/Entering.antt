@@ -1,7 +1,6 @@
 -- Nested modules that begin and end.
 use Rattle.std.proofs.Common.{◌≡◌, inl, inr, ℕ, ◌+◌, true, List, [], ◌∷◌, ◌++◌, Option, Some, None, refl, sym, ap, ◌∙◌, subst, drop, length}
 use Rattle.std.specs.Prelude.{◌⊎◌}
-use Rattle.std.specs.List.{AllByRecursion}
 use Rattle.std.proofs.lemmas.List.{length-append}
 use Rattle.tla_symbols.specs.declared.lexeme.Lexeme.{Lexeme}
 use Rattle.unit_grammar.specs.Units.{UnitTree, ModuleBegin}
@@ -15,15 +14,14 @@ use Rattle.module_scope.specs.Environments.{Scope, begun}
 use Rattle.module_model.specs.Exports.{behind_meaning}
 use Rattle.module_model.specs.Modules.{nested}
 use Rattle.kind_text.specs.FlatModule.{FlatModule, IsOrdered}
-use Rattle.tree_kinds.specs.Standing.{Environment, Outside}
+use Rattle.tree_kinds.specs.Standing.{Outside}
 use Rattle.module_kinds.specs.ModuleKinds.{KindState, after, views}
 use Rattle.flat_trees.specs.Stands.{Stand}
 use Rattle.flat_trees.specs.Layouts.{Layout}
 use Rattle.flat_kinds.specs.Modules.{Begins, Coming, Current, IsRead, KeepsAll, here_behind}
 use Rattle.flat_kinds.specs.Readings.{nested_layout, with_own}
-use Rattle.flat_kinds.specs.Symbols.{same_symbol}
 use Rattle.flattened_trees.specs.Agreeing.{KeepsOrders, TakesAs, is_seen}
-use Rattle.flattened_trees.specs.Leads.{FlatFace, Leads, Setting, nowhere}
+use Rattle.flattened_trees.specs.Leads.{FlatFace, Leads, Setting}
 use Rattle.flattened_units.specs.Units.{AreExtended, Reader, with_symbols}
 use Rattle.module_meanings.specs.Faces.{IsPlaced}
 use Rattle.module_meanings.specs.Following.{AreExtendedSo}
@@ -32,7 +30,8 @@ use Rattle.module_meanings.proofs.Beginning.{parameter-takes, symbols-unseen}
 use Rattle.module_meanings.proofs.Contexts.{orders-more, seen-left, seen-right, unseen-parts}
 use Rattle.module_meanings.proofs.Extending.{extended-all, extends-means}
 use Rattle.module_meanings.proofs.Knowing.{extended-told}
-use Rattle.module_meanings.proofs.NestedFaces.{AllNew, AreNestedKnown, HoldsNested, added-known, all-more, own-elsewhere, round-more as faces-more, unsaid-more}
+use Rattle.module_meanings.proofs.NestedExtended.{all-new}
+use Rattle.module_meanings.proofs.NestedFaces.{AreNestedKnown, HoldsNested, added-known, all-more, own-elsewhere, round-more as faces-more, unsaid-more}
 use Rattle.module_meanings.proofs.Nesting.{AreAllTold, HoldsAt, HoldsRound, holds-more, own-alike, own-at, own-before, own-lead, own-new, own-takes, round-more, round-stays}
 use Rattle.module_meanings.proofs.Staying.{StayBehind}
 use Rattle.flat_kinds.proofs.Symbols.{own-symbols}
@@ -164,10 +163,6 @@ module _ (flat : FlatModule) (ordered : IsOrdered flat) (text : Text) (means : �
         round-more state.read.known _ seen names state.read.place.round reader.round outers told.1 holds.round,
       )
 
-      own-are-new : (ms : List Meaning) → AllByRecursion (λ (symbol : Meaning). (m : Meaning) → same_symbol m symbol ≡ true → (symbol_leads reader.round reader.setting.frame m [] ≡ nowhere) × ((parameters : Environment) → state.standing parameters m ≡ parameters m)) ms → AllNew (symbol_leads reader.round reader.setting.frame) ms
-      own-are-new [] all = tt
-      own-are-new (s ∷ ms) all = ((λ m same. let here_too = all.0 m same in here_too.0), own-are-new ms all.1)
-
       -- nested modules that can be named there
       pub within-nested : HoldsNested flat modules within.setting.frame within.round within.faces (names ++ seen) current.symbols (here ∷ outers)
       within-nested =
@@ -185,7 +180,7 @@ module _ (flat : FlatModule) (ordered : IsOrdered flat) (text : Text) (means : �
             unsaid_round = ((λ m none. let parts = unseen-parts names seen m none in known.unsaid m parts.1), unsaid-more seen (names ++ seen) more outers known.unsaid_round);
             here = added-known flat (names ++ seen) (symbol_leads within.round within.setting.frame) state.modules.here reader.faces.here (spelled text.source name) None None
                 (subst (λ (s : Leads). AreNestedKnown flat (names ++ seen) s state.modules.here reader.faces.here) (sym within-symbols)
-                (all-more flat seen (names ++ seen) more symbols inner-symbols state.modules.here reader.faces.here (λ m. own-elsewhere symbols own (length reader.setting.frame) m (own-are-new own given.new)) known.here)) tt;
+                (all-more flat seen (names ++ seen) more symbols inner-symbols state.modules.here reader.faces.here (λ m. own-elsewhere symbols own (length reader.setting.frame) m (all-new state symbols own given.new)) known.here)) tt;
             behind = (
               refl,
               all-more flat seen (names ++ seen) more symbols symbols state.modules.here reader.faces.here (λ m. inr refl) known.here,

@@ -24,7 +24,7 @@ use Rattle.flat_kinds.specs.Readings.{KeepsState, exported_stand, is_among, with
 use Rattle.flat_kinds.specs.Symbols.{AreDistinct, SaysNothing, symbols_at}
 use Rattle.flat_kinds.proofs.Declarations.{read-same}
 use Rattle.flat_kinds.proofs.Distinct.{HaveOwnNames, words-own}
-use Rattle.flat_kinds.proofs.Symbols.{module-by_less, own-less, symbols-at-less}
+use Rattle.flat_kinds.proofs.Symbols.{module-by_less, own-less, own-symbols, symbols-at-less}
 use Rattle.flat_kinds.proofs.Units.{state-exported}
 use Rattle.flattened_trees.specs.Agreeing.{TakesBehind, unsaid_stand}
 use Rattle.flattened_trees.specs.Leads.{FlatFace, Lead, Leads, Setting}
@@ -32,6 +32,7 @@ use Rattle.flattened_units.specs.Units.{Reader, exported_leads, nested_face}
 use Rattle.module_meanings.specs.Faces.{IsFaceBy, LeadsAs, LeavesLead}
 use Rattle.module_meanings.specs.Following.{IsMeantSo, LeadsBy}
 use Rattle.module_meanings.proofs.Leads.{exported-lead}
+use Rattle.module_meanings.proofs.NestedFaces.{IsExtendable}
 use Rattle.module_meanings.proofs.Staying.{IsLeafName, leaf-or-unsaid}
 
 -- ---- symbols
@@ -193,4 +194,23 @@ module _ (flat : FlatModule) (text : Text) (means : ℕ → Option Meaning) (imp
             (kept-own (λ (entry : Named × Meaning). is_meant stands_for_parameter entry.1) (exports_of state.read.place.here.exports) (table-own state.read once)));
         symbols = symbols;
         unsaid = unsaid;
+      }
+
+  -- it can be extended by modules nested behind it
+  pub nested-extendable : (leads : Leads) → KeepsState flat (with_own base (symbols_at (λ (m : Meaning). Unsaid) own (length outer.frame))) layout state → layout.places ≡ length outer.frame + length own → own ≡ symbols_of (nested_outside state (round ∷ readings)) → LeadsBy layout.stands setting.leads
+      → ((name : Named) (next : Meaning) → entry_of (behind_instance (nested_outside state (round ∷ readings)).view []) name ≡ Some next → TakesBehind (exported_stand layout.stands (exports_of state.read.place.here.exports) name) (onward (behind_instance (nested_outside state (round ∷ readings)).view) name) next)
+      → ((m : Meaning) → LeadsAs (length outer.frame) (base m) (leads m [])) → IsExtendable flat leads (nested_face flat text means implied files outsides words state round setting outer) (nested_outside state (round ∷ readings))
+  nested-extendable leads keeps room same leads-here takes symbols =
+      let place = length outer.frame in
+      let meant = state-exported flat (with_own base (symbols_at (λ (m : Meaning). Unsaid) own place)) layout state whole.view false keeps in
+      let kept = module-by_less flat (with_own base (symbols_at (λ (m : Meaning). Unsaid) own place)) (symbols_at base own place) layout.places inner whole (λ m. inr (own-symbols base own place m)) meant in
+      record {
+        base = base;
+        inner = inner;
+        paths = λ name names. exported-lead layout.stands setting.leads (exports_of state.read.place.here.exports) name names leads-here;
+        kept = subst (λ (ms : List Meaning). IsModule flat (symbols_at base ms place) (place + length ms) inner whole) same
+            (subst (λ n. IsModule flat (symbols_at base own place) n inner whole) room kept);
+        takes = takes;
+        parameters = refl;
+        leads = symbols;
       }

@@ -10,6 +10,7 @@ pub mod Nesting
 pub mod Entering
 pub mod Further
 pub mod NestedFaces
+pub mod NestedExtended
 pub mod Modules
 pub mod Meant
 pub mod Instancing

@@ -22,7 +22,7 @@ use Rattle.tree_kinds.specs.Standing.{Outside}
 use Rattle.module_kinds.specs.ModuleKinds.{KindState, after, first, known_at, last, named, nested_outside, read_all, views}
 use Rattle.flat_trees.specs.Stands.{Stand}
 use Rattle.flat_trees.specs.Layouts.{Layout, StandsBefore}
-use Rattle.flat_kinds.specs.Readings.{Extension, KeepsState, exported_stand, is_among, layout_after, stand_in}
+use Rattle.flat_kinds.specs.Readings.{Extension, KeepsState, exported_stand, is_among, layout_after, stand_in, with_own}
 use Rattle.flat_kinds.specs.Symbols.{AreDistinct}
 use Rattle.flat_kinds.specs.Modules.{AreRead, Begins, Coming, Current, Ends, Stands, IsExtended, IsRead, KeepsAll, first_current, here_behind, module_stands, round_behind}
 use Rattle.flat_kinds.proofs.Modules.{module-begins, module-read, unit-all}
@@ -33,14 +33,15 @@ use Rattle.flattened_trees.specs.Questions.{Question}
 use Rattle.flattened_units.specs.Units.{AreUnitsMade, IsBegun, IsDefinitionMade, IsEnded, IsInstanceMade, IsModuleMade, IsUnitMade, Reader, face_under, meanings_of, nested_face, symbol_setting}
 use Rattle.module_meanings.specs.Faces.{IsFaceBy, LeadsAs}
 use Rattle.module_meanings.specs.Following.{Follows, IsBuiltSo, IsFollowed, IsMeantSo, IsPlain, LeadsBy}
-use Rattle.module_meanings.specs.Premises.{AreTold, AreUnitsGiven, IsBegunGiven, IsBroughtGiven, IsEndGiven, IsEndedGiven, IsFileAt, IsFileBy, IsModuleGiven, IsTreeGiven, IsTreeGivenBy, IsUnitGiven, IsUnitGivenBy, first_seen, seen_behind, symbol_leads}
+use Rattle.module_meanings.specs.Premises.{AreTold, AreUnitsGiven, IsBegunGivenBy, IsBroughtGiven, IsEndGiven, IsEndedGiven, IsExtendedFile, IsFileAt, IsFileBy, IsModuleGiven, IsTreeGiven, IsTreeGivenBy, IsUnitGiven, IsUnitGivenBy, first_seen, seen_behind, symbol_leads}
 use Rattle.module_meanings.proofs.Beginning.{begun-so, first-follows, first-reader, symbol-stands, symbols-unseen}
 use Rattle.module_meanings.proofs.Bringing.{declared-follows, instance-follows, still-follows}
 use Rattle.module_meanings.proofs.Entering.{Holds, all-extended, begun-read, drop-front, round-holds, within-holds, within-nested}
 use Rattle.module_meanings.proofs.Contexts.{seen-right, unseen-parts}
 use Rattle.module_meanings.proofs.Further.{AllDefinitionsLead, DefinitionsLead, extended-further, first-further, unit-further}
-use Rattle.module_meanings.proofs.Instancing.{nested-instanced, new-unsaid, table-own}
-use Rattle.module_meanings.proofs.NestedFaces.{HoldsNested, brought-entry, further-takes, known-both, named-face, nested-ends, nested-more, symbol-as}
+use Rattle.module_meanings.proofs.Instancing.{nested-extendable, nested-instanced, new-unsaid, table-own}
+use Rattle.module_meanings.proofs.NestedExtended.{begun-whole}
+use Rattle.module_meanings.proofs.NestedFaces.{HoldsNested, IsNestedKnown, brought-entry, further-takes, known-both, named-face, nested-ends, nested-more, symbol-as}
 use Rattle.module_meanings.proofs.Extending.{symbols-alike, unsaid-alike}
 use Rattle.module_meanings.proofs.Leads.{exported-lead, none-leads, symbols-lead}
 use Rattle.module_meanings.proofs.Nesting.{AreAllTold, all-told, before-nowhere, here-told, HoldsAt, HoldsRound, own-at, round-more, round-stays, told-round}
@@ -160,7 +161,7 @@ module _ (flat : FlatModule) (ordered : IsOrdered flat) (text : Text) (means : �
 
     -- a nested module that ends is what is asked of it
     ended-face : (reading : Reading) (readings : List Reading) (setting : Setting) (settings : List Setting) (outer : Current) (outs : List Current) → HoldsRound state.read.known (reading ∷ readings) (setting ∷ settings) (outer ∷ outs) seen → KeepsAll flat state here (outer ∷ outs) → HoldsNested flat state.modules reader.setting.frame (setting ∷ settings) reader.faces seen here.symbols (outer ∷ outs) → IsEndedGiven flat text means implied files outsides words state reader setting settings → meanings_of (nested_face flat text means implied files outsides words state reading reader.setting setting).parameters ≡ drop (length setting.frame) reader.setting.frame
-        → IsFaceBy flat (λ m. not (is_seen seen m)) (symbol_leads settings setting.frame) (nested_face flat text means implied files outsides words state reading reader.setting setting) (nested_outside state (reading ∷ readings))
+        → IsNestedKnown flat seen (symbol_leads settings setting.frame) (Some (nested_outside state (reading ∷ readings))) (Some (nested_face flat text means implied files outsides words state reading reader.setting setting))
     ended-face reading readings setting settings outer outs round keeps nested given symbols =
         let own = nested.nest.0.0 in
         let framed = nested.nest.0.1 in
@@ -168,18 +169,20 @@ module _ (flat : FlatModule) (ordered : IsOrdered flat) (text : Text) (means : �
         let own-is : drop place reader.setting.frame ≡ own = ap (drop place) framed ∙ drop-front setting.frame own in
         let follows = holds.here.follows in
         let known = round.0 in
-        nested-instanced flat text means implied files outsides words state reading readings reader.setting setting outer.symbols own here.layout
-        (symbol_leads settings setting.frame) (λ m. not (is_seen seen m))
-        (subst (λ (s : Meaning → Stand). KeepsState flat s here.layout state) nested.nest.0.2 keeps.here)
-        (follows.settings.places ∙ ap length framed ∙ length-append setting.frame own)
-        (sym (symbols ∙ own-is))
-        (subst AreDistinct own-is given.distinct)
-        (λ other among. before-nowhere outer.layout.places (outer.symbols other) (known.before other) (sym (known.leads other []) ∙ given.apart other (subst (λ (ms : List Meaning). is_among ms other ≡ true) (sym own-is) among)))
-        given.once follows.settings.leads
-        (λ name m found. ended-takes reading readings given name m found)
-        (λ m. subst (λ n. LeadsAs n (outer.symbols m) (symbol_leads settings setting.frame m [])) known.follows.settings.places
-        (subst (λ lead. LeadsAs outer.layout.places (outer.symbols m) lead) (sym (known.leads m [])) (symbol-as outer.layout.places (outer.symbols m) (known.before m))))
-        (λ m new free. nested.unsaid_round.0 m (not-true (is_seen seen m) new) ∙ new-unsaid (λ n. not (is_seen seen n)) m (ap not nested.built) new free)
+        let keeps-own : KeepsState flat (with_own outer.symbols (own-at own (length setting.frame))) here.layout state = subst (λ (s : Meaning → Stand). KeepsState flat s here.layout state) nested.nest.0.2 keeps.here in
+        let room : here.layout.places ≡ length setting.frame + length own = follows.settings.places ∙ ap length framed ∙ length-append setting.frame own in
+        let leads-as : (m : Meaning) → LeadsAs (length setting.frame) (outer.symbols m) (symbol_leads settings setting.frame m []) = λ m. subst (λ n. LeadsAs n (outer.symbols m) (symbol_leads settings setting.frame m [])) known.follows.settings.places
+        (subst (λ lead. LeadsAs outer.layout.places (outer.symbols m) lead) (sym (known.leads m [])) (symbol-as outer.layout.places (outer.symbols m) (known.before m))) in (
+          nested-instanced flat text means implied files outsides words state reading readings reader.setting setting outer.symbols own here.layout
+              (symbol_leads settings setting.frame) (λ m. not (is_seen seen m)) keeps-own room
+              (sym (symbols ∙ own-is))
+              (subst AreDistinct own-is given.distinct)
+              (λ other among. before-nowhere outer.layout.places (outer.symbols other) (known.before other) (sym (known.leads other []) ∙ given.apart other (subst (λ (ms : List Meaning). is_among ms other ≡ true) (sym own-is) among)))
+              given.once follows.settings.leads (λ name m found. ended-takes reading readings given name m found) leads-as
+              (λ m new free. nested.unsaid_round.0 m (not-true (is_seen seen m) new) ∙ new-unsaid (λ n. not (is_seen seen n)) m (ap not nested.built) new free),
+          nested-extendable flat text means implied files outsides words state reading readings reader.setting setting outer.symbols own here.layout (symbol_leads settings setting.frame) keeps-own room
+              (sym (symbols ∙ own-is)) follows.settings.leads (λ name m found. ended-takes reading readings given name m found) leads-as,
+        )
 
     ended-nested : (closing : Lexeme) (next : Reader) (reading : Reading) (readings : List Reading) (setting : Setting) (settings : List Setting) (outer : Current) (outs : List Current) → state.read.place.round ≡ reading ∷ readings → HoldsRound state.read.known (reading ∷ readings) (setting ∷ settings) (outer ∷ outs) seen → KeepsAll flat state here (outer ∷ outs) → HoldsNested flat state.modules reader.setting.frame (setting ∷ settings) reader.faces seen here.symbols (outer ∷ outs) → IsEndedGiven flat text means implied files outsides words state reader setting settings → meanings_of (nested_face flat text means implied files outsides words state reading reader.setting setting).parameters ≡ drop (length setting.frame) reader.setting.frame
         → next ≡ record { setting = setting; round = settings; faces = ended (nested_face flat text means implied files outsides words state reading reader.setting setting) reader.faces.here reader.faces.round }
@@ -221,10 +224,10 @@ module _ (flat : FlatModule) (ordered : IsOrdered flat) (text : Text) (means : �
         }
 
     -- a nested module begins
-    begun-steps : (dashes name : Lexeme) (extends : List Lexeme) (next : Reader) → StayBehind text outsides words state (ModuleBegin dashes name extends) seen → ((own : List Meaning) → next.setting.frame ≡ reader.setting.frame ++ own → IsBegunGiven flat text means implied files outsides words state reader own dashes name extends) → IsBegun flat text means implied files outsides words state reader name extends next → Steps state reader seen here outers (ModuleBegin dashes name extends) next
+    begun-steps : (dashes name : Lexeme) (extends : List Lexeme) (next : Reader) → StayBehind text outsides words state (ModuleBegin dashes name extends) seen → ((own : List Meaning) → next.setting.frame ≡ reader.setting.frame ++ own → IsBegunGivenBy flat text means implied files outsides words (IsExtendedFile flat text means implied files outsides words) state reader own dashes name extends) → IsBegun flat text means implied files outsides words state reader name extends next → Steps state reader seen here outers (ModuleBegin dashes name extends) next
     begun-steps dashes name extends next stays given (own, leads, (made, is)) =
         let unit : UnitTree = ModuleBegin dashes name extends in
-        let given-own = given own (ap (λ (r : Reader). r.setting.frame) is) in
+        let given-own = begun-whole flat text means implied files outsides words state reader seen holds.nested own dashes name extends (given own (ap (λ (r : Reader). r.setting.frame) is)) in
         let all = all-extended flat ordered text means implied files outsides words state reader seen here outers holds told dashes name extends stays own given-own leads made in
         let come : Coming = Begins (own-at own here.layout.places) (length own) all.extensions in
         let read = begun-read flat ordered text means implied files outsides words state reader seen here outers holds told dashes name extends stays own given-own next leads all is in

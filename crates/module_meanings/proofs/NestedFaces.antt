@@ -1,5 +1,5 @@
 -- Nested modules that can be named are what is asked of them, by where symbols lead and which names were seen.
-use Rattle.std.proofs.Common.{◌≡◌, inl, inr, ℕ, suc, Bool, true, false, cond, List, [], ◌∷◌, ◌++◌, Option, Some, None, is_some, refl, sym, ap, ◌∙◌, subst, length}
+use Rattle.std.proofs.Common.{◌≡◌, inl, inr, ℕ, suc, ◌+◌, Bool, true, false, cond, List, [], ◌∷◌, ◌++◌, Option, Some, None, is_some, refl, sym, ap, ◌∙◌, subst, length}
 use Rattle.std.specs.Prelude.{◌⊎◌, not}
 use Rattle.std.specs.List.{AllByRecursion}
 use Rattle.std.specs.Str.{bytes_eq}
@@ -9,22 +9,23 @@ use Rattle.tla_model.specs.Entities.{Meaning}
 use Rattle.tla_model.specs.EntityKinds.{is_meant, stands_behind}
 use Rattle.tla_model.specs.Tables.{Named, added, same_named}
 use Rattle.module_scope.specs.Environments.{Environment, Scope, ended, meaning as module_meaning}
-use Rattle.module_model.specs.Exports.{Behind, Exports, entry_of, instantiable}
+use Rattle.module_model.specs.Exports.{Behind, Exports, behind_instance, entry_of, instantiable, onward}
 use Rattle.kind_text.specs.FlatModule.{FlatModule}
 use Rattle.tree_kinds.specs.Standing.{Outside}
 use Rattle.module_kinds.specs.ModuleKinds.{module_under, nowhere as no_module}
 use Rattle.flat_trees.specs.Stands.{Stand, Unsaid, Leaf, Place, Defined, Through, Brought}
+use Rattle.flat_trees.specs.Instances.{IsModule, symbols_of}
 use Rattle.flat_trees.specs.Layouts.{StandsBefore, order_of}
 use Rattle.flat_trees.proofs.Meanings.{named-equal}
 use Rattle.flat_kinds.specs.Modules.{Current}
 use Rattle.flat_kinds.specs.Readings.{with_own}
-use Rattle.flat_kinds.specs.Symbols.{same_symbol}
+use Rattle.flat_kinds.specs.Symbols.{same_symbol, symbols_at}
 use Rattle.flat_kinds.proofs.Distinct.{HaveOwnNames}
 use Rattle.flattened_trees.specs.declared.End.TheVariants as end
 use Rattle.flattened_trees.specs.Agreeing.{TakesAs, TakesBehind, is_seen, lead_by, unsaid_stand}
 use Rattle.flattened_trees.specs.Leads.{FlatFace, Lead, Leads, Setting, nowhere, only}
 use Rattle.flattened_units.specs.Units.{face_under, no_face, with_symbols}
-use Rattle.module_meanings.specs.Faces.{IsFaceBy, LeadsAs}
+use Rattle.module_meanings.specs.Faces.{IsExtendedBy, IsFaceBy, IsPlaced, LeadsAs}
 use Rattle.module_meanings.specs.Premises.{symbol_leads}
 use Rattle.module_meanings.proofs.Further.{LeadsFurther}
 use Rattle.module_meanings.proofs.Nesting.{own-at}
@@ -112,10 +113,70 @@ module _ (flat : FlatModule) where
         unsaid = λ m is free. refl;
       }
 
-  -- a nested module that can be named is so by where symbols lead by themselves, where new names are those that were not seen
+  -- ---- modules that can be extended
+
+  -- a module is what is asked of one that is extended, by where symbols lead, but for places of its own ones
+  pub record IsExtendable (symbols : Leads) (face : FlatFace) (outside : Outside) : Type 0 where
+    pub base : Meaning → Stand
+    pub inner : Named → Stand
+    pub paths : (name : Named) (names : List Named) → face.leads (name ∷ names) ≡ lead_by (inner name) names
+    pub kept : IsModule flat (symbols_at base (symbols_of outside) face.outer) (face.outer + length (symbols_of outside)) inner outside
+    pub takes : (name : Named) (next : Meaning) → entry_of (behind_instance outside.view []) name ≡ Some next → TakesBehind (inner name) (onward (behind_instance outside.view) name) next
+    pub parameters : face.parameters ≡ outside.view.parameters
+    pub leads : (m : Meaning) → LeadsAs face.outer (base m) (symbols m [])
+
+  -- a module that is so by where other symbols lead
+  pub extendable-moved : (symbols leads : Leads) (face : FlatFace) (outside : Outside) → ((m : Meaning) → (symbols m [] ≡ nowhere) ⊎ (leads m [] ≡ symbols m [])) → IsExtendable symbols face outside → IsExtendable leads face outside
+  extendable-moved symbols leads face outside lead is =
+      record {
+        base = is.base;
+        inner = is.inner;
+        paths = is.paths;
+        kept = is.kept;
+        takes = is.takes;
+        parameters = is.parameters;
+        leads = λ m. by_lead m (lead m);
+      }
+    where
+      by_lead : (m : Meaning) → (symbols m [] ≡ nowhere) ⊎ (leads m [] ≡ symbols m []) → LeadsAs face.outer (is.base m) (leads m [])
+      by_lead m (inl none) = as-nowhere face.outer (is.base m) (leads m []) (subst (λ l. LeadsAs face.outer (is.base m) l) none (is.leads m))
+      by_lead m (inr same) = subst (λ l. LeadsAs face.outer (is.base m) l) (sym same) (is.leads m)
+
+  -- it is extended, where its own symbols have places
+  pub extended-so : (leads symbols : Leads) (face : FlatFace) (outside : Outside) → IsExtendable symbols face outside → AllByRecursion (λ m. IsPlaced symbols m × (leads m [] ≡ symbols m [])) (symbols_of outside) → IsExtendedBy flat leads symbols face outside
+  extended-so leads symbols face outside is placed =
+      record {
+        base = is.base;
+        inner = is.inner;
+        paths = is.paths;
+        kept = is.kept;
+        takes = is.takes;
+        parameters = is.parameters;
+        symbols = is.leads;
+        placed = placed;
+      }
+
+  -- the name of a module round a place is none that can be extended
+  no-extended-by : (leads symbols : Leads) → IsExtendedBy flat leads symbols no_face no_module
+  no-extended-by leads symbols =
+      record {
+        base = λ m. Unsaid;
+        inner = λ name. Unsaid;
+        paths = λ name names. refl;
+        kept = λ frame standing many all name. tt;
+        takes = λ name next is. cc is;
+        parameters = refl;
+        symbols = λ m. tt;
+        placed = tt;
+      }
+
+  -- ---- nested modules
+
+  -- a nested module that can be named is so by where symbols lead by themselves, where new names are those that were not seen, to trees and
+  -- to modules that extend it
   abbrev pub IsNestedKnown : List Meaning → Leads → Option Outside → Option FlatFace → Type 0
   IsNestedKnown seen symbols None None = Unit {0}
-  IsNestedKnown seen symbols (Some outside) (Some face) = IsFaceBy flat (λ m. not (is_seen seen m)) symbols face outside
+  IsNestedKnown seen symbols (Some outside) (Some face) = IsFaceBy flat (λ m. not (is_seen seen m)) symbols face outside × IsExtendable symbols face outside
   IsNestedKnown seen symbols _ _ = ⊥
 
   -- the same of each that can be named
@@ -142,7 +203,8 @@ module _ (flat : FlatModule) where
 
     known-more : (symbols leads : Leads) (outside : Option Outside) (face : Option FlatFace) → ((m : Meaning) → (symbols m [] ≡ nowhere) ⊎ (leads m [] ≡ symbols m [])) → IsNestedKnown seen symbols outside face → IsNestedKnown more leads outside face
     known-more symbols leads None None lead is = tt
-    known-more symbols leads (Some outside) (Some face) lead is = face-moved (λ m. not (is_seen seen m)) (λ m. not (is_seen more m)) symbols leads face outside fewer-new lead is
+    known-more symbols leads (Some outside) (Some face) lead is =
+        (face-moved (λ m. not (is_seen seen m)) (λ m. not (is_seen more m)) symbols leads face outside fewer-new lead is.0, extendable-moved symbols leads face outside lead is.1)
     known-more symbols leads None (Some face) lead is = absurd is
     known-more symbols leads (Some outside) None lead is = absurd is
 
@@ -211,11 +273,24 @@ module _ (flat : FlatModule) where
   named-face seen symbols leads new files outsides name None None fewer lead both file = file refl
   named-face seen symbols leads new files outsides name (Some None) (Some None) fewer lead both file = no-face-by new leads
   named-face seen symbols leads new files outsides name (Some (Some outside)) (Some (Some face)) fewer lead both file =
-      face-moved (λ m. not (is_seen seen m)) new symbols leads face outside fewer (lead (Some face) refl) both
+      face-moved (λ m. not (is_seen seen m)) new symbols leads face outside fewer (lead (Some face) refl) both.0
   named-face seen symbols leads new files outsides name (Some None) (Some (Some face)) fewer lead both file = absurd both
   named-face seen symbols leads new files outsides name (Some (Some outside)) (Some None) fewer lead both file = absurd both
   named-face seen symbols leads new files outsides name None (Some face) fewer lead both file = absurd both
   named-face seen symbols leads new files outsides name (Some outside) None fewer lead both file = absurd both
+
+  -- a module of a name is extended, where its own symbols have places
+  pub named-extended : (seen : List Meaning) (leads symbols : Leads) (files : List ℕ → FlatFace) (outsides : List ℕ → Outside) (name : List ℕ) (outside : Option (Option Outside)) (face : Option (Option FlatFace)) → AreBoth seen symbols outside face
+      → (face ≡ None → IsExtendedBy flat leads symbols (face_under files None name) (module_under outsides outside name))
+      → ((nested : Option FlatFace) → face ≡ Some nested → AllByRecursion (λ m. IsPlaced symbols m × (leads m [] ≡ symbols m [])) (symbols_of (module_under outsides outside name)))
+      → IsExtendedBy flat leads symbols (face_under files face name) (module_under outsides outside name)
+  named-extended seen leads symbols files outsides name None None both file placed = file refl
+  named-extended seen leads symbols files outsides name (Some None) (Some None) both file placed = no-extended-by leads symbols
+  named-extended seen leads symbols files outsides name (Some (Some outside)) (Some (Some face)) both file placed = extended-so leads symbols face outside both.1 (placed (Some face) refl)
+  named-extended seen leads symbols files outsides name (Some None) (Some (Some face)) both file placed = absurd both
+  named-extended seen leads symbols files outsides name (Some (Some outside)) (Some None) both file placed = absurd both
+  named-extended seen leads symbols files outsides name None (Some face) both file placed = absurd both
+  named-extended seen leads symbols files outsides name (Some outside) None both file placed = absurd both
 
 -- ---- entries that stand behind an instance
 
@@ -293,7 +368,7 @@ nested-more flat modules frame round faces seen more symbols outers seen-more ho
     }
 
 -- with a face for the module that ends
-pub nested-ends : (flat : FlatModule) (here : Environment Outside) (modules : List (List ℕ × Environment Outside)) (now : Environment FlatFace) (faces : List (List ℕ × Environment FlatFace)) (outer : Setting) (round : List Setting) (seen : List Meaning) (outside : Outside) (face : FlatFace) → AreRoundKnown flat seen modules faces (outer ∷ round) → IsFaceBy flat (λ m. not (is_seen seen m)) (symbol_leads round outer.frame) face outside
+pub nested-ends : (flat : FlatModule) (here : Environment Outside) (modules : List (List ℕ × Environment Outside)) (now : Environment FlatFace) (faces : List (List ℕ × Environment FlatFace)) (outer : Setting) (round : List Setting) (seen : List Meaning) (outside : Outside) (face : FlatFace) → AreRoundKnown flat seen modules faces (outer ∷ round) → IsNestedKnown flat seen (symbol_leads round outer.frame) (Some outside) (Some face)
     → AreNestedKnown flat seen (symbol_leads round outer.frame) (ended outside here modules).here (ended face now faces).here × AreRoundKnown flat seen (ended outside here modules).round (ended face now faces).round round
 nested-ends flat here [] now [] outer round seen outside face all is = absurd all
 nested-ends flat here [] now (f ∷ faces) outer round seen outside face all is = absurd all

@@ -28,7 +28,7 @@ use Rattle.flattened_trees.specs.NodeForms.{constant_node}
 use Rattle.flattened_trees.specs.Questions.{IsShallow, IsShallowInstance, Question, over}
 use Rattle.flattened_units.specs.Units.{IsModuleMade, Reader, face_in, nested_face, no_face, no_leads, with_symbols}
 use Rattle.module_meanings.specs.Following.{IsMeantSo}
-use Rattle.module_meanings.specs.Premises.{IsBegunGiven, IsEndedGiven, IsFileAt, IsModuleGiven}
+use Rattle.module_meanings.specs.Premises.{IsBegunGivenBy, IsEndedGiven, IsExtendedFile, IsFileAt, IsModuleGiven}
 use Rattle.module_meanings.proofs.Modules.{module-means, module-meant}
 
 abbrev at : ℕ → Lexeme
@@ -211,9 +211,9 @@ same-modules title = by_names (bytes_eq title (codes "M")) (bytes_eq title (code
     by_names false true = refl
     by_names false false = refl
 
-begun-given : (symbols : List Meaning) → [] ≡ symbols → IsBegunGiven flat text means implied files outsides words state0 reader0 symbols (at 1) (at 1) []
+begun-given : (symbols : List Meaning) → [] ≡ symbols → IsBegunGivenBy flat text means implied files outsides words (IsExtendedFile flat text means implied files outsides words) state0 reader0 symbols (at 1) (at 1) []
 begun-given symbols e =
-    subst (λ (ms : List Meaning). IsBegunGiven flat text means implied files outsides words state0 reader0 ms (at 1) (at 1) []) e
+    subst (λ (ms : List Meaning). IsBegunGivenBy flat text means implied files outsides words (IsExtendedFile flat text means implied files outsides words) state0 reader0 ms (at 1) (at 1) []) e
     (record { new = tt; extended = record { each = tt; others = λ name m is none. inr (name, is) }; same = same-modules })
 
 abbrev f : Meaning

@@ -22,6 +22,7 @@ use Rattle.module_model.specs.Resolution.{instance_brings, words_of}
 use Rattle.kind_text.specs.FlatModule.{FlatModule}
 use Rattle.tree_kinds.specs.Standing.{Environment, Outside, is_bound, name_among}
 use Rattle.module_kinds.specs.ModuleKinds.{KindState, after, first, known_at, named, named_in, standing_behind, views}
+use Rattle.flat_trees.specs.Instances.{symbols_of}
 use Rattle.flat_kinds.specs.Declarations.{IsOnce}
 use Rattle.flat_kinds.specs.Readings.{BringNone, Leaves, extended_entries, is_among}
 use Rattle.flat_kinds.specs.Symbols.{AreDistinct, same_symbol}
@@ -150,28 +151,51 @@ module _ (flat : FlatModule) (text : Text) (means : ℕ → Option Meaning) (imp
         → AllCome (after text outsides words state unit).read.known (after text outsides words state unit).read.place.here.context
         (named text outsides words state (spelled text.source l)).view (instance_brings text (views text outsides words) words state.read x)
 
-  -- modules that are extended are what is known of them, and so is what they bring; what none of them brings is a symbol that has a place,
-  -- or was there before
-  pub record AreExtendedGiven (known : Known) (before context : Context) (modules : Scope Outside) (faces : Scope FlatFace) (leads symbols : Leads) (extends : List Lexeme) : Type 0 where
+  -- what is asked of a module that is extended, by which modules can be named, and where names and symbols lead
+  abbrev pub OfExtended : Type 1
+  OfExtended = Scope Outside → Scope FlatFace → Leads → Leads → List ℕ → Type 0
+
+  -- it is what is known of it
+  abbrev pub IsExtendedAt : OfExtended
+  IsExtendedAt modules faces leads symbols name =
+      IsExtendedBy flat leads symbols (face_in flat text means implied files outsides words faces name) (named_in text outsides words modules name)
+
+  -- where its name means a file, it is what is known of it; where that means a nested module, its symbols have places, and lead there
+  abbrev pub IsExtendedFileBy : Scope Outside → Scope FlatFace → Leads → Leads → List ℕ → Option (Option FlatFace) → Type 0
+  IsExtendedFileBy modules faces leads symbols name None = IsExtendedAt modules faces leads symbols name
+  IsExtendedFileBy modules faces leads symbols name (Some nested) =
+      AllByRecursion (λ meaning. IsPlaced symbols meaning × (leads meaning [] ≡ symbols meaning [])) (symbols_of (named_in text outsides words modules name))
+
+  -- the same by what its name means there
+  abbrev pub IsExtendedFile : OfExtended
+  IsExtendedFile modules faces leads symbols name = IsExtendedFileBy modules faces leads symbols name (module_meaning faces.here name)
+
+  -- this is so of modules that are extended, and what they bring is known; what none of them brings is a symbol that has a place, or was
+  -- there before
+  pub record AreExtendedGivenBy (asked : OfExtended) (known : Known) (before context : Context) (modules : Scope Outside) (faces : Scope FlatFace) (leads symbols : Leads) (extends : List Lexeme) : Type 0 where
     pub each :
         AllByRecursion
         (λ l.
-        IsExtendedBy flat leads symbols (face_in flat text means implied files outsides words faces (spelled text.source l)) (named_in text outsides words modules (spelled text.source l))
+        asked modules faces leads symbols (spelled text.source l)
         × AllCome known context (named_in text outsides words modules (spelled text.source l)).view (extended_entries text outsides words modules l)) extends
     pub others :
         (name : Named) (meaning : Meaning) → meaning_of context name ≡ Some meaning → BringNone text outsides words modules extends meaning
         → ((is_meant stands_for_parameter meaning ≡ true) × IsPlaced leads meaning) ⊎ ((used : Named) × (meaning_of before used ≡ Some meaning))
 
+  -- modules that are extended are what is known of them
+  abbrev pub AreExtendedGiven : Known → Context → Context → Scope Outside → Scope FlatFace → Leads → Leads → List Lexeme → Type 0
+  AreExtendedGiven known before context modules faces leads symbols extends = AreExtendedGivenBy IsExtendedAt known before context modules faces leads symbols extends
+
   -- a nested module that begins: its own symbols are new, and what it extends is given; names of modules mean the same to what is read of
   -- names and to what is read of levels
-  pub record IsBegunGiven (state : KindState) (reader : Reader) (own : List Meaning) (dashes name : Lexeme) (extends : List Lexeme) : Type 0 where
+  pub record IsBegunGivenBy (asked : OfExtended) (state : KindState) (reader : Reader) (own : List Meaning) (dashes name : Lexeme) (extends : List Lexeme) : Type 0 where
     pub new :
         AllByRecursion
         (λ symbol.
         (meaning : Meaning) → same_symbol meaning symbol ≡ true
         → (symbol_leads reader.round reader.setting.frame meaning [] ≡ nowhere) × ((parameters : Environment) → state.standing parameters meaning ≡ parameters meaning)) own
     pub extended :
-        AreExtendedGiven (after text outsides words state (ModuleBegin dashes name extends)).read.known state.read.place.here.context
+        AreExtendedGivenBy asked (after text outsides words state (ModuleBegin dashes name extends)).read.known state.read.place.here.context
         (after text outsides words state (ModuleBegin dashes name extends)).read.place.here.context (begun state.modules (spelled text.source name)) (begun reader.faces (spelled text.source name))
         (with_symbols reader.setting.leads own (length reader.setting.frame))
         (with_symbols (symbol_leads reader.round reader.setting.frame) own (length reader.setting.frame)) extends
@@ -180,7 +204,12 @@ module _ (flat : FlatModule) (text : Text) (means : ℕ → Option Meaning) (imp
         → exports_under (exports_by (views text outsides words)) (module_meaning (inside state.read.place.here.modules (spelled text.source name)) title) title
         ≡ exported (named_in text outsides words (begun state.modules (spelled text.source name)) title).view
 
-  -- a unit at a state, by the reader behind it: its trees can be read; what it declares has places; a nested module that begins is given
+  -- the modules that it extends are what is known of them
+  abbrev pub IsBegunGiven : KindState → Reader → List Meaning → Lexeme → Lexeme → List Lexeme → Type 0
+  IsBegunGiven state reader own dashes name extends = IsBegunGivenBy IsExtendedAt state reader own dashes name extends
+
+  -- a unit at a state, by the reader behind it: its trees can be read; what it declares has places; a nested module that begins is given,
+  -- with the files that it extends
   abbrev pub IsUnitGivenBy : OfNamed → KindState → Reader → List Meaning → UnitTree → Reader → Type 0
   IsUnitGivenBy asked state reader seen (Variables names) next = AllByRecursion (IsPlaced reader.setting.leads) (map (meant text) (variables names))
   IsUnitGivenBy asked state reader seen (Constants declarations) next = AllByRecursion (IsPlaced reader.setting.leads) (map (meant text) (constants declarations))
@@ -189,7 +218,7 @@ module _ (flat : FlatModule) (text : Text) (means : ℕ → Option Meaning) (imp
   IsUnitGivenBy asked state reader seen (ModuleDefinition local x) next = IsDefinitionGivenBy asked state reader seen (ModuleDefinition local x) x
   IsUnitGivenBy asked state reader seen (Instance local x) next = IsInstanceGivenBy asked state reader seen (Instance local x) x
   IsUnitGivenBy asked state reader seen (ModuleBegin dashes name extends) next =
-      (own : List Meaning) → next.setting.frame ≡ reader.setting.frame ++ own → IsBegunGiven state reader own dashes name extends
+      (own : List Meaning) → next.setting.frame ≡ reader.setting.frame ++ own → IsBegunGivenBy IsExtendedFile state reader own dashes name extends
   IsUnitGivenBy asked state reader seen unit next = Unit {0}
 
   -- the same where the modules that trees name are what is known of them
