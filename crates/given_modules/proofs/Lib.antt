@@ -20,4 +20,6 @@ mod Quiet
 mod Standing
 mod Again
 mod Yielding
+mod Declaring
+mod Steady
 mod NextFiles

@@ -4,21 +4,28 @@
 //! are checked.
 #![tactic(auto)]
 
-ghost use Rattle.std.specs.Prelude.{◌≡◌, ℕ, List, Option};
+ghost use Rattle.std.specs.Prelude.{◌≡◌, ℕ, List, [], ◌∷◌, ◌++◌, Option};
 ghost use Rattle.std.specs.List.{AllByRecursion};
-ghost use Rattle.unit_grammar.specs.Units.{ModuleUnits};
+ghost use Rattle.tla_symbols.specs.declared.lexeme.Lexeme.{Lexeme};
+ghost use Rattle.tla_symbols.specs.declared.lexeme.Span.{Span};
+ghost use Rattle.tla_tree.specs.declared.form.Form.TheVariants as Form;
+ghost use Rattle.tla_tree.specs.Syntax.{Node, Trees};
+ghost use Rattle.unit_grammar.specs.Units.{Instance, ModuleUnits, UnitTree};
 ghost use Rattle.front_laws.specs.Fronts.{IsFront, Tree as TreeFront};
 ghost use Rattle.tla_model.specs.Entities.{Meaning};
+ghost use Rattle.tla_model.specs.Lexemes.{spelled};
 ghost use Rattle.module_model.specs.Exports.{Known};
 ghost use Rattle.module_model.specs.Modules.{text_of};
 ghost use Rattle.module_model.specs.Resolution.{findings, words_of};
 ghost use Rattle.kind_text.specs.FlatModule.{Extends, FlatModule, IsOrdered};
-ghost use Rattle.tree_kinds.specs.Standing.{Outside};
+ghost use Rattle.tree_kinds.specs.Expanding.{unguarded};
+ghost use Rattle.tree_kinds.specs.Standing.{Environment, Outside, Steps};
 ghost use Rattle.module_kinds.specs.ModuleKinds.{KindState, last, level_findings, nowhere};
-ghost use Rattle.module_kinds.specs.ModuleKinds.{outside, views};
+ghost use Rattle.module_kinds.specs.ModuleKinds.{around, known_at, named, outside, views};
 ghost use Rattle.flat_trees.specs.Instances.{symbols_of};
 ghost use Rattle.flat_kinds.specs.Declarations.{Declarations};
 ghost use Rattle.flat_kinds.specs.Yields.{IsYielding, Yields};
+ghost use Rattle.steady_kinds.specs.Steady.{IsOpen, IsSteady};
 ghost use Rattle.flattened_trees.specs.Answers.{level_answers};
 ghost use Rattle.flattened_trees.specs.Leads.{FlatFace};
 ghost use Rattle.flattened_trees.specs.Questions.{Question};
@@ -27,6 +34,7 @@ ghost use Rattle.module_meanings.specs.Premises.{IsModuleGiven};
 ghost use Rattle.module_answers.specs.Shaped.{IsModuleShaped};
 ghost use Rattle.readable_laws.specs.Uses.{implied_by, means_by};
 ghost use Rattle.accepted_modules.specs.Behind.{Behinds, IsForeignView, with_own};
+ghost use Rattle.accepted_modules.specs.States.{kinds_behind};
 ghost use Rattle.given_modules.specs.Fresh.{IsModuleFresh};
 ghost use Rattle.given_modules.specs.Good.{AreGoodFiles, IsFaultless, IsGoodFile, face_of};
 ghost use Rattle.given_modules.specs.Good.{with_file};
@@ -231,4 +239,41 @@ pub fn declarations_yield_names()
     declared_names_are_new();
     names_begin_apart();
     names_come_again();
+}
+
+/// What a module without faults gives depends on what stands for names alone that are by their
+/// declarations no definitions, or are bound, if this is so of files. So a module that stands over
+/// what stands for the names of another one gives what it does over the symbols of that: so does
+/// what an INSTANCE without a name brings of a module without parameters.
+pub fn modules_are_steady()
+    ensures itself { (flat : FlatModule) (declares : Declarations) (behinds : Behinds)
+        (files : List ℕ → FlatFace) (outsides : List ℕ → Outside) (name bytes : List ℕ)
+        (units : ModuleUnits)
+        → AreGoodFiles flat declares behinds (text_of bytes units).file files outsides
+        → IsFaultless declares outsides name bytes units
+        → ((title : List ℕ) → IsSteady (IsOpen declares) (outsides title))
+        → IsSteady (IsOpen declares) (outside outsides bytes units) }
+    ensures instances { (flat : FlatModule) (declares : Declarations) (behinds : Behinds)
+        (files : List ℕ → FlatFace) (outsides : List ℕ → Outside) (name bytes : List ℕ)
+        (units : ModuleUnits) (before behind : List UnitTree) (local : Option Lexeme)
+        (l : Lexeme) (at : Span) (parts : Trees)
+        → AreGoodFiles flat declares behinds (text_of bytes units).file files outsides
+        → IsFaultless declares outsides name bytes units
+        → ((title : List ℕ) → IsSteady (IsOpen declares) (outsides title))
+        → units.units ≡ before ++ Instance local (Node (Form.Instance l) at parts) ∷ behind
+        → let state : KindState = kinds_behind outsides bytes units before in
+        let modules = named (text_of bytes units) outsides (words_of units) state in
+        (modules (spelled bytes l)).view.parameters ≡ [] → (parameters : Environment)
+        (path : Steps)
+        → unguarded (text_of bytes units)
+        (known_at (text_of bytes units) outsides (words_of units) state
+        (Instance local (Node (Form.Instance l) at parts))) modules
+        (around (text_of bytes units) outsides (words_of units) state parameters)
+        (Node (Form.Instance l) at parts) path
+        ≡ (modules (spelled bytes l)).standing parameters path }
+    ensures nothing { (declares : Declarations) → IsSteady (IsOpen declares) nowhere }
+{
+    modules_come_steady();
+    places_are_declared();
+    names_begin_apart();
 }
