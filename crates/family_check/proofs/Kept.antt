@@ -32,7 +32,7 @@ use Rattle.family_tables.proofs.Tabling.{entry-append}
 use Rattle.family_check.specs.declared.findings.Findings.{Findings}
 use Rattle.family_check.specs.declared.names.Names.{Names}
 use Rattle.family_check.specs.Keeping.{AreAgain, AreKept, HaveOneFace, IsAsked, IsChecked, IsFoundAgain, IsFoundOver, IsFoundTree, IsKept, IsOutcomeOf, IsSameIfFound, IsSameImport, IsSeenBefore, kept_with}
-use Rattle.family_check.proofs.Checking.{found-more}
+use Rattle.family_tables.proofs.Ordered.{found-more}
 
 same-some : {A : Type 0} (x y : A) → ◌≡◌ {A = Option A} (Some x) (Some y) → x ≡ y
 same-some x y e = cc

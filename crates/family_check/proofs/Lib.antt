@@ -1,4 +1,3 @@
-mod Sums
 mod Checking
 mod Kept
 mod Once

@@ -6,3 +6,5 @@ pub mod Texts
 pub mod Bridging
 pub mod Importing
 pub mod Agreeing
+pub mod Sums
+pub mod Ordered

@@ -5,7 +5,7 @@ use Rattle.family_facts.specs.Family.{Member}
 use Rattle.family_facts.specs.Verdicts.{after_checks}
 use Rattle.family_tables.specs.Modules.{AreModules}
 use Rattle.family_check.specs.Findings.{AreNames, IsFound}
-use Rattle.family_check.proofs.Checking.{found-more, member-here, module-here, ordered-fresh, ordered-names, ordered-there, entries-all, ready-here, steps-more, steps-most, trees-all}
+use Rattle.family_tables.proofs.Ordered.{found-more, member-here, module-here, ordered-fresh, ordered-names, ordered-there, entries-all, ready-here, steps-more, steps-most, trees-all}
 use Rattle.family_check.proofs.Kept.{again-grows, kept-grows, unkept}
 use Rattle.family_tables.specs.Tables.{entry_of}
 use Rattle.family_tables.proofs.Agreeing.{agreed-more}
