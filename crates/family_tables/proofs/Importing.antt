@@ -21,7 +21,7 @@ use Rattle.family_tables.specs.Plans as plans
 use Rattle.family_tables.specs.Plans.{IsPlan}
 use Rattle.family_tables.specs.Tables.{entry_of}
 use Rattle.family_tables.specs.Agreement.{AreFrom, IsFrom, found_face}
-use Rattle.family_tables.specs.Outcomes.{ImportsOnly, IsImport, IsOutcome, IsReady}
+use Rattle.family_tables.specs.Outcomes.{ImportsOnly, IsNeedTold, IsOutcome, IsReady, status_by}
 use Rattle.family_tables.specs.declared.order.Plan.{Plan}
 use Rattle.family_tables.specs.declared.outcome.Outcome.{Outcome}
 use Rattle.family_tables.specs.declared.outcome.Outcome.TheVariants as outcome
@@ -63,6 +63,10 @@ module _ (family : List Member) (plan : Plan) (outcomes : List (List ℕ × Outc
       let o : IsOutcome family need (outcome.Accepted face) = ready.found need (outcome.Accepted face) e in
       subst (λ g. IsGiven family name need g) (ap Accepted (sym o.says.1) ∙ sym is) (accepted (diagnosed-there family need o.found o.diagnosed) (not-cyclic f) o.diagnosed o.says.0)
 
+-- what is told of a need, by its outcome
+pub import-told : (plan : Plan) (outcomes : List (List ℕ × Outcome)) (name need : List ℕ) (answer : Bool) → SaysCyclic plan name need answer → (entries : List Entry) → IsPlan entries plan → plans.Needs entries name need → (status : ImportStatus) → status ≡ status_by answer (entry_of outcomes need) → IsNeedTold entries outcomes name need status
+import-told plan outcomes name need answer says entries planned needs status is = record { is_cyclic = answer; exactly = says entries planned needs; is = is }
+
 -- ---- imports that grow
 
 import-append : (imports : Imports) (name item : List ℕ) (import : Import) → import_of imports item ≡ None → import_of (imports ++ (item, import) ∷ []) name ≡ cond (bytes_eq name item) (Some import) (import_of imports name)
@@ -99,9 +103,9 @@ pub some-from : {T : Type 0} (o : Option (Bor T)) (b : Bool) (x : Option T) → 
 some-from None b x e f s = let k : false ≡ true = e ∙ ap not f in cc
 some-from (Some y) b x e f s = ap is_none (sym s)
 
--- what is given of some names
-abbrev pub AreGiven : List Member → List ℕ → List (List ℕ) → Imports → Type 0
-AreGiven family name needs imports = (need : List ℕ) → Contains needs need → IsGiven family name need (given_in imports need)
+-- what is said of the imports of some names
+abbrev pub AreGiven : (List ℕ → ImportStatus → Type 0) → List (List ℕ) → Imports → Type 0
+AreGiven Says needs imports = (need : List ℕ) → Contains needs need → Says need (given_in imports need)
 
 module _ (needs : List (List ℕ)) (i : ℕ) (d item : List ℕ) (l : i < length needs) (is : item ≡ get_or needs i d) (imports : Imports) where
   taken : take i needs ++ item ∷ [] ≡ take (i + 1) needs
@@ -111,20 +115,20 @@ module _ (needs : List (List ℕ)) (i : ℕ) (d item : List ℕ) (l : i < length
   item-needed = at-contains needs i item (slice_get-get_or needs i d l ∙ ap (λ x. Some x) (sym is))
 
   -- one more import
-  pub given-more : (family : List Member) (name : List ℕ) (import : Import) (imports' : Imports) → import_of imports item ≡ None → imports' ≡ imports ++ (item, import) ∷ [] → IsImport family name item import → AreGiven family name (take i needs) imports → AreGiven family name (take (i + 1) needs) imports'
-  given-more family name import imports' none e new given need c =
+  pub given-more : (Says : List ℕ → ImportStatus → Type 0) (import : Import) (imports' : Imports) → import_of imports item ≡ None → imports' ≡ imports ++ (item, import) ∷ [] → Says item (given_by (Some import)) → AreGiven Says (take i needs) imports → AreGiven Says (take (i + 1) needs) imports'
+  given-more Says import imports' none e new given need c =
       let value : import_of imports' need ≡ cond (bytes_eq need item) (Some import) (import_of imports need) = ap (λ z. import_of z need) e ∙ import-append imports need item import none in
       ⊎_elim
       (λ (t : bytes_eq need item ≡ true).
       let v : import_of imports' need ≡ Some import = value ∙ ap (λ b. cond b (Some import) (import_of imports need)) t in
-      subst (λ g. IsGiven family name need g) (ap given_by (sym v)) (subst (λ x. IsGiven family name x (given_by (Some import))) (sym (same-text need item t)) new))
+      subst (λ g. Says need g) (ap given_by (sym v)) (subst (λ x. Says x (given_by (Some import))) (sym (same-text need item t)) new))
       (λ (f : bytes_eq need item ≡ false).
       let v : import_of imports' need ≡ import_of imports need = value ∙ ap (λ b. cond b (Some import) (import_of imports need)) f in
       let before : Contains (take i needs) need = elim (contains-pushed (take i needs) item need (subst (λ ns. Contains ns need) (sym taken) c)) as (λ _. Contains (take i needs) need) [
         | inl b ↦ b
         | inr s ↦ let k : true ≡ false = sym (text-itself need item (sym s)) ∙ f in cc
       ] in
-      subst (λ g. IsGiven family name need g) (ap given_by (sym v)) (given need before))
+      subst (λ g. Says need g) (ap given_by (sym v)) (given need before))
       (cases_Bool (bytes_eq need item))
 
   pub others-more : (import : Import) (imports' : Imports) → import_of imports item ≡ None → imports' ≡ imports ++ (item, import) ∷ [] → ImportsOnly (take i needs) imports → ImportsOnly (take (i + 1) needs) imports'
@@ -138,10 +142,10 @@ module _ (needs : List (List ℕ)) (i : ℕ) (d item : List ℕ) (l : i < length
       (cases_Bool (bytes_eq need item))
 
   -- one that is there already
-  pub given-again : (family : List Member) (name : List ℕ) → is_none (import_of imports item) ≡ false → ImportsOnly (take i needs) imports → AreGiven family name (take i needs) imports → AreGiven family name (take (i + 1) needs) imports
-  given-again family name some others given need c = elim (contains-pushed (take i needs) item need (subst (λ ns. Contains ns need) (sym taken) c)) as (λ _. IsGiven family name need (given_in imports need)) [
+  pub given-again : (Says : List ℕ → ImportStatus → Type 0) → is_none (import_of imports item) ≡ false → ImportsOnly (take i needs) imports → AreGiven Says (take i needs) imports → AreGiven Says (take (i + 1) needs) imports
+  given-again Says some others given need c = elim (contains-pushed (take i needs) item need (subst (λ ns. Contains ns need) (sym taken) c)) as (λ _. Says need (given_in imports need)) [
     | inl b ↦ given need b
-    | inr s ↦ elim (among-or-not (take i needs) need) as (λ _. IsGiven family name need (given_in imports need)) [
+    | inr s ↦ elim (among-or-not (take i needs) need) as (λ _. Says need (given_in imports need)) [
       | inl b ↦ given need b
       | inr n ↦ let none : import_of imports item ≡ None = ap (import_of imports) s ∙ others need n in absurd (both_ways (is_none (import_of imports item)) some (ap is_none none))
     ]

@@ -1,11 +1,12 @@
 -- What is found of the modules of a family, one after another.
-use Rattle.std.specs.Prelude.{◌≡◌, ◌≢◌, ℕ, List, [], Option, Some, None, Contains, IsSome, true, sum_by}
+use Rattle.std.specs.Prelude.{◌≡◌, ◌≢◌, ◌↔◌, ℕ, Bool, true, false, List, [], Option, Some, None, Contains, IsSome, IsTrue, sum_by}
 use Rattle.std.specs.Arc.{arc_value}
 use Rattle.tla_model.specs.declared.Diagnostic.{Diagnostic}
 use Rattle.module_model.specs.declared.imported.Import.{Import}
 use Rattle.module_model.specs.Exports.{ModuleView, face_outside}
 use Rattle.module_model.specs.Imports.{Imports, import_of}
-use Rattle.module_facts.specs.Checks.{Unknown, given_by, given_in}
+use Rattle.module_facts.specs.Checks.{ImportStatus, Unknown, Cyclic, Refused, Accepted, given_by, given_in}
+use Rattle.index_graph.specs.Leading.{LeadsBack}
 use Rattle.family_facts.specs.Family as families
 use Rattle.family_facts.specs.Family.{Member, Diagnosed, IsDiagnosed, IsGiven, is_there}
 use Rattle.family_tables.specs.Modules.{Entry, IsModule, IsReading, tree_count}
@@ -54,6 +55,23 @@ pub record AreImports (family : List Member) (name : List ℕ) (needs : List (Li
 -- nothing else is imported
 abbrev pub ImportsOnly : List (List ℕ) → Imports → Type 0
 ImportsOnly needs imports = (need : List ℕ) → (Contains needs need → ⊥) → import_of imports need ≡ None
+
+-- what a module is by whether it is the one that needs it or reaches it, and by its outcome, if it has one
+abbrev pub status_by : Bool → Option Outcome → ImportStatus
+status_by true outcome = Cyclic
+status_by false None = Unknown
+status_by false (Some (Outcome.Refused faults)) = Refused
+status_by false (Some (Outcome.Accepted face)) = Accepted (face_outside (arc_value face))
+
+-- a module is so to the one that needs it
+pub record IsTold (IsCyclic : Type 0) (outcome : Option Outcome) (status : ImportStatus) : Type 0 where
+  pub is_cyclic : Bool
+  pub exactly : IsTrue is_cyclic ↔ IsCyclic
+  pub is : status ≡ status_by is_cyclic outcome
+
+-- so is the need of a name, by a plan of these modules
+abbrev pub IsNeedTold : List Entry → List (List ℕ × Outcome) → List ℕ → List ℕ → ImportStatus → Type 0
+IsNeedTold entries outcomes name need = IsTold (LeadsBack (plans.Needs entries) name need) (entry_of outcomes need)
 
 -- ---- outcomes
 

@@ -1,10 +1,15 @@
 // What the modules are that a module needs.
-ghost use Rattle.std.specs.Prelude.{◌≡◌, ℕ, List as ListOf, None, IfOk, Contains};
+ghost use Rattle.std.specs.Prelude.{◌≡◌, ℕ, List as ListOf, None, Some, IfOk, Contains};
 ghost use Rattle.family_facts.specs.Family as families;
 ghost use Rattle.family_facts.specs.Family.{Member};
 ghost use Rattle.family_tables.specs.Agreement.{AreAgreed, AreFrom, IsFrom};
-ghost use Rattle.family_tables.specs.Outcomes.{IsReady, IsImport, AreImports, ImportsOnly};
+ghost use Rattle.family_tables.specs.Modules.{Entry};
+ghost use Rattle.family_tables.specs.Outcomes.{IsReady, IsImport, IsNeedTold, AreImports};
+ghost use Rattle.family_tables.specs.Outcomes.{ImportsOnly};
+ghost use Rattle.family_tables.specs.Plans as plans;
+ghost use Rattle.family_tables.specs.Plans.{IsPlan};
 ghost use Rattle.family_tables.specs.Tables.{entry_of};
+ghost use Rattle.module_facts.specs.Checks.{given_by, given_in};
 ghost use Rattle.module_model.specs.Given.{AreFaces};
 
 use crate::order::Plan;
@@ -25,6 +30,10 @@ fn import_of(
     ensures given { (family : ListOf Member) → IsReady family plan.now outcomes.now name.now
         → families.Needs family name.now need.now
         → IfOk result (IsImport family name.now need.now) }
+    ensures told { (modules : ListOf Entry) → IsPlan modules plan.now
+        → plans.Needs modules name.now need.now
+        → IfOk result (λ import. IsNeedTold modules outcomes.now name.now need.now
+        (given_by (Some import))) }
     ensures from { IfOk result (IsFrom outcomes.now need.now) }
 {
     if plan.is_cyclic(alloc, name, need)? {
@@ -38,7 +47,7 @@ fn import_of(
 }
 
 /// The imports of a module that needs these modules, and of which nothing was found so far: each of them
-/// once. The faces are those that were found, and go together. `Memory` comes where there was no room.
+/// once, by its outcome, unless it is cyclic. The faces are those that were found, and go together. `Memory` comes where there was no room.
 pub fn imports_of(
     alloc: Global,
     plan: &Plan,
@@ -51,6 +60,10 @@ pub fn imports_of(
     ensures given { (family : ListOf Member) → IsReady family plan.now outcomes.now name.now
         → ((need : ListOf ℕ) → Contains needs.now need → families.Needs family name.now need)
         → IfOk result (AreImports family name.now needs.now) }
+    ensures told { (modules : ListOf Entry) → IsPlan modules plan.now
+        → ((need : ListOf ℕ) → Contains needs.now need → plans.Needs modules name.now need)
+        → IfOk result (λ imported. (need : ListOf ℕ) → Contains needs.now need
+        → IsNeedTold modules outcomes.now name.now need (given_in imported need)) }
     ensures from { IfOk result (AreFrom outcomes.now) }
     ensures only { IfOk result (ImportsOnly needs.now) }
     ensures faces { IfOk result (λ imported. AreFaces imported name.now) }
