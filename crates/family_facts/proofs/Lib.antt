@@ -5,5 +5,6 @@ pub mod OneVerdict
 pub mod Once
 pub mod Steps
 pub mod SomeVerdict
+pub mod States
 pub mod Values
 pub mod Saying

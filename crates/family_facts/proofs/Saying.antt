@@ -1,6 +1,6 @@
 -- The verdicts on files are what the function gives.
 use Rattle.std.proofs.Common.{◌≡◌, ℕ, List, [], ◌∷◌, refl, ap, ◌∙◌, subst, map, true}
-use Rattle.std.specs.Prelude.{Contains, length, not}
+use Rattle.std.specs.Prelude.{Contains, not}
 use Rattle.std.specs.List.{AllZip, filter}
 use Rattle.std.proofs.lemmas.List.Elements.{Contains-append_left}
 use Rattle.list_laws.proofs.Lists.{contains-map}

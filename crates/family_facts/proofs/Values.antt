@@ -1,129 +1,35 @@
 -- What is found of a module of a family is what the function of its texts gives.
-use Rattle.std.proofs.Common.{◌≡◌, ◌≢◌, ℕ, Bool, true, false, List, [], ◌∷◌, Option, Some, None, refl, sym, ap, ◌∙◌, subst, map, cond, inl, inr}
-use mathlib.Core.Path.{fun_ext}
-use Rattle.std.specs.Prelude.{◌||◌, Contains, unwrap_or}
-use Rattle.std.specs.Cmp.Lexicographic.{nat_list_cmp_total}
-use Rattle.std.specs.FinMap.{find, get, get-from_entries, keys}
-use Rattle.std.specs.Str.{bytes_eq}
-use Rattle.std.proofs.lemmas.Bool.{or_left}
-use Rattle.list_laws.proofs.Texts.{same-text, text-itself}
+use Rattle.std.proofs.Common.{◌≡◌, ◌≢◌, ℕ, true, List, [], ◌∷◌, refl, sym, ap, ◌∙◌}
+use Rattle.std.specs.Prelude.{Contains}
 use Rattle.tla_model.specs.declared.Diagnostic.{Diagnostic}
 use Rattle.module_model.specs.Bindings.{AreInOrder}
-use Rattle.module_model.specs.Exports.{ModuleView, nothing}
-use Rattle.tla_model.specs.Lexemes.{spelled}
+use Rattle.module_model.specs.Exports.{nothing}
 use Rattle.module_model.specs.Resolution.{outside_in}
 use Rattle.unit_grammar.specs.Units.{ModuleUnits}
-use Rattle.index_graph.specs.Leading.{Leads, last, more}
-use Rattle.module_graph.specs.Imports.{imports_of}
-use Rattle.front_laws.specs.Fronts.{Front, IsFront, Tree, Fault}
+use Rattle.front_laws.specs.Fronts.{IsFront, Tree, Fault}
 use Rattle.module_facts.specs.Checks.{ImportStatus, Unknown, Refused, Accepted, all_decls, all_faults, all_uses, files_given}
 use Rattle.module_facts.specs.Ordered.{in_order}
-use Rattle.fact_values.specs.Names.{Texts, has, name_cmp, name_eq}
-use Rattle.fact_values.specs.Reach.{IsPath}
-use Rattle.fact_values.specs.States.{State, no_text, cyclic, broken, fact}
+use Rattle.fact_values.specs.Names.{Texts}
+use Rattle.fact_values.specs.States.{State}
 use Rattle.fact_values.specs.Values as values
-use Rattle.fact_values.proofs.NameLemmas.{name_eq-same, or_cases, same_name}
-use Rattle.fact_values.proofs.ReachLemmas.{leads_from-path, reaches_from-leads}
-use Rattle.fact_values.proofs.ValueLemmas.{needs_in-none, value-step}
 use Rattle.family_facts.specs.Family as families
-use Rattle.family_facts.specs.Family.{Member, Needs, IsCyclic, Diagnosed, IsGiven, unknown, refused, accepted, IsDiagnosed, front_fault, checked, is_there}
+use Rattle.family_facts.specs.Family.{Member, Diagnosed, IsGiven, unknown, refused, accepted, IsDiagnosed, front_fault, checked, is_there}
 use Rattle.family_facts.specs.Fronts.{front_of}
-use Rattle.family_facts.specs.Facts.{own_of, needs_by, needs_of, fact_of, given_by_faults, given_by_state, given_by_states, diagnosed_by, state_of, diagnosed_text, diagnosed, texts_of}
-use Rattle.family_facts.proofs.Lists.{behind, first-or-rest, here, none-there}
-use Rattle.family_facts.proofs.Members.{AreOneEach, member-there, there-member}
-use Rattle.family_facts.proofs.OneVerdict.{HasNoOther, needs-or-not, needs-tree, not-there, tree-needs}
-use Rattle.family_facts.proofs.FrontLaws.{front-is}
+use Rattle.family_facts.specs.Facts.{own_of, needs_of, fact_of, given_by_faults, given_by_state, given_by_states, diagnosed_by, diagnosed_text, diagnosed, texts_of}
+use Rattle.family_facts.proofs.Members.{AreOneEach, member-there}
+use Rattle.family_facts.proofs.OneVerdict.{HasNoOther}
+use Rattle.family_facts.proofs.States.{front-one, given-is, gives, gives-accepted, gives-cyclic, gives-refused, gives-unknown, text-of-member}
 
--- ---- names in lists
-
-contains-has : (names : List (List ℕ)) (name : List ℕ) → Contains names name → has names name ≡ true
-contains-has [] name h = absurd (none-there name h)
-contains-has (x ∷ xs) name h = elim (first-or-rest x xs name h) as (λ _. has (x ∷ xs) name ≡ true) [
-  | inl e ↦ or_left (name_eq name x) (has xs name) (name_eq-same name x (sym e))
-  | inr k ↦ either (name_eq name x) (has xs name) (contains-has xs name k)
-]
+refused-by : (d : Diagnosed) → d.faults ≢ [] → given_by_faults d.faults d.outside ≡ Refused
+refused-by d some = by d.faults some
   where
-    either : (a b : Bool) → b ≡ true → (a || b) ≡ true
-    either true b e = refl
-    either false b e = e
+    by : (faults : List Diagnostic) → faults ≢ [] → given_by_faults faults d.outside ≡ Refused
+    by [] some = absurd (some refl)
+    by (fault ∷ faults) some = refl
 
-has-contains : (names : List (List ℕ)) (name : List ℕ) → has names name ≡ true → Contains names name
-has-contains [] name h = cc
-has-contains (x ∷ xs) name h = elim (or_cases (name_eq name x) (has xs name) h) as (λ _. Contains (x ∷ xs) name) [
-  | inl e ↦ subst (λ z. Contains (x ∷ xs) z) (sym (same_name name x e)) (here x xs)
-  | inr k ↦ behind x xs name (has-contains xs name k)
-]
-
--- ---- the texts of a family
-
-module _ (family : List Member) (distinct : AreOneEach family) where
-  found-first : (ms : List Member) (m : Member) → ((x : Member) → Contains ms x → Contains family x) → Contains ms m → find name_cmp m.name (map (λ (x : Member). (x.name, x.bytes)) ms) ≡ Some m.bytes
-  found-first [] m of h = absurd (none-there m h)
-  found-first (x ∷ xs) m of h = by (λ k. found-first xs m (λ y at. of y (behind x xs y at)) k) (name_eq m.name x.name) refl
-    where
-      by : (Contains xs m → find name_cmp m.name (map (λ (y : Member). (y.name, y.bytes)) xs) ≡ Some m.bytes) → (b : Bool) → name_eq m.name x.name ≡ b → cond b (Some x.bytes) (find name_cmp m.name (map (λ (y : Member). (y.name, y.bytes)) xs)) ≡ Some m.bytes
-      by rest true t = let same : x ≡ m = distinct x m (of x (here x xs)) (of m h) (sym (same_name m.name x.name t)) in ap (λ (y : Member). Some y.bytes) same
-      by rest false f = elim (first-or-rest x xs m h) as (λ _. find name_cmp m.name (map (λ (y : Member). (y.name, y.bytes)) xs) ≡ Some m.bytes) [
-        | inl e ↦ let t : name_eq m.name x.name ≡ true = name_eq-same m.name x.name (ap (λ (y : Member). y.name) (sym e)) in let k : true ≡ false = sym t ∙ f in cc
-        | inr k ↦ rest k
-      ]
-
-  -- each member's text is there
-  pub text-of-member : (m : Member) → Contains family m → get (texts_of family) m.name ≡ Some m.bytes
-  text-of-member m h = get-from_entries nat_list_cmp_total (map (λ (x : Member). (x.name, x.bytes)) family) m.name ∙ found-first family m (λ x at. at) h
-
--- a text that is there is that of a member
-record IsTextOf (ms : List Member) (name bytes : List ℕ) : Type 0 where
-  member : Member
-  there : Contains ms member
-  named : member.name ≡ name
-  is : member.bytes ≡ bytes
-
-found-member : (ms : List Member) (name bytes : List ℕ) → find name_cmp name (map (λ (x : Member). (x.name, x.bytes)) ms) ≡ Some bytes → IsTextOf ms name bytes
-found-member [] name bytes e = cc
-found-member (x ∷ xs) name bytes e = by (λ k. found-member xs name bytes k) (name_eq name x.name) refl e
-  where
-    by : (find name_cmp name (map (λ (y : Member). (y.name, y.bytes)) xs) ≡ Some bytes → IsTextOf xs name bytes) → (b : Bool) → name_eq name x.name ≡ b → cond b (Some x.bytes) (find name_cmp name (map (λ (y : Member). (y.name, y.bytes)) xs)) ≡ Some bytes → IsTextOf (x ∷ xs) name bytes
-    by rest true t k = record { member = x; there = here x xs; named = sym (same_name name x.name t); is = cc }
-    by rest false f k = let r = rest k in record { member = r.member; there = behind x xs r.member r.there; named = r.named; is = r.is }
-
-text-member : (family : List Member) (name bytes : List ℕ) → get (texts_of family) name ≡ Some bytes → IsTextOf family name bytes
-text-member family name bytes e = found-member family name bytes (sym (get-from_entries nat_list_cmp_total (map (λ (x : Member). (x.name, x.bytes)) family) name) ∙ e)
-
-no-text : (family : List Member) (name : List ℕ) → is_there family name ≡ false → get (texts_of family) name ≡ None
-no-text family name f = by (get (texts_of family) name) refl
-  where
-    by : (o : Option (List ℕ)) → get (texts_of family) name ≡ o → o ≡ None
-    by None e = refl
-    by (Some bytes) e = let m = text-member family name bytes e in absurd (not-there f (member-there family name m.member m.there m.named))
-
--- ---- what needs give
-
-module _ (gives : List ℕ → State Diagnosed) where
-  -- a need is what it gives
-  pub need-given : (needs : List (List ℕ)) (need : List ℕ) → Contains needs need → given_by_states (map (λ n. (n, gives n)) needs) need ≡ given_by_state (gives need)
-  need-given [] need h = absurd (none-there need h)
-  need-given (x ∷ xs) need h = by (λ k. need-given xs need k) (bytes_eq need x) refl
-    where
-      by : (Contains xs need → given_by_states (map (λ n. (n, gives n)) xs) need ≡ given_by_state (gives need)) → (b : Bool) → bytes_eq need x ≡ b → cond b (given_by_state (gives x)) (given_by_states (map (λ n. (n, gives n)) xs) need) ≡ given_by_state (gives need)
-      by rest true t = ap (λ n. given_by_state (gives n)) (sym (same-text need x t))
-      by rest false f = elim (first-or-rest x xs need h) as (λ _. given_by_states (map (λ n. (n, gives n)) xs) need ≡ given_by_state (gives need)) [
-        | inl e ↦ let k : true ≡ false = sym (text-itself need x (sym e)) ∙ f in cc
-        | inr k ↦ rest k
-      ]
-
-  -- and nothing else is known
-  pub no-need-given : (needs : List (List ℕ)) (need : List ℕ) → (Contains needs need → ⊥) → given_by_states (map (λ n. (n, gives n)) needs) need ≡ Unknown
-  no-need-given [] need none = refl
-  no-need-given (x ∷ xs) need none = by (no-need-given xs need (λ k. none (behind x xs need k))) (bytes_eq need x) refl
-    where
-      by : given_by_states (map (λ n. (n, gives n)) xs) need ≡ Unknown → (b : Bool) → bytes_eq need x ≡ b → cond b (given_by_state (gives x)) (given_by_states (map (λ n. (n, gives n)) xs) need) ≡ Unknown
-      by rest true t = absurd (none (subst (λ z. Contains (x ∷ xs) z) (sym (same-text need x t)) (here x xs)))
-      by rest false f = rest
-
-refused-by : (faults : List Diagnostic) (outside : ModuleView) → faults ≢ [] → given_by_faults faults outside ≡ Refused
-refused-by [] outside some = absurd (some refl)
-refused-by (fault ∷ faults) outside some = refl
+-- a module with a front fault has faults
+faulty : (name bytes : List ℕ) (given : List (List ℕ × State Diagnosed)) (fault : Diagnostic) → front_of name bytes ≡ Fault fault → (fact_of name (own_of name bytes) given).faults ≢ []
+faulty name bytes given fault e none = let k : fault ∷ [] ≡ [] = sym (ap (λ f. (diagnosed_by bytes f (given_by_states given)).faults) e) ∙ none in cc
 
 -- ---- the functions meet the relations
 
@@ -131,168 +37,50 @@ module _ (one : HasNoOther) (order : (all found : List Diagnostic) → AreInOrde
   abbrev texts : Texts
   texts = texts_of family
 
-  needs : List ℕ → List (List ℕ)
-  needs = values.needs_in own_of needs_of fact_of texts
-
-  front-one : (m : Member) (f : Front) → IsFront m.name m.bytes f → front_of m.name m.bytes ≡ f
-  front-one m f is = one m.name m.bytes (front_of m.name m.bytes) f (front-is m.name m.bytes) is
-
-  needs-of-member : (m : Member) → Contains family m → needs m.name ≡ values.needs_of_text own_of needs_of fact_of m.name (Some m.bytes)
-  unfolding needs
-  needs-of-member m h = ap (values.needs_of_text own_of needs_of fact_of m.name) (text-of-member family distinct m h)
-
-  needs-of-tree : (m : Member) (found : ModuleUnits) → Contains family m → IsFront m.name m.bytes (Tree found) → needs m.name ≡ map (spelled m.bytes) (imports_of m.bytes found)
-  needs-of-tree m found h is = needs-of-member m h ∙ ap (λ f. unwrap_or (needs_by m.bytes f) []) (front-one m (Tree found) is)
-
-  -- one name needs another by the texts exactly where it does by the family
-  need-in : (name need : List ℕ) → Needs family name need → has (needs name) need ≡ true
-  need-in name need n =
-      subst (λ z. has (needs z) need ≡ true) n.named
-      (ap (λ ns. has ns need) (needs-of-tree n.member n.found n.there n.front) ∙ contains-has (map (spelled n.member.bytes) (imports_of n.member.bytes n.found)) need n.needs)
-
-  need-by-front : (m : Member) (need : List ℕ) → Contains family m → (f : Front) → front_of m.name m.bytes ≡ f → has (unwrap_or (needs_by m.bytes f) []) need ≡ true → Needs family m.name need
-  need-by-front m need h (Tree found) e has-need =
-      record { member = m; found = found; there = h; named = refl; front = subst (λ f. IsFront m.name m.bytes f) e (front-is m.name m.bytes); needs = has-contains (map (spelled m.bytes) (imports_of m.bytes found)) need has-need }
-  need-by-front m need h (Fault fault) e has-need = cc
-
-  need-of-text : (name need : List ℕ) (o : Option (List ℕ)) → get texts name ≡ o → has (values.needs_of_text own_of needs_of fact_of name o) need ≡ true → Needs family name need
-  need-of-text name need None e h = cc
-  need-of-text name need (Some bytes) e h =
-      let t = text-member family name bytes e in
-      let own : has (unwrap_or (needs_by t.member.bytes (front_of t.member.name t.member.bytes)) []) need ≡ true = subst (λ b. has (unwrap_or (needs_by b (front_of t.member.name b)) []) need ≡ true) (sym t.is) (subst (λ n. has (unwrap_or (needs_by bytes (front_of n bytes)) []) need ≡ true) (sym t.named) h) in
-      subst (λ z. Needs family z need) t.named (need-by-front t.member need t.there (front_of t.member.name t.member.bytes) refl own)
-
-  need-out : (name need : List ℕ) → has (needs name) need ≡ true → Needs family name need
-  unfolding needs
-  need-out name need h = need-of-text name need (get texts name) refl h
-
-  -- ---- cycles
-
-  path-of : {a b : List ℕ} → Leads (families.Needs family) a b → (xs : List (List ℕ)) × IsPath needs a xs b
-  path-of (last {a = a} {b = b} n) = (b ∷ [], (need-in a b n, refl))
-  path-of (more {a = a} {b = b} n rest) = let p = path-of rest in (b ∷ p.0, (need-in a b n, p.1))
-
-  cyclic-path : (name need : List ℕ) → IsCyclic family name need → (xs : List (List ℕ)) × IsPath needs need xs name
-  cyclic-path name need (inl e) = ([], e)
-  cyclic-path name need (inr r) = path-of r
-
-  leads-path : (a x : List ℕ) (xs : List (List ℕ)) (b : List ℕ) → has (needs a) x ≡ true → IsPath needs x xs b → Leads (families.Needs family) a b
-  leads-path a x [] b h e = last (subst (λ z. Needs family a z) e (need-out a x h))
-  leads-path a x (y ∷ ys) b h p = more (need-out a x h) (leads-path x y ys b p.0 p.1)
-
-  path-cyclic : (name need : List ℕ) (xs : List (List ℕ)) → IsPath needs need xs name → IsCyclic family name need
-  path-cyclic name need [] e = inl e
-  path-cyclic name need (x ∷ xs) p = inr (leads-path need x xs name p.0 p.1)
-
-  reaches-cyclic : (name need : List ℕ) → IsCyclic family name need → values.reaches own_of needs_of fact_of texts need name ≡ true
-  unfolding needs
-  reaches-cyclic name need c = let p = cyclic-path name need c in leads_from-path needs (keys texts) (needs_in-none own_of needs_of fact_of texts) p.0 need name p.1
-
-  cyclic-reaches : (name need : List ℕ) → values.reaches own_of needs_of fact_of texts need name ≡ true → IsCyclic family name need
-  unfolding needs
-  cyclic-reaches name need r = let p = reaches_from-leads needs (keys texts) need name r in path-cyclic name need p.0 p.1
-
-  -- a name that is not there is on no cycle with one that is
-  never-cyclic : (name need : List ℕ) → is_there family name ≡ true → is_there family need ≡ false → IsCyclic family name need → ⊥
-  never-cyclic name need t f (inl e) = not-there f (subst (λ z. is_there family z ≡ true) (sym e) t)
-  never-cyclic name need t f (inr (last n)) = not-there f (member-there family need n.member n.there n.named)
-  never-cyclic name need t f (inr (more n rest)) = not-there f (member-there family need n.member n.there n.named)
-
-  -- ---- states
-
-  state : List ℕ → State Diagnosed
-  state = state_of texts
-
-  gives : List ℕ → List ℕ → State Diagnosed
-  gives = values.gives own_of needs_of fact_of texts state
-
-  data HasState (name : List ℕ) : Type 0 where
-    broken-state : state name ≡ broken → (diagnosed texts name).faults ≢ [] → HasState name
-    fact-state : state name ≡ fact (diagnosed texts name) → HasState name
-
-  state-of-member : (m : Member) → Contains family m → state m.name ≡ values.value_of_needs own_of needs_of fact_of texts state m.name (own_of m.name m.bytes) (needs_by m.bytes (front_of m.name m.bytes))
-  unfolding state
-  state-of-member m h = value-step own_of needs_of fact_of texts m.name ∙ ap (λ t. values.value_of_text own_of needs_of fact_of texts (state_of texts) m.name t) (text-of-member family distinct m h)
-
   diagnosed-of-member : (m : Member) → Contains family m → diagnosed texts m.name ≡ diagnosed_by m.bytes (front_of m.name m.bytes) (given_by_states (values.given_in own_of needs_of fact_of texts m.name))
   diagnosed-of-member m h = ap (diagnosed_text texts m.name) (text-of-member family distinct m h)
 
-  given-of-tree : (m : Member) (found : ModuleUnits) → Contains family m → front_of m.name m.bytes ≡ Tree found → values.given_in own_of needs_of fact_of texts m.name ≡ map (λ need. (need, gives m.name need)) (map (spelled m.bytes) (imports_of m.bytes found))
-  unfolding needs gives state
-  given-of-tree m found h e = ap (λ ns. values.all_given own_of needs_of fact_of texts (state_of texts) m.name ns) (needs-of-member m h ∙ ap (λ f. unwrap_or (needs_by m.bytes f) []) e)
+  -- what a need gives to a name, by its state
+  abbrev given : List ℕ → List ℕ → ImportStatus
+  given name need = given_by_state (gives fact_of one family distinct name need)
 
-  no-faults : (fault : Diagnostic) (d : Diagnosed) → d ≡ record { faults = fault ∷ []; uses = []; decls = []; outside = nothing } → d.faults ≢ []
-  no-faults fault d e none = let k : fault ∷ [] ≡ [] = sym (ap (λ (x : Diagnosed). x.faults) e) ∙ none in cc
+  given-refused : (name need : List ℕ) (d : Diagnosed) → (families.IsCyclic family name need → ⊥) → is_there family need ≡ true → d ≡ diagnosed texts need → d.faults ≢ [] → Refused ≡ given name need
+  given-refused name need d ordered t is some =
+      sym (gives-refused fact_of one family distinct (λ (x : Diagnosed). x.faults) (diagnosed texts) diagnosed-of-member faulty given_by_state Refused refl refused-by name need ordered t
+      (λ none. some (ap (λ (x : Diagnosed). x.faults) is ∙ none)))
 
-  by-front : (m : Member) → Contains family m → (f : Front) → front_of m.name m.bytes ≡ f → HasState m.name
-  unfolding gives state
-  by-front m h (Tree found) e = fact-state
-      (state-of-member m h
-      ∙ ap (λ f. values.value_of_needs own_of needs_of fact_of texts state m.name (own_of m.name m.bytes) (needs_by m.bytes f)) e
-      ∙ ap (λ g. fact (diagnosed_by m.bytes (front_of m.name m.bytes) (given_by_states g))) (sym (given-of-tree m found h e))
-      ∙ ap fact (sym (diagnosed-of-member m h)))
-  by-front m h (Fault fault) e = broken-state
-      (state-of-member m h ∙ ap (λ f. values.value_of_needs own_of needs_of fact_of texts state m.name (own_of m.name m.bytes) (needs_by m.bytes f)) e)
-      (no-faults fault (diagnosed texts m.name) (diagnosed-of-member m h ∙ ap (λ f. diagnosed_by m.bytes f (given_by_states (values.given_in own_of needs_of fact_of texts m.name))) e))
-
-  has-state : (name : List ℕ) → is_there family name ≡ true → HasState name
-  has-state name t = let m = there-member family name t in subst HasState m.2 (by-front m.0 m.1 (front_of m.0.name m.0.bytes) refl)
-
-  state-unknown : (name : List ℕ) → is_there family name ≡ false → state name ≡ no_text
-  unfolding state
-  state-unknown name f = value-step own_of needs_of fact_of texts name ∙ ap (λ t. values.value_of_text own_of needs_of fact_of texts (state_of texts) name t) (no-text family name f)
-
-  -- what a need gives that is on no cycle is its state
-  gives-state : (name need : List ℕ) → (IsCyclic family name need → ⊥) → gives name need ≡ state need
-  unfolding gives
-  gives-state name need ordered = by (values.reaches own_of needs_of fact_of texts need name) refl
-    where
-      by : (b : Bool) → values.reaches own_of needs_of fact_of texts need name ≡ b → cond b cyclic (state need) ≡ state need
-      by true r = absurd (ordered (cyclic-reaches name need r))
-      by false r = refl
-
-  gives-cyclic : (name need : List ℕ) → IsCyclic family name need → gives name need ≡ cyclic
-  unfolding gives
-  gives-cyclic name need c = ap (λ b. cond b cyclic (state need)) (reaches-cyclic name need c)
-
-  given-refused : (need : List ℕ) (d : Diagnosed) → HasState need → d ≡ diagnosed texts need → d.faults ≢ [] → Refused ≡ given_by_state (state need)
-  given-refused need d (broken-state e some) is has-faults = ap given_by_state (sym e)
-  given-refused need d (fact-state e) is has-faults = sym (refused-by d.faults d.outside has-faults) ∙ ap (λ (x : Diagnosed). given_by_faults x.faults x.outside) is ∙ ap given_by_state (sym e)
-
-  given-accepted : (need : List ℕ) (d : Diagnosed) → HasState need → d ≡ diagnosed texts need → d.faults ≡ [] → Accepted d.outside ≡ given_by_state (state need)
-  given-accepted need d (broken-state e some) is none = absurd (some (ap (λ (x : Diagnosed). x.faults) (sym is) ∙ none))
-  given-accepted need d (fact-state e) is none = ap (λ fs. given_by_faults fs d.outside) (sym none) ∙ ap (λ (x : Diagnosed). given_by_faults x.faults x.outside) is ∙ ap given_by_state (sym e)
+  given-accepted : (name need : List ℕ) (d : Diagnosed) → (families.IsCyclic family name need → ⊥) → is_there family need ≡ true → d ≡ diagnosed texts need → d.faults ≡ [] → Accepted d.outside ≡ given name need
+  given-accepted name need d ordered t is none =
+      ap (λ fs. given_by_faults fs d.outside) (sym none)
+      ∙ ap (λ (x : Diagnosed). given_by_faults x.faults x.outside) is
+      ∙ sym (gives-accepted fact_of one family distinct (λ (x : Diagnosed). x.faults) (diagnosed texts) diagnosed-of-member faulty given_by_state name need ordered t (ap (λ (x : Diagnosed). x.faults) (sym is) ∙ none))
 
   -- ---- what is found
 
   fault-meets : (m : Member) (fault : Diagnostic) → Contains family m → IsFront m.name m.bytes (Fault fault) → ◌≡◌ {A = Diagnosed} (record { faults = fault ∷ []; uses = []; decls = []; outside = nothing }) (diagnosed texts m.name)
-  fault-meets m fault h is = sym (diagnosed-of-member m h ∙ ap (λ f. diagnosed_by m.bytes f (given_by_states (values.given_in own_of needs_of fact_of texts m.name))) (front-one m (Fault fault) is))
+  fault-meets m fault h is = sym (diagnosed-of-member m h ∙ ap (λ f. diagnosed_by m.bytes f (given_by_states (values.given_in own_of needs_of fact_of texts m.name))) (front-one one m (Fault fault) is))
 
   tree-meets : (m : Member) (found : ModuleUnits) (given : List ℕ → ImportStatus) (faults : List Diagnostic) → Contains family m → IsFront m.name m.bytes (Tree found) → AreInOrder (all_faults given m.bytes found) faults →
-      given ≡ given_by_states (map (λ need. (need, gives m.name need)) (map (spelled m.bytes) (imports_of m.bytes found))) →
+      given ≡ given_by_states (values.given_in own_of needs_of fact_of texts m.name) →
       ◌≡◌ {A = Diagnosed} (record { faults = faults; uses = all_uses given m.bytes found; decls = all_decls given m.bytes found; outside = outside_in (files_given given) m.bytes found }) (diagnosed texts m.name)
   tree-meets m found given faults h is ordered same =
-      let front = front-one m (Tree found) is in
       let listed : faults ≡ in_order (all_faults given m.bytes found) = order (all_faults given m.bytes found) faults ordered in
       (λ i. record { faults = listed i; uses = all_uses given m.bytes found; decls = all_decls given m.bytes found; outside = outside_in (files_given given) m.bytes found })
-      ∙ ap (λ g. diagnosed_by m.bytes (Tree found) g) (same ∙ ap given_by_states (sym (given-of-tree m found h front)))
-      ∙ ap (λ f. diagnosed_by m.bytes f (given_by_states (values.given_in own_of needs_of fact_of texts m.name))) (sym front)
+      ∙ ap (λ g. diagnosed_by m.bytes (Tree found) g) same
+      ∙ ap (λ f. diagnosed_by m.bytes f (given_by_states (values.given_in own_of needs_of fact_of texts m.name))) (sym (front-one one m (Tree found) is))
       ∙ sym (diagnosed-of-member m h)
 
   mutual
-    given-meets : {name need : List ℕ} {given : ImportStatus} → is_there family name ≡ true → IsGiven family name need given → given ≡ given_by_state (gives name need)
-    given-meets {name} {need} t (unknown f) = ap given_by_state (sym (gives-state name need (never-cyclic name need t f) ∙ state-unknown need f))
-    given-meets {name} {need} t (families.cyclic u c) = ap given_by_state (sym (gives-cyclic name need c))
-    given-meets {name} {need} t (refused {d = d} u ordered is some) = given-refused need d (has-state need u) (found-meets is) some ∙ ap given_by_state (sym (gives-state name need ordered))
-    given-meets {name} {need} t (accepted {d = d} u ordered is none) = given-accepted need d (has-state need u) (found-meets is) none ∙ ap given_by_state (sym (gives-state name need ordered))
+    given-meets : {name need : List ℕ} {status : ImportStatus} → is_there family name ≡ true → IsGiven family name need status → status ≡ given name need
+    given-meets {name} {need} t (unknown f) = ap given_by_state (sym (gives-unknown fact_of one family distinct name need t f))
+    given-meets {name} {need} t (families.cyclic u c) = ap given_by_state (sym (gives-cyclic fact_of one family distinct name need c))
+    given-meets {name} {need} t (refused {d = d} u ordered is some) = given-refused name need d ordered u (found-meets is) some
+    given-meets {name} {need} t (accepted {d = d} u ordered is none) = given-accepted name need d ordered u (found-meets is) none
 
     -- what is found of a module is what the function gives
     pub found-meets : {name : List ℕ} {d : Diagnosed} → IsDiagnosed family name d → d ≡ diagnosed texts name
     found-meets (front_fault {member = m} {fault = fault} h is) = fault-meets m fault h is
-    found-meets (checked {member = m} {found = found} {given = given} {faults = faults} h is gives-each others ordered) =
-        let t : is_there family m.name ≡ true = member-there family m.name m h refl in
-        let ns = map (spelled m.bytes) (imports_of m.bytes found) in
-        tree-meets m found given faults h is ordered (fun_ext (λ need. elim (needs-or-not one family distinct m found need h is) as (λ _. given need ≡ given_by_states (map (λ n. (n, gives m.name n)) ns) need) [
-          | inl n ↦ given-meets t (gives-each need n) ∙ sym (need-given (gives m.name) ns need (needs-tree one family distinct m found m.name need h refl is n))
-          | inr n ↦ others need n ∙ sym (no-need-given (gives m.name) ns need (λ c. n (tree-needs one family distinct m found m.name need h refl is c)))
-        ]))
+    found-meets (checked {member = m} {found = found} {given = status} {faults = faults} h is gives-each others ordered) =
+        tree-meets m found status faults h is ordered
+        (given-is fact_of one family distinct given_by_states given_by_state Unknown (λ name. refl) (λ need needs name. refl) m found h is status
+        (λ need n. given-meets (member-there family m.name m h refl) (gives-each need n)) others)
