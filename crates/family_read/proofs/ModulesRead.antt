@@ -8,10 +8,9 @@ use Rattle.std.proofs.lemmas.List.{take_more, map-append, append-nil}
 use Rattle.std.proofs.lemmas.List.Folds.{list_any-append}
 use Rattle.std.proofs.lemmas.Option.{slice_get-get_or}
 use Rattle.tla_tree.specs.declared.unit.ModuleTree.{ModuleTree}
-use Rattle.tla_symbols.specs.declared.lexeme.Lexeme.{Lexeme}
 use Rattle.tla_model.specs.Entities.{declaring}
 use Rattle.tla_model.specs.Lexemes.{LexemesLie, spelled}
-use Rattle.front_laws.specs.Fronts.{Tree, IsFront, IsFrontOfLexemes, IsTree, whole, read}
+use Rattle.front_laws.specs.Fronts.{Tree, IsFront, IsTree}
 use Rattle.unit_grammar.specs.Units.{ModuleUnits}
 use Rattle.unit_grammar.specs.UnitNodes.{module_of}
 use Rattle.std_modules.specs.StdTexts.{std_text}
@@ -23,6 +22,7 @@ use Rattle.family_tables.specs.Modules.{Entry, IsEntry, IsModule, IsTreeOf, AreM
 use Rattle.family_tables.specs.Tables.{entry_of, names_in}
 use Rattle.family_tables.specs.declared.reading.Module.{Module}
 use Rattle.family_facts.specs.declared.verdict.File.{File}
+use Rattle.family_facts.proofs.FrontLaws.{front-named}
 use Rattle.family_facts.proofs.Lists.{contains-at, mapped, zip-right, zip-push}
 use Rattle.family_facts.proofs.Members.{member-there, there-member}
 use Rattle.family_facts.proofs.Once.{are_apart, is_apart, not-so}
@@ -30,12 +30,6 @@ use Rattle.family_tables.proofs.Tabling.{entry-found, entry-none, entry-some}
 use Rattle.family_tables.proofs.Indices.{at-taken, member-named, named-member}
 
 -- ---- trees
-
-front-of-lexemes-named : {name bytes : List ℕ} {lexemes : List Lexeme} {found : ModuleUnits} → IsFrontOfLexemes name bytes lexemes (Tree found) → spelled bytes found.name ≡ name
-front-of-lexemes-named (whole d low named) = named
-
-front-named : {name bytes : List ℕ} {found : ModuleUnits} → IsFront name bytes (Tree found) → spelled bytes found.name ≡ name
-front-named (read full few part front) = front-of-lexemes-named front
 
 -- a tree that was read is that of its bytes
 pub tree-of : (name bytes : List ℕ) (tree : ModuleTree) (found : ModuleUnits) → IsFront name bytes (Tree found) → IsTree tree found bytes → LexemesLie bytes (module_of tree) → length (declaring (module_of tree).units) < 2 ^ 32 → IsTreeOf name bytes tree
