@@ -1,0 +1,4 @@
+mod LevelTrees
+mod DeepTrees
+mod Units
+mod Standing
