@@ -2,3 +2,4 @@ mod LevelTrees
 mod DeepTrees
 mod Units
 mod Standing
+mod Samples
