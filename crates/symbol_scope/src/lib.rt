@@ -4,6 +4,8 @@
 //! them are refused.
 #![tactic(auto)]
 
+mod reading;
 mod resolution;
 
+pub use reading::{found_in, text_of, unread};
 pub use resolution::{Resolved, resolve};
