@@ -67,7 +67,8 @@ either-bool true = inr refl
 either-bool false = inl refl
 
 module _ (text : Text) (files : List ℕ → Outside) (words : List ℕ) where
-  own-alike : (state : KindState) (unit : UnitTree) (a b : Meaning) → same_standing a b ≡ true → is_own text files words state unit a ≡ is_own text files words state unit b
+  -- a unit has own names by what they mean
+  pub own-alike : (state : KindState) (unit : UnitTree) (a b : Meaning) → same_standing a b ≡ true → is_own text files words state unit a ≡ is_own text files words state unit b
   own-alike state (OperatorDefinition local x) a b same = among-alike (map (meant text) (definition x)) a b same
   own-alike state (FunctionDefinition local x) a b same = among-alike (map (meant text) (definition x)) a b same
   own-alike state (ModuleDefinition local x) a b same = among-alike (map (meant text) (definition x)) a b same
@@ -176,7 +177,7 @@ module _ (text : Text) (files : List ℕ → Outside) (words : List ℕ) where
   left-own state (ModuleEnd closing) m left = refl
 
   -- what is no definition is none of the names of units
-  none-own : (declares : Declarations) → ((title : List ℕ) → IsOutsideDeclared declares (files title)) → (state : KindState) (units : List UnitTree) (m : Meaning) → AreUnitsDeclared declares text units → KeepsDeclarations declares state → IsNoDefinition declares m → IsOfNone text files words state units m
+  pub none-own : (declares : Declarations) → ((title : List ℕ) → IsOutsideDeclared declares (files title)) → (state : KindState) (units : List UnitTree) (m : Meaning) → AreUnitsDeclared declares text units → KeepsDeclarations declares state → IsNoDefinition declares m → IsOfNone text files words state units m
   none-own declares all state [] m names keeps none = tt
   none-own declares all state (unit ∷ units) m names keeps none = (
     left-own state unit m (unit-leaves declares text files words all state unit m keeps.declared names.0 none),
