@@ -18,7 +18,7 @@ use Rattle.given_depths.specs.Own.{AreOwnApart, IsOfNone, IsOfOthers, with_own_d
 use Rattle.given_depths.proofs.Own.{file-kept, gives-own, symbols-kept}
 use Rattle.arranged_modules.specs.Files.{AreDeepFiles}
 use Rattle.arranged_modules.proofs.Along.{IsKnownDeep}
-use Rattle.arranged_modules.proofs.Others.{brought-others}
+use Rattle.given_modules.proofs.Others.{brought-others}
 
 -- with the depths of its own names, where no two units have the same and no other module has any
 pub known-deep : (flat : FlatModule) (declares : Declarations) (behinds : Behinds) (given : GivenDepths) (inside : List ℕ → Named → Stand) (files : List ℕ → FlatFace) (outsides : List ℕ → Outside) (name bytes : List ℕ) (units : ModuleUnits)

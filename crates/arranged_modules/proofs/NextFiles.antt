@@ -14,7 +14,8 @@ use Rattle.module_meanings.specs.Faces.{IsFaceWithin}
 use Rattle.module_meanings.proofs.Growing.{names-within}
 use Rattle.given_modules.specs.Good.{with_file}
 use Rattle.given_depths.specs.Given.{AreSymbolsPlain, GivenDepths, IsGivenOutside}
-use Rattle.arranged_modules.specs.Files.{AreDeepFiles, BringsOthers, IsDeepFace}
+use Rattle.given_modules.specs.Others.{BringsOthers}
+use Rattle.arranged_modules.specs.Files.{AreDeepFiles, IsDeepFace}
 
 module _ (flat more : FlatModule) (extends : Extends flat more) (ordered : IsOrdered flat) where
   -- a file leads as deep as it is in a flat module that has more

@@ -1,64 +1,33 @@
 -- A module brings no names of a module that it is not, and that has none in files.
-use Rattle.std.proofs.Common.{◌≡◌, ℕ, Bool, true, false, cond, List, [], ◌∷◌, ◌++◌, inl, Option, Some, None, is_some, refl, sym, ap, subst, map}
+use Rattle.std.proofs.Common.{◌≡◌, ℕ, false, List, [], ◌∷◌, inl, Some, None, is_some, sym, subst}
 use Rattle.std.specs.List.{AllByRecursion}
 use Rattle.std.specs.Str.{bytes_eq}
-use Rattle.std.proofs.lemmas.Bool.{and_parts}
-use Rattle.std.specs.Prelude.{not}
 use Rattle.list_laws.proofs.Lists.{all-both}
 use Rattle.tla_symbols.specs.declared.lexeme.Lexeme.{Lexeme}
 use Rattle.tla_tree.specs.declared.form.Form.TheVariants as Form
 use Rattle.tla_tree.specs.Syntax.{Tree, Node}
 use Rattle.unit_grammar.specs.Units.{UnitTree, Variables, Constants, OperatorDefinition, FunctionDefinition, ModuleDefinition, Instance, Assumption, Theorem, Line, ModuleBegin, ModuleEnd, ModuleUnits}
-use Rattle.tla_model.specs.declared.ids.Callee.{Callee}
 use Rattle.tla_model.specs.declared.ids.UnitId.{UnitId}
 use Rattle.tla_model.specs.declared.names.Binder.{Binder}
 use Rattle.tla_model.specs.declared.names.Meaning.TheVariants.{BuiltIn, Declared}
-use Rattle.tla_model.specs.Entities.{Meaning, Text, same_decl, same_meaning, same_units, variables}
+use Rattle.tla_model.specs.Entities.{Meaning, Text, variables}
 use Rattle.tla_model.specs.EntityKinds.{is_meant, stands_behind, stands_for_parameter}
 use Rattle.tla_model.specs.Lexemes.{spelled}
 use Rattle.tla_model.specs.Scopes.{definition}
 use Rattle.tla_model.specs.Tables.{Named}
-use Rattle.tla_model.proofs.Same.{callee-equal}
 use Rattle.module_scope.specs.Environments.{meaning}
-use Rattle.module_model.specs.Exports.{Exports, Known, ModuleView, exported, exports_by, exports_of, instantiable, parameters_in}
+use Rattle.module_model.specs.Exports.{Exports, Known, ModuleView, exported, exports_by, exports_of, instantiable}
 use Rattle.module_model.specs.Instances.{brought_entries, nested_view, through}
 use Rattle.module_model.specs.Modules.{Reading, begun_in, brings, constants, extended, extends_all, left, nested, text_of, unread}
 use Rattle.module_model.specs.NamedModules.{module_at, unit_of, view_of}
 use Rattle.module_model.specs.Resolution.{ReadState, after, first, instance_brings, last, module_named, outside_in, read_all, words_of}
-use Rattle.tree_kinds.specs.Standing.{is_bound, name_among, same_standing}
-use Rattle.flat_kinds.specs.Declarations.{declared_names}
 use Rattle.accepted_modules.specs.Named.{AllNamed}
 use Rattle.accepted_modules.proofs.Contexts.{brings-exported}
-use Rattle.accepted_modules.proofs.Holding.{AreOwn, HoldsPlace, HoldsReading, HoldsView, OfEntry, Own, added-known, declared-more, joined-more, module-says, nested-holds, nothing-holds, passed-hold}
+use Rattle.accepted_modules.proofs.Holding.{HoldsPlace, HoldsReading, HoldsView, OfEntry, Own, added-known, declared-more, joined-more, module-says, nested-holds, nothing-holds, passed-hold}
 use Rattle.accepted_modules.proofs.Tables.{all-passing, table-once}
-use Rattle.given_depths.specs.Own.{IsOfOthers}
-use Rattle.arranged_modules.specs.Files.{IsNamedOf}
+use Rattle.given_modules.specs.Others.{IsNamedOf}
 
 module _ (title : List ℕ) where
-  -- what means the same is of the same modules
-  others-alike : (a b : Meaning) → same_meaning a b ≡ true → IsOfOthers title b → IsOfOthers title a
-  others-alike BuiltIn b same is = tt
-  others-alike (Declared e a) BuiltIn same is = absurd (cc same)
-  others-alike (Declared e a) (Declared f b) same is =
-      let parts = and_parts (same_decl a.decl b.decl) (same_units a.via b.via) same in
-      let left : Callee = record { instance = 0; decl = a.decl; via = a.via } in
-      let right : Callee = record { instance = 0; decl = b.decl; via = b.via } in
-      let one : left ≡ right = callee-equal left right refl parts.0 parts.1 in
-      subst (λ (c : Callee). (bytes_eq c.decl.«module» title ≡ false) × AllByRecursion (λ (unit : UnitId). bytes_eq unit.«module» title ≡ false) c.via) (sym one) is
-
-  -- an entry that has this name stands for it
-  pub among-others : (entries : Exports) (m : Meaning) (name : Named) → AllByRecursion (OfEntry (IsNamedOf title)) entries → name_among entries m ≡ Some name → IsOfOthers title m
-  among-others [] m name all is = cc is
-  among-others (entry ∷ rest) m name all is = by (same_standing m entry.1) refl is (among-others rest m name all.1)
-    where
-      by : (b : Bool) → same_standing m entry.1 ≡ b → cond b (Some entry.0) (name_among rest m) ≡ Some name → (name_among rest m ≡ Some name → IsOfOthers title m) → IsOfOthers title m
-      by true same is later = others-alike m entry.1 (and_parts (same_meaning m entry.1) (cond (is_bound m) (is_bound entry.1) (not (is_bound entry.1))) same).0 all.0
-      by false same is later = later is
-
-  -- so are names that a module brings
-  pub brought-others : (view : ModuleView) (m : Meaning) (name : Named) → AllNamed (IsNamedOf title) view → name_among (instantiable (exported view)) m ≡ Some name → IsOfOthers title m
-  brought-others view m name is at = among-others (instantiable (exported view)) m name (all-passing (OfEntry (IsNamedOf title)) (λ (entry : Named × Meaning). is_meant stands_behind entry.1) (exported view) is.entries) at
-
   module _ (text : Text) (files : List ℕ → ModuleView) (words : List ℕ) (apart : bytes_eq text.file title ≡ false) (given : (name : List ℕ) → AllNamed (IsNamedOf title) (files name)) where
     -- what comes through an INSTANCE of the module is no more of that one
     through-others : (l : Lexeme) (name : Named) (m : Meaning) → IsNamedOf title name m → IsNamedOf title name (through (unit_of text words l) m)

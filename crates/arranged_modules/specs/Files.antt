@@ -12,9 +12,8 @@ use Rattle.flat_kinds.specs.Declarations.{Declarations}
 use Rattle.flattened_trees.specs.Agreeing.{TakesBehind, lead_by}
 use Rattle.flattened_trees.specs.Leads.{FlatFace}
 use Rattle.flattened_depths.specs.Rounds.{TakesParameters}
-use Rattle.accepted_modules.specs.Named.{AllNamed}
 use Rattle.given_depths.specs.Given.{AreSymbolsPlain, GivenDepths, IsGivenOutside}
-use Rattle.given_depths.specs.Own.{IsOfOthers}
+use Rattle.given_modules.specs.Others.{BringsOthers}
 
 -- the names of a module lead where these stand, as deep as outside of it, and take what it has behind an instance
 pub record IsDeepFace (flat : FlatModule) (inner : Named → Stand) (face : FlatFace) (outside : Outside) : Type 0 where
@@ -22,14 +21,6 @@ pub record IsDeepFace (flat : FlatModule) (inner : Named → Stand) (face : Flat
   pub deep : IsDeepModule flat inner outside
   pub parameters : (name : Named) → TakesParameters flat (inner name)
   pub takes : (name : Named) (next : Meaning) → entry_of (behind_instance outside.view []) name ≡ Some next → TakesBehind (inner name) (onward (behind_instance outside.view) name) next
-
--- a name is declared in another module than this, and came through INSTANCEs of others
-abbrev pub IsNamedOf : List ℕ → Named → Meaning → Type 0
-IsNamedOf title name meaning = IsOfOthers title meaning
-
--- so are all names of a module
-abbrev pub BringsOthers : List ℕ → Outside → Type 0
-BringsOthers title outside = AllNamed (IsNamedOf title) outside.view
 
 -- all files are so to the module of this title: their names lead where these stand, and are as deep as is given; none is of that module; and
 -- symbols have no depth

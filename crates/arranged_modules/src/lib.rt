@@ -28,9 +28,10 @@ ghost use Rattle.module_answers.specs.Deep.{IsDeepSo, IsModuleArranged};
 ghost use Rattle.readable_laws.specs.Uses.{implied_by, means_by};
 ghost use Rattle.accepted_modules.specs.Behind.{Behinds};
 ghost use Rattle.given_modules.specs.Good.{AreGoodFiles, IsFaultless, face_of, with_file};
+ghost use Rattle.given_modules.specs.Others.{BringsOthers};
 ghost use Rattle.given_depths.specs.Given.{GivenDepths, IsGivenOutside};
 ghost use Rattle.given_depths.specs.Own.{with_own_depths};
-ghost use Rattle.arranged_modules.specs.Files.{AreDeepFiles, BringsOthers, IsDeepFace};
+ghost use Rattle.arranged_modules.specs.Files.{AreDeepFiles, IsDeepFace};
 
 use flat_kinds::places_are_declared;
 use given_depths::{own_depths_are_given, own_names_are_apart};

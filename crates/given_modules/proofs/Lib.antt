@@ -18,8 +18,10 @@ mod NestedSymbols
 mod NestedUnits
 mod Quiet
 mod Standing
-mod Again
-mod Yielding
+pub mod Others
+mod OwnNames
 mod Declaring
 mod Steady
+mod Again
+mod Yielding
 mod NextFiles

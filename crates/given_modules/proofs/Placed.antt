@@ -1,10 +1,13 @@
 -- Symbols that units declare have places.
-use Rattle.std.proofs.Common.{◌≡◌, ℕ, List, [], ◌∷◌, ◌⊎◌, inl, inr, Some, refl, sym, ap, ◌∙◌, map}
+use Rattle.std.proofs.Common.{◌≡◌, ℕ, false, List, [], ◌∷◌, ◌⊎◌, inl, inr, Some, refl, sym, ap, ◌∙◌, map}
 use Rattle.std.specs.List.{AllByRecursion}
 use Rattle.tla_symbols.specs.declared.lexeme.Lexeme.{Lexeme}
+use Rattle.tla_model.specs.declared.entity.Entity.TheVariants as entity
 use Rattle.tla_model.specs.declared.names.Binder.{Binder}
 use Rattle.tla_model.specs.declared.names.Binding.TheVariants as as_binding
+use Rattle.tla_model.specs.declared.names.Meaning.TheVariants.{BuiltIn, Declared}
 use Rattle.tla_model.specs.Entities.{Meaning, Text, bound_as, meant, name_of, variables}
+use Rattle.tla_model.specs.EntityKinds.{is_meant, stands_behind}
 use Rattle.module_model.specs.Exports.{Exports, entry_of}
 use Rattle.flat_trees.specs.Layouts.{order_of}
 use Rattle.flattened_trees.specs.declared.End.TheVariants as end
@@ -15,6 +18,13 @@ use Rattle.module_meanings.specs.Premises.{SymbolsLead, symbol_leads}
 use Rattle.accepted_modules.proofs.Placed.{symbol-placed}
 use Rattle.accepted_modules.proofs.Symbols.{IsSymbol}
 use Rattle.accepted_modules.proofs.Tables.{entry-there}
+
+-- a symbol is no definition
+pub symbol-plain : (m : Meaning) → IsSymbol m → is_meant stands_behind m ≡ false
+symbol-plain BuiltIn symbol = absurd (cc symbol)
+symbol-plain (Declared (entity.Constant n) callee) symbol = refl
+symbol-plain (Declared entity.Variable callee) symbol = refl
+symbol-plain (Declared e callee) symbol = absurd (cc symbol)
 
 -- a name that has a place where symbols lead by themselves has it where they lead so
 pub lead-placed : (setting : Setting) (round : List Setting) (m : Meaning) → SymbolsLead setting round → IsPlaced (symbol_leads round setting.frame) m → IsPlaced setting.leads m

@@ -1,5 +1,5 @@
 -- What stands for names that mean the same is the same, where a module has defined or brought one of them.
-use Rattle.std.proofs.Common.{◌≡◌, ℕ, Bool, true, false, cond, List, [], ◌∷◌, ◌⊎◌, inl, inr, Option, Some, refl, sym, ap, ◌∙◌, map}
+use Rattle.std.proofs.Common.{◌≡◌, ℕ, Bool, true, false, cond, List, [], ◌∷◌, ◌⊎◌, inl, inr, Option, Some, None, refl, sym, ap, ◌∙◌, map}
 use Rattle.std.specs.Prelude.{◌||◌}
 use Rattle.tla_symbols.specs.declared.lexeme.Lexeme.{Lexeme}
 use Rattle.tla_tree.specs.Syntax.{Tree}
@@ -17,6 +17,15 @@ use Rattle.tree_kinds.specs.Standing.{Environment, Outside, Steps, Value, coming
 use Rattle.tree_kinds.proofs.Standings.{standing-alike}
 use Rattle.module_kinds.specs.ModuleKinds.{KindState, after, around, extended, known_at, named, named_in, views}
 use Rattle.flat_kinds.specs.Readings.{extended_entries, is_among}
+use Rattle.accepted_modules.proofs.Naming.{named-there}
+use Rattle.accepted_modules.proofs.Tables.{IsThere}
+
+-- ---- entries
+
+-- an entry stands among these under some name
+pub among-there : (entries : Exports) (name : Named) (m : Meaning) → IsThere entries name m → (found : Option Named) → name_among entries m ≡ found → (n : Named) × (name_among entries m ≡ Some n)
+among-there entries name m there (Some n) at = (n, at)
+among-there entries name m there None at = absurd (named-there entries name m there at)
 
 -- ---- environments
 
@@ -107,3 +116,9 @@ module _ (text : Text) (outsides : List ℕ → Outside) (words : List ℕ) wher
   pub module-alike : (state : KindState) (local : Option Lexeme) (x : Tree) (s : Meaning) → is_among (map (meant text) (definition x)) s ≡ true → StandsAlike (after text outsides words state (ModuleDefinition local x)) s
   module-alike state local x s is = λ m same parameters.
       values-new (state.standing parameters) (map (meant text) (definition x)) (defined_value text (known_at text outsides words state (ModuleDefinition local x)) (named text outsides words state) (around text outsides words state parameters) x) m s same is
+
+  -- of a name that an INSTANCE without a name brings
+  pub instance-alike : (state : KindState) (local : Option Lexeme) (x : Tree) (s : Meaning) (name : Named) → name_among (instance_brings text (views text outsides words) words state.read x) s ≡ Some name → StandsAlike (after text outsides words state (Instance local x)) s
+  instance-alike state local x s name is = λ m same parameters.
+      entries-new (state.standing parameters) (instance_brings text (views text outsides words) words state.read x)
+      (unguarded text (known_at text outsides words state (Instance local x)) (named text outsides words state) (around text outsides words state parameters) x) m s name same is

@@ -37,7 +37,6 @@ use Rattle.accepted_modules.specs.Offered.{IsOffered}
 use Rattle.accepted_modules.specs.States.{kinds_behind}
 use Rattle.accepted_modules.proofs.Contexts.{brings-exported, built-in-is}
 use Rattle.accepted_modules.proofs.Holding.{AreOwn, OfEntry, Own, added-known, found-known}
-use Rattle.accepted_modules.proofs.Naming.{named-there}
 use Rattle.accepted_modules.proofs.Tables.{IsThere, there-holds}
 use Rattle.accepted_modules.proofs.Views.{nested-same}
 use Rattle.steady_kinds.specs.Steady.{AgreeOn, AreAlike, BindsAll, IsOpen, IsSteady}
@@ -47,10 +46,9 @@ use Rattle.given_modules.proofs.Coming.{IsOneOf, declared-come}
 use Rattle.given_modules.proofs.Exported.{there-passes}
 use Rattle.given_modules.proofs.NestedExtending.{ComesFrom, extends-come, joined-come}
 use Rattle.given_modules.proofs.NestedSymbols.{AllHave, all-named, have-after, offered-named}
-use Rattle.given_modules.proofs.Placed.{constants-are, variables-are}
-use Rattle.given_modules.proofs.Standing.{BringOne}
+use Rattle.given_modules.proofs.Placed.{constants-are, symbol-plain, variables-are}
+use Rattle.given_modules.proofs.Standing.{BringOne, among-there}
 use Rattle.given_modules.proofs.Usable.{IsOne, IsUsable, behind-usable, exported-usable}
-use Rattle.given_modules.proofs.Yielding.{symbol-plain}
 
 -- ---- entries
 
@@ -61,9 +59,16 @@ entries-new : (a b : Environment) (entries : Exports) (from others : Steps → E
 entries-new a b entries from others m name e is =
     ap (λ found. coming from (a m) found) is ∙ (λ i arguments path. e i (record { name = name; arguments = arguments } ∷ path)) ∙ sym (ap (λ found. coming others (b m) found) is)
 
-among-there : (entries : Exports) (name : Named) (m : Meaning) → IsThere entries name m → (found : Option Named) → name_among entries m ≡ found → (n : Named) × (name_among entries m ≡ Some n)
-among-there entries name m there (Some n) at = (n, at)
-among-there entries name m there None at = absurd (named-there entries name m there at)
+-- INSTANCEs without a name of modules without parameters give what these do
+abbrev pub InstancesGive : (List ℕ → Outside) → List ℕ → ModuleUnits → Type 0
+InstancesGive outsides source units =
+    let text : Text = text_of source units in
+    let words : List ℕ = words_of units in
+    (before behind : List UnitTree) (local : Option Lexeme) (l : Lexeme) (at : Span) (parts : Trees) → units.units ≡ before ++ Instance local (Node (Form.Instance l) at parts) ∷ behind
+    → (named text outsides words (kinds_behind outsides source units before) (spelled source l)).view.parameters ≡ [] → (parameters : Environment) (path : Steps)
+    → unguarded text (known_at text outsides words (kinds_behind outsides source units before) (Instance local (Node (Form.Instance l) at parts))) (named text outsides words (kinds_behind outsides source units before)) (around text outsides words (kinds_behind outsides source units before) parameters)
+    (Node (Form.Instance l) at parts) path
+    ≡ (named text outsides words (kinds_behind outsides source units before) (spelled source l)).standing parameters path
 
 new-of : (text : Text) (bs : List Binder) (m : Meaning) → IsOneOf text bs m → IsNewOf text bs m
 new-of text [] m one = one
@@ -403,11 +408,7 @@ module _ (declares : Declarations) (outsides : List ℕ → Outside) (source : L
   steady-behind before behind split = all-steady [] before behind (first outsides source units) (record { split = split; same = refl }) first-steady
 
   -- an INSTANCE without a name of a module without parameters gives what the module does over the symbols here
-  pub instance-gives : (before behind : List UnitTree) (local : Option Lexeme) (l : Lexeme) (at : Span) (parts : Trees) → units.units ≡ before ++ Instance local (Node (Form.Instance l) at parts) ∷ behind
-      → (named text outsides words (kinds_behind outsides source units before) (spelled source l)).view.parameters ≡ [] → (parameters : Environment) (path : Steps)
-      → unguarded text (known_at text outsides words (kinds_behind outsides source units before) (Instance local (Node (Form.Instance l) at parts))) (named text outsides words (kinds_behind outsides source units before)) (around text outsides words (kinds_behind outsides source units before) parameters)
-      (Node (Form.Instance l) at parts) path
-      ≡ (named text outsides words (kinds_behind outsides source units before) (spelled source l)).standing parameters path
+  pub instance-gives : InstancesGive outsides source units
   instance-gives before behind local l at parts split none parameters path =
       let state : KindState = kinds_behind outsides source units before in
       let is = steady-behind before (Instance local (Node (Form.Instance l) at parts) ∷ behind) split in

@@ -1,4 +1,5 @@
 pub mod Fresh
 pub mod Good
 pub mod Nested
+pub mod Others
 pub mod Yielding

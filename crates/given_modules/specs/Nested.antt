@@ -14,11 +14,6 @@ use Rattle.flattened_trees.specs.Questions.{Question}
 use Rattle.flattened_units.specs.Units.{AreUnitsMade, IsModuleMade, Reader}
 use Rattle.module_meanings.specs.Premises.{IsBroughtGiven, first_seen, seen_behind}
 
--- a unit is no INSTANCE without a name
-abbrev pub HasNoInstance : UnitTree → Type 0
-HasNoInstance (Instance local x) = ⊥
-HasNoInstance unit = Unit {0}
-
 -- a unit that nested modules do not bring names by: a nested module that begins extends nothing, and an INSTANCE without a name stands in no
 -- nested module, by how many are round it
 abbrev pub IsQuiet : ℕ → UnitTree → Type 0

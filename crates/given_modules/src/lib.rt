@@ -5,7 +5,6 @@
 #![tactic(auto)]
 
 ghost use Rattle.std.specs.Prelude.{◌≡◌, ℕ, List, [], ◌∷◌, ◌++◌, Option};
-ghost use Rattle.std.specs.List.{AllByRecursion};
 ghost use Rattle.tla_symbols.specs.declared.lexeme.Lexeme.{Lexeme};
 ghost use Rattle.tla_symbols.specs.declared.lexeme.Span.{Span};
 ghost use Rattle.tla_tree.specs.declared.form.Form.TheVariants as Form;
@@ -38,7 +37,8 @@ ghost use Rattle.accepted_modules.specs.States.{kinds_behind};
 ghost use Rattle.given_modules.specs.Fresh.{IsModuleFresh};
 ghost use Rattle.given_modules.specs.Good.{AreGoodFiles, IsFaultless, IsGoodFile, face_of};
 ghost use Rattle.given_modules.specs.Good.{with_file};
-ghost use Rattle.given_modules.specs.Nested.{AreQuiet, HasNoInstance, IsModuleBringing};
+ghost use Rattle.given_modules.specs.Nested.{AreQuiet, IsModuleBringing};
+ghost use Rattle.given_modules.specs.Others.{BringsOthers};
 ghost use Rattle.given_modules.specs.Yielding.{with_own_yields};
 
 use accepted_modules::{
@@ -47,6 +47,7 @@ use accepted_modules::{
 };
 use flat_kinds::{names_come_again, places_are_declared};
 use fresh_names::declared_names_are_new;
+use given_depths::own_names_are_apart;
 use grammar_shapes::fronts_are_shaped;
 use lexeme_laws::{lexemes_are_held_once, names_begin_apart};
 use module_answers::module_levels_are_found;
@@ -92,9 +93,11 @@ pub fn faultless_modules_are_shaped()
 }
 
 /// Nothing is asked of what nested modules bring that extend nothing and have no INSTANCE without a
-/// name; nor of a module without nested ones. In a module that has no INSTANCE without a name at
-/// all, what nested modules bring is new, or stands as before: if it comes again from a file, it
-/// has what its declaration yields, as in all files; and a nested module brings what stands there.
+/// name; nor of a module without nested ones. And what nested modules bring is new, or stands as
+/// before, over files that are steady and bring names of other modules alone. If it comes again
+/// from a file, it has what its declaration yields, as in all files; a nested module brings what
+/// stands there; what an INSTANCE that replaces parameters brings is new; and another one brings
+/// what its module does where that is extended.
 pub fn nested_names_are_given()
     ensures nothing { (flat : FlatModule) (means : ℕ → Option Meaning) (implied : ℕ → List Meaning)
         (files : List ℕ → FlatFace) (outsides : List ℕ → Outside) (source : List ℕ)
@@ -110,8 +113,9 @@ pub fn nested_names_are_given()
         → AreGoodFiles flat declares behinds (text_of bytes units).file files outsides
         → IsFaultless declares outsides name bytes units
         → symbols ≡ symbols_of (outside outsides bytes units)
+        → ((title : List ℕ) → BringsOthers (text_of bytes units).file (outsides title))
         → ((title : List ℕ) → IsYielding yields (outsides title))
-        → AllByRecursion HasNoInstance units.units
+        → ((title : List ℕ) → IsSteady (IsOpen declares) (outsides title))
         → IsModuleBringing flat means implied files outsides bytes units symbols last asked made }
 {
     modules_come_steady();
@@ -119,6 +123,7 @@ pub fn nested_names_are_given()
     places_are_declared();
     declared_names_are_new();
     names_begin_apart();
+    own_names_are_apart();
 }
 
 /// A module without faults, over good files, is given as what its nodes mean asks, where what is
@@ -215,22 +220,23 @@ pub fn given_modules_are_good()
     brought_names_come();
 }
 
-/// A module without faults and without an INSTANCE without a name brings its names for what their
-/// declarations yield, if files do: its own for what stands for them in the end. Files without its
-/// names do so still.
+/// A module without faults brings its names for what their declarations yield, if files do, which
+/// are steady and bring names of other modules alone: its own, and those that came through its
+/// INSTANCEs, for what stands for them in the end. Files without such names do so still.
 pub fn declarations_yield_names()
     ensures itself { (yields : Yields) (flat : FlatModule) (declares : Declarations)
         (behinds : Behinds) (files : List ℕ → FlatFace) (outsides : List ℕ → Outside)
         (name bytes : List ℕ) (units : ModuleUnits)
         → AreGoodFiles flat declares behinds (text_of bytes units).file files outsides
         → IsFaultless declares outsides name bytes units
+        → ((title : List ℕ) → BringsOthers (text_of bytes units).file (outsides title))
         → ((title : List ℕ) → IsYielding yields (outsides title))
-        → AllByRecursion HasNoInstance units.units
+        → ((title : List ℕ) → IsSteady (IsOpen declares) (outsides title))
         → IsYielding
         (with_own_yields declares (text_of bytes units).file (last outsides bytes units) yields)
         (outside outsides bytes units) }
     ensures others { (yields : Yields) (declares : Declarations) (title : List ℕ)
-        (state : KindState) (named : Outside) → IsForeignView title named.view
+        (state : KindState) (named : Outside) → BringsOthers title named
         → IsYielding yields named
         → IsYielding (with_own_yields declares title state yields) named }
 {
@@ -239,6 +245,7 @@ pub fn declarations_yield_names()
     declared_names_are_new();
     names_begin_apart();
     names_come_again();
+    own_names_are_apart();
 }
 
 /// What a module without faults gives depends on what stands for names alone that are by their

@@ -12,8 +12,9 @@ use Rattle.arranged_modules.proofs.Along.{module-seen}
 use Rattle.arranged_modules.proofs.Itself.{itself-deep}
 use Rattle.arranged_modules.proofs.Known.{known-deep}
 use Rattle.arranged_modules.proofs.NextFiles.{face-grows, next-deep}
-use Rattle.arranged_modules.specs.Files.{IsNamedOf}
-use Rattle.arranged_modules.proofs.Others.{brought-others, outside-others}
+use Rattle.given_modules.specs.Others.{IsNamedOf}
+use Rattle.given_modules.proofs.Others.{brought-others}
+use Rattle.arranged_modules.proofs.Others.{outside-others}
 use Rattle.accepted_modules.proofs.Holding.{nothing-holds}
 use Rattle.arranged_modules.proofs.deep_modules_are_files.Goals as goal
 
