@@ -1,7 +1,6 @@
 -- What is known of the modules of a family, one after another: of each its names, what these give and how deep they are, with the face that
 -- a flat module has for it.
 use Rattle.std.specs.Prelude.{◌≡◌, ℕ, List, [], None}
-use Rattle.std.specs.List.{AllByRecursion}
 use Rattle.unit_grammar.specs.Units.{ModuleUnits}
 use Rattle.tla_model.specs.Entities.{Meaning}
 use Rattle.tla_model.specs.Scopes.{Finding}
@@ -23,11 +22,11 @@ use Rattle.flattened_units.specs.Units.{IsModuleMade, Reader}
 use Rattle.readable_laws.specs.Uses.{implied_by, means_by}
 use Rattle.accepted_modules.specs.Behind.{Behinds, IsForeignView, with_own}
 use Rattle.given_modules.specs.Good.{IsFaultless, IsGoodFile}
-use Rattle.given_modules.specs.Nested.{HasNoInstance}
+use Rattle.given_modules.specs.Others.{BringsOthers}
 use Rattle.given_modules.specs.Yielding.{with_own_yields}
 use Rattle.given_depths.specs.Given.{AreSymbolsPlain, GivenDepths, IsGivenOutside, no_reach}
 use Rattle.given_depths.specs.Own.{with_own_depths}
-use Rattle.arranged_modules.specs.Files.{BringsOthers, IsDeepFace}
+use Rattle.arranged_modules.specs.Files.{IsDeepFace}
 
 -- what is known of declarations: what stands behind each, what it yields, and how deep it is
 pub record Knowledge : Type 0 where
@@ -82,5 +81,4 @@ pub record IsMadeOver (declares : Declarations) (flat : FlatModule) (knowledge :
   pub known : AreKnownFiles declares flat knowledge files outsides
   pub foreign : (title : List ℕ) → IsForeignTo (text_of bytes units).file (outsides title)
   pub faultless : IsFaultless declares outsides name bytes units
-  pub plain : AllByRecursion HasNoInstance units.units
   pub same : symbols ≡ symbols_of (outside outsides bytes units)

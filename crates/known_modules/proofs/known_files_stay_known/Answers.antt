@@ -9,7 +9,7 @@ returns-clause-others c = λ declares flat knowledge outsides bytes units face f
     let title = (text_of bytes units).file in
     record {
       good = c.given_modules_are_good.ensures.others flat declares knowledge.behinds title (last outsides bytes units).read.known face file is.good foreign.0;
-      yielding = c.declarations_yield_names.ensures.others knowledge.yields declares title (last outsides bytes units) file foreign.0 is.yielding;
+      yielding = c.declarations_yield_names.ensures.others knowledge.yields declares title (last outsides bytes units) file foreign.1 is.yielding;
       steady = is.steady;
       inner = is.inner;
       deep = is.deep;

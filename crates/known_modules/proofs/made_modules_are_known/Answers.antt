@@ -14,7 +14,7 @@ returns-clause-itself c = λ declares flat knowledge files outsides name bytes u
     let leads = c.deep_modules_are_files.ensures.itself flat declares knowledge.behinds knowledge.depths inside files outsides name bytes units symbols final asked is.made is.ordered good deep is.faultless is.same given in
     record {
       good = c.given_modules_are_good.ensures.itself flat declares knowledge.behinds (means_by found) (implied_by found) files outsides name bytes units symbols final asked is.made is.ordered good is.faultless is.same given;
-      yielding = c.declarations_yield_names.ensures.itself knowledge.yields flat declares knowledge.behinds files outsides name bytes units good is.faultless (λ title. (is.known.each title).yielding) is.plain;
+      yielding = c.declarations_yield_names.ensures.itself knowledge.yields flat declares knowledge.behinds files outsides name bytes units good is.faultless (λ title. (is.foreign title).1) (λ title. (is.known.each title).yielding) (λ title. (is.known.each title).steady);
       steady = c.modules_are_steady.ensures.itself flat declares knowledge.behinds files outsides name bytes units good is.faultless (λ title. (is.known.each title).steady);
       inner = leads.0;
       deep = leads.1;
