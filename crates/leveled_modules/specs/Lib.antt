@@ -1,0 +1,2 @@
+pub mod Leveled
+pub mod Parts
