@@ -1,4 +1,3 @@
 mod Checking
 mod Kept
-mod Once
 mod Answering

@@ -8,3 +8,5 @@ pub mod Importing
 pub mod Agreeing
 pub mod Sums
 pub mod Ordered
+pub mod Once
+pub mod Read

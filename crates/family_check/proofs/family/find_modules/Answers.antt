@@ -1,7 +1,7 @@
 use Rattle.std.proofs.Common.{◌≤◌, ◌∙◌, ap, subst}
 use Rattle.family_facts.specs.Verdicts.{after_checks, family_of}
-use Rattle.family_check.proofs.Answering.{checks-are, modules-some}
-use Rattle.family_check.proofs.Once.{modules-once}
+use Rattle.family_tables.proofs.Once.{modules-once}
+use Rattle.family_tables.proofs.Read.{checks-are, modules-some}
 use Rattle.family_check.proofs.family.find_modules.Goals as goal
 
 pub plan_of-requires : goal.plan_of-requires
