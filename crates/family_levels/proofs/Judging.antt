@@ -1,0 +1,333 @@
+-- What is found of the next module is what the function of the texts gives, and the modules so far stay known with it.
+use Rattle.std.proofs.Common.{◌≡◌, ℕ, suc, true, List, [], ◌∷◌, ◌++◌, ◌⊎◌, inl, inr, Option, Some, None, is_some, refl, sym, ap, subst, ◌∙◌, map, length}
+use Rattle.std.specs.Prelude.{Contains}
+use Rattle.std.specs.Str.{bytes_eq}
+use Rattle.tla_model.specs.declared.Diagnostic.{Diagnostic}
+use Rattle.tla_model.specs.declared.entity.Use.{Use}
+use Rattle.tla_tree.specs.declared.unit.ModuleTree.{ModuleTree}
+use Rattle.unit_grammar.specs.UnitNodes.{module_of}
+use Rattle.unit_grammar.specs.Units.{ModuleUnits}
+use Rattle.front_laws.specs.Fronts.{IsFront, Tree}
+use Rattle.module_model.specs.Bindings.{AreInOrder, faults}
+use Rattle.module_model.specs.Exports.{ModuleView, face_outside}
+use Rattle.module_model.specs.Imports.{Imports, import_of}
+use Rattle.module_model.specs.Modules.{text_of}
+use Rattle.module_model.specs.Resolution.{findings, outside_in}
+use Rattle.arity_rules.specs.Arities.{arity_faults}
+use Rattle.module_facts.specs.Checks as names
+use Rattle.module_facts.specs.Checks.{CheckedModule, ImportStatus, facts_of, facts_told, files_given, given_in, name_faults, or_others, unless_any}
+use Rattle.module_model.specs.declared.face.Face.{Face}
+use Rattle.fact_values.specs.Names.{Texts}
+use Rattle.flattened_trees.specs.Answers.{level_answers}
+use Rattle.module_facts.specs.Ordered.{in_order}
+use Rattle.module_facts.proofs.Checked.{IsChecked, facts-checked}
+use Rattle.module_facts.proofs.Inserting.{in-order}
+use Rattle.kind_text.specs.FlatModule.{FlatModule, IsOrdered}
+use Rattle.tree_kinds.specs.Standing.{Outside}
+use Rattle.module_kinds.specs.ModuleKinds.{depth_faults, kind_faults, level_faults, or_levels, outside as module_outside, too_deep}
+use Rattle.flat_trees.specs.Instances.{symbols_of}
+use Rattle.flat_kinds.specs.Declarations.{HasPlaces}
+use Rattle.flattened_trees.specs.Leads.{FlatFace}
+use Rattle.flattened_units.specs.Units.{no_face}
+use Rattle.unit_flattener.specs.Numbers.{file_faces}
+use Rattle.module_leads.specs.Ways.{face_at}
+use Rattle.module_levels.specs.declared.levels.ModuleLevels.{ModuleLevels}
+use Rattle.module_levels.specs.declared.tables.LevelTables.{LevelTables}
+use Rattle.leveled_modules.specs.Leveled.{AreFilesOf, IsModuleLeveled, faces_by}
+use Rattle.known_modules.specs.Known.{IsForeignTo, IsKnownFile, IsMadeOver, Knowledge, with_own_knowledge}
+use Rattle.family_facts.specs.Facts.{texts_of}
+use Rattle.family_facts.specs.Family.{Member, is_there}
+use Rattle.family_facts.proofs.Members.{member-there}
+use Rattle.family_tables.specs.Outcomes.{ImportsOnly, IsMember, IsNeedTold, Matches}
+use Rattle.family_tables.specs.Tables.{entry_of}
+use Rattle.family_tables.specs.declared.order.Plan.{Plan}
+use Rattle.family_tables.specs.declared.outcome.Outcome.{Outcome}
+use Rattle.family_tables.specs.declared.outcome.Outcome.TheVariants as outcome
+use Rattle.family_tables.specs.declared.reading.Reading.TheVariants as reading
+use Rattle.leveled_facts.specs.Families.{declares, leveled}
+use Rattle.leveled_facts.specs.Modules.{Leveled, Status, all_faults, import_status, leveled_by, leveled_use, levels_by, outside_by}
+use Rattle.family_levels.specs.declared.«module».Found.{Found}
+use Rattle.family_levels.specs.Judging.{HasFace, HasFaults, IsFoundAccepted, IsFoundBy, IsFoundFrom, IsFoundRefused, IsJudged, IsJudgedFrom, IsLeveledOver}
+use Rattle.family_levels.specs.Leveling.{AreNumbers, HasNumber, IsNext, IsReady, faces_of}
+use Rattle.family_levels.specs.Numbers.{number_by}
+use Rattle.family_levels.proofs.Laws.{FamilyLaws, KnownLaws}
+use Rattle.family_levels.proofs.Statuses.{files-given, IsFileAbsent, IsFileThere, file-is, found-given, given as given_to, names-given, views-given}
+
+-- ---- faults
+
+-- faults in order are none where there are none
+none-ordered : FamilyLaws → (all : List Diagnostic) → in_order all ≡ [] → all ≡ []
+none-ordered laws all none = laws.none all (subst (AreInOrder all) none (in-order all))
+
+-- all faults of names are all faults, where there are some
+others-or : (all more : List Diagnostic) (fault : Diagnostic) (rest : List Diagnostic) → in_order all ≡ fault ∷ rest → or_others all more ≡ all
+others-or [] more fault rest some = cc
+others-or (one ∷ all) more fault rest some = refl
+
+-- of faults of names, those of imports and the others
+record AreNone (imports others : List Diagnostic) : Type 0 where
+  first : imports ≡ []
+  second : others ≡ []
+
+none-both : (a b : List Diagnostic) → or_others a b ≡ [] → AreNone a b
+none-both [] b none = record { first = refl; second = none }
+none-both (fault ∷ a) b none = cc
+
+none-left : (a b : List Diagnostic) → a ++ b ≡ [] → AreNone a b
+none-left [] b none = record { first = refl; second = none }
+none-left (fault ∷ a) b none = cc
+
+-- the uses of a module with faults are not shown
+pub unshown : (uses : List Use) (faults : List Diagnostic) (fault : Diagnostic) (rest : List Diagnostic) → faults ≡ fault ∷ rest → length (unless_any faults uses) ≡ 0
+unshown uses faults fault rest is = ap (λ fs. length (unless_any fs uses)) is
+
+length-mapped : (f : Use → Use) (uses : List Use) → length (map f uses) ≡ length uses
+length-mapped f [] = refl
+length-mapped f (u ∷ uses) = ap suc (length-mapped f uses)
+
+-- an outcome with these faults says so
+pub refused-says : (Are : List Diagnostic → Type 0) (o : outcome.the_data) (faults : List Diagnostic) (view : ModuleView) (fault : Diagnostic) (rest : List Diagnostic) → ((all : List Diagnostic) → Are all → all ≡ faults) → faults ≡ fault ∷ rest → HasFaults Are o → Matches faults view o
+refused-says Are (outcome.Refused all) faults view fault rest same some has = (same all has, λ none. let never : fault ∷ rest ≡ [] = sym some ∙ none in cc)
+refused-says Are (outcome.Accepted face) faults view fault rest same some has = absurd has
+
+pub refused-number : (Are : List Diagnostic → Type 0) (o : outcome.the_data) (number : Option ℕ) → HasFaults Are o → number ≡ None → HasNumber o number
+refused-number Are (outcome.Refused all) number has none = none
+refused-number Are (outcome.Accepted face) number has none = absurd has
+
+accepted-says : (face : Face) (o : outcome.the_data) (faults : List Diagnostic) (view : ModuleView) → HasFace face o → faults ≡ [] → face_outside face ≡ view → Matches faults view o
+accepted-says face (outcome.Refused all) faults view has none is = absurd has
+accepted-says face (outcome.Accepted shared) faults view has none is = (none, ap face_outside has ∙ is)
+
+accepted-number : (face : Face) (o : outcome.the_data) (at : ℕ) (number : Option ℕ) → HasFace face o → number ≡ Some at → HasNumber o number
+accepted-number face (outcome.Refused all) at number has is = absurd has
+accepted-number face (outcome.Accepted shared) at number has is = ap is_some is
+
+some-same : (a b : ℕ) → ◌≡◌ {A = Option ℕ} (Some a) (Some b) → a ≡ b
+some-same a b same = cc
+
+module _ (known_laws : KnownLaws) (laws : FamilyLaws) (family : List Member) (plan : Plan) (outcomes : List (List ℕ × Outcome)) (numbers : List (List ℕ × ℕ)) (old new : LevelTables) (name : List ℕ) (ready : IsReady family plan outcomes numbers old name) (unfound : entry_of outcomes name ≡ None)
+    (numbered : AreNumbers old numbers) (was_ordered : IsOrdered old.tables.state.flat) (is_ordered : IsOrdered new.tables.state.flat) (tree : ModuleTree) (needs : List (List ℕ)) (member : IsMember family name (reading.Tree tree) needs) (imports : Imports)
+    (told : (need : List ℕ) → Contains needs need → IsNeedTold ready.entries outcomes name need (given_in imports need)) (only : ImportsOnly needs imports) (files : List ℕ → Option ℕ) (are : (other : List ℕ) → files other ≡ number_by (import_of imports other) (entry_of numbers other)) (found : Found)
+    (checked : CheckedModule) (facts : facts_told checked ≡ facts_of (given_in imports) tree.source (module_of tree)) where
+  abbrev source : List ℕ
+  source = tree.source
+
+  abbrev units : ModuleUnits
+  units = module_of tree
+
+  abbrev texts : Texts
+  texts = texts_of family
+
+  -- what modules are to this one
+  abbrev given : List ℕ → Status
+  given = given_to family plan outcomes numbers old name ready tree needs member imports told only
+
+  abbrev outs : List ℕ → Outside
+  outs other = outside_by (given other)
+
+  abbrev faces : List ℕ → FlatFace
+  faces = faces_by old files
+
+  abbrev knowledge : Knowledge
+  knowledge = ready.leveled_so.knowledge
+
+  is : leveled texts name ≡ leveled_by given source units
+  is = found-given family plan outcomes numbers old name ready tree needs member imports told only laws
+
+  names-are : (λ other. import_status (given other)) ≡ given_in imports
+  names-are = names-given family plan outcomes numbers old name ready tree needs member imports told only
+
+  views-are : (λ other. (outs other).view) ≡ files_given (given_in imports)
+  views-are = views-given family plan outcomes numbers old name ready tree needs member imports told only
+
+  told-facts : IsChecked (given_in imports) source units checked
+  told-facts = facts-checked (given_in imports) source units checked facts
+
+  -- the faults of imports, or else of names and arities
+  abbrev named : List Diagnostic
+  named = names.all_faults (λ other. import_status (given other)) source units
+
+  faults-are : checked.faults ≡ in_order named
+  faults-are = told-facts.faults ∙ ap (λ g. in_order (names.all_faults g source units)) (sym names-are)
+
+  uses-are : checked.uses ≡ names.all_uses (λ other. import_status (given other)) source units
+  uses-are = told-facts.uses ∙ ap (λ g. names.all_uses g source units) (sym names-are)
+
+  title-is : (text_of source units).file ≡ name
+  title-is = member.is.named
+
+  there : is_there family name ≡ true
+  there = member-there family name member.member member.there member.named
+
+  -- ---- with faults of names
+
+  refused-next : (fault : Diagnostic) (rest : List Diagnostic) → checked.faults ≡ fault ∷ rest → IsFoundRefused (λ all. all ≡ fault ∷ rest) found → new ≡ old → IsNext family outcomes numbers name new found
+  refused-next fault rest some refused same =
+      let listed : in_order named ≡ fault ∷ rest = sym faults-are ∙ some in
+      let all : (leveled texts name).faults ≡ fault ∷ rest = ap (λ (l : Leveled). l.faults) is ∙ (ap in_order (others-or named (kind_faults outs source units) fault rest listed) ∙ listed) in
+      record {
+        there = there;
+        says = refused-says (λ all. all ≡ fault ∷ rest) found.outcome (leveled texts name).faults (leveled texts name).outside.view fault rest (λ these e. e ∙ sym all) all refused.outcome;
+        numbered = refused-number (λ all. all ≡ fault ∷ rest) found.outcome found.number refused.outcome refused.number;
+        count = refused.count ∙ sym (unshown (leveled texts name).uses (leveled texts name).faults fault rest all);
+        knowledge = knowledge;
+        plain = ready.leveled_so.plain;
+        others = λ other number at. subst (λ (t : LevelTables). IsKnownFile (declares texts) t.tables.state.flat knowledge (faces_of t number) (leveled texts other).outside) (sym same) (ready.leveled_so.files other number at);
+        itself = λ number at. let never : None ≡ Some number = sym refused.number ∙ at in cc;
+        foreign = λ title number later apart at. let never : None ≡ Some number = sym refused.number ∙ at in cc;
+      }
+
+  -- ---- without
+
+  module _ (accepted : checked.faults ≡ []) (levels : ModuleLevels) (over : IsLeveledOver tree imports files old new levels) (by : IsFoundBy checked levels found) where
+    none-named : named ≡ []
+    none-named = none-ordered laws named (sym faults-are ∙ accepted)
+
+    all-faults : all_faults given source units ≡ kind_faults outs source units
+    all-faults = ap (λ fs. or_others fs (kind_faults outs source units)) none-named
+
+    leveled-faults : (leveled texts name).faults ≡ in_order (kind_faults outs source units)
+    leveled-faults = ap (λ (l : Leveled). l.faults) is ∙ ap in_order all-faults
+
+    -- no fault of names and arities
+    none-of-names : names.name_faults (findings (λ other. (outs other).view) source units) units ≡ []
+    none-of-names =
+        ap (λ f. name_faults (findings f source units) units) (views-are ∙ ap files_given (sym names-are))
+        ∙ (none-both (names.import_faults (λ other. import_status (given other)) source units) (name_faults (findings (files_given (λ other. import_status (given other))) source units) units) none-named).second
+
+    both-none : AreNone (faults (findings (λ other. (outs other).view) source units)) (arity_faults (findings (λ other. (outs other).view) source units) units.units)
+    both-none = none-left (faults (findings (λ other. (outs other).view) source units)) (arity_faults (findings (λ other. (outs other).view) source units) units.units) none-of-names
+
+    -- ---- files
+
+    abbrev Known : FlatModule → (ℕ → FlatFace) → Type 0
+    Known flat at = (other : List ℕ) → IsKnownFile (declares texts) flat knowledge (file_faces at files other) (outs other)
+
+    face-there : (at : ℕ → FlatFace) (other : List ℕ) (number : ℕ) → files other ≡ Some number → file_faces at files other ≡ at number
+    face-there at other number e = ap (face_at at) e
+
+    face-absent : (at : ℕ → FlatFace) (other : List ℕ) → files other ≡ None → file_faces at files other ≡ no_face
+    face-absent at other e = ap (face_at at) e
+
+    files-known : Known old.tables.state.flat (faces_of old)
+    files-known other = by_file (file-is family plan outcomes numbers old name ready tree needs member imports told only other)
+      where
+        by_file : IsFileThere family plan outcomes numbers old name ready tree needs member imports told only other (number_by (import_of imports other) (entry_of numbers other)) ⊎ IsFileAbsent family plan outcomes numbers old name ready tree needs member imports told only other (number_by (import_of imports other) (entry_of numbers other))
+            → IsKnownFile (declares texts) old.tables.state.flat knowledge (faces other) (outs other)
+        by_file (inl file) =
+            subst (λ f. IsKnownFile (declares texts) old.tables.state.flat knowledge f (outs other)) (sym (face-there (faces_of old) other file.at (are other ∙ file.numbered)))
+            (subst (λ o. IsKnownFile (declares texts) old.tables.state.flat knowledge (faces_of old file.at) o) (sym file.outside) (ready.leveled_so.files other file.at file.entry))
+        by_file (inr file) =
+            subst (λ f. IsKnownFile (declares texts) old.tables.state.flat knowledge f (outs other)) (sym (face-absent (faces_of old) other (are other ∙ file.numbered)))
+            (subst (λ o. IsKnownFile (declares texts) old.tables.state.flat knowledge no_face o) (sym file.outside) (known_laws.nothing (declares texts) old.tables.state.flat knowledge))
+
+    files-foreign : (title : List ℕ) → entry_of outcomes title ≡ None → (other : List ℕ) → IsForeignTo title (outs other)
+    files-foreign title later other = by_file (file-is family plan outcomes numbers old name ready tree needs member imports told only other)
+      where
+        by_file : IsFileThere family plan outcomes numbers old name ready tree needs member imports told only other (number_by (import_of imports other) (entry_of numbers other)) ⊎ IsFileAbsent family plan outcomes numbers old name ready tree needs member imports told only other (number_by (import_of imports other) (entry_of numbers other))
+            → IsForeignTo title (outs other)
+        by_file (inl file) = subst (IsForeignTo title) (sym file.outside) (ready.leveled_so.foreign title other file.at later file.entry)
+        by_file (inr file) = subst (IsForeignTo title) (sym file.outside) (known_laws.foreign_nothing title)
+
+    are-files : AreFilesOf faces imports outs
+    are-files = record {
+      names = views-are ∙ sym (files-given imports);
+      constant = λ other. (files-known other).good.reads.constant;
+    }
+
+    made : IsModuleLeveled faces outs source units old new levels
+    made = over.over outs are-files
+
+    is-made : IsMadeOver (declares texts) new.tables.state.flat knowledge faces outs name source units (symbols_of (module_outside outs source units)) made.last made.asked
+    is-made = record {
+      made = made.made;
+      ordered = is_ordered;
+      known = record { each = λ other. known_laws.grows (declares texts) old.tables.state.flat new.tables.state.flat knowledge (faces other) (outs other) made.extends was_ordered (files-known other); plain = ready.leveled_so.plain };
+      foreign = λ other. subst (λ t. IsForeignTo t (outs other)) (sym title-is) (files-foreign name unfound other);
+      faultless = record {
+        front = subst (λ b. IsFront name b (Tree units)) (sym member.is.source) member.is.front;
+        names = both-none.first;
+        arities = both-none.second;
+        places = subst (λ b. HasPlaces (declares texts) b units) (sym member.is.source) (laws.places family member.member units ready.distinct member.there (subst (λ n. IsFront n member.member.bytes (Tree units)) (sym member.named) member.is.front));
+      };
+      same = refl;
+    }
+
+    level-faults : levels.faults ≡ kind_faults outs source units
+    level-faults =
+        made.answered.faults
+        ∙ (ap (λ deep. or_levels (depth_faults deep) (level_faults (level_answers new.tables.state.flat made.asked))) (known_laws.depths (declares texts) new.tables.state.flat knowledge faces outs name source units (symbols_of (module_outside outs source units)) made.last made.asked is-made)
+        ∙ ap (λ found. or_levels (depth_faults (too_deep outs source units)) (level_faults found)) (known_laws.levels (declares texts) new.tables.state.flat knowledge faces outs name source units (symbols_of (module_outside outs source units)) made.last made.asked is-made))
+
+    -- modules so far, in what there is now
+    still-known : (other : List ℕ) (number : ℕ) → entry_of numbers other ≡ Some number → IsKnownFile (declares texts) new.tables.state.flat knowledge (faces_of new number) (leveled texts other).outside
+    still-known other number at =
+        subst (λ f. IsKnownFile (declares texts) new.tables.state.flat knowledge f (leveled texts other).outside) (sym (made.faces number (numbered other number at)))
+        (known_laws.grows (declares texts) old.tables.state.flat new.tables.state.flat knowledge (faces_of old number) (leveled texts other).outside made.extends was_ordered (ready.leveled_so.files other number at))
+
+    outside-is : (leveled texts name).outside ≡ module_outside outs source units
+    outside-is = ap (λ (l : Leveled). l.outside) is
+
+    refused-levels : (fault : Diagnostic) (rest : List Diagnostic) → levels.faults ≡ fault ∷ rest → IsFoundRefused (AreInOrder (fault ∷ rest)) found → IsNext family outcomes numbers name new found
+    refused-levels fault rest some refused = by_all (in_order (fault ∷ rest)) refl
+      where
+        all : (leveled texts name).faults ≡ in_order (fault ∷ rest)
+        all = leveled-faults ∙ ap in_order (sym level-faults ∙ some)
+
+        by_all : (these : List Diagnostic) → in_order (fault ∷ rest) ≡ these → IsNext family outcomes numbers name new found
+        by_all [] e = let never : fault ∷ rest ≡ [] = none-ordered laws (fault ∷ rest) e in cc
+        by_all (first ∷ more) e = record {
+          there = there;
+          says = refused-says (AreInOrder (fault ∷ rest)) found.outcome (leveled texts name).faults (leveled texts name).outside.view first more (λ these ordered. laws.one_order (fault ∷ rest) these ordered ∙ sym all) (all ∙ e) refused.outcome;
+          numbered = refused-number (AreInOrder (fault ∷ rest)) found.outcome found.number refused.outcome refused.number;
+          count = refused.count ∙ sym (unshown (leveled texts name).uses (leveled texts name).faults first more (all ∙ e));
+          knowledge = knowledge;
+          plain = ready.leveled_so.plain;
+          others = still-known;
+          itself = λ number at. let never : None ≡ Some number = sym refused.number ∙ at in cc;
+          foreign = λ title number later apart at. let never : None ≡ Some number = sym refused.number ∙ at in cc;
+        }
+
+    accepted-levels : levels.faults ≡ [] → IsFoundAccepted checked levels.face found → IsNext family outcomes numbers name new found
+    accepted-levels none accepts =
+        let all : (leveled texts name).faults ≡ [] = leveled-faults ∙ ap in_order (sym level-faults ∙ none) in
+        let own : Knowledge = with_own_knowledge (declares texts) outs source units knowledge in
+        let view : face_outside checked.face ≡ (leveled texts name).outside.view =
+        told-facts.outside accepted ∙ (ap (λ f. outside_in f source units) (sym views-are) ∙ ap (λ (o : Outside). o.view) (sym outside-is)) in
+        record {
+          there = there;
+          says = accepted-says checked.face found.outcome (leveled texts name).faults (leveled texts name).outside.view accepts.outcome all view;
+          numbered = accepted-number checked.face found.outcome levels.face found.number accepts.outcome accepts.number;
+          count =
+              accepts.count ∙ (ap length uses-are ∙ (sym (length-mapped (leveled_use (levels_by given source units (all_faults given source units))) (names.all_uses (λ other. import_status (given other)) source units))
+              ∙ (ap (λ (l : Leveled). length l.uses) (sym is) ∙ ap (λ fs. length (unless_any fs (leveled texts name).uses)) (sym all))));
+          knowledge = own;
+          plain = known_laws.plain (declares texts) new.tables.state.flat knowledge faces outs name source units (symbols_of (module_outside outs source units)) made.last made.asked is-made;
+          others = λ other number at.
+              known_laws.others (declares texts) new.tables.state.flat knowledge outs source units (faces_of new number) (leveled texts other).outside (still-known other number at)
+              (subst (λ t. IsForeignTo t (leveled texts other).outside) (sym title-is) (ready.leveled_so.foreign name other number unfound at));
+          itself = λ number at.
+              let same : levels.face ≡ number = some-same levels.face number (sym accepts.number ∙ at) in
+              subst (λ o. IsKnownFile (declares texts) new.tables.state.flat own (faces_of new number) o) (sym outside-is)
+              (subst (λ f. IsKnownFile (declares texts) new.tables.state.flat own f (module_outside outs source units)) (sym made.is ∙ ap (faces_of new) same)
+              (known_laws.itself (declares texts) new.tables.state.flat knowledge faces outs name source units (symbols_of (module_outside outs source units)) made.last made.asked is-made));
+          foreign = λ title number later apart at.
+              subst (IsForeignTo title) (sym outside-is)
+              (known_laws.foreign outs source title units (files-foreign title later) (ap (λ t. bytes_eq t title) title-is ∙ apart));
+        }
+
+    leveled-next : (these : List Diagnostic) → levels.faults ≡ these → IsFoundFrom checked these levels.face found → IsNext family outcomes numbers name new found
+    leveled-next [] e so = accepted-levels e so
+    leveled-next (fault ∷ rest) e so = refused-levels fault rest e so
+
+  judged-next : (these : List Diagnostic) → checked.faults ≡ these → IsJudgedFrom tree imports files old new checked these found → IsNext family outcomes numbers name new found
+  judged-next [] e so = leveled-next e so.0 so.1 so.2 so.0.faults refl so.2
+  judged-next (fault ∷ rest) e so = refused-next fault rest e so.0 so.1
+
+-- what is found of a tree over its imports is found of the next module
+pub next-found : (known_laws : KnownLaws) (laws : FamilyLaws) (family : List Member) (plan : Plan) (outcomes : List (List ℕ × Outcome)) (numbers : List (List ℕ × ℕ)) (old new : LevelTables) (name : List ℕ) (ready : IsReady family plan outcomes numbers old name) → entry_of outcomes name ≡ None → AreNumbers old numbers
+    → IsOrdered old.tables.state.flat → IsOrdered new.tables.state.flat → (tree : ModuleTree) (needs : List (List ℕ)) (member : IsMember family name (reading.Tree tree) needs) (imports : Imports)
+    → ((need : List ℕ) → Contains needs need → IsNeedTold ready.entries outcomes name need (given_in imports need)) → ImportsOnly needs imports → (files : List ℕ → Option ℕ) → ((other : List ℕ) → files other ≡ number_by (import_of imports other) (entry_of numbers other)) → (found : Found)
+    → IsJudged name tree imports files old new found → IsNext family outcomes numbers name new found
+next-found known_laws laws family plan outcomes numbers old new name ready unfound numbered was_ordered is_ordered tree needs member imports told only files are found judged =
+    judged-next known_laws laws family plan outcomes numbers old new name ready unfound numbered was_ordered is_ordered tree needs member imports told only files are found judged.checked judged.facts judged.checked.faults refl judged.so

@@ -1,0 +1,7 @@
+mod Laws
+mod Statuses
+mod Judging
+mod Numbering
+mod Steps
+mod Growing
+mod Answering

@@ -1,0 +1,206 @@
+// What is found of one module behind all that it needs.
+ghost use Rattle.std.specs.Prelude.{◌≡◌, ◌<◌, ◌∷◌, [], ℕ, List as ListOf, IfOk, IfSome, None};
+ghost use Rattle.family_facts.specs.Family.{Member};
+ghost use Rattle.family_facts.specs.Verdicts.{after_checks};
+ghost use Rattle.family_tables.specs.Agreement.{AreAgreed, IsAgreed};
+ghost use Rattle.family_tables.specs.Modules.{IsTreeOf, needs_of, tree_count};
+ghost use Rattle.family_tables.specs.Outcomes as outcomes_of;
+ghost use Rattle.family_tables.specs.Tables.{entry_of};
+ghost use Rattle.family_tables.specs.declared.reading.Reading.TheVariants as reading;
+ghost use Rattle.module_levels.specs.Kept.{AreKept};
+ghost use Rattle.family_levels.specs.Leveling.{AreNumbers, IsNext, IsReady, KeepsFaces};
+ghost use Rattle.family_levels.specs.Judging.{IsFoundBy, IsJudged};
+ghost use Rattle.family_levels.specs.Leveling.{face_count};
+ghost use Rattle.family_tables.specs.declared.outcome.Outcome.TheVariants as outcome;
+ghost use Rattle.family_tables.specs.Outcomes.{IsMember};
+ghost use Rattle.indexmap.specs.IndexMap.{get_by_text};
+ghost use Rattle.module_model.specs.Given.{AreFaces};
+
+use crate::numbers::numbers_of;
+use check_core::{Checked, check_module};
+use family_tables::{Module, Outcome, Plan, Reading, Table, imports_of};
+use indexmap::IndexMap;
+use known_modules::{
+    known_files_stay_known, made_modules_answer, made_modules_are_known, modules_are_foreign,
+};
+use leveled_facts::{declarations_have_places, leveled_is};
+use leveled_modules::level_module;
+use module_facts::{in_order as in_order_is_one, none_in_order};
+use module_levels::{LevelTables, ModuleLevels};
+use module_model::{Imported, in_order};
+use std::alloc::Global;
+use step_count::Steps;
+use tla_model::Diagnostic;
+use tla_tree::ModuleTree;
+use tool_list::{Chars, List, Memory, copied};
+
+/// What is found of a module.
+#[derive(Drop)]
+pub(crate) struct Found {
+    pub outcome: Outcome,
+    /// The number of what it is to its instances, if it is accepted.
+    pub number: Option<usize>,
+    /// How many uses of names are shown of it.
+    pub use_count: u64,
+}
+
+// A module with these faults.
+fn refused(faults: List<Diagnostic>) -> Found
+    ensures outcome { result.outcome ≡ outcome.Refused faults }
+    ensures number { result.number ≡ None }
+    ensures count { result.use_count ≡ 0 }
+{
+    Found {
+        outcome: Outcome::Refused(faults),
+        number: None,
+        use_count: 0,
+    }
+}
+
+// What is found of a module whose names and arities have no fault, by what is found of levels.
+fn found_by(checked: &Checked, levels: ModuleLevels) -> Result<Found, Memory>
+    ensures { IfOk result (IsFoundBy checked.now levels) }
+{
+    let ModuleLevels {
+        faults,
+        levels: _,
+        face,
+    } = levels;
+    if !faults.is_empty() {
+        return Ok(refused(in_order(faults)));
+    }
+    Ok(Found {
+        outcome: Outcome::Accepted(checked.face().clone()?),
+        number: Some(face),
+        use_count: checked.uses().len() as u64,
+    })
+}
+
+// What is found of a tree over its imports, by the numbers of those that are accepted.
+fn judge<L>(
+    alloc: Global,
+    name: &str,
+    tree: &ModuleTree,
+    imports: &Imported,
+    files: &IndexMap<String, usize>,
+    known: LevelTables,
+    steps: &mut Steps<L>,
+) -> Result<(LevelTables, Found), Memory>
+    requires tree { (bytes : ListOf ℕ) × IsTreeOf name.now bytes tree.now }
+    requires faces { AreFaces imports.now name.now }
+    requires kept { AreKept known }
+    requires files { (other : ListOf ℕ) → IfSome (get_by_text files.now other)
+        (λ number. number < face_count known) }
+    ensures kept { IfOk result (λ made. AreKept made.0) }
+    ensures judged { IfOk result (λ made. IsJudged name.now tree.now imports.now
+        (get_by_text files.now) known made.0 made.1) }
+    ensures steps { IfOk result (λ _. steps.new ≡ after_checks 1 steps.old) }
+{
+    let checked = check_module(alloc, name, tree, imports, steps)?;
+    let faults = checked.faults();
+    if !faults.is_empty() {
+        return Ok((known, refused(copied(alloc, faults.as_slice())?)));
+    }
+    let (known, levels) = level_module(alloc, tree, imports, checked.face(), known, files)?;
+    let found = found_by(&checked, levels)?;
+    Ok((known, found))
+}
+
+// What is found of a module without front fault behind what it needs.
+fn level_tree<L>(
+    alloc: Global,
+    plan: &Plan,
+    outcomes: &Table<Outcome>,
+    numbers: &Table<usize>,
+    name: &str,
+    tree: &ModuleTree,
+    needs: &[Chars],
+    known: LevelTables,
+    steps: &mut Steps<L>,
+) -> Result<(LevelTables, Found), Memory>
+    requires tree { (bytes : ListOf ℕ) × IsTreeOf name.now bytes tree.now }
+    requires needs { needs.now ≡ needs_of tree.now }
+    requires agreed { AreAgreed outcomes.now }
+    requires unfound { entry_of outcomes.now name.now ≡ None }
+    requires kept { AreKept known }
+    requires numbers { AreNumbers known numbers.now }
+    ensures kept { IfOk result (λ made. AreKept made.0) }
+    ensures faces { IfOk result (λ made. KeepsFaces known made.0) }
+    ensures number { IfOk result (λ made. IfSome made.1.number
+        (λ number. number < face_count made.0)) }
+    ensures agreed { IfOk result (λ made. IsAgreed outcomes.now name.now made.1.outcome) }
+    ensures next { (family : ListOf Member)
+        → IsReady family plan.now outcomes.now numbers.now known name.now
+        → IsMember family name.now (reading.Tree tree.now) needs.now
+        → IfOk result (λ made. IsNext family outcomes.now numbers.now name.now made.0 made.1) }
+    ensures steps { IfOk result (λ _. steps.new ≡ after_checks 1 steps.old) }
+{
+    made_modules_answer();
+    made_modules_are_known();
+    known_files_stay_known();
+    modules_are_foreign();
+    leveled_is();
+    declarations_have_places();
+    in_order_is_one();
+    none_in_order();
+    let imports = imports_of(alloc, plan, outcomes, name, needs)?;
+    let files = numbers_of(alloc, &imports, numbers, needs)?;
+    let made = judge(alloc, name, tree, &imports, &files, known, steps)?;
+    Ok(made)
+}
+
+fn lone_fault(alloc: Global, fault: Diagnostic) -> Result<List<Diagnostic>, Memory>
+    ensures { IfOk result (λ faults. faults ≡ fault ∷ []) }
+{
+    let mut faults = List::new(alloc);
+    faults.push(fault)?;
+    Ok(faults)
+}
+
+/// What is found of a module behind what it needs. It becomes nodes of the flat module of those
+/// before it, if its names and arities have no fault. It is checked once, which is one step, if it
+/// has no front fault.
+pub(crate) fn level_one<L>(
+    alloc: Global,
+    plan: &Plan,
+    outcomes: &Table<Outcome>,
+    numbers: &Table<usize>,
+    name: &str,
+    module: &Module,
+    known: LevelTables,
+    steps: &mut Steps<L>,
+) -> Result<(LevelTables, Found), Memory>
+    requires some { outcomes_of.IsSomeModule name.now module.now }
+    requires agreed { AreAgreed outcomes.now }
+    requires unfound { entry_of outcomes.now name.now ≡ None }
+    requires kept { AreKept known }
+    requires numbers { AreNumbers known numbers.now }
+    ensures kept { IfOk result (λ made. AreKept made.0) }
+    ensures faces { IfOk result (λ made. KeepsFaces known made.0) }
+    ensures number { IfOk result (λ made. IfSome made.1.number
+        (λ number. number < face_count made.0)) }
+    ensures agreed { IfOk result (λ made. IsAgreed outcomes.now name.now made.1.outcome) }
+    ensures next { (family : ListOf Member)
+        → IsReady family plan.now outcomes.now numbers.now known name.now
+        → IsMember family name.now module.now.reading module.now.needs
+        → IfOk result (λ made. IsNext family outcomes.now numbers.now name.now made.0 made.1) }
+    ensures steps { IfOk result (λ _. steps.new
+        ≡ after_checks (tree_count module.now.reading) steps.old) }
+{
+    // The proof needs that a count is below 2^64.
+    let _count = steps.count();
+    match &module.reading {
+        Reading::Tree(tree) => {
+            let needs = module.needs.as_slice();
+            let tree = tree.tree();
+            let made = level_tree(
+                alloc, plan, outcomes, numbers, name, tree, needs, known, steps,
+            )?;
+            Ok(made)
+        }
+        Reading::Fault(fault) => {
+            leveled_is();
+            Ok((known, refused(lone_fault(alloc, *fault)?)))
+        }
+    }
+}
