@@ -2,7 +2,7 @@
 -- passed; for modules that the words ask to make, the counts of their report and of their uses.
 use Rattle.std.specs.Prelude.{ℕ, List, [], Bool, true, false, Option, Some, if◌then◌else◌}
 use Rattle.tool_io.specs.Folder.{Told}
-use Rattle.family_facts.specs.Verdicts.{uses_on, verdicts_on}
+use Rattle.leveled_facts.specs.Families.{uses_on, verdicts_on}
 use Rattle.family_facts.specs.declared.verdict.File.{File}
 use Rattle.family_facts.specs.declared.verdict.Verdict.{Verdict}
 use Rattle.sany_run.specs.declared.check.Outcome.{Outcome}

@@ -11,8 +11,8 @@ ghost use Rattle.sany_files.specs.Calls as calls;
 ghost use Rattle.sany_files.specs.Files as files_in;
 ghost use Rattle.sany_files.specs.Reading as reading;
 
-use family_check::check_family;
 use family_facts::{File, Verdict};
+use family_levels::check_family;
 use sany_files::files_of_folder;
 use sany_report::{report_on, report_status};
 use std::alloc::Global;

@@ -6,7 +6,7 @@ ghost use Rattle.sany_run.specs.Answers.{is_done};
 ghost use Rattle.sany_run.specs.Program as program;
 
 use crate::check::Outcome;
-use family_check::{FamilyCheck, check_family};
+use family_levels::{FamilyCheck, check_family};
 use gen_texts::generated;
 use sany_report::{counts_of, report_status};
 use std::alloc::Global;

@@ -1,6 +1,6 @@
 //! All that the program does, over any folder, input and output.
 //!
-//! Knows nothing of std's files and streams, and leaves to `family_check` what a module's text
+//! Knows nothing of std's files and streams, and leaves to `family_levels` what a module's text
 //! means, and to `lsp_serve` how a client is answered.
 #![tactic(auto)]
 

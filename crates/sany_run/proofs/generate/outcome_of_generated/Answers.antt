@@ -1,5 +1,6 @@
 use Rattle.std.proofs.Common.{◌≡◌, IfOk, ap, ◌∙◌, subst}
-use Rattle.family_facts.specs.Verdicts.{after_checks, checks_of, uses_on, verdicts_on}
+use Rattle.family_facts.specs.Verdicts.{after_checks, checks_of}
+use Rattle.leveled_facts.specs.Families.{uses_on, verdicts_on}
 use Rattle.sany_run.specs.Program as program
 use Rattle.sany_run.proofs.RunLemmas.{of-ok}
 use Rattle.sany_run.proofs.generate.outcome_of_generated.Goals as goal
