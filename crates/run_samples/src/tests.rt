@@ -4,6 +4,7 @@ mod devices;
 mod families;
 mod files;
 mod instances;
+mod levels;
 mod modules;
 mod nested;
 mod scopes;
@@ -168,6 +169,13 @@ fn reports_on_scopes(rt: HostRuntime) -> Result<(), Fail> {
 #[test]
 fn reports_on_arities(rt: HostRuntime) -> Result<(), Fail> {
     reports_on_each(&rt, rt.alloc(), &arities::ARITIES)
+}
+
+#[test]
+fn reports_on_levels(rt: HostRuntime) -> Result<(), Fail> {
+    let alloc = rt.alloc();
+    reports_on_each(&rt, alloc, &levels::LEVELS)?;
+    reports(&rt, alloc, &levels::LEVELED)
 }
 
 #[test]
