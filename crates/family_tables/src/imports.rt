@@ -46,8 +46,9 @@ fn import_of(
     }
 }
 
-/// The imports of a module that needs these modules, and of which nothing was found so far: each of them
-/// once, by its outcome, unless it is cyclic. The faces are those that were found, and go together. `Memory` comes where there was no room.
+/// The imports of a module that needs these modules, and of which nothing was found so far: each of
+/// them once, by its outcome, unless it is cyclic. The faces are those that were found, and go
+/// together. `Memory` comes where there was no room.
 pub fn imports_of(
     alloc: Global,
     plan: &Plan,
