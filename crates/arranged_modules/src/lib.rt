@@ -34,10 +34,18 @@ ghost use Rattle.given_depths.specs.Own.{with_own_depths};
 ghost use Rattle.arranged_modules.specs.Files.{AreDeepFiles, IsDeepFace};
 
 use flat_kinds::places_are_declared;
-use given_depths::{own_depths_are_given, own_names_are_apart};
+use given_depths::own_names_are_apart;
 use given_modules::faultless_modules_are_shaped;
 use lexeme_laws::names_begin_apart;
 use module_answers::module_depths_are_found;
+
+// Laws above stand on these beside those that are stated here.
+pub use accepted_modules::brought_names_come;
+pub use given_depths::own_depths_are_given;
+pub use given_modules::{
+    declarations_yield_names, faultless_modules_answer, faultless_modules_are_given,
+    given_modules_are_good, modules_are_steady, nested_names_are_given,
+};
 
 /// A module without faults that is given is arranged, over files that are good, and whose names
 /// lead to what is as deep as they are outside of them: by how deep their declarations are.

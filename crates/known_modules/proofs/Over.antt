@@ -11,8 +11,8 @@ use Rattle.flat_kinds.specs.Declarations.{Declarations, IsNoDefinition}
 use Rattle.flattened_trees.specs.Leads.{FlatFace}
 use Rattle.flattened_trees.specs.Questions.{Question}
 use Rattle.flattened_units.specs.Units.{Reader}
-use Rattle.given_modules.specs.Good.{AreGoodFiles}
-use Rattle.given_depths.specs.Given.{declared_depth, no_reach}
+use Rattle.arranged_modules.specs.Passed.{AreGoodFiles}
+use Rattle.arranged_modules.specs.Passed.{declared_depth, no_reach}
 use Rattle.arranged_modules.specs.Files.{AreDeepFiles}
 use Rattle.known_modules.specs.Known.{IsMadeOver, Knowledge, no_knowledge}
 

@@ -20,12 +20,13 @@ use Rattle.flattened_trees.specs.Leads.{FlatFace}
 use Rattle.flattened_trees.specs.Questions.{Question}
 use Rattle.flattened_units.specs.Units.{IsModuleMade, Reader}
 use Rattle.readable_laws.specs.Uses.{implied_by, means_by}
-use Rattle.accepted_modules.specs.Behind.{Behinds, IsForeignView, with_own}
-use Rattle.given_modules.specs.Good.{IsFaultless, IsGoodFile}
-use Rattle.given_modules.specs.Others.{BringsOthers}
-use Rattle.given_modules.specs.Yielding.{with_own_yields}
-use Rattle.given_depths.specs.Given.{AreSymbolsPlain, GivenDepths, IsGivenOutside, no_reach}
-use Rattle.given_depths.specs.Own.{with_own_depths}
+use Rattle.arranged_modules.specs.Passed.{Behinds, IsForeignView, with_own}
+use Rattle.arranged_modules.specs.Passed.{IsFaultless, IsGoodFile}
+use Rattle.arranged_modules.specs.Passed.{BringsOthers}
+use Rattle.arranged_modules.specs.Passed.{with_own_yields}
+use Rattle.arranged_modules.specs.Passed.{GivenDepths, IsGivenOutside, no_reach}
+pub use Rattle.arranged_modules.specs.Passed.{AreSymbolsPlain, face_of}
+use Rattle.arranged_modules.specs.Passed.{with_own_depths}
 use Rattle.arranged_modules.specs.Files.{IsDeepFace}
 
 -- what is known of declarations: what stands behind each, what it yields, and how deep it is

@@ -19,20 +19,18 @@ ghost use Rattle.flattened_trees.specs.Questions.{Question};
 ghost use Rattle.flattened_units.specs.Units.{Reader, no_face};
 ghost use Rattle.module_meanings.specs.Premises.{IsModuleGiven};
 ghost use Rattle.readable_laws.specs.Uses.{implied_by, means_by};
-ghost use Rattle.given_modules.specs.Good.{face_of};
-ghost use Rattle.given_modules.specs.Nested.{IsModuleBringing};
-ghost use Rattle.given_depths.specs.Given.{AreSymbolsPlain};
+ghost use Rattle.arranged_modules.specs.Passed.{face_of};
+ghost use Rattle.arranged_modules.specs.Passed.{IsModuleBringing};
+ghost use Rattle.arranged_modules.specs.Passed.{AreSymbolsPlain};
 ghost use Rattle.known_modules.specs.Known.{IsForeignTo, IsKnownFile, IsMadeOver, Knowledge};
 ghost use Rattle.known_modules.specs.Known.{found_over, no_knowledge, with_own_knowledge};
 
-use accepted_modules::brought_names_come;
-use arranged_modules::{deep_modules_are_files, faultless_modules_answer_depths};
-use flat_kinds::places_are_declared;
-use given_depths::own_depths_are_given;
-use given_modules::{
-    declarations_yield_names, faultless_modules_answer, faultless_modules_are_given,
-    given_modules_are_good, modules_are_steady, nested_names_are_given,
+use arranged_modules::{
+    brought_names_come, declarations_yield_names, deep_modules_are_files, faultless_modules_answer,
+    faultless_modules_answer_depths, faultless_modules_are_given, given_modules_are_good,
+    modules_are_steady, nested_names_are_given, own_depths_are_given,
 };
+use flat_kinds::places_are_declared;
 use lexeme_laws::names_begin_apart;
 
 /// A module without faults, over files that are known, is given as laws on its nodes ask, and so is

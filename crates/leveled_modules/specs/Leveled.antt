@@ -16,11 +16,14 @@ use Rattle.flattened_trees.specs.Questions.{Question}
 use Rattle.flattened_units.specs.Units.{IsModuleMade, Reader}
 use Rattle.readable_laws.specs.Uses.{implied_by, means_by}
 use Rattle.found_levels.specs.Findings.{or_constant}
-use Rattle.module_leads.specs.Leading.{face_over, leading_in}
-use Rattle.unit_flattener.specs.Numbers.{file_faces}
+use Rattle.module_leads.specs.Leading.{face_over}
+pub use Rattle.module_leads.specs.Leading.{leading_in}
+pub use Rattle.module_leads.specs.Ways.{face_at}
+pub use Rattle.unit_flattener.specs.Numbers.{file_faces}
 use Rattle.module_levels.specs.Kept.{IsAnswered}
-use Rattle.module_levels.specs.declared.levels.ModuleLevels.{ModuleLevels}
-use Rattle.module_levels.specs.declared.tables.LevelTables.{LevelTables}
+pub use Rattle.module_levels.specs.Kept.{AreKept}
+pub use Rattle.module_levels.specs.declared.levels.ModuleLevels.{ModuleLevels}
+pub use Rattle.module_levels.specs.declared.tables.LevelTables.{LevelTables}
 use Rattle.leveled_modules.specs.Parts.{constant_files}
 
 -- what files are to their instances, by the numbers of their faces

@@ -12,3 +12,4 @@ mod start;
 
 pub use answers::answers_are_levels;
 pub use levels::level_module;
+pub use module_levels::{LevelTables, ModuleLevels};

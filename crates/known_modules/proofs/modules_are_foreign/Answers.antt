@@ -1,6 +1,6 @@
-use Rattle.accepted_modules.specs.Behind.{IsForeign}
+use Rattle.arranged_modules.specs.Passed.{IsForeign}
 use Rattle.accepted_modules.proofs.Holding.{nothing-holds}
-use Rattle.given_modules.specs.Others.{IsNamedOf}
+use Rattle.arranged_modules.specs.Passed.{IsNamedOf}
 use Rattle.known_modules.proofs.modules_are_foreign.Goals as goal
 
 pub returns-clause-itself : goal.returns-clause-itself
