@@ -36,7 +36,7 @@ calls_of_folder t folder = suc (reads_of_listing (after_call t) folder (module_n
 
 -- the calls for what is asked for: none where that is no folder
 abbrev pub calls_of_request : Told → Option Request → ℕ
-calls_of_request t (Some (Request.Check folder)) = calls_of_folder t folder
+calls_of_request t (Some (Request.Check folder facts)) = calls_of_folder t folder
 calls_of_request t _ = 0
 
 -- how many calls of the folder the program makes: none behind the one with which a limit is passed

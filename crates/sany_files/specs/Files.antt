@@ -28,7 +28,7 @@ files_of t folder = reads (after_call t) folder (module_names (after_call t) fol
 
 -- the files that are asked for: those of a folder, those that are made, or none
 abbrev pub files_of_request : Told → Option Request → List File
-files_of_request t (Some (Request.Check folder)) = files_of t folder
+files_of_request t (Some (Request.Check folder facts)) = files_of t folder
 files_of_request t (Some (Request.Generate count)) = generated count
 files_of_request t _ = []
 
@@ -56,7 +56,7 @@ is_over_folder t folder = nat_lt MOST_MODULES (length (module_names (after_call 
 
 -- a folder is asked for with too much in it
 abbrev pub is_over_request : Told → Option Request → Bool
-is_over_request t (Some (Request.Check folder)) = is_over_folder t folder
+is_over_request t (Some (Request.Check folder facts)) = is_over_folder t folder
 is_over_request t _ = false
 
 -- a limit is passed

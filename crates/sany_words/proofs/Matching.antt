@@ -39,10 +39,6 @@ refused a e words is faults other = by (subst (λ b. HasKind (fault_of b words) 
 
 -- ---- matches
 
--- with the flag nothing is asked for
-pub flagged : (f : Found) (facts : Option (List ℕ)) → facts ≡ first_value f (codes "facts") → is_set facts ≡ true → None ≡ request_in (rows_of f)
-flagged f facts is set = rw (sym (first_value-rows f (codes "facts")), sym is, set) refl
-
--- and without it the other two say it
-pub unflagged : (f : Found) (facts name argument : Option (List ℕ)) → facts ≡ first_value f (codes "facts") → name ≡ first_value f (codes "COMMAND") → argument ≡ first_value f (codes "ARG") → is_set facts ≡ false → request_by name argument ≡ request_in (rows_of f)
-unflagged f facts name argument is named with' set = rw (sym (first_value-rows f (codes "facts")), sym is, set, sym (first_value-rows f (codes "COMMAND")), sym named, sym (first_value-rows f (codes "ARG")), sym with') refl
+-- what the flag, COMMAND and ARG are says what is asked for
+pub asked : (f : Found) (facts name argument : Option (List ℕ)) (set : Bool) → facts ≡ first_value f (codes "facts") → name ≡ first_value f (codes "COMMAND") → argument ≡ first_value f (codes "ARG") → set ≡ is_set facts → request_by name argument set ≡ request_in (rows_of f)
+asked f facts name argument set is named with' shown = rw (sym (first_value-rows f (codes "facts")), sym is, sym shown, sym (first_value-rows f (codes "COMMAND")), sym named, sym (first_value-rows f (codes "ARG")), sym with') refl

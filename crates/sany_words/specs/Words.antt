@@ -1,5 +1,5 @@
 -- What the words of the command line ask for, by what `clap` makes of them.
-use Rattle.std.specs.Prelude.{ℕ, List, [], ◌∷◌, Bool, true, false, ◌&&◌, nat_le, Option, Some, None, if◌then◌else◌, codes}
+use Rattle.std.specs.Prelude.{ℕ, List, [], ◌∷◌, Bool, true, false, not, ◌&&◌, nat_le, Option, Some, None, if◌then◌else◌, codes}
 use Rattle.std.specs.List.{list_all}
 use Rattle.std.specs.Option.{option_map_or}
 use Rattle.std.specs.Char.{is_digit}
@@ -54,31 +54,29 @@ abbrev pub generate_if : Option ℕ → Option Request
 generate_if (Some count) = Some (Request.Generate count)
 generate_if None = None
 
--- what a command with an argument asks for
-abbrev pub request_with : List ℕ → List ℕ → Option Request
-request_with command argument =
-    if bytes_eq command (codes "check") then Some (Request.Check argument)
-    else (if bytes_eq command (codes "gen") then generate_if (count_in argument) else None)
+-- what a command with an argument asks for; facts are shown by a check alone
+abbrev pub request_with : List ℕ → List ℕ → Bool → Option Request
+request_with command argument facts =
+    if bytes_eq command (codes "check") then Some (Request.Check argument facts)
+    else (if not facts && bytes_eq command (codes "gen") then generate_if (count_in argument) else None)
 
 -- what a command without an argument asks for
-abbrev pub request_without : List ℕ → Option Request
-request_without command = if bytes_eq command (codes "serve") then Some Request.Serve else None
+abbrev pub request_without : List ℕ → Bool → Option Request
+request_without command facts = if not facts && bytes_eq command (codes "serve") then Some Request.Serve else None
 
 -- what a command asks for
-abbrev pub request_by : Option (List ℕ) → Option (List ℕ) → Option Request
-request_by (Some command) (Some argument) = request_with command argument
-request_by (Some command) None = request_without command
-request_by None argument = None
+abbrev pub request_by : Option (List ℕ) → Option (List ℕ) → Bool → Option Request
+request_by (Some command) (Some argument) facts = request_with command argument facts
+request_by (Some command) None facts = request_without command facts
+request_by None argument facts = None
 
 -- a flag is set
 abbrev pub is_set : Option (List ℕ) → Bool
 is_set value = option_map_or (λ text. bytes_eq text (codes "true")) value false
 
--- what the matches ask for; facts are not there yet, so that nothing is asked for with them
+-- what the matches ask for
 abbrev pub request_in : List Row → Option Request
-request_in rows =
-    if is_set (first_of (codes "facts") rows) then None
-    else request_by (first_of (codes "COMMAND") rows) (first_of (codes "ARG") rows)
+request_in rows = request_by (first_of (codes "COMMAND") rows) (first_of (codes "ARG") rows) (is_set (first_of (codes "facts") rows))
 
 -- what the words ask for where the command refuses them by one of these faults
 abbrev pub request_unless : Kinds → List Row → Option Request

@@ -13,8 +13,8 @@ use tool_list::{Chars, Memory};
 /// What is asked for.
 #[derive(Drop)]
 pub enum Request {
-    /// To check the modules of the folder of this path.
-    Check(Chars),
+    /// To check the modules of the folder of this path, and to show facts too where they are asked for.
+    Check { folder: Chars, facts: bool },
     /// To make so many modules and check them.
     Generate(u16),
     /// To answer the messages of a client (LSP).
@@ -47,14 +47,21 @@ fn count_in(text: &str) -> Option<u16>
     }
 }
 
-// What a command with an argument asks for.
-fn request_with(alloc: Global, command: &str, argument: &str) -> Result<Option<Request>, Memory>
-    ensures { IfOk result (λ request. request ≡ words_of.request_with command.now argument.now) }
+// What a command with an argument asks for. Facts are shown by a check alone.
+fn request_with(
+    alloc: Global,
+    command: &str,
+    argument: &str,
+    facts: bool,
+) -> Result<Option<Request>, Memory>
+    ensures { IfOk result
+        (λ request. request ≡ words_of.request_with command.now argument.now facts) }
 {
     if command == "check" {
-        return Ok(Some(Request::Check(Chars::from_str(alloc, argument)?)));
+        let folder = Chars::from_str(alloc, argument)?;
+        return Ok(Some(Request::Check { folder, facts }));
     }
-    if command != "gen" {
+    if facts || command != "gen" {
         return Ok(None);
     }
     match count_in(argument) {
@@ -64,10 +71,10 @@ fn request_with(alloc: Global, command: &str, argument: &str) -> Result<Option<R
 }
 
 // What a command without an argument asks for.
-fn request_without(command: &str) -> Option<Request>
-    ensures { result ≡ words_of.request_without command.now }
+fn request_without(command: &str, facts: bool) -> Option<Request>
+    ensures { result ≡ words_of.request_without command.now facts }
 {
-    if command == "serve" {
+    if !facts && command == "serve" {
         return Some(Request::Serve);
     }
     None
@@ -78,17 +85,18 @@ fn request_by(
     alloc: Global,
     command: Option<&str>,
     argument: Option<&str>,
+    facts: bool,
 ) -> Result<Option<Request>, Memory>
     ensures { IfOk result (λ request. request
         ≡ words_of.request_by (option_map (λ s. s.now) command.entry)
-        (option_map (λ s. s.now) argument.entry)) }
+        (option_map (λ s. s.now) argument.entry) facts) }
 {
     let Some(command) = command else {
         return Ok(None);
     };
     match argument {
-        Some(argument) => request_with(alloc, command, argument),
-        None => Ok(request_without(command)),
+        Some(argument) => request_with(alloc, command, argument, facts),
+        None => Ok(request_without(command, facts)),
     }
 }
 
@@ -102,15 +110,18 @@ fn is_set(value: Option<&str>) -> bool
     }
 }
 
-// What the matches ask for. Facts are not there yet.
+// What the matches ask for.
 fn request_in(alloc: Global, matches: &ArgMatches<'_>) -> Result<Option<Request>, Memory>
     ensures { IfOk result (λ request. request
         ≡ words_of.request_in (rows_of (found_of matches.now))) }
 {
-    if is_set(matches.get_str(FACTS)) {
-        return Ok(None);
-    }
-    request_by(alloc, matches.get_str(COMMAND), matches.get_str(ARGUMENT))
+    let facts = is_set(matches.get_str(FACTS));
+    request_by(
+        alloc,
+        matches.get_str(COMMAND),
+        matches.get_str(ARGUMENT),
+        facts,
+    )
 }
 
 /// What the words ask for. None where the command refuses them, or where it takes them and they are no
