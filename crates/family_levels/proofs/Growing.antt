@@ -15,10 +15,10 @@ use Rattle.family_tables.specs.declared.outcome.Outcome.{Outcome}
 use Rattle.family_tables.proofs.Bridging.{all-needs, own-needs}
 use Rattle.family_tables.proofs.Ordered.{before-here, found-more}
 use Rattle.family_tables.proofs.Tabling.{entry-append}
-use Rattle.given_depths.specs.Given.{AreSymbolsPlain}
+use Rattle.known_modules.specs.Known.{AreSymbolsPlain}
 use Rattle.known_modules.specs.Known.{IsForeignTo, IsKnownFile, no_knowledge}
 use Rattle.leveled_facts.specs.Families.{declares, leveled}
-use Rattle.module_levels.specs.declared.tables.LevelTables.{LevelTables}
+use Rattle.leveled_modules.specs.Leveled.{LevelTables}
 use Rattle.family_levels.specs.declared.«module».Found.{Found}
 use Rattle.family_levels.specs.Leveling.{AreLeveled, AreNumbers, HasNumber, IsNext, IsReady, KeepsFaces, Says, face_count, faces_of, numbers_with}
 

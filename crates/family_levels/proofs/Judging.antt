@@ -1,8 +1,11 @@
 -- What is found of the next module is what the function of the texts gives, and the modules so far stay known with it.
-use Rattle.std.proofs.Common.{◌≡◌, ℕ, suc, true, List, [], ◌∷◌, ◌++◌, ◌⊎◌, inl, inr, Option, Some, None, is_some, refl, sym, ap, subst, ◌∙◌, map, length}
+use mathlib.Core.Path.{fun_ext}
+use Rattle.indexmap.specs.IndexMap.{IndexMap}
+use Rattle.std.proofs.Common.{◌≡◌, ℕ, true, List, [], ◌∷◌, ◌++◌, ◌⊎◌, inl, inr, Option, Some, None, is_some, refl, sym, ap, subst, ◌∙◌, map}
 use Rattle.std.specs.Prelude.{Contains}
 use Rattle.std.specs.Str.{bytes_eq}
 use Rattle.tla_model.specs.declared.Diagnostic.{Diagnostic}
+use Rattle.tla_model.specs.declared.entity.Level.{Level}
 use Rattle.tla_model.specs.declared.entity.Use.{Use}
 use Rattle.tla_tree.specs.declared.unit.ModuleTree.{ModuleTree}
 use Rattle.unit_grammar.specs.UnitNodes.{module_of}
@@ -18,22 +21,23 @@ use Rattle.module_facts.specs.Checks as names
 use Rattle.module_facts.specs.Checks.{CheckedModule, ImportStatus, facts_of, facts_told, files_given, given_in, name_faults, or_others, unless_any}
 use Rattle.module_model.specs.declared.face.Face.{Face}
 use Rattle.fact_values.specs.Names.{Texts}
-use Rattle.flattened_trees.specs.Answers.{level_answers}
+use Rattle.flattened_trees.specs.Answers.{deep_answers, level_answers}
 use Rattle.module_facts.specs.Ordered.{in_order}
 use Rattle.module_facts.proofs.Checked.{IsChecked, facts-checked}
 use Rattle.module_facts.proofs.Inserting.{in-order}
 use Rattle.kind_text.specs.FlatModule.{FlatModule, IsOrdered}
 use Rattle.tree_kinds.specs.Standing.{Outside}
-use Rattle.module_kinds.specs.ModuleKinds.{depth_faults, kind_faults, level_faults, or_levels, outside as module_outside, too_deep}
+use Rattle.tree_kinds.specs.TreeLevels.{LevelFinding}
+use Rattle.module_kinds.specs.ModuleKinds.{depth_faults, kind_faults, level_faults, level_findings, level_of, or_levels, outside as module_outside, too_deep}
 use Rattle.flat_trees.specs.Instances.{symbols_of}
 use Rattle.flat_kinds.specs.Declarations.{HasPlaces}
 use Rattle.flattened_trees.specs.Leads.{FlatFace}
 use Rattle.flattened_units.specs.Units.{no_face}
-use Rattle.unit_flattener.specs.Numbers.{file_faces}
-use Rattle.module_leads.specs.Ways.{face_at}
-use Rattle.module_levels.specs.declared.levels.ModuleLevels.{ModuleLevels}
-use Rattle.module_levels.specs.declared.tables.LevelTables.{LevelTables}
-use Rattle.leveled_modules.specs.Leveled.{AreFilesOf, IsModuleLeveled, faces_by}
+use Rattle.leveled_modules.specs.Leveled.{file_faces}
+use Rattle.leveled_modules.specs.Leveled.{face_at}
+use Rattle.leveled_modules.specs.Leveled.{ModuleLevels}
+use Rattle.leveled_modules.specs.Leveled.{LevelTables}
+use Rattle.leveled_modules.specs.Leveled.{AreFilesOf, AreLevelsOf, IsModuleLeveled, faces_by}
 use Rattle.known_modules.specs.Known.{IsForeignTo, IsKnownFile, IsMadeOver, Knowledge, with_own_knowledge}
 use Rattle.family_facts.specs.Facts.{texts_of}
 use Rattle.family_facts.specs.Family.{Member, is_there}
@@ -47,7 +51,7 @@ use Rattle.family_tables.specs.declared.reading.Reading.TheVariants as reading
 use Rattle.leveled_facts.specs.Families.{declares, leveled}
 use Rattle.leveled_facts.specs.Modules.{Leveled, Status, all_faults, import_status, leveled_by, leveled_use, levels_by, outside_by}
 use Rattle.family_levels.specs.declared.«module».Found.{Found}
-use Rattle.family_levels.specs.Judging.{HasFace, HasFaults, IsFoundAccepted, IsFoundBy, IsFoundFrom, IsFoundRefused, IsJudged, IsJudgedFrom, IsLeveledOver}
+use Rattle.family_levels.specs.Judging.{HasFace, HasFaults, IsFoundAccepted, IsFoundBy, IsFoundFrom, IsFoundRefused, IsJudged, IsJudgedFrom, IsLeveledOver, level_at, with_level}
 use Rattle.family_levels.specs.Leveling.{AreNumbers, HasNumber, IsNext, IsReady, faces_of}
 use Rattle.family_levels.specs.Numbers.{number_by}
 use Rattle.family_levels.proofs.Laws.{FamilyLaws, KnownLaws}
@@ -78,12 +82,12 @@ none-left [] b none = record { first = refl; second = none }
 none-left (fault ∷ a) b none = cc
 
 -- the uses of a module with faults are not shown
-pub unshown : (uses : List Use) (faults : List Diagnostic) (fault : Diagnostic) (rest : List Diagnostic) → faults ≡ fault ∷ rest → length (unless_any faults uses) ≡ 0
-unshown uses faults fault rest is = ap (λ fs. length (unless_any fs uses)) is
+pub unshown : (uses : List Use) (faults : List Diagnostic) (fault : Diagnostic) (rest : List Diagnostic) → faults ≡ fault ∷ rest → unless_any faults uses ≡ []
+unshown uses faults fault rest is = ap (λ fs. unless_any fs uses) is
 
-length-mapped : (f : Use → Use) (uses : List Use) → length (map f uses) ≡ length uses
-length-mapped f [] = refl
-length-mapped f (u ∷ uses) = ap suc (length-mapped f uses)
+-- uses get the levels that are found of them
+uses-leveled : {S : Type 0} (levels : IndexMap ℕ Level S) (found : List LevelFinding) → ((start : ℕ) → level_at levels start ≡ level_of found start) → (uses : List Use) → map (with_level levels) uses ≡ map (leveled_use found) uses
+uses-leveled levels found are uses = ap (λ f. map f uses) (fun_ext (λ u i. record { name = u.name; «module» = u.«module»; place = u.place; level = are u.name.start i }))
 
 -- an outcome with these faults says so
 pub refused-says : (Are : List Diagnostic → Type 0) (o : outcome.the_data) (faults : List Diagnostic) (view : ModuleView) (fault : Diagnostic) (rest : List Diagnostic) → ((all : List Diagnostic) → Are all → all ≡ faults) → faults ≡ fault ∷ rest → HasFaults Are o → Matches faults view o
@@ -169,7 +173,7 @@ module _ (known_laws : KnownLaws) (laws : FamilyLaws) (family : List Member) (pl
         there = there;
         says = refused-says (λ all. all ≡ fault ∷ rest) found.outcome (leveled texts name).faults (leveled texts name).outside.view fault rest (λ these e. e ∙ sym all) all refused.outcome;
         numbered = refused-number (λ all. all ≡ fault ∷ rest) found.outcome found.number refused.outcome refused.number;
-        count = refused.count ∙ sym (unshown (leveled texts name).uses (leveled texts name).faults fault rest all);
+        uses = refused.uses ∙ sym (unshown (leveled texts name).uses (leveled texts name).faults fault rest all);
         knowledge = knowledge;
         plain = ready.leveled_so.plain;
         others = λ other number at. subst (λ (t : LevelTables). IsKnownFile (declares texts) t.tables.state.flat knowledge (faces_of t number) (leveled texts other).outside) (sym same) (ready.leveled_so.files other number at);
@@ -253,11 +257,26 @@ module _ (known_laws : KnownLaws) (laws : FamilyLaws) (family : List Member) (pl
       same = refl;
     }
 
-    level-faults : levels.faults ≡ kind_faults outs source units
-    level-faults =
-        made.answered.faults
-        ∙ (ap (λ deep. or_levels (depth_faults deep) (level_faults (level_answers new.tables.state.flat made.asked))) (known_laws.depths (declares texts) new.tables.state.flat knowledge faces outs name source units (symbols_of (module_outside outs source units)) made.last made.asked is-made)
-        ∙ ap (λ found. or_levels (depth_faults (too_deep outs source units)) (level_faults found)) (known_laws.levels (declares texts) new.tables.state.flat knowledge faces outs name source units (symbols_of (module_outside outs source units)) made.last made.asked is-made))
+    levels-answered : level_answers new.tables.state.flat made.asked ≡ level_findings outs source units
+    levels-answered = known_laws.levels (declares texts) new.tables.state.flat knowledge faces outs name source units (symbols_of (module_outside outs source units)) made.last made.asked is-made
+
+    depths-answered : deep_answers new.tables.state.flat made.asked ≡ too_deep outs source units
+    depths-answered = known_laws.depths (declares texts) new.tables.state.flat knowledge faces outs name source units (symbols_of (module_outside outs source units)) made.last made.asked is-made
+
+    -- faults and levels of uses are those of the module
+    are-levels : AreLevelsOf outs source units levels
+    are-levels = record {
+      faults = made.answered.faults ∙ (λ i. or_levels (depth_faults (depths-answered i)) (level_faults (levels-answered i)));
+      levels = λ start. made.answered.levels start ∙ ap (λ found. level_of found start) levels-answered;
+    }
+
+    -- the uses of the module with their levels
+    shown : levels.faults ≡ [] → map (with_level levels.levels) checked.uses ≡ (leveled texts name).uses
+    shown none =
+        ap (map (with_level levels.levels)) uses-are
+        ∙ (uses-leveled levels.levels (level_findings outs source units) are-levels.levels (names.all_uses (λ other. import_status (given other)) source units)
+        ∙ (ap (λ fs. map (leveled_use (levels_by given source units fs)) (names.all_uses (λ other. import_status (given other)) source units)) (sym (all-faults ∙ (sym are-levels.faults ∙ none)))
+        ∙ ap (λ (l : Leveled). l.uses) (sym is)))
 
     -- modules so far, in what there is now
     still-known : (other : List ℕ) (number : ℕ) → entry_of numbers other ≡ Some number → IsKnownFile (declares texts) new.tables.state.flat knowledge (faces_of new number) (leveled texts other).outside
@@ -272,7 +291,7 @@ module _ (known_laws : KnownLaws) (laws : FamilyLaws) (family : List Member) (pl
     refused-levels fault rest some refused = by_all (in_order (fault ∷ rest)) refl
       where
         all : (leveled texts name).faults ≡ in_order (fault ∷ rest)
-        all = leveled-faults ∙ ap in_order (sym level-faults ∙ some)
+        all = leveled-faults ∙ ap in_order (sym are-levels.faults ∙ some)
 
         by_all : (these : List Diagnostic) → in_order (fault ∷ rest) ≡ these → IsNext family outcomes numbers name new found
         by_all [] e = let never : fault ∷ rest ≡ [] = none-ordered laws (fault ∷ rest) e in cc
@@ -280,7 +299,7 @@ module _ (known_laws : KnownLaws) (laws : FamilyLaws) (family : List Member) (pl
           there = there;
           says = refused-says (AreInOrder (fault ∷ rest)) found.outcome (leveled texts name).faults (leveled texts name).outside.view first more (λ these ordered. laws.one_order (fault ∷ rest) these ordered ∙ sym all) (all ∙ e) refused.outcome;
           numbered = refused-number (AreInOrder (fault ∷ rest)) found.outcome found.number refused.outcome refused.number;
-          count = refused.count ∙ sym (unshown (leveled texts name).uses (leveled texts name).faults first more (all ∙ e));
+          uses = refused.uses ∙ sym (unshown (leveled texts name).uses (leveled texts name).faults first more (all ∙ e));
           knowledge = knowledge;
           plain = ready.leveled_so.plain;
           others = still-known;
@@ -288,9 +307,9 @@ module _ (known_laws : KnownLaws) (laws : FamilyLaws) (family : List Member) (pl
           foreign = λ title number later apart at. let never : None ≡ Some number = sym refused.number ∙ at in cc;
         }
 
-    accepted-levels : levels.faults ≡ [] → IsFoundAccepted checked levels.face found → IsNext family outcomes numbers name new found
+    accepted-levels : levels.faults ≡ [] → IsFoundAccepted checked levels found → IsNext family outcomes numbers name new found
     accepted-levels none accepts =
-        let all : (leveled texts name).faults ≡ [] = leveled-faults ∙ ap in_order (sym level-faults ∙ none) in
+        let all : (leveled texts name).faults ≡ [] = leveled-faults ∙ ap in_order (sym are-levels.faults ∙ none) in
         let own : Knowledge = with_own_knowledge (declares texts) outs source units knowledge in
         let view : face_outside checked.face ≡ (leveled texts name).outside.view =
         told-facts.outside accepted ∙ (ap (λ f. outside_in f source units) (sym views-are) ∙ ap (λ (o : Outside). o.view) (sym outside-is)) in
@@ -298,9 +317,7 @@ module _ (known_laws : KnownLaws) (laws : FamilyLaws) (family : List Member) (pl
           there = there;
           says = accepted-says checked.face found.outcome (leveled texts name).faults (leveled texts name).outside.view accepts.outcome all view;
           numbered = accepted-number checked.face found.outcome levels.face found.number accepts.outcome accepts.number;
-          count =
-              accepts.count ∙ (ap length uses-are ∙ (sym (length-mapped (leveled_use (levels_by given source units (all_faults given source units))) (names.all_uses (λ other. import_status (given other)) source units))
-              ∙ (ap (λ (l : Leveled). length l.uses) (sym is) ∙ ap (λ fs. length (unless_any fs (leveled texts name).uses)) (sym all))));
+          uses = accepts.uses ∙ (shown none ∙ ap (λ fs. unless_any fs (leveled texts name).uses) (sym all));
           knowledge = own;
           plain = known_laws.plain (declares texts) new.tables.state.flat knowledge faces outs name source units (symbols_of (module_outside outs source units)) made.last made.asked is-made;
           others = λ other number at.
@@ -316,7 +333,7 @@ module _ (known_laws : KnownLaws) (laws : FamilyLaws) (family : List Member) (pl
               (known_laws.foreign outs source title units (files-foreign title later) (ap (λ t. bytes_eq t title) title-is ∙ apart));
         }
 
-    leveled-next : (these : List Diagnostic) → levels.faults ≡ these → IsFoundFrom checked these levels.face found → IsNext family outcomes numbers name new found
+    leveled-next : (these : List Diagnostic) → levels.faults ≡ these → IsFoundFrom checked levels these found → IsNext family outcomes numbers name new found
     leveled-next [] e so = accepted-levels e so
     leveled-next (fault ∷ rest) e so = refused-levels fault rest e so
 

@@ -15,8 +15,8 @@ use Rattle.flattened_trees.specs.Answers.{deep_answers, level_answers}
 use Rattle.flattened_trees.specs.Leads.{FlatFace}
 use Rattle.flattened_trees.specs.Questions.{Question}
 use Rattle.flattened_units.specs.Units.{Reader, no_face}
-use Rattle.given_modules.specs.Good.{face_of}
-use Rattle.given_depths.specs.Given.{AreSymbolsPlain}
+use Rattle.known_modules.specs.Known.{face_of}
+use Rattle.known_modules.specs.Known.{AreSymbolsPlain}
 use Rattle.known_modules.specs.Known.{IsForeignTo, IsKnownFile, IsMadeOver, Knowledge, with_own_knowledge}
 use Rattle.family_facts.specs.Facts.{texts_of}
 use Rattle.family_facts.specs.Family.{AreMembersDistinct, Member, Needs}

@@ -4,4 +4,6 @@ mod Judging
 mod Numbering
 mod Steps
 mod Growing
+mod Uses
+mod Placing
 mod Answering

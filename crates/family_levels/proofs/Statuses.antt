@@ -31,7 +31,7 @@ use Rattle.leveled_facts.specs.Modules.{Accepted, Cyclic, Leveled, Refused, Stat
 use Rattle.family_levels.specs.Leveling.{IsReady, Says}
 use Rattle.family_levels.specs.Numbers.{number_by}
 use Rattle.family_levels.proofs.Laws.{FamilyLaws}
-use Rattle.module_levels.specs.declared.tables.LevelTables.{LevelTables}
+use Rattle.leveled_modules.specs.Leveled.{LevelTables}
 
 import-given : (import : Option Import) → import_outside import ≡ names.outside_by (given_by import)
 import-given None = refl

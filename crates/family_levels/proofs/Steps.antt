@@ -17,8 +17,8 @@ use Rattle.module_facts.specs.Checks.{CheckedModule, facts_of, facts_told, given
 use Rattle.module_facts.proofs.Checked.{facts-checked}
 use Rattle.tree_kinds.specs.Standing.{Outside}
 use Rattle.module_kinds.specs.ModuleKinds.{nowhere}
-use Rattle.module_levels.specs.declared.levels.ModuleLevels.{ModuleLevels}
-use Rattle.module_levels.specs.declared.tables.LevelTables.{LevelTables}
+use Rattle.leveled_modules.specs.Leveled.{ModuleLevels}
+use Rattle.leveled_modules.specs.Leveled.{LevelTables}
 use Rattle.leveled_modules.specs.Leveled.{IsModuleLeveled, faces_by}
 use Rattle.family_facts.specs.Facts.{texts_of}
 use Rattle.family_facts.specs.Family.{AreMembersDistinct, Member}
@@ -81,7 +81,7 @@ module _ (name : List ℕ) (tree : ModuleTree) (imports : Imports) (files : List
   pub judged-keeps : IsJudged name tree imports files old new found → KeepsFaces old new
   judged-keeps judged = keeps-from judged.checked judged.checked.faults judged.so
 
-  number-from : (levels : ModuleLevels) (checked : CheckedModule) (faults : List Diagnostic) → levels.face < face_count new → IsFoundFrom checked faults levels.face found → IfSome found.number (λ number. number < face_count new)
+  number-from : (levels : ModuleLevels) (checked : CheckedModule) (faults : List Diagnostic) → levels.face < face_count new → IsFoundFrom checked levels faults found → IfSome found.number (λ number. number < face_count new)
   number-from levels checked [] below accepts = subst (λ n. IfSome n (λ number. number < face_count new)) (sym accepts.number) below
   number-from levels checked (fault ∷ faults) below refused = subst (λ n. IfSome n (λ number. number < face_count new)) (sym refused.number) tt
 
@@ -102,7 +102,7 @@ module _ (name : List ℕ) (tree : ModuleTree) (imports : Imports) (files : List
     accepted-agrees face (outcome.Refused all) over has = absurd has
     accepted-agrees face (outcome.Accepted shared) over has = agreed-over outcomes imports name (arc_value shared) from (subst (IsFaceOver imports name) (sym has) over)
 
-    agrees-by : (levels : ModuleLevels) (checked : CheckedModule) (faults : List Diagnostic) → IsFaceOver imports name checked.face → IsFoundFrom checked faults levels.face found → IsAgreed outcomes name found.outcome
+    agrees-by : (levels : ModuleLevels) (checked : CheckedModule) (faults : List Diagnostic) → IsFaceOver imports name checked.face → IsFoundFrom checked levels faults found → IsAgreed outcomes name found.outcome
     agrees-by levels checked [] over accepts = accepted-agrees checked.face found.outcome over accepts.outcome
     agrees-by levels checked (fault ∷ faults) over refused = refused-agrees _ found.outcome refused.outcome
 
@@ -119,8 +119,8 @@ module _ (name : List ℕ) (tree : ModuleTree) (imports : Imports) (files : List
 -- what is found of a module with a front fault
 pub fault-next : (front : (family : List Member) (member : Member) (fault : Diagnostic) → AreMembersDistinct family → Contains family member → IsFront member.name member.bytes (Fault fault) → leveled (texts_of family) member.name ≡ front_refused fault)
     → (family : List Member) (plan : Plan) (outcomes : List (List ℕ × Outcome)) (numbers : List (List ℕ × ℕ)) (known : LevelTables) (name : List ℕ) → IsReady family plan outcomes numbers known name → (fault : Diagnostic) (needs : List (List ℕ)) → IsMember family name (reading.Fault fault) needs
-    → (faults : List Diagnostic) → faults ≡ fault ∷ [] → (found : Found) → found.outcome ≡ outcome.Refused faults → found.number ≡ None → found.use_count ≡ 0 → IsNext family outcomes numbers name known found
-fault-next front family plan outcomes numbers known name ready fault needs member faults lone found outcome_is number_is count_is =
+    → (faults : List Diagnostic) → faults ≡ fault ∷ [] → (found : Found) → found.outcome ≡ outcome.Refused faults → found.number ≡ None → found.uses ≡ [] → IsNext family outcomes numbers name known found
+fault-next front family plan outcomes numbers known name ready fault needs member faults lone found outcome_is number_is uses_is =
     let m : Member = member.member in
     let is : leveled (texts_of family) name ≡ front_refused fault =
     subst (λ n. leveled (texts_of family) n ≡ front_refused fault) member.named (front family m fault ready.distinct member.there (subst (λ n. IsFront n m.bytes (Fault fault)) (sym member.named) member.is.0)) in
@@ -130,7 +130,7 @@ fault-next front family plan outcomes numbers known name ready fault needs membe
       there = member-there family name m member.there member.named;
       says = refused-says (λ these. these ≡ fault ∷ []) found.outcome (leveled (texts_of family) name).faults (leveled (texts_of family) name).outside.view fault [] (λ these e. e ∙ sym all) all has;
       numbered = refused-number (λ these. these ≡ fault ∷ []) found.outcome found.number has number_is;
-      count = count_is ∙ sym (unshown (leveled (texts_of family) name).uses (leveled (texts_of family) name).faults fault [] all);
+      uses = uses_is ∙ sym (unshown (leveled (texts_of family) name).uses (leveled (texts_of family) name).faults fault [] all);
       knowledge = ready.leveled_so.knowledge;
       plain = ready.leveled_so.plain;
       others = ready.leveled_so.files;

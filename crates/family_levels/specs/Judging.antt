@@ -1,7 +1,10 @@
 -- What is found of a module over its imports: faults of imports, or of names and arities, or else what is found of levels.
-use Rattle.std.specs.Prelude.{◌≡◌, ℕ, List, [], ◌∷◌, Option, Some, None, length}
+use Rattle.indexmap.specs.IndexMap.{IndexMap, get}
+use Rattle.std.specs.Prelude.{◌≡◌, ℕ, List, [], ◌∷◌, Option, Some, None, map, nat_eq}
 use Rattle.std.specs.Arc.{arc_value}
 use Rattle.tla_model.specs.declared.Diagnostic.{Diagnostic}
+use Rattle.tla_model.specs.declared.entity.Level.{Level}
+use Rattle.tla_model.specs.declared.entity.Use.{Use}
 use Rattle.tla_tree.specs.declared.unit.ModuleTree.{ModuleTree}
 use Rattle.unit_grammar.specs.UnitNodes.{module_of}
 use Rattle.module_model.specs.Bindings.{AreInOrder}
@@ -9,8 +12,9 @@ use Rattle.module_model.specs.Given.{IsFaceOver}
 use Rattle.module_model.specs.Imports.{Imports}
 use Rattle.module_facts.specs.Checks.{CheckedModule, facts_of, facts_told, given_in}
 use Rattle.tree_kinds.specs.Standing.{Outside}
-use Rattle.module_levels.specs.declared.levels.ModuleLevels.{ModuleLevels}
-use Rattle.module_levels.specs.declared.tables.LevelTables.{LevelTables}
+use Rattle.found_levels.specs.Findings.{or_constant}
+use Rattle.leveled_modules.specs.Leveled.{ModuleLevels}
+use Rattle.leveled_modules.specs.Leveled.{LevelTables}
 use Rattle.leveled_modules.specs.Leveled.{AreFilesOf, IsModuleLeveled, faces_by}
 use Rattle.family_tables.specs.declared.outcome.Outcome.TheVariants as outcome
 use Rattle.module_model.specs.declared.face.Face.{Face}
@@ -30,22 +34,30 @@ HasFace face (outcome.Accepted shared) = arc_value shared ≡ face
 pub record IsFoundRefused (Are : List Diagnostic → Type 0) (found : Found) : Type 0 where
   pub outcome : HasFaults Are found.outcome
   pub number : found.number ≡ None
-  pub count : found.use_count ≡ 0
+  pub uses : found.uses ≡ []
 
--- a module is found without faults, and its face has this number
-pub record IsFoundAccepted (checked : CheckedModule) (at : ℕ) (found : Found) : Type 0 where
+-- the level of the use that begins there
+abbrev pub level_at : {S : Type 0} → IndexMap ℕ Level S → ℕ → Level
+level_at levels start = or_constant (get nat_eq levels start)
+
+-- a use with its level
+abbrev pub with_level : {S : Type 0} → IndexMap ℕ Level S → Use → Use
+with_level levels u = record { name = u.name; «module» = u.«module»; place = u.place; level = level_at levels u.name.start }
+
+-- a module is found without faults: its face has its number, and its uses their levels
+pub record IsFoundAccepted (checked : CheckedModule) (levels : ModuleLevels) (found : Found) : Type 0 where
   pub outcome : HasFace checked.face found.outcome
-  pub number : found.number ≡ Some at
-  pub count : found.use_count ≡ length checked.uses
+  pub number : found.number ≡ Some levels.face
+  pub uses : found.uses ≡ map (with_level levels.levels) checked.uses
 
 -- by what is found of levels: with the faults among it, or else accepted
-abbrev pub IsFoundFrom : CheckedModule → List Diagnostic → ℕ → Found → Type 0
-IsFoundFrom checked [] number found = IsFoundAccepted checked number found
-IsFoundFrom checked (fault ∷ faults) number found = IsFoundRefused (AreInOrder (fault ∷ faults)) found
+abbrev pub IsFoundFrom : CheckedModule → ModuleLevels → List Diagnostic → Found → Type 0
+IsFoundFrom checked levels [] found = IsFoundAccepted checked levels found
+IsFoundFrom checked levels (fault ∷ faults) found = IsFoundRefused (AreInOrder (fault ∷ faults)) found
 
 -- the same of all that is found of levels
 abbrev pub IsFoundBy : CheckedModule → ModuleLevels → Found → Type 0
-IsFoundBy checked levels found = IsFoundFrom checked levels.faults levels.face found
+IsFoundBy checked levels found = IsFoundFrom checked levels levels.faults found
 
 -- levels are found of a tree over imports, by the numbers of those that are accepted
 pub record IsLeveledOver (tree : ModuleTree) (imports : Imports) (files : List ℕ → Option ℕ) (old new : LevelTables) (levels : ModuleLevels) : Type 0 where

@@ -1,14 +1,16 @@
 //! The check of a whole family of modules, levels and depths among it.
 //!
-//! Answers the verdicts on files of modules, over the built-in ones. Each module is checked behind
-//! all that it needs, and becomes nodes of one flat module where its names and arities have no
-//! fault. Knows nothing of folders, and of how a report looks.
+//! Answers what is said of files of modules, over the built-in ones: whether they are accepted, and
+//! the uses of their names, if facts are asked for. Each module is checked behind all that it needs,
+//! and becomes nodes of one flat module where its names and arities have no fault. Knows nothing of
+//! folders, and of how a report looks.
 #![tactic(auto)]
 
-mod counts;
 mod family;
 mod module;
 mod modules;
 mod numbers;
+mod shown;
+mod standing;
 
 pub use family::{FamilyCheck, check_family};

@@ -1,5 +1,5 @@
 // What is found of one module behind all that it needs.
-ghost use Rattle.std.specs.Prelude.{◌≡◌, ◌<◌, ◌∷◌, [], ℕ, List as ListOf, IfOk, IfSome, None};
+ghost use Rattle.std.specs.Prelude.{◌≡◌, ◌<◌, ◌∷◌, [], ℕ, List as ListOf, IfOk, IfSome, None, map};
 ghost use Rattle.family_facts.specs.Family.{Member};
 ghost use Rattle.family_facts.specs.Verdicts.{after_checks};
 ghost use Rattle.family_tables.specs.Agreement.{AreAgreed, IsAgreed};
@@ -7,9 +7,9 @@ ghost use Rattle.family_tables.specs.Modules.{IsTreeOf, needs_of, tree_count};
 ghost use Rattle.family_tables.specs.Outcomes as outcomes_of;
 ghost use Rattle.family_tables.specs.Tables.{entry_of};
 ghost use Rattle.family_tables.specs.declared.reading.Reading.TheVariants as reading;
-ghost use Rattle.module_levels.specs.Kept.{AreKept};
+ghost use Rattle.leveled_modules.specs.Leveled.{AreKept};
 ghost use Rattle.family_levels.specs.Leveling.{AreNumbers, IsNext, IsReady, KeepsFaces};
-ghost use Rattle.family_levels.specs.Judging.{IsFoundBy, IsJudged};
+ghost use Rattle.family_levels.specs.Judging.{IsFoundBy, IsJudged, level_at, with_level};
 ghost use Rattle.family_levels.specs.Leveling.{face_count};
 ghost use Rattle.family_tables.specs.declared.outcome.Outcome.TheVariants as outcome;
 ghost use Rattle.family_tables.specs.Outcomes.{IsMember};
@@ -24,13 +24,12 @@ use known_modules::{
     known_files_stay_known, made_modules_answer, made_modules_are_known, modules_are_foreign,
 };
 use leveled_facts::{declarations_have_places, leveled_is};
-use leveled_modules::level_module;
+use leveled_modules::{LevelTables, ModuleLevels, level_module};
 use module_facts::{in_order as in_order_is_one, none_in_order};
-use module_levels::{LevelTables, ModuleLevels};
 use module_model::{Imported, in_order};
 use std::alloc::Global;
 use step_count::Steps;
-use tla_model::Diagnostic;
+use tla_model::{Diagnostic, Level, Use};
 use tla_tree::ModuleTree;
 use tool_list::{Chars, List, Memory, copied};
 
@@ -40,39 +39,62 @@ pub(crate) struct Found {
     pub outcome: Outcome,
     /// The number of what it is to its instances, if it is accepted.
     pub number: Option<usize>,
-    /// How many uses of names are shown of it.
-    pub use_count: u64,
+    /// The uses of names that are shown of it, with their levels.
+    pub uses: List<Use>,
 }
 
 // A module with these faults.
-fn refused(faults: List<Diagnostic>) -> Found
+fn refused(alloc: Global, faults: List<Diagnostic>) -> Found
     ensures outcome { result.outcome ≡ outcome.Refused faults }
     ensures number { result.number ≡ None }
-    ensures count { result.use_count ≡ 0 }
+    ensures uses { result.uses ≡ [] }
 {
     Found {
         outcome: Outcome::Refused(faults),
         number: None,
-        use_count: 0,
+        uses: List::new(alloc),
     }
 }
 
+// The level of the use that begins there.
+fn level_at(levels: &IndexMap<u32, Level>, start: u32) -> Level
+    ensures { result ≡ level_at levels.now start }
+{
+    match levels.get(&start) {
+        Some(level) => *level,
+        None => Level::Constant,
+    }
+}
+
+// Uses with their levels.
+fn with_levels(uses: List<Use>, levels: &IndexMap<u32, Level>) -> List<Use>
+    ensures { result ≡ map (with_level levels.now) uses }
+{
+    let mut uses = uses.into_vec();
+    for found in uses.iter_mut() {
+        found.level = level_at(levels, found.name.start);
+    }
+    List::from_vec(uses)
+}
+
 // What is found of a module whose names and arities have no fault, by what is found of levels.
-fn found_by(checked: &Checked, levels: ModuleLevels) -> Result<Found, Memory>
-    ensures { IfOk result (IsFoundBy checked.now levels) }
+fn found_by(alloc: Global, checked: Checked, levels: ModuleLevels) -> Result<Found, Memory>
+    ensures { IfOk result (IsFoundBy checked levels) }
 {
     let ModuleLevels {
         faults,
-        levels: _,
+        levels,
         face,
     } = levels;
     if !faults.is_empty() {
-        return Ok(refused(in_order(faults)));
+        return Ok(refused(alloc, in_order(faults)));
     }
+    let outcome = Outcome::Accepted(checked.face().clone()?);
+    let (uses, _decls) = checked.into_names();
     Ok(Found {
-        outcome: Outcome::Accepted(checked.face().clone()?),
+        outcome,
         number: Some(face),
-        use_count: checked.uses().len() as u64,
+        uses: with_levels(uses, &levels),
     })
 }
 
@@ -99,10 +121,10 @@ fn judge<L>(
     let checked = check_module(alloc, name, tree, imports, steps)?;
     let faults = checked.faults();
     if !faults.is_empty() {
-        return Ok((known, refused(copied(alloc, faults.as_slice())?)));
+        return Ok((known, refused(alloc, copied(alloc, faults.as_slice())?)));
     }
     let (known, levels) = level_module(alloc, tree, imports, checked.face(), known, files)?;
-    let found = found_by(&checked, levels)?;
+    let found = found_by(alloc, checked, levels)?;
     Ok((known, found))
 }
 
@@ -200,7 +222,7 @@ pub(crate) fn level_one<L>(
         }
         Reading::Fault(fault) => {
             leveled_is();
-            Ok((known, refused(lone_fault(alloc, *fault)?)))
+            Ok((known, refused(alloc, lone_fault(alloc, *fault)?)))
         }
     }
 }

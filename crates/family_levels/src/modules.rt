@@ -7,22 +7,23 @@ ghost use Rattle.family_tables.specs.Modules as modules_of;
 ghost use Rattle.family_tables.specs.Outcomes as outcomes_of;
 ghost use Rattle.family_tables.specs.Plans.{AreOnce, IsPlan};
 ghost use Rattle.family_tables.specs.Tables.{entry_of, names_in};
-ghost use Rattle.family_levels.specs.Leveling.{AreCounts, AreOutcomes, numbers_with};
+ghost use Rattle.family_levels.specs.Leveling.{AreOutcomes, AreUses, numbers_with};
 
 use crate::module::{Found, level_one};
 use family_tables::{Module, Outcome, Plan, Table};
 use known_modules::made_modules_are_known;
-use module_levels::LevelTables;
+use leveled_modules::LevelTables;
 use std::alloc::Global;
 use step_count::Steps;
-use tool_list::Memory;
+use tla_model::Use;
+use tool_list::{List, Memory};
 
 /// What was found of modules, under their names.
 pub(crate) struct Findings {
     /// Their faults, or what they are to others.
     pub outcomes: Table<Outcome>,
-    /// How many uses of names are shown of them.
-    pub counts: Table<u64>,
+    /// The uses of names that are shown of them, with their levels, in the order of their texts.
+    pub uses: Table<List<Use>>,
 }
 
 // By hand, so that a proof meets one call wherever a value ends.
@@ -30,7 +31,7 @@ impl Drop for Findings {
     fn drop(self) {
         let Findings {
             outcomes: _,
-            counts: _,
+            uses: _,
         } = self;
     }
 }
@@ -65,9 +66,9 @@ pub(crate) fn level_all<L>(
     ensures outcomes { (family : ListOf Member) → AreMembersDistinct family
         → modules_of.AreModules family modules.now
         → IfOk result (λ found. AreOutcomes family found.outcomes) }
-    ensures counts { (family : ListOf Member) → AreMembersDistinct family
+    ensures uses { (family : ListOf Member) → AreMembersDistinct family
         → modules_of.AreModules family modules.now
-        → IfOk result (λ found. AreCounts family found.counts) }
+        → IfOk result (λ found. AreUses family found.uses) }
     ensures steps { IfOk result (λ _. steps.new
         ≡ after_checks (outcomes_of.trees_in modules.now) steps.old) }
 {
@@ -77,7 +78,7 @@ pub(crate) fn level_all<L>(
     let _count = steps.count();
     let mut outcomes = Table::new(alloc);
     let mut numbers = Table::new(alloc);
-    let mut counts = Table::new(alloc);
+    let mut uses = Table::new(alloc);
     let mut known = LevelTables::new(alloc)?;
     for name in plan.order.as_slice() {
         let name = name.as_str();
@@ -91,11 +92,11 @@ pub(crate) fn level_all<L>(
         let Found {
             outcome,
             number,
-            use_count,
+            uses: shown,
         } = found;
         outcomes.add(alloc, name, outcome)?;
         keep_number(alloc, &mut numbers, name, number)?;
-        counts.add(alloc, name, use_count)?;
+        uses.add(alloc, name, shown)?;
     }
-    Ok(Findings { outcomes, counts })
+    Ok(Findings { outcomes, uses })
 }

@@ -14,4 +14,4 @@ returns-in_ok-made-in-Tree-clause-next g c family ready member =
 pub returns-in_ok-lone_fault-in-Fault-clause-next : goal.returns-in_ok-lone_fault-in-Fault-clause-next
 returns-in_ok-lone_fault-in-Fault-clause-next g c family ready member =
     fault-next c.leveled_is.ensures.front family c.args.plan.now c.args.outcomes.now c.args.numbers.now c.args.known c.args.name.now ready c.in-Fault.fault c.args.«module».now.needs
-    (subst (λ read. IsMember family c.args.name.now read c.args.«module».now.needs) c.in-Fault.is member) c.in_ok-lone_fault-in-Fault.field-0 c.in_ok-lone_fault-in-Fault.ensures c.refused.result c.refused.ensures.outcome c.refused.ensures.number c.refused.ensures.count
+    (subst (λ read. IsMember family c.args.name.now read c.args.«module».now.needs) c.in-Fault.is member) c.in_ok-lone_fault-in-Fault.field-0 c.in_ok-lone_fault-in-Fault.ensures c.refused.result c.refused.ensures.outcome c.refused.ensures.number c.refused.ensures.uses
