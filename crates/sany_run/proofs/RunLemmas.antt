@@ -52,24 +52,24 @@ on-told (Some t) b P is = on_true b (P t) is
 
 -- ---- the outcome for a folder
 
-module _ (path : List ℕ) where
-  answers-told : (o : Outcome) (status : ℕ) (old new : Option (List ℕ)) → Answers o status old new → (t : Told) → is_over_folder t path ≡ false → o ≡ outcome_of_files (files_of t path) → Answers (outcome_of_folder t path) status old new
-  answers-told o status old new written t within is = subst (λ x. Answers x status old new) (is ∙ sym (ap (λ b. if b then LIMIT else outcome_of_files (files_of t path)) within)) written
+module _ (path : List ℕ) (facts : Bool) where
+  answers-told : (o : Outcome) (status : ℕ) (old new : Option (List ℕ)) → Answers o status old new → (t : Told) → is_over_folder t path ≡ false → o ≡ outcome_of_files facts (files_of t path) → Answers (outcome_of_folder t path facts) status old new
+  answers-told o status old new written t within is = subst (λ x. Answers x status old new) (is ∙ sym (ap (λ b. if b then LIMIT else outcome_of_files facts (files_of t path)) within)) written
 
   -- the outcome was written
-  pub answers-folder : (holds : Option Told) (o : Outcome) (status : ℕ) (old new : Option (List ℕ)) → IfSome holds (λ t. is_over_folder t path ≡ false) → IfSome holds (λ t. o ≡ outcome_of_files (files_of t path)) → Answers o status old new → IfSome holds (λ t. Answers (outcome_of_folder t path) status old new)
+  pub answers-folder : (holds : Option Told) (o : Outcome) (status : ℕ) (old new : Option (List ℕ)) → IfSome holds (λ t. is_over_folder t path ≡ false) → IfSome holds (λ t. o ≡ outcome_of_files facts (files_of t path)) → Answers o status old new → IfSome holds (λ t. Answers (outcome_of_folder t path facts) status old new)
   answers-folder None o status old new within is written = tt
   answers-folder (Some t) o status old new within is written = answers-told o status old new written t within is
 
   -- a limit is passed
-  pub answers-limit : (holds : Option Told) (old : Option (List ℕ)) → IfSome holds (λ t. is_over_folder t path ≡ true) → IfSome holds (λ t. Answers (outcome_of_folder t path) 7 old old)
+  pub answers-limit : (holds : Option Told) (old : Option (List ℕ)) → IfSome holds (λ t. is_over_folder t path ≡ true) → IfSome holds (λ t. Answers (outcome_of_folder t path facts) 7 old old)
   answers-limit None old over = tt
-  answers-limit (Some t) old over = subst (λ x. Answers x 7 old old) (sym (ap (λ b. if b then LIMIT else outcome_of_files (files_of t path)) over)) (wrote-all LIMIT old old (appends-nothing old))
+  answers-limit (Some t) old over = subst (λ x. Answers x 7 old old) (sym (ap (λ b. if b then LIMIT else outcome_of_files facts (files_of t path)) over)) (wrote-all LIMIT old old (appends-nothing old))
 
   -- nothing was written, after a fault
-  pub answers-nothing : (holds : Option Told) (status : ℕ) (old : Option (List ℕ)) → is_fault status ≡ true → IfSome holds (λ t. Answers (outcome_of_folder t path) status old old)
+  pub answers-nothing : (holds : Option Told) (status : ℕ) (old : Option (List ℕ)) → is_fault status ≡ true → IfSome holds (λ t. Answers (outcome_of_folder t path facts) status old old)
   answers-nothing None status old fault = tt
-  answers-nothing (Some t) status old fault = wrote-nothing (outcome_of_folder t path) status old fault
+  answers-nothing (Some t) status old fault = wrote-nothing (outcome_of_folder t path facts) status old fault
 
 -- what holds of each content holds of a folder that tells
 pub told-all : (holds : Option Told) (P : Told → Type 0) → ((t : Told) → P t) → IfSome holds P

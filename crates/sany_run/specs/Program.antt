@@ -2,9 +2,10 @@
 -- passed; for modules that the words ask to make, the counts of their report and of their uses.
 use Rattle.std.specs.Prelude.{ℕ, List, [], Bool, true, false, Option, Some, if◌then◌else◌}
 use Rattle.tool_io.specs.Folder.{Told}
-use Rattle.leveled_facts.specs.Families.{uses_on, verdicts_on}
+use Rattle.leveled_facts.specs.Families.{uses_on}
+use Rattle.fact_lines.specs.Reports.{reports_on}
+use Rattle.fact_lines.specs.declared.line.ModuleReport.{ModuleReport}
 use Rattle.family_facts.specs.declared.verdict.File.{File}
-use Rattle.family_facts.specs.declared.verdict.Verdict.{Verdict}
 use Rattle.sany_run.specs.declared.check.Outcome.{Outcome}
 use Rattle.gen_texts.specs.Generated.{generated}
 use Rattle.sany_words.specs.Words.{request_of}
@@ -25,24 +26,24 @@ abbrev pub LIMIT : Outcome
 LIMIT = silent 7
 
 -- the report is written, and the status is 1 where some module is refused
-abbrev pub reported : List Verdict → Outcome
-reported verdicts = record { status = report_status verdicts; bytes = report verdicts }
+abbrev pub reported : List ModuleReport → Outcome
+reported reports = record { status = report_status reports; bytes = report reports }
 
--- the outcome for these files, over the built-in modules
-abbrev pub outcome_of_files : List File → Outcome
-outcome_of_files files = reported (verdicts_on files)
+-- the outcome for these files, over the built-in modules: with facts, if they are asked for
+abbrev pub outcome_of_files : Bool → List File → Outcome
+outcome_of_files facts files = reported (reports_on facts files)
 
 -- a folder that passes a limit is not judged
-abbrev pub outcome_of_folder : Told → List ℕ → Outcome
-outcome_of_folder t folder = if is_over_folder t folder then LIMIT else outcome_of_files (files_of t folder)
+abbrev pub outcome_of_folder : Told → List ℕ → Bool → Outcome
+outcome_of_folder t folder facts = if is_over_folder t folder then LIMIT else outcome_of_files facts (files_of t folder)
 
 -- the counts are written, and the status is as with a report
-abbrev pub counted : List Verdict → ℕ → Outcome
-counted verdicts use_count = record { status = report_status verdicts; bytes = counts verdicts use_count }
+abbrev pub counted : List ModuleReport → ℕ → Outcome
+counted reports use_count = record { status = report_status reports; bytes = counts reports use_count }
 
 -- the outcome for so many modules that are made, over the built-in ones
 abbrev pub outcome_of_generated : ℕ → Outcome
-outcome_of_generated count = counted (verdicts_on (generated count)) (uses_on (generated count))
+outcome_of_generated count = counted (reports_on false (generated count)) (uses_on (generated count))
 
 -- the words ask for the server
 abbrev pub is_serve : Option Request → Bool
@@ -51,7 +52,7 @@ is_serve _ = false
 
 -- the outcome for what is asked for, if that is no server
 abbrev pub outcome_of_request : Told → Option Request → Outcome
-outcome_of_request t (Some (Request.Check folder)) = outcome_of_folder t folder
+outcome_of_request t (Some (Request.Check folder facts)) = outcome_of_folder t folder facts
 outcome_of_request t (Some (Request.Generate count)) = outcome_of_generated count
 outcome_of_request t _ = USAGE
 

@@ -3,7 +3,8 @@ ghost use Rattle.std.specs.Prelude.{◌≡◌, ◌≤◌, IfOk, IfSome, OnErr, t
 ghost use Rattle.std.specs.List.{All};
 ghost use Rattle.std.specs.Option.{option_map};
 ghost use Rattle.tool_io.specs.Causes.{HasCause};
-ghost use Rattle.family_facts.specs.Verdicts.{AreDistinct, IsVerdictPlaced, after_checks, checks_of};
+ghost use Rattle.family_facts.specs.Verdicts.{AreDistinct, after_checks, checks_of};
+ghost use Rattle.fact_lines.specs.Reports.{IsReportPlaced};
 ghost use Rattle.sany_files.specs.Calls.{IsLeftAfter};
 ghost use Rattle.sany_run.specs.Answers.{is_done};
 ghost use Rattle.sany_run.specs.Program as program;
@@ -11,7 +12,8 @@ ghost use Rattle.sany_files.specs.Calls as calls;
 ghost use Rattle.sany_files.specs.Files as files_in;
 ghost use Rattle.sany_files.specs.Reading as reading;
 
-use family_facts::{File, Verdict};
+use fact_lines::ModuleReport;
+use family_facts::File;
 use family_levels::check_family;
 use sany_files::files_of_folder;
 use sany_report::{report_on, report_status};
@@ -27,15 +29,15 @@ pub struct Outcome {
     pub bytes: List<u8>,
 }
 
-// The report on verdicts.
-fn reported(alloc: Global, verdicts: &[Verdict]) -> Result<Outcome, Memory>
-    requires { All IsVerdictPlaced verdicts.now }
-    ensures outcome { IfOk result (λ outcome. outcome ≡ program.reported verdicts.now) }
+// The report on modules.
+fn reported(alloc: Global, reports: &[ModuleReport]) -> Result<Outcome, Memory>
+    requires { All IsReportPlaced reports.now }
+    ensures outcome { IfOk result (λ outcome. outcome ≡ program.reported reports.now) }
     ensures verdict { IfOk result (λ outcome. nat_le outcome.status 1 ≡ true) }
 {
-    let report = report_on(alloc, verdicts)?;
+    let report = report_on(alloc, reports)?;
     Ok(Outcome {
-        status: report_status(verdicts),
+        status: report_status(reports),
         bytes: List::from_vec(report.into_bytes()),
     })
 }
@@ -44,31 +46,34 @@ fn reported(alloc: Global, verdicts: &[Verdict]) -> Result<Outcome, Memory>
 fn outcome_of_files<L>(
     alloc: Global,
     files: &[File],
+    facts: bool,
     steps: &mut Steps<L>,
 ) -> Result<Outcome, Memory>
     requires distinct { AreDistinct files.now }
     requires small { files_in.byte_count files.now ≤ files_in.MOST_BYTES }
-    ensures outcome { IfOk result (λ outcome. outcome ≡ program.outcome_of_files files.now) }
+    ensures outcome { IfOk result (λ outcome. outcome
+        ≡ program.outcome_of_files facts files.now) }
     ensures done { IfOk result (λ outcome. is_done outcome.status ≡ true) }
     ensures ticks { IfOk result (λ _. steps.new
         ≡ after_checks (checks_of files.now) steps.old) }
 {
-    let found = check_family(alloc, files, steps)?;
-    reported(alloc, found.verdicts.as_slice())
+    let found = check_family(alloc, files, facts, steps)?;
+    reported(alloc, found.reports.as_slice())
 }
 
-/// The outcome for a folder. None where a limit is passed.
+/// The outcome for a folder: with facts, if they are asked for. None where a limit is passed.
 pub fn outcome_of_folder<F: Folder, L>(
     alloc: Global,
     folder: &mut F,
     path: &str,
+    facts: bool,
     steps: &mut Steps<L>,
 ) -> Result<Option<Outcome>, IoFault>
     ensures outcome { IfOk result
         (λ outcome.
         IfSome outcome
         (λ o. IfSome (F.told folder.old) (λ t. o
-        ≡ program.outcome_of_files (files_in.files_of t path.now)))) }
+        ≡ program.outcome_of_files facts (files_in.files_of t path.now)))) }
     ensures limit { IfOk result
         (λ outcome. IfSome (F.told folder.old) (λ t. files_in.is_over_folder t path.now
         ≡ is_none outcome)) }
@@ -88,7 +93,7 @@ pub fn outcome_of_folder<F: Folder, L>(
     let Some(files) = files_of_folder(alloc, folder, path)? else {
         return Ok(None);
     };
-    match outcome_of_files(alloc, files.as_slice(), steps) {
+    match outcome_of_files(alloc, files.as_slice(), facts, steps) {
         Ok(outcome) => Ok(Some(outcome)),
         Err(Memory) => Err(IoFault::Memory),
     }

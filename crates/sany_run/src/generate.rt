@@ -16,13 +16,13 @@ use tool_list::{List, Memory};
 // The counts of what was found.
 fn counted(alloc: Global, found: &FamilyCheck) -> Result<Outcome, Memory>
     ensures outcome { IfOk result (λ outcome. outcome
-        ≡ program.counted found.now.verdicts found.now.use_count) }
+        ≡ program.counted found.now.reports found.now.use_count) }
     ensures done { IfOk result (λ outcome. is_done outcome.status ≡ true) }
 {
-    let verdicts = found.verdicts.as_slice();
-    let counts = counts_of(alloc, verdicts, found.use_count)?;
+    let reports = found.reports.as_slice();
+    let counts = counts_of(alloc, reports, found.use_count)?;
     Ok(Outcome {
-        status: report_status(verdicts),
+        status: report_status(reports),
         bytes: List::from_vec(counts.into_bytes()),
     })
 }
@@ -39,6 +39,6 @@ pub fn outcome_of_generated<L>(
         ≡ after_checks (checks_of (generated_by.generated count)) steps.old) }
 {
     let files = generated(alloc, count)?;
-    let found = check_family(alloc, files.as_slice(), steps)?;
+    let found = check_family(alloc, files.as_slice(), false, steps)?;
     counted(alloc, &found)
 }

@@ -65,15 +65,16 @@ fn status_of_outcome<K: Sink>(output: &mut K, outcome: &Outcome) -> u8
 fn status_of_check<F: Folder, K: Sink, L>(
     alloc: Global,
     path: &str,
+    facts: bool,
     folder: &mut F,
     output: &mut K,
     steps: &mut Steps<L>,
 ) -> u8
     ensures answers { IfSome (F.told folder.old)
-        (λ t. Answers (outcome_of_folder t path.now) result (K.taken output.old)
+        (λ t. Answers (outcome_of_folder t path.now facts) result (K.taken output.old)
         (K.taken output.new)) }
     ensures some { OnTrue (result == 5)
-        (IfSome (F.told folder.old) (λ t. (outcome_of_folder t path.now).bytes ≢ [])) }
+        (IfSome (F.told folder.old) (λ t. (outcome_of_folder t path.now facts).bytes ≢ [])) }
     ensures status { is_answer result ≡ true }
     ensures folder_fault { TellsFault 3 result (F.fault_count folder.old)
         (F.fault_count folder.new) }
@@ -92,7 +93,7 @@ fn status_of_check<F: Folder, K: Sink, L>(
         (λ t. OnTrue (is_stopped result)
         (IsLeftAfter 1 (calls_of_folder t path.now) t (F.told folder.new))) }
 {
-    let outcome = match check::outcome_of_folder(alloc, folder, path, steps) {
+    let outcome = match check::outcome_of_folder(alloc, folder, path, facts, steps) {
         Ok(Some(outcome)) => outcome,
         Ok(None) => return LIMIT,
         Err(IoFault::Failed) => return FOLDER_FAULT,
@@ -157,9 +158,12 @@ fn status_of_request<F: Folder, K: Sink, L>(
         (IsLeftAfter (least_calls result) (calls_of_request t request) t (F.told folder.new))) }
 {
     match request {
-        Some(Request::Check(path)) => {
-            status_of_check(alloc, path.as_str(), folder, output, steps)
-        }
+        Some(
+            Request::Check {
+                folder: path,
+                facts,
+            },
+        ) => { status_of_check(alloc, path.as_str(), facts, folder, output, steps) }
         Some(Request::Generate(count)) => status_of_generated(alloc, count, output, steps),
         Some(Request::Serve) => unreachable!(),
         None => USAGE,
@@ -172,7 +176,7 @@ fn is_serve(request: &Option<Request>) -> bool
 {
     match request {
         Some(Request::Serve) => true,
-        Some(Request::Check(_)) | Some(Request::Generate(_)) | None => false,
+        Some(Request::Check { .. }) | Some(Request::Generate(_)) | None => false,
     }
 }
 

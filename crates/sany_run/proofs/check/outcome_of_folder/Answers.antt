@@ -7,7 +7,7 @@ use Rattle.sany_run.proofs.check.outcome_of_folder.Goals as goal
 
 pub returns-in-Ok-clause-outcome : goal.returns-in-Ok-clause-outcome
 returns-in-Ok-clause-outcome g c =
-    of_folder (λ files. c.in-Ok.outcome ≡ outcome_of_files files) (g.F.Folder.told c.args.folder.now) c.args.path.now c.in-Some.files
+    of_folder (λ files. c.in-Ok.outcome ≡ outcome_of_files c.args.facts files) (g.F.Folder.told c.args.folder.now) c.args.path.now c.in-Some.files
     (rw c.in-Some.is at c.in_ok-files.ensures.files) (rw c.as_slice.ensures at c.in-Ok.ensures.outcome)
 
 pub returns-in-Ok-clause-ticks : goal.returns-in-Ok-clause-ticks

@@ -5,17 +5,17 @@ use Rattle.sany_run.proofs.RunLemmas.{answers-folder, answers-limit, answers-not
 use Rattle.sany_run.proofs.program.status_of_check.Goals as goal
 
 pub returns-in-Ok-None-clause-answers : goal.returns-in-Ok-None-clause-answers
-returns-in-Ok-None-clause-answers g c = answers-limit c.args.path.now (g.F.Folder.told c.args.folder.now) (g.K.Sink.taken c.args.output.now) (rw c.in-Ok-None.field-0-is at c.in-Ok-None.ensures.limit)
+returns-in-Ok-None-clause-answers g c = answers-limit c.args.path.now c.args.facts (g.F.Folder.told c.args.folder.now) (g.K.Sink.taken c.args.output.now) (rw c.in-Ok-None.field-0-is at c.in-Ok-None.ensures.limit)
 
 pub returns-in-Err-Failed-clause-answers : goal.returns-in-Err-Failed-clause-answers
-returns-in-Err-Failed-clause-answers g c = answers-nothing c.args.path.now (g.F.Folder.told c.args.folder.now) 3 (g.K.Sink.taken c.args.output.now) refl
+returns-in-Err-Failed-clause-answers g c = answers-nothing c.args.path.now c.args.facts (g.F.Folder.told c.args.folder.now) 3 (g.K.Sink.taken c.args.output.now) refl
 
 pub returns-in-Err-Memory-clause-answers : goal.returns-in-Err-Memory-clause-answers
-returns-in-Err-Memory-clause-answers g c = answers-nothing c.args.path.now (g.F.Folder.told c.args.folder.now) 6 (g.K.Sink.taken c.args.output.now) refl
+returns-in-Err-Memory-clause-answers g c = answers-nothing c.args.path.now c.args.facts (g.F.Folder.told c.args.folder.now) 6 (g.K.Sink.taken c.args.output.now) refl
 
 pub returns-clause-answers : goal.returns-clause-answers
 returns-clause-answers g c =
-    answers-folder c.args.path.now (g.F.Folder.told c.args.folder.now) c.in-Ok-Some.outcome c.status_of_outcome.result (g.K.Sink.taken c.args.output.now) (g.K.Sink.taken c.status_of_outcome.new.output)
+    answers-folder c.args.path.now c.args.facts (g.F.Folder.told c.args.folder.now) c.in-Ok-Some.outcome c.status_of_outcome.result (g.K.Sink.taken c.args.output.now) (g.K.Sink.taken c.status_of_outcome.new.output)
     (rw c.in-Ok-Some.field-0-is at c.in-Ok-Some.ensures.limit) (rw c.in-Ok-Some.field-0-is at c.in-Ok-Some.ensures.outcome) c.status_of_outcome.ensures.answers
 
 pub returns-clause-part : goal.returns-clause-part
