@@ -1,6 +1,7 @@
 // Whole runs over objects in memory.
 mod arities;
 mod devices;
+mod facts;
 mod families;
 mod files;
 mod instances;
@@ -140,6 +141,13 @@ fn check_within(alloc: Global, files: List<FileBytes>, room: u32) -> Result<Ran,
     run_over(alloc, &["check", "w"], folder, output)
 }
 
+// The same with the uses of names in accepted modules.
+fn check_with_facts(alloc: Global, files: List<FileBytes>) -> Result<Ran, Memory> {
+    let folder = folder_of(alloc, files, 0)?;
+    let output = MemorySink::new(alloc, 1024, 7, List::new(alloc))?;
+    run_over(alloc, &["check", "w", "--facts"], folder, output)
+}
+
 fn expect(rt: &impl Abort, ran: &Ran, status: u8, written: &str) {
     assert_eq!(rt; ran.output.bytes(), written.as_bytes());
     assert_eq!(rt; ran.status, status, "{written}");
@@ -161,6 +169,22 @@ fn reports_on_each(rt: &impl Abort, alloc: Global, rows: &'static [Single]) -> R
     Ok(())
 }
 
+fn shows(rt: &impl Abort, alloc: Global, cases: &'static [Case]) -> Result<(), Fail> {
+    for (modules, status, report) in cases {
+        let ran = check_with_facts(alloc, modules_of(alloc, *modules)?)?;
+        expect(rt, &ran, *status, *report);
+    }
+    Ok(())
+}
+
+fn shows_on_each(rt: &impl Abort, alloc: Global, rows: &'static [Single]) -> Result<(), Fail> {
+    for (lines, status, report) in rows {
+        let ran = check_with_facts(alloc, modules_of(alloc, &[("A", *lines)])?)?;
+        expect(rt, &ran, *status, *report);
+    }
+    Ok(())
+}
+
 #[test]
 fn reports_on_scopes(rt: HostRuntime) -> Result<(), Fail> {
     reports_on_each(&rt, rt.alloc(), &scopes::SCOPES)
@@ -176,6 +200,51 @@ fn reports_on_levels(rt: HostRuntime) -> Result<(), Fail> {
     let alloc = rt.alloc();
     reports_on_each(&rt, alloc, &levels::LEVELS)?;
     reports(&rt, alloc, &levels::LEVELED)
+}
+
+#[test]
+fn shows_facts_of_modules(rt: HostRuntime) -> Result<(), Fail> {
+    let tables: [&'static [Single]; 7] = [
+        &facts::uses::USES,
+        &facts::actions::ACTIONS,
+        &facts::formulas::FORMULAS,
+        &facts::values::VALUES,
+        &facts::arguments::ARGUMENTS,
+        &facts::operators::OPERATORS,
+        &facts::functions::FUNCTIONS,
+    ];
+    for table in tables {
+        shows_on_each(&rt, rt.alloc(), table)?;
+    }
+    Ok(())
+}
+
+#[test]
+fn shows_facts_of_families(rt: HostRuntime) -> Result<(), Fail> {
+    let tables: [&'static [Case]; 5] = [
+        &facts::files::FILES,
+        &facts::replaced::REPLACED,
+        &facts::paths::PATHS,
+        &facts::brought::BROUGHT,
+        &facts::constants::CONSTANTS,
+    ];
+    for table in tables {
+        shows(&rt, rt.alloc(), table)?;
+    }
+    Ok(())
+}
+
+#[test]
+fn reports_on_depths(rt: HostRuntime) -> Result<(), Fail> {
+    let alloc = rt.alloc();
+    let tower = facts::depths::TOWER;
+    for (below, status, report) in &facts::depths::DEPTHS {
+        let lines = format!(in alloc; "{tower}{below}")?;
+        let modules = [("A", lines.as_str()), ("M", facts::depths::M)];
+        let ran = check(alloc, modules_of(alloc, &modules)?)?;
+        expect(&rt, &ran, *status, *report);
+    }
+    Ok(())
 }
 
 #[test]

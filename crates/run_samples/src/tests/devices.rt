@@ -20,8 +20,6 @@ pub static TRIALS: [Trial; 46] = [
     (&["check", "w", "w"], 0, 0, 100, 2, ""),
     (&["check", "-w"], 0, 0, 100, 2, ""),
     (&["check", "--help"], 0, 0, 100, 2, ""),
-    (&["check", "w", "--facts"], 0, 0, 100, 2, ""),
-    (&["--facts", "check", "w"], 0, 0, 100, 2, ""),
     (&["serve", "w"], 0, 0, 100, 2, ""),
     (&["serve", "--facts"], 0, 0, 100, 2, ""),
     // The input ends without a shutdown.
@@ -79,6 +77,9 @@ pub static TRIALS: [Trial; 46] = [
     (&["check", "w"], 1, 0, 100, 3, ""),
     (&["check", "w"], 2, 0, 100, 3, ""),
     (&["check", "w"], 3, 0, 100, 1, REPORT),
+    // Facts may be asked for before the folder, and behind it.
+    (&["check", "w", "--facts"], 0, 0, 100, 1, REPORT),
+    (&["--facts", "check", "w"], 0, 0, 100, 1, REPORT),
     // Each write fails.
     (&["check", "w"], 0, 1, 100, 5, ""),
     (&["check", "w"], 0, 2, 100, 5, "A refused\n"),
