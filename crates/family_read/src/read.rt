@@ -18,7 +18,7 @@ ghost use Rattle.family_tables.specs.Modules as modules_of;
 ghost use Rattle.family_tables.specs.Modules.{IsTreeOf, IsModule, AreModules, added};
 
 use family_facts::File;
-use family_tables::{Kept, Module, Reading, SharedTree, Table};
+use family_tables::{Module, Reading, SharedTree, Table};
 use module_graph::{imports_are_lexemes, lexemes_lie_names, named_modules};
 use std::alloc::Global;
 use std_modules::{STD_NAMES, std_text};
@@ -79,23 +79,27 @@ fn module_of_tree(alloc: Global, tree: SharedTree) -> Result<Module, Memory>
 }
 
 // The tree that was kept of a module of this name, if it has these bytes.
-fn kept_tree(kept: &Table<Kept>, name: &str, bytes: &[u8]) -> Result<Option<SharedTree>, Memory>
+fn kept_tree(
+    kept: &Table<SharedTree>,
+    name: &str,
+    bytes: &[u8],
+) -> Result<Option<SharedTree>, Memory>
     requires { AreRead kept.now }
     ensures { IfOk result (λ tree. IfSome tree (IsTreeOf name.now bytes.now)) }
 {
-    let Some(kept) = kept.get(name) else {
+    let Some(tree) = kept.get(name) else {
         return Ok(None);
     };
-    if kept.tree.tree().source.as_str().as_bytes() != bytes {
+    if tree.tree().source.as_str().as_bytes() != bytes {
         return Ok(None);
     }
-    Ok(Some(kept.tree.copied()?))
+    Ok(Some(tree.copied()?))
 }
 
 // The module of a name with these bytes. It is read unless its tree was kept.
 fn read_module(
     alloc: Global,
-    kept: &Table<Kept>,
+    kept: &Table<SharedTree>,
     name: &str,
     bytes: &[u8],
 ) -> Result<Module, Memory>
@@ -122,7 +126,11 @@ fn read_module(
 }
 
 // The modules of files.
-fn read_files(alloc: Global, kept: &Table<Kept>, files: &[File]) -> Result<Table<Module>, Memory>
+fn read_files(
+    alloc: Global,
+    kept: &Table<SharedTree>,
+    files: &[File],
+) -> Result<Table<Module>, Memory>
     requires read { AreRead kept.now }
     requires distinct { AreDistinct files.now }
     requires small { sum_by (λ file. length file.bytes) files.now < 2 ^ 31 }
@@ -140,7 +148,7 @@ fn read_files(alloc: Global, kept: &Table<Kept>, files: &[File]) -> Result<Table
 // Adds the built-in module of a name, unless a module has this name.
 fn add_built_in(
     alloc: Global,
-    kept: &Table<Kept>,
+    kept: &Table<SharedTree>,
     modules: &mut Table<Module>,
     name: &str,
 ) -> Result<(), Memory>
@@ -161,7 +169,7 @@ fn add_built_in(
 // Adds the built-in modules of these names, but for those whose name a module has.
 fn add_all(
     alloc: Global,
-    kept: &Table<Kept>,
+    kept: &Table<SharedTree>,
     modules: &mut Table<Module>,
     names: &[&'static str],
 ) -> Result<(), Memory>
@@ -183,7 +191,7 @@ fn add_all(
 /// hides. A module whose tree was kept is not read again where it has the same text.
 pub fn read_family(
     alloc: Global,
-    kept: &Table<Kept>,
+    kept: &Table<SharedTree>,
     files: &[File],
 ) -> Result<Table<Module>, Memory>
     requires read { AreRead kept.now }

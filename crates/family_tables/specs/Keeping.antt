@@ -1,14 +1,13 @@
--- What is kept of modules for the next check of their family.
+-- Trees that are kept for the next check of a family.
 use Rattle.std.specs.Prelude.{◌≡◌, ℕ, List, Some}
+use Rattle.tla_tree.specs.declared.unit.ModuleTree.{ModuleTree}
 use Rattle.family_tables.specs.Modules.{IsTreeOf}
 use Rattle.family_tables.specs.Tables.{entry_of}
-use Rattle.family_tables.specs.declared.kept.Kept.{Kept}
 
 -- the tree is one of a module of this name
-pub record IsRead (name : List ℕ) (kept : Kept) : Type 0 where
-  pub bytes : List ℕ
-  pub tree : IsTreeOf name bytes kept.tree
+abbrev pub IsRead : List ℕ → ModuleTree → Type 0
+IsRead name tree = (bytes : List ℕ) × IsTreeOf name bytes tree
 
 -- so it is under each name
-abbrev pub AreRead : List (List ℕ × Kept) → Type 0
-AreRead table = (name : List ℕ) (kept : Kept) → entry_of table name ≡ Some kept → IsRead name kept
+abbrev pub AreRead : List (List ℕ × ModuleTree) → Type 0
+AreRead trees = (name : List ℕ) (tree : ModuleTree) → entry_of trees name ≡ Some tree → IsRead name tree

@@ -6,7 +6,6 @@
 #![tactic(auto)]
 
 mod imports;
-mod kept;
 mod order;
 mod outcome;
 mod reading;
@@ -14,7 +13,6 @@ mod table;
 mod verdict;
 
 pub use imports::imports_of;
-pub use kept::Kept;
 pub use order::{Plan, plan_of};
 pub use outcome::Outcome;
 pub use reading::{Module, Reading, SharedTree};

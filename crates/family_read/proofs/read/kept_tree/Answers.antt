@@ -6,7 +6,7 @@ use Rattle.family_read.proofs.read.kept_tree.Goals as goal
 
 pub returns : goal.returns
 returns c =
-    let read = c.requires c.args.name.now c.in-Some.kept.now (sym c.in-Some.ensures) in
+    let read = c.requires c.args.name.now c.in-Some.tree.now (sym c.in-Some.ensures) in
     let source = c.as_bytes.ensures.value ∙ (c.as_str.ensures ∙ ap (λ (t : ModuleTree). t.source) c.tree.ensures) in
-    let same : read.bytes ≡ c.args.bytes.now = sym read.tree.source ∙ (sym source ∙ alike c.as_bytes.result.now c.args.bytes.now c.if-ne.ensures) in
-    subst (IsTreeOf c.args.name.now c.args.bytes.now) (sym c.in_ok-copied.ensures) (subst (λ bytes. IsTreeOf c.args.name.now bytes c.in-Some.kept.now.tree) same read.tree)
+    let same : read.0 ≡ c.args.bytes.now = sym read.1.source ∙ (sym source ∙ alike c.as_bytes.result.now c.args.bytes.now c.if-ne.ensures) in
+    subst (IsTreeOf c.args.name.now c.args.bytes.now) (sym c.in_ok-copied.ensures) (subst (λ bytes. IsTreeOf c.args.name.now bytes c.in-Some.tree.now) same read.1)
