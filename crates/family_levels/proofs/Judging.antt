@@ -18,7 +18,7 @@ use Rattle.module_model.specs.Modules.{text_of}
 use Rattle.module_model.specs.Resolution.{findings, outside_in}
 use Rattle.arity_rules.specs.Arities.{arity_faults}
 use Rattle.module_facts.specs.Checks as names
-use Rattle.module_facts.specs.Checks.{CheckedModule, ImportStatus, facts_of, facts_told, files_given, given_in, name_faults, or_others, unless_any}
+use Rattle.module_facts.specs.Checks.{CheckedModule, ImportStatus, facts_of, facts_told, files_given, given_in, name_faults, or_others}
 use Rattle.module_model.specs.declared.face.Face.{Face}
 use Rattle.fact_values.specs.Names.{Texts}
 use Rattle.flattened_trees.specs.Answers.{deep_answers, level_answers}
@@ -51,10 +51,11 @@ use Rattle.family_tables.specs.declared.reading.Reading.TheVariants as reading
 use Rattle.leveled_facts.specs.Families.{declares, leveled}
 use Rattle.leveled_facts.specs.Modules.{Leveled, Status, all_faults, import_status, leveled_by, leveled_use, levels_by, outside_by}
 use Rattle.family_levels.specs.declared.«module».Found.{Found}
-use Rattle.family_levels.specs.Judging.{HasFace, HasFaults, IsFoundAccepted, IsFoundBy, IsFoundFrom, IsFoundRefused, IsJudged, IsJudgedFrom, IsLeveledOver, level_at, with_level}
-use Rattle.family_levels.specs.Leveling.{AreNumbers, HasNumber, IsNext, IsReady, faces_of}
+use Rattle.family_levels.specs.Judging.{HasFace, HasFaults, IsFoundAccepted, IsFoundBy, IsFoundFrom, IsFoundRefused, IsJudged, IsJudgedFrom, IsLeveledOver, level_at, names_of, with_level}
+use Rattle.family_levels.specs.Leveling.{AreNumbers, HasNumber, IsNext, IsReady, faces_of, names_on}
 use Rattle.family_levels.specs.Numbers.{number_by}
 use Rattle.family_levels.proofs.Laws.{FamilyLaws, KnownLaws}
+use Rattle.family_levels.proofs.Unleveled.{plain-uses, unleveled}
 use Rattle.family_levels.proofs.Statuses.{files-given, IsFileAbsent, IsFileThere, file-is, found-given, given as given_to, names-given, views-given}
 
 -- ---- faults
@@ -80,10 +81,6 @@ none-both (fault ∷ a) b none = cc
 none-left : (a b : List Diagnostic) → a ++ b ≡ [] → AreNone a b
 none-left [] b none = record { first = refl; second = none }
 none-left (fault ∷ a) b none = cc
-
--- the uses of a module with faults are not shown
-pub unshown : (uses : List Use) (faults : List Diagnostic) (fault : Diagnostic) (rest : List Diagnostic) → faults ≡ fault ∷ rest → unless_any faults uses ≡ []
-unshown uses faults fault rest is = ap (λ fs. unless_any fs uses) is
 
 -- uses get the levels that are found of them
 uses-leveled : {S : Type 0} (levels : IndexMap ℕ Level S) (found : List LevelFinding) → ((start : ℕ) → level_at levels start ≡ level_of found start) → (uses : List Use) → map (with_level levels) uses ≡ map (leveled_use found) uses
@@ -154,6 +151,9 @@ module _ (known_laws : KnownLaws) (laws : FamilyLaws) (family : List Member) (pl
   faults-are : checked.faults ≡ in_order named
   faults-are = told-facts.faults ∙ ap (λ g. in_order (names.all_faults g source units)) (sym names-are)
 
+  decls-are : checked.decls ≡ names.all_decls (λ other. import_status (given other)) source units
+  decls-are = told-facts.decls ∙ ap (λ g. names.all_decls g source units) (sym names-are)
+
   uses-are : checked.uses ≡ names.all_uses (λ other. import_status (given other)) source units
   uses-are = told-facts.uses ∙ ap (λ g. names.all_uses g source units) (sym names-are)
 
@@ -163,9 +163,19 @@ module _ (known_laws : KnownLaws) (laws : FamilyLaws) (family : List Member) (pl
   there : is_there family name ≡ true
   there = member-there family name member.member member.there member.named
 
+  -- the names of the module, where it has faults
+  names-refused : (fault : Diagnostic) (rest : List Diagnostic) → in_order (all_faults given source units) ≡ fault ∷ rest → names_of checked ≡ names_on texts name
+  names-refused fault rest some =
+      let own : List Use = names.all_uses (λ other. import_status (given other)) source units in
+      let uses : checked.uses ≡ (leveled texts name).uses =
+      uses-are ∙ (sym (plain-uses (λ other. import_status (given other)) source units)
+      ∙ (ap (λ found. map (leveled_use found) own) (sym (unleveled given source units (all_faults given source units) fault rest some)) ∙ ap (λ (l : Leveled). l.uses) (sym is))) in
+      let decls : checked.decls ≡ (leveled texts name).decls = decls-are ∙ ap (λ (l : Leveled). l.decls) (sym is) in
+      λ i. record { uses = uses i; decls = decls i }
+
   -- ---- with faults of names
 
-  refused-next : (fault : Diagnostic) (rest : List Diagnostic) → checked.faults ≡ fault ∷ rest → IsFoundRefused (λ all. all ≡ fault ∷ rest) found → new ≡ old → IsNext family outcomes numbers name new found
+  refused-next : (fault : Diagnostic) (rest : List Diagnostic) → checked.faults ≡ fault ∷ rest → IsFoundRefused (λ all. all ≡ fault ∷ rest) (names_of checked) found → new ≡ old → IsNext family outcomes numbers name new found
   refused-next fault rest some refused same =
       let listed : in_order named ≡ fault ∷ rest = sym faults-are ∙ some in
       let all : (leveled texts name).faults ≡ fault ∷ rest = ap (λ (l : Leveled). l.faults) is ∙ (ap in_order (others-or named (kind_faults outs source units) fault rest listed) ∙ listed) in
@@ -173,7 +183,7 @@ module _ (known_laws : KnownLaws) (laws : FamilyLaws) (family : List Member) (pl
         there = there;
         says = refused-says (λ all. all ≡ fault ∷ rest) found.outcome (leveled texts name).faults (leveled texts name).outside.view fault rest (λ these e. e ∙ sym all) all refused.outcome;
         numbered = refused-number (λ all. all ≡ fault ∷ rest) found.outcome found.number refused.outcome refused.number;
-        uses = refused.uses ∙ sym (unshown (leveled texts name).uses (leveled texts name).faults fault rest all);
+        names = refused.names ∙ names-refused fault rest (ap (λ (l : Leveled). l.faults) (sym is) ∙ all);
         knowledge = knowledge;
         plain = ready.leveled_so.plain;
         others = λ other number at. subst (λ (t : LevelTables). IsKnownFile (declares texts) t.tables.state.flat knowledge (faces_of t number) (leveled texts other).outside) (sym same) (ready.leveled_so.files other number at);
@@ -287,7 +297,7 @@ module _ (known_laws : KnownLaws) (laws : FamilyLaws) (family : List Member) (pl
     outside-is : (leveled texts name).outside ≡ module_outside outs source units
     outside-is = ap (λ (l : Leveled). l.outside) is
 
-    refused-levels : (fault : Diagnostic) (rest : List Diagnostic) → levels.faults ≡ fault ∷ rest → IsFoundRefused (AreInOrder (fault ∷ rest)) found → IsNext family outcomes numbers name new found
+    refused-levels : (fault : Diagnostic) (rest : List Diagnostic) → levels.faults ≡ fault ∷ rest → IsFoundRefused (AreInOrder (fault ∷ rest)) (names_of checked) found → IsNext family outcomes numbers name new found
     refused-levels fault rest some refused = by_all (in_order (fault ∷ rest)) refl
       where
         all : (leveled texts name).faults ≡ in_order (fault ∷ rest)
@@ -299,7 +309,7 @@ module _ (known_laws : KnownLaws) (laws : FamilyLaws) (family : List Member) (pl
           there = there;
           says = refused-says (AreInOrder (fault ∷ rest)) found.outcome (leveled texts name).faults (leveled texts name).outside.view first more (λ these ordered. laws.one_order (fault ∷ rest) these ordered ∙ sym all) (all ∙ e) refused.outcome;
           numbered = refused-number (AreInOrder (fault ∷ rest)) found.outcome found.number refused.outcome refused.number;
-          uses = refused.uses ∙ sym (unshown (leveled texts name).uses (leveled texts name).faults first more (all ∙ e));
+          names = refused.names ∙ names-refused first more (ap (λ (l : Leveled). l.faults) (sym is) ∙ (all ∙ e));
           knowledge = knowledge;
           plain = ready.leveled_so.plain;
           others = still-known;
@@ -317,7 +327,10 @@ module _ (known_laws : KnownLaws) (laws : FamilyLaws) (family : List Member) (pl
           there = there;
           says = accepted-says checked.face found.outcome (leveled texts name).faults (leveled texts name).outside.view accepts.outcome all view;
           numbered = accepted-number checked.face found.outcome levels.face found.number accepts.outcome accepts.number;
-          uses = accepts.uses ∙ (shown none ∙ ap (λ fs. unless_any fs (leveled texts name).uses) (sym all));
+          names =
+              let uses = shown none in
+              let decls : checked.decls ≡ (leveled texts name).decls = decls-are ∙ ap (λ (l : Leveled). l.decls) (sym is) in
+              accepts.names ∙ (λ i. record { uses = uses i; decls = decls i });
           knowledge = own;
           plain = known_laws.plain (declares texts) new.tables.state.flat knowledge faces outs name source units (symbols_of (module_outside outs source units)) made.last made.asked is-made;
           others = λ other number at.

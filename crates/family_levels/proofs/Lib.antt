@@ -1,5 +1,6 @@
 mod Laws
 mod Statuses
+mod Unleveled
 mod Judging
 mod Numbering
 mod Steps
@@ -7,3 +8,5 @@ mod Growing
 mod Uses
 mod Placing
 mod Answering
+mod Telling
+mod Trees

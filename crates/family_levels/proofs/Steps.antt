@@ -37,7 +37,7 @@ use Rattle.family_levels.specs.declared.«module».Found.{Found}
 use Rattle.family_levels.specs.Judging.{HasFace, HasFaults, IsFoundFrom, IsJudged, IsJudgedFrom, IsLeveledOver}
 use Rattle.family_levels.specs.Leveling.{AreNumbers, IsNext, IsReady, KeepsFaces, face_count}
 use Rattle.family_levels.specs.Numbers.{number_by}
-use Rattle.family_levels.proofs.Judging.{refused-number, refused-says, unshown}
+use Rattle.family_levels.proofs.Judging.{refused-number, refused-says}
 use Rattle.family_levels.proofs.Statuses.{files-given}
 
 -- the face of a module that was checked is what it is to others, where nothing is at fault
@@ -119,8 +119,8 @@ module _ (name : List ℕ) (tree : ModuleTree) (imports : Imports) (files : List
 -- what is found of a module with a front fault
 pub fault-next : (front : (family : List Member) (member : Member) (fault : Diagnostic) → AreMembersDistinct family → Contains family member → IsFront member.name member.bytes (Fault fault) → leveled (texts_of family) member.name ≡ front_refused fault)
     → (family : List Member) (plan : Plan) (outcomes : List (List ℕ × Outcome)) (numbers : List (List ℕ × ℕ)) (known : LevelTables) (name : List ℕ) → IsReady family plan outcomes numbers known name → (fault : Diagnostic) (needs : List (List ℕ)) → IsMember family name (reading.Fault fault) needs
-    → (faults : List Diagnostic) → faults ≡ fault ∷ [] → (found : Found) → found.outcome ≡ outcome.Refused faults → found.number ≡ None → found.uses ≡ [] → IsNext family outcomes numbers name known found
-fault-next front family plan outcomes numbers known name ready fault needs member faults lone found outcome_is number_is uses_is =
+    → (faults : List Diagnostic) → faults ≡ fault ∷ [] → (found : Found) → found.outcome ≡ outcome.Refused faults → found.number ≡ None → found.names.uses ≡ [] → found.names.decls ≡ [] → IsNext family outcomes numbers name known found
+fault-next front family plan outcomes numbers known name ready fault needs member faults lone found outcome_is number_is uses_is decls_is =
     let m : Member = member.member in
     let is : leveled (texts_of family) name ≡ front_refused fault =
     subst (λ n. leveled (texts_of family) n ≡ front_refused fault) member.named (front family m fault ready.distinct member.there (subst (λ n. IsFront n m.bytes (Fault fault)) (sym member.named) member.is.0)) in
@@ -130,7 +130,10 @@ fault-next front family plan outcomes numbers known name ready fault needs membe
       there = member-there family name m member.there member.named;
       says = refused-says (λ these. these ≡ fault ∷ []) found.outcome (leveled (texts_of family) name).faults (leveled (texts_of family) name).outside.view fault [] (λ these e. e ∙ sym all) all has;
       numbered = refused-number (λ these. these ≡ fault ∷ []) found.outcome found.number has number_is;
-      uses = uses_is ∙ sym (unshown (leveled (texts_of family) name).uses (leveled (texts_of family) name).faults fault [] all);
+      names =
+          let uses : found.names.uses ≡ (leveled (texts_of family) name).uses = uses_is ∙ ap (λ (l : Leveled). l.uses) (sym is) in
+          let decls : found.names.decls ≡ (leveled (texts_of family) name).decls = decls_is ∙ ap (λ (l : Leveled). l.decls) (sym is) in
+          λ i. record { uses = uses i; decls = decls i };
       knowledge = ready.leveled_so.knowledge;
       plain = ready.leveled_so.plain;
       others = ready.leveled_so.files;

@@ -19,6 +19,7 @@ use Rattle.leveled_modules.specs.Leveled.{AreFilesOf, IsModuleLeveled, faces_by}
 use Rattle.family_tables.specs.declared.outcome.Outcome.TheVariants as outcome
 use Rattle.module_model.specs.declared.face.Face.{Face}
 use Rattle.family_levels.specs.declared.«module».Found.{Found}
+use Rattle.family_levels.specs.declared.names.Names.{Names}
 
 -- an outcome has faults, of which this is said
 abbrev pub HasFaults : (List Diagnostic → Type 0) → outcome.the_data → Type 0
@@ -30,11 +31,15 @@ abbrev pub HasFace : Face → outcome.the_data → Type 0
 HasFace face (outcome.Refused faults) = ⊥
 HasFace face (outcome.Accepted shared) = arc_value shared ≡ face
 
--- a module is found with faults, of which this is said
-pub record IsFoundRefused (Are : List Diagnostic → Type 0) (found : Found) : Type 0 where
+-- the names of a module that was checked
+abbrev pub names_of : CheckedModule → Names
+names_of checked = record { uses = checked.uses; decls = checked.decls }
+
+-- a module is found with faults, of which this is said, and with these names
+pub record IsFoundRefused (Are : List Diagnostic → Type 0) (own : Names) (found : Found) : Type 0 where
   pub outcome : HasFaults Are found.outcome
   pub number : found.number ≡ None
-  pub uses : found.uses ≡ []
+  pub names : found.names ≡ own
 
 -- the level of the use that begins there
 abbrev pub level_at : {S : Type 0} → IndexMap ℕ Level S → ℕ → Level
@@ -48,12 +53,12 @@ with_level levels u = record { name = u.name; «module» = u.«module»; place =
 pub record IsFoundAccepted (checked : CheckedModule) (levels : ModuleLevels) (found : Found) : Type 0 where
   pub outcome : HasFace checked.face found.outcome
   pub number : found.number ≡ Some levels.face
-  pub uses : found.uses ≡ map (with_level levels.levels) checked.uses
+  pub names : found.names ≡ record { uses = map (with_level levels.levels) checked.uses; decls = checked.decls }
 
 -- by what is found of levels: with the faults among it, or else accepted
 abbrev pub IsFoundFrom : CheckedModule → ModuleLevels → List Diagnostic → Found → Type 0
 IsFoundFrom checked levels [] found = IsFoundAccepted checked levels found
-IsFoundFrom checked levels (fault ∷ faults) found = IsFoundRefused (AreInOrder (fault ∷ faults)) found
+IsFoundFrom checked levels (fault ∷ faults) found = IsFoundRefused (AreInOrder (fault ∷ faults)) (names_of checked) found
 
 -- the same of all that is found of levels
 abbrev pub IsFoundBy : CheckedModule → ModuleLevels → Found → Type 0
@@ -66,7 +71,7 @@ pub record IsLeveledOver (tree : ModuleTree) (imports : Imports) (files : List �
 -- the faults of names and arities, or else by what is found of levels
 abbrev pub IsJudgedFrom : ModuleTree → Imports → (List ℕ → Option ℕ) → LevelTables → LevelTables → CheckedModule → List Diagnostic → Found → Type 0
 IsJudgedFrom tree imports files old new checked [] found = (levels : ModuleLevels) × IsLeveledOver tree imports files old new levels × IsFoundBy checked levels found
-IsJudgedFrom tree imports files old new checked (fault ∷ faults) found = IsFoundRefused (λ all. all ≡ fault ∷ faults) found × (new ≡ old)
+IsJudgedFrom tree imports files old new checked (fault ∷ faults) found = IsFoundRefused (λ all. all ≡ fault ∷ faults) (names_of checked) found × (new ≡ old)
 
 -- this is found of a tree over imports
 pub record IsJudged (name : List ℕ) (tree : ModuleTree) (imports : Imports) (files : List ℕ → Option ℕ) (old new : LevelTables) (found : Found) : Type 0 where

@@ -1,13 +1,10 @@
 -- What is kept of the modules of a family while levels are found in them, one after another.
-use Rattle.std.specs.Prelude.{◌≡◌, ◌<◌, ◌≤◌, ◌++◌, ◌∷◌, ℕ, List, [], Bool, true, false, Option, Some, None, IsSome, if◌then◌else◌, map, unwrap_or}
+use Rattle.std.specs.Prelude.{◌≡◌, ◌<◌, ◌≤◌, ◌++◌, ◌∷◌, ℕ, List, [], true, false, Option, Some, None, IsSome}
 use Rattle.std.specs.Str.{bytes_eq}
-use Rattle.tla_text.specs.declared.Place.{Place}
-use Rattle.tla_model.specs.declared.entity.Use.{Use}
 use Rattle.fact_values.specs.Names.{Texts}
 use Rattle.family_facts.specs.Family as families
 use Rattle.family_facts.specs.Family.{AreMembersDistinct, Member, is_there}
 use Rattle.family_facts.specs.Facts.{texts_of}
-use Rattle.family_facts.specs.declared.verdict.Verdict.{Verdict}
 use Rattle.family_tables.specs.Modules.{Entry}
 use Rattle.family_tables.specs.Outcomes.{Matches}
 use Rattle.family_tables.specs.Plans as plans
@@ -20,13 +17,10 @@ use Rattle.flattened_trees.specs.Leads.{FlatFace}
 use Rattle.leveled_modules.specs.Leveled.{leading_in}
 use Rattle.leveled_modules.specs.Leveled.{LevelTables}
 use Rattle.leveled_facts.specs.Families.{declares, leveled}
-use Rattle.fact_lines.specs.Rows.{line_by}
-use Rattle.fact_lines.specs.Reports.{shown_uses}
-use Rattle.fact_lines.specs.declared.line.FactLine.{FactLine}
-use Rattle.fact_lines.specs.declared.line.ModuleReport.{ModuleReport}
 use Rattle.known_modules.specs.Known.{IsForeignTo, IsKnownFile, Knowledge}
 use Rattle.known_modules.specs.Known.{AreSymbolsPlain}
 use Rattle.family_levels.specs.declared.«module».Found.{Found}
+use Rattle.family_levels.specs.declared.names.Names.{Names}
 
 -- the faces of modules, by their numbers
 abbrev pub faces_of : LevelTables → ℕ → FlatFace
@@ -82,12 +76,16 @@ pub record IsReady (family : List Member) (plan : Plan) (outcomes : List (List �
 
 -- ---- one more
 
+-- the names of a module: its uses, with their levels where it is accepted, and its declarations
+abbrev pub names_on : Texts → List ℕ → Names
+names_on texts name = record { uses = (leveled texts name).uses; decls = (leveled texts name).decls }
+
 -- this is found of the next module, and the modules so far stay known with it
 pub record IsNext (family : List Member) (outcomes : List (List ℕ × Outcome)) (numbers : List (List ℕ × ℕ)) (name : List ℕ) (known : LevelTables) (found : Found) : Type 0 where
   pub there : is_there family name ≡ true
   pub says : Says (texts_of family) name found.outcome
   pub numbered : HasNumber found.outcome found.number
-  pub uses : found.uses ≡ shown_uses (texts_of family) name
+  pub names : found.names ≡ names_on (texts_of family) name
   pub knowledge : Knowledge
   pub plain : AreSymbolsPlain (declares (texts_of family)) knowledge.depths
   pub others :
@@ -110,20 +108,6 @@ numbers_with numbers name (Some number) = numbers ++ (name, number) ∷ []
 abbrev pub AreOutcomes : List Member → List (List ℕ × Outcome) → Type 0
 AreOutcomes family outcomes = (name : List ℕ) → is_there family name ≡ true → (outcome : Outcome) × (entry_of outcomes name ≡ Some outcome) × Says (texts_of family) name outcome
 
--- and the uses that are shown of it
-abbrev pub AreUses : List Member → List (List ℕ × List Use) → Type 0
-AreUses family uses = (name : List ℕ) → is_there family name ≡ true → entry_of uses name ≡ Some (shown_uses (texts_of family) name)
-
--- the uses that are shown of a name; of a name that is not there none are
-abbrev pub uses_in : List (List ℕ × List Use) → List ℕ → List Use
-uses_in uses name = unwrap_or (entry_of uses name) []
-
--- ---- reports
-
--- the facts on a module, if they are asked for, by where declaring names begin
-abbrev pub facts_by : Bool → List (List ℕ × List Place) → List (List ℕ × List Use) → List ℕ → List FactLine
-facts_by facts places uses name = if facts then map (line_by places) (uses_in uses name) else []
-
--- what is said of a file by its verdict
-abbrev pub report_by : Bool → List (List ℕ × List Place) → List (List ℕ × List Use) → Verdict → ModuleReport
-report_by facts places uses verdict = record { verdict = verdict; facts = facts_by facts places uses verdict.name }
+-- and its names
+abbrev pub AreNames : List Member → List (List ℕ × Names) → Type 0
+AreNames family names = (name : List ℕ) → is_there family name ≡ true → entry_of names name ≡ Some (names_on (texts_of family) name)

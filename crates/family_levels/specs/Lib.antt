@@ -1,3 +1,5 @@
 pub mod Numbers
 pub mod Leveling
 pub mod Judging
+pub mod Findings
+pub mod Telling

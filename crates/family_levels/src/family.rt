@@ -80,9 +80,9 @@ fn check_modules<L>(
     let plan = plan_of(alloc, modules)?;
     let found = level_all(alloc, modules, &plan, steps)?;
     let verdicts = verdicts_of(alloc, files, &found.outcomes)?;
-    let use_count = use_count_of(files, &found.uses)?;
+    let use_count = use_count_of(files, &found)?;
     let places = places_if(alloc, facts, modules)?;
-    let reports = reports_of(alloc, facts, &places, &found.uses, verdicts)?;
+    let reports = reports_of(alloc, facts, &places, &found, verdicts)?;
     Ok(FamilyCheck { reports, use_count })
 }
 

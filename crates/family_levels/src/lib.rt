@@ -6,11 +6,17 @@
 //! folders, and of how a report looks.
 #![tactic(auto)]
 
+mod changing;
 mod family;
+mod findings;
 mod module;
 mod modules;
+mod names;
 mod numbers;
 mod shown;
 mod standing;
 
+pub use changing::Family;
 pub use family::{FamilyCheck, check_family};
+pub use findings::Findings;
+pub use names::Names;

@@ -1,5 +1,5 @@
 // What is found of one module behind all that it needs.
-ghost use Rattle.std.specs.Prelude.{◌≡◌, ◌<◌, ◌∷◌, [], ℕ, List as ListOf, IfOk, IfSome, None, map};
+ghost use Rattle.std.specs.Prelude.{◌≡◌, ◌<◌, ◌∷◌, [], ℕ, List as ListOf, IfOk, IfSome, None};
 ghost use Rattle.family_facts.specs.Family.{Member};
 ghost use Rattle.family_facts.specs.Verdicts.{after_checks};
 ghost use Rattle.family_tables.specs.Agreement.{AreAgreed, IsAgreed};
@@ -9,13 +9,14 @@ ghost use Rattle.family_tables.specs.Tables.{entry_of};
 ghost use Rattle.family_tables.specs.declared.reading.Reading.TheVariants as reading;
 ghost use Rattle.leveled_modules.specs.Leveled.{AreKept};
 ghost use Rattle.family_levels.specs.Leveling.{AreNumbers, IsNext, IsReady, KeepsFaces};
-ghost use Rattle.family_levels.specs.Judging.{IsFoundBy, IsJudged, level_at, with_level};
+ghost use Rattle.family_levels.specs.Judging.{IsFoundBy, IsJudged};
 ghost use Rattle.family_levels.specs.Leveling.{face_count};
 ghost use Rattle.family_tables.specs.declared.outcome.Outcome.TheVariants as outcome;
 ghost use Rattle.family_tables.specs.Outcomes.{IsMember};
 ghost use Rattle.indexmap.specs.IndexMap.{get_by_text};
 ghost use Rattle.module_model.specs.Given.{AreFaces};
 
+use crate::names::Names;
 use crate::numbers::numbers_of;
 use check_core::{Checked, check_module};
 use family_tables::{Module, Outcome, Plan, Reading, Table, imports_of};
@@ -29,7 +30,7 @@ use module_facts::{in_order as in_order_is_one, none_in_order};
 use module_model::{Imported, in_order};
 use std::alloc::Global;
 use step_count::Steps;
-use tla_model::{Diagnostic, Level, Use};
+use tla_model::Diagnostic;
 use tla_tree::ModuleTree;
 use tool_list::{Chars, List, Memory, copied};
 
@@ -39,46 +40,24 @@ pub(crate) struct Found {
     pub outcome: Outcome,
     /// The number of what it is to its instances, if it is accepted.
     pub number: Option<usize>,
-    /// The uses of names that are shown of it, with their levels.
-    pub uses: List<Use>,
+    pub names: Names,
 }
 
 // A module with these faults.
-fn refused(alloc: Global, faults: List<Diagnostic>) -> Found
+fn refused(faults: List<Diagnostic>, names: Names) -> Found
     ensures outcome { result.outcome ≡ outcome.Refused faults }
     ensures number { result.number ≡ None }
-    ensures uses { result.uses ≡ [] }
+    ensures names { result.names ≡ names }
 {
     Found {
         outcome: Outcome::Refused(faults),
         number: None,
-        uses: List::new(alloc),
+        names,
     }
-}
-
-// The level of the use that begins there.
-fn level_at(levels: &IndexMap<u32, Level>, start: u32) -> Level
-    ensures { result ≡ level_at levels.now start }
-{
-    match levels.get(&start) {
-        Some(level) => *level,
-        None => Level::Constant,
-    }
-}
-
-// Uses with their levels.
-fn with_levels(uses: List<Use>, levels: &IndexMap<u32, Level>) -> List<Use>
-    ensures { result ≡ map (with_level levels.now) uses }
-{
-    let mut uses = uses.into_vec();
-    for found in uses.iter_mut() {
-        found.level = level_at(levels, found.name.start);
-    }
-    List::from_vec(uses)
 }
 
 // What is found of a module whose names and arities have no fault, by what is found of levels.
-fn found_by(alloc: Global, checked: Checked, levels: ModuleLevels) -> Result<Found, Memory>
+fn found_by(checked: Checked, levels: ModuleLevels) -> Result<Found, Memory>
     ensures { IfOk result (IsFoundBy checked levels) }
 {
     let ModuleLevels {
@@ -87,14 +66,13 @@ fn found_by(alloc: Global, checked: Checked, levels: ModuleLevels) -> Result<Fou
         face,
     } = levels;
     if !faults.is_empty() {
-        return Ok(refused(alloc, in_order(faults)));
+        return Ok(refused(in_order(faults), Names::of(checked)));
     }
     let outcome = Outcome::Accepted(checked.face().clone()?);
-    let (uses, _decls) = checked.into_names();
     Ok(Found {
         outcome,
         number: Some(face),
-        uses: with_levels(uses, &levels),
+        names: Names::leveled(checked, &levels),
     })
 }
 
@@ -121,10 +99,11 @@ fn judge<L>(
     let checked = check_module(alloc, name, tree, imports, steps)?;
     let faults = checked.faults();
     if !faults.is_empty() {
-        return Ok((known, refused(alloc, copied(alloc, faults.as_slice())?)));
+        let faults = copied(alloc, faults.as_slice())?;
+        return Ok((known, refused(faults, Names::of(checked))));
     }
     let (known, levels) = level_module(alloc, tree, imports, checked.face(), known, files)?;
-    let found = found_by(alloc, checked, levels)?;
+    let found = found_by(checked, levels)?;
     Ok((known, found))
 }
 
@@ -222,7 +201,8 @@ pub(crate) fn level_one<L>(
         }
         Reading::Fault(fault) => {
             leveled_is();
-            Ok((known, refused(alloc, lone_fault(alloc, *fault)?)))
+            let faults = lone_fault(alloc, *fault)?;
+            Ok((known, refused(faults, Names::none(alloc))))
         }
     }
 }

@@ -7,34 +7,16 @@ ghost use Rattle.family_tables.specs.Modules as modules_of;
 ghost use Rattle.family_tables.specs.Outcomes as outcomes_of;
 ghost use Rattle.family_tables.specs.Plans.{AreOnce, IsPlan};
 ghost use Rattle.family_tables.specs.Tables.{entry_of, names_in};
-ghost use Rattle.family_levels.specs.Leveling.{AreOutcomes, AreUses, numbers_with};
+ghost use Rattle.family_levels.specs.Leveling.{AreNames, AreOutcomes, numbers_with};
 
+use crate::findings::Findings;
 use crate::module::{Found, level_one};
-use family_tables::{Module, Outcome, Plan, Table};
+use family_tables::{Module, Plan, Table};
 use known_modules::made_modules_are_known;
 use leveled_modules::LevelTables;
 use std::alloc::Global;
 use step_count::Steps;
-use tla_model::Use;
-use tool_list::{List, Memory};
-
-/// What was found of modules, under their names.
-pub(crate) struct Findings {
-    /// Their faults, or what they are to others.
-    pub outcomes: Table<Outcome>,
-    /// The uses of names that are shown of them, with their levels, in the order of their texts.
-    pub uses: Table<List<Use>>,
-}
-
-// By hand, so that a proof meets one call wherever a value ends.
-impl Drop for Findings {
-    fn drop(self) {
-        let Findings {
-            outcomes: _,
-            uses: _,
-        } = self;
-    }
-}
+use tool_list::Memory;
 
 // Keeps the number of a module, if it has one.
 fn keep_number(
@@ -66,9 +48,9 @@ pub(crate) fn level_all<L>(
     ensures outcomes { (family : ListOf Member) → AreMembersDistinct family
         → modules_of.AreModules family modules.now
         → IfOk result (λ found. AreOutcomes family found.outcomes) }
-    ensures uses { (family : ListOf Member) → AreMembersDistinct family
+    ensures names { (family : ListOf Member) → AreMembersDistinct family
         → modules_of.AreModules family modules.now
-        → IfOk result (λ found. AreUses family found.uses) }
+        → IfOk result (λ found. AreNames family found.names) }
     ensures steps { IfOk result (λ _. steps.new
         ≡ after_checks (outcomes_of.trees_in modules.now) steps.old) }
 {
@@ -78,7 +60,7 @@ pub(crate) fn level_all<L>(
     let _count = steps.count();
     let mut outcomes = Table::new(alloc);
     let mut numbers = Table::new(alloc);
-    let mut uses = Table::new(alloc);
+    let mut names = Table::new(alloc);
     let mut known = LevelTables::new(alloc)?;
     for name in plan.order.as_slice() {
         let name = name.as_str();
@@ -92,11 +74,11 @@ pub(crate) fn level_all<L>(
         let Found {
             outcome,
             number,
-            uses: shown,
+            names: own,
         } = found;
         outcomes.add(alloc, name, outcome)?;
         keep_number(alloc, &mut numbers, name, number)?;
-        uses.add(alloc, name, shown)?;
+        names.add(alloc, name, own)?;
     }
-    Ok(Findings { outcomes, uses })
+    Ok(Findings { outcomes, names })
 }

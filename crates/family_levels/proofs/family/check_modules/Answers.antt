@@ -28,12 +28,12 @@ returns-clause-reports g c =
     let modules = c.args.modules.now in
     let distinct = c.names_differ.ensures files c.requires.distinct in
     c.in_ok-reports.ensures
-    ∙ reports-answer files c.in_ok-found.found.uses (c.in_ok-found.ensures.uses (family_of files) distinct c.requires.modules) modules (λ u. c.places_are_declared.ensures (family_of files) modules u distinct c.requires.modules) c.args.facts c.in_ok-places.places c.in_ok-places.ensures c.in_ok-verdicts.verdicts
+    ∙ reports-answer files c.in_ok-found.found (c.in_ok-found.ensures.outcomes (family_of files) distinct c.requires.modules) (c.in_ok-found.ensures.names (family_of files) distinct c.requires.modules) modules (λ u. c.places_are_declared.ensures (family_of files) modules u distinct c.requires.modules) c.args.facts c.in_ok-places.places c.in_ok-places.ensures c.in_ok-verdicts.verdicts
     (verdicts-answer files c.in_ok-found.found.outcomes (c.in_ok-found.ensures.outcomes (family_of files) distinct c.requires.modules) c.in_ok-verdicts.verdicts c.in_ok-verdicts.ensures)
 
 pub returns-clause-use_count : goal.returns-clause-use_count
 returns-clause-use_count g c =
-    c.in_ok-use_count.ensures ∙ count-answer c.args.files.now c.in_ok-found.found.uses (c.in_ok-found.ensures.uses (family_of c.args.files.now) (c.names_differ.ensures c.args.files.now c.requires.distinct) c.requires.modules)
+    c.in_ok-use_count.ensures ∙ count-answer c.args.files.now c.in_ok-found.found (c.in_ok-found.ensures.outcomes (family_of c.args.files.now) (c.names_differ.ensures c.args.files.now c.requires.distinct) c.requires.modules) (c.in_ok-found.ensures.names (family_of c.args.files.now) (c.names_differ.ensures c.args.files.now c.requires.distinct) c.requires.modules)
 
 pub returns-clause-placed : goal.returns-clause-placed
 returns-clause-placed g c = subst (All IsReportPlaced) (sym (returns-clause-reports g c)) (c.reports_stand_in_text.ensures c.args.facts c.args.files.now c.args.modules.now c.requires.distinct c.requires.modules)

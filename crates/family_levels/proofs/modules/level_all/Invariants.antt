@@ -1,6 +1,5 @@
 use Rattle.std.proofs.Common.{◌≡◌, ℕ, List, Some, None, take}
 use Rattle.std.specs.Prelude.{sum_by}
-use Rattle.tla_model.specs.declared.entity.Use.{Use}
 use Rattle.family_facts.specs.Facts.{texts_of}
 use Rattle.family_facts.specs.Family.{AreMembersDistinct, Member}
 use Rattle.family_facts.specs.Verdicts.{after_checks}
@@ -9,19 +8,19 @@ use Rattle.family_tables.specs.Modules.{AreModules}
 use Rattle.family_tables.specs.Outcomes.{trees_of}
 use Rattle.family_tables.specs.Tables.{entry_of, names_in}
 use Rattle.leveled_modules.specs.Leveled.{AreKept}
-use Rattle.fact_lines.specs.Reports.{shown_uses}
-use Rattle.family_levels.specs.Leveling.{AreLeveled, AreNumbers}
+use Rattle.family_levels.specs.Leveling.{AreLeveled, AreNumbers, names_on}
+use Rattle.family_levels.specs.declared.names.Names.{Names}
 use Rattle.family_levels.proofs.modules.level_all.Given as goal
 
 abbrev pub invariant-loop-name : goal.invariant-loop-name
 invariant-loop-name g l = record {
   names : names_in l.outcomes ≡ take l.name-index l.plan.order;
-  listed : names_in l.uses ≡ take l.name-index l.plan.order;
+  listed : names_in l.names ≡ take l.name-index l.plan.order;
   agreed : AreAgreed l.outcomes;
   kept : AreKept l.known;
   numbers : AreNumbers l.known l.numbers;
   only : (name : List ℕ) → entry_of l.outcomes name ≡ None → entry_of l.numbers name ≡ None;
   leveled_so : (family : List Member) → AreMembersDistinct family → AreModules family l.modules → AreLeveled family l.outcomes l.numbers l.known;
-  uses : (family : List Member) → AreMembersDistinct family → AreModules family l.modules → (name : List ℕ) (shown : List Use) → entry_of l.uses name ≡ Some shown → shown ≡ shown_uses (texts_of family) name;
+  owned : (family : List Member) → AreMembersDistinct family → AreModules family l.modules → (name : List ℕ) (own : Names) → entry_of l.names name ≡ Some own → own ≡ names_on (texts_of family) name;
   steps : l.steps ≡ after_checks (sum_by (λ name. trees_of (entry_of l.modules name)) (take l.name-index l.plan.order)) l.fn.steps;
 }

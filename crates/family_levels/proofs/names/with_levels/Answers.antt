@@ -1,5 +1,5 @@
 use Rattle.family_levels.proofs.Uses.{leveled-more}
-use Rattle.family_levels.proofs.module.with_levels.Goals as goal
+use Rattle.family_levels.proofs.names.with_levels.Goals as goal
 
 pub loop-found-preserved : goal.loop-found-preserved
 loop-found-preserved c =

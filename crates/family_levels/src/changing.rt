@@ -1,0 +1,183 @@
+// A family whose texts change.
+ghost use Rattle.std.specs.Prelude.{◌≡◌, ◌↔◌, ◌≤◌, ◌<◌, ◌^◌, IfOk, IsTrue, OnErr, OnOk, length, sum_by};
+ghost use Rattle.std.specs.Bool.{OnTrue};
+ghost use Rattle.std.specs.List.{All};
+ghost use Rattle.family_facts.specs.Verdicts.{AreDistinct, after_checks, checks_of, family_of};
+ghost use Rattle.family_tables.specs.Keeping.{AreRead};
+ghost use Rattle.family_tables.specs.Modules.{AreModules};
+ghost use Rattle.family_tables.specs.Outcomes.{IsSomeModule};
+ghost use Rattle.family_tables.specs.Plans.{AreOnce};
+ghost use Rattle.family_tables.specs.Tables.{names_in};
+ghost use Rattle.family_levels.specs.Findings.{nothing_found};
+ghost use Rattle.family_levels.specs.Telling.{AreFaultsPlaced, AreNamesPlaced, IsFound, TellsFiles};
+
+use crate::findings::Findings;
+use crate::modules::level_all;
+use crate::standing::findings_stand_in_text;
+use family_facts::{File, names_differ};
+use family_read::read_family;
+use family_tables::{Module, Reading, SharedTree, Table, plan_of};
+use std::alloc::Global;
+use std::marker::Model;
+use step_count::Steps;
+use tool_list::{List, Memory};
+
+/// A family whose texts change, with what was found of it last. Contracts see what was found.
+pub struct Family {
+    files: List<File>,
+    // The trees of its modules, but of those with a front fault.
+    trees: Table<SharedTree>,
+    found: Findings,
+}
+
+// By hand, so that a proof meets one call wherever a value ends.
+impl Drop for Family {
+    fn drop(self) {
+        let Family {
+            files: _,
+            trees: _,
+            found: _,
+        } = self;
+    }
+}
+
+impl Model for Family {
+    ghost use Rattle.family_tables.specs.Keeping.{AreRead};
+    ghost use Rattle.family_levels.specs.Telling.{IsFound};
+    ghost use Rattle.family_levels.specs.declared.findings.Findings.{Findings};
+
+    ghost Value = { Findings };
+
+    ghost view = { λ f. f.found };
+
+    ghost invariant = { λ f. AreRead f.trees × IsFound f.files f.found };
+}
+
+// Whether files are one: their names and their bytes.
+fn is_same(file: &File, other: &File) -> bool
+    ensures { OnTrue result (file.now ≡ other.now) }
+{
+    file.name.as_str() == other.name.as_str() && file.bytes.as_slice() == other.bytes.as_slice()
+}
+
+// Whether they are the same files, in the same order.
+fn are_same(files: &[File], others: &[File]) -> bool
+    ensures { OnTrue result (files.now ≡ others.now) }
+{
+    if files.len() != others.len() {
+        return false;
+    }
+    for index in 0..files.len() {
+        if !is_same(&files[index], &others[index]) {
+            return false;
+        }
+    }
+    true
+}
+
+// The trees of modules, but of those with a front fault.
+fn trees_of(alloc: Global, modules: &Table<Module>) -> Result<Table<SharedTree>, Memory>
+    requires once { AreOnce (names_in modules.now) }
+    requires read { All (λ entry. IsSomeModule entry.0 entry.1) modules.now }
+    ensures { IfOk result AreRead }
+{
+    let mut trees = Table::new(alloc);
+    for index in 0..modules.len() {
+        let (name, module) = modules.at(index);
+        if let Reading::Tree(tree) = &module.reading {
+            trees.add(alloc, name, tree.copied()?)?;
+        }
+    }
+    Ok(trees)
+}
+
+// What is found of files whose family has these modules.
+fn find_modules<L>(
+    alloc: Global,
+    files: &[File],
+    modules: &Table<Module>,
+    steps: &mut Steps<L>,
+) -> Result<Findings, Memory>
+    requires distinct { AreDistinct files.now }
+    requires modules { AreModules (family_of files.now) modules.now }
+    ensures found { IfOk result (IsFound files.now) }
+    ensures steps { IfOk result (λ _. steps.new ≡ after_checks (checks_of files.now) steps.old) }
+{
+    front_laws::one_front();
+    names_differ();
+    findings_stand_in_text();
+    let plan = plan_of(alloc, modules)?;
+    let found = level_all(alloc, modules, &plan, steps)?;
+    Ok(found)
+}
+
+// Files with what is found of them, by trees that were kept.
+fn find_family<L>(
+    alloc: Global,
+    files: List<File>,
+    kept: &Table<SharedTree>,
+    steps: &mut Steps<L>,
+) -> Result<Family, Memory>
+    requires distinct { AreDistinct files }
+    requires small { sum_by (λ file. length file.bytes) files < 2 ^ 31 }
+    requires kept { AreRead kept.now }
+    ensures found { IfOk result (IsFound files) }
+    ensures steps { IfOk result (λ _. steps.new ≡ after_checks (checks_of files) steps.old) }
+{
+    let modules = read_family(alloc, kept, files.as_slice())?;
+    let trees = trees_of(alloc, &modules)?;
+    let found = find_modules(alloc, files.as_slice(), &modules, steps)?;
+    Ok(Family {
+        files,
+        trees,
+        found,
+    })
+}
+
+impl Family {
+    /// No files, of which nothing was found. It takes no memory.
+    pub fn new(alloc: Global) -> Family
+        ensures { result ≡ nothing_found }
+    {
+        Family {
+            files: List::new(alloc),
+            trees: Table::new(alloc),
+            found: Findings::new(alloc),
+        }
+    }
+
+    /// What was found last.
+    pub fn found(&self) -> &Findings
+        ensures { result.now ≡ self.now }
+    {
+        &self.found
+    }
+
+    /// Finds what there is to find of files over the built-in modules, levels and depths among it: a
+    /// file hides the built-in module of its name. Where they are the files of before, all of it was
+    /// found. Else each module without front fault is checked, which is one step; one whose text is
+    /// what it was is not read again. After `Memory` all is as before.
+    pub fn find<L>(
+        &mut self,
+        alloc: Global,
+        files: List<File>,
+        steps: &mut Steps<L>,
+    ) -> Result<(), Memory>
+        requires distinct { AreDistinct files }
+        requires small { sum_by (λ file. length file.bytes) files < 2 ^ 31 }
+        ensures tells { OnOk result (TellsFiles files self.new) }
+        ensures placed { OnOk result (AreFaultsPlaced files self.new) }
+        ensures names { OnOk result (AreNamesPlaced files self.new) }
+        ensures steps { OnOk result (steps.new ≤ after_checks (checks_of files) steps.old) }
+        ensures err { OnErr result (self.new ≡ self.old) }
+    {
+        // The proof needs that a count is below 2^64.
+        let _count = steps.count();
+        if are_same(self.files.as_slice(), files.as_slice()) {
+            return Ok(());
+        }
+        let family = find_family(alloc, files, &self.trees, steps)?;
+        *self = family;
+        Ok(())
+    }
+}
