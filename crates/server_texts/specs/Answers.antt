@@ -1,7 +1,7 @@
 -- What is answered to `definition` and to `references`.
 use Rattle.std.specs.Prelude.{ℕ, Bool, List, map, Option, option_map, option_and_then}
-use Rattle.family_facts.specs.Facts.{diagnosed}
-use Rattle.family_facts.specs.Family.{Diagnosed}
+use Rattle.leveled_facts.specs.Families.{leveled}
+use Rattle.leveled_facts.specs.Modules.{Leveled}
 use Rattle.lsp_wire.specs.declared.types.Position.{Position}
 use Rattle.lsp_wire.specs.declared.types.Reply.{Reply}
 use Rattle.lsp_answers.specs.States.{State, ModuleText}
@@ -13,12 +13,12 @@ use Rattle.server_uris.specs.Uris.{module_of}
 -- ---- what is found of a module
 
 -- a module's text with its resolved uses and its declaring names, in the order of the text; with a fault of bytes, syntax or imports there are none
-abbrev pub found_by : ModuleText → Diagnosed → Found
+abbrev pub found_by : ModuleText → Leveled → Found
 found_by t found = record { name = t.name; bytes = t.bytes; uses = found.uses; decls = found.decls }
 
 -- what is found of a module of the root
 abbrev pub found_in : State → ModuleText → Found
-found_in s t = found_by t (diagnosed (all_texts s.texts) t.name)
+found_in s t = found_by t (leveled (all_texts s.texts) t.name)
 
 -- the same of all modules of the root, in byte order of names
 abbrev pub all_found : State → List Found

@@ -4,7 +4,8 @@ use Rattle.fact_values.specs.Names.{Texts}
 use Rattle.family_facts.specs.declared.verdict.File.{File}
 use Rattle.family_facts.specs.declared.verdict.Verdict.{Verdict}
 use Rattle.family_facts.specs.Facts.{texts_of}
-use Rattle.family_facts.specs.Verdicts.{family_of, verdict_on}
+use Rattle.family_facts.specs.Verdicts.{family_of}
+use Rattle.leveled_facts.specs.Families.{verdict_on}
 use Rattle.lsp_wire.specs.declared.types.Note.{Note}
 use Rattle.lsp_answers.specs.States.{State, ModuleText}
 use Rattle.server_notes.specs.Areas.{notes_on}

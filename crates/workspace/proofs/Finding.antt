@@ -18,8 +18,9 @@ use Rattle.family_facts.specs.declared.verdict.File.{File}
 use Rattle.family_facts.proofs.Lists.{at-contains, behind, first-or-rest, here, mapped, none-there}
 use Rattle.std.specs.List.{All}
 use Rattle.tla_symbols.specs.declared.lexeme.Span.{Span}
-use Rattle.family_check.specs.Findings.{AreFaultsPlaced, AreNamesPlaced, StandsIn, TellsFiles, decls_in, faults_in, uses_in}
-use Rattle.family_check.specs.declared.findings.Findings.{Findings}
+use Rattle.family_levels.specs.Findings.{decls_in, faults_in, uses_in}
+use Rattle.family_levels.specs.Telling.{AreFaultsPlaced, AreNamesPlaced, StandsIn, TellsFiles}
+use Rattle.family_levels.specs.declared.findings.Findings.{Findings}
 use Rattle.sany_files.proofs.DistinctLemmas.{sorted-apart}
 use Rattle.lsp_answers.specs.States.{ModuleText, Opened, State, bytes_of, limit_of, most_bytes, most_modules}
 use Rattle.server_documents.specs.Documents.{named, opened_as, text_of as text_in}

@@ -2,17 +2,18 @@
 use Rattle.std.specs.Prelude.{List, Contains}
 use Rattle.std.specs.List.{All}
 use Rattle.tla_lexeme.specs.Spans.{IsPlaced}
-use Rattle.family_facts.specs.Facts.{diagnosed}
 use Rattle.family_facts.specs.Verdicts.{text_of}
-use Rattle.family_check.specs.Findings.{StandsIn, Tells, decls_in, faults_in, uses_in}
-use Rattle.family_check.specs.declared.findings.Findings.{Findings}
+use Rattle.leveled_facts.specs.Families.{leveled}
+use Rattle.family_levels.specs.Findings.{decls_in, faults_in, uses_in}
+use Rattle.family_levels.specs.Telling.{StandsIn, Tells}
+use Rattle.family_levels.specs.declared.findings.Findings.{Findings}
 use Rattle.lsp_answers.specs.States.{ModuleText}
 use Rattle.server_locations.specs.Locations.{Found}
 use Rattle.server_texts.specs.Notes.{all_texts}
 
 -- what was found of a text among these and the built-in modules; its faults and names stand in it
 pub record IsFoundOf (texts : List ModuleText) (found : Findings) (t : ModuleText) : Type 0 where
-  pub tells : Tells found t.name (diagnosed (all_texts texts) t.name)
+  pub tells : Tells found t.name (leveled (all_texts texts) t.name)
   pub placed : All (λ fault. IsPlaced (text_of t.bytes) fault.span) (faults_in found t.name)
   pub uses : All (λ u. StandsIn t.bytes u.name) (uses_in found t.name)
   pub decls : All (λ d. StandsIn t.bytes d.name) (decls_in found t.name)

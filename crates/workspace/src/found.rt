@@ -7,8 +7,8 @@ ghost use Rattle.lsp_answers.specs.States.{bytes_of, most_bytes};
 ghost use Rattle.server_texts.specs.Notes as in_notes;
 ghost use Rattle.workspace.specs.Found.{AreFound, found_of};
 
-use family_check::{Family, Findings};
 use family_facts::File;
+use family_levels::{Family, Findings};
 use server_documents::{Documents, ModuleText};
 use server_locations::FoundModule;
 use std::alloc::Global;
@@ -49,7 +49,7 @@ pub fn find_texts<L>(
     ensures { OnOk result (AreFound texts.now family.new) }
 {
     let files = files_of(alloc, texts)?;
-    family.find(alloc, files.as_slice(), steps)?;
+    family.find(alloc, files, steps)?;
     Ok(())
 }
 

@@ -5,7 +5,7 @@ ghost use Rattle.server_documents.specs.Documents.{opened_as};
 ghost use Rattle.server_texts.specs.Notes as in_notes;
 ghost use Rattle.workspace.specs.Found.{AreFound};
 
-use family_check::Findings;
+use family_levels::Findings;
 use lsp_wire::Note;
 use server_documents::Documents;
 use server_notes::notes_on;

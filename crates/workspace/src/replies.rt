@@ -9,8 +9,8 @@ ghost use Rattle.server_texts.specs.Outlines.{symbols_reply};
 ghost use Rattle.server_texts.specs.Server as in_server;
 
 use crate::found::{find_texts, found_modules};
-use family_check::Family;
 use family_facts::one_front_of;
+use family_levels::Family;
 use lsp_wire::{Call, Position, Reply, Symbol};
 use server_documents::Documents;
 use server_locations::{FoundModule, definition, references};

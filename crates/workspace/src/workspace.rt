@@ -11,7 +11,7 @@ ghost use Rattle.server_texts.specs.Server.{server_meaning};
 use crate::found::find_texts;
 use crate::notes::all_notes;
 use crate::replies::reply_to;
-use family_check::Family;
+use family_levels::Family;
 use lsp_answers::{AnswerFault, Answers, Due};
 use lsp_wire::{Call, Change, FileEvent, Note, Reply, Uri};
 use server_documents::Documents;

@@ -1,7 +1,7 @@
 use Rattle.std.proofs.Common.{subst, sym, ap, ◌∙◌}
 use Rattle.std.specs.List.{All}
 use Rattle.tla_lexeme.specs.Spans.{IsPlaced}
-use Rattle.family_check.specs.Findings.{faults_in}
+use Rattle.family_levels.specs.Findings.{faults_in}
 use Rattle.server_notes.specs.Areas.{notes_on}
 use Rattle.workspace.proofs.Finding.{faults-placed, notes-are}
 use Rattle.workspace.proofs.notes.notes_of.Goals as goal
