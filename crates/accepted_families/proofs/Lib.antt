@@ -1,2 +1,0 @@
-mod Needed
-mod Families

@@ -1,3 +1,0 @@
-mod Checking
-mod Kept
-mod Answering
