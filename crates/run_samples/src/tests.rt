@@ -204,14 +204,20 @@ fn reports_on_levels(rt: HostRuntime) -> Result<(), Fail> {
 
 #[test]
 fn shows_facts_of_modules(rt: HostRuntime) -> Result<(), Fail> {
-    let tables: [&'static [Single]; 7] = [
+    let tables: [&'static [Single]; 13] = [
         &facts::uses::USES,
+        &facts::uses::SCOPES,
         &facts::actions::ACTIONS,
+        &facts::actions::STEPS,
         &facts::formulas::FORMULAS,
+        &facts::formulas::CLAIMS,
         &facts::values::VALUES,
+        &facts::values::FAULTS,
         &facts::arguments::ARGUMENTS,
         &facts::operators::OPERATORS,
+        &facts::operators::ALONE,
         &facts::functions::FUNCTIONS,
+        &facts::functions::OLD_VALUES,
     ];
     for table in tables {
         shows_on_each(&rt, rt.alloc(), table)?;
@@ -221,12 +227,21 @@ fn shows_facts_of_modules(rt: HostRuntime) -> Result<(), Fail> {
 
 #[test]
 fn shows_facts_of_families(rt: HostRuntime) -> Result<(), Fail> {
-    let tables: [&'static [Case]; 5] = [
+    let tables: [&'static [Case]; 14] = [
         &facts::files::FILES,
+        &facts::files::BUILT_IN,
         &facts::replaced::REPLACED,
+        &facts::replaced::UNWRITTEN,
+        &facts::replaced::SYMBOLS,
         &facts::paths::PATHS,
+        &facts::paths::HANDED,
+        &facts::paths::INNER,
         &facts::brought::BROUGHT,
+        &facts::brought::BUILT_IN,
+        &facts::brought::AGAIN,
         &facts::constants::CONSTANTS,
+        &facts::constants::OPERATORS,
+        &facts::constants::MODULES,
     ];
     for table in tables {
         shows(&rt, rt.alloc(), table)?;

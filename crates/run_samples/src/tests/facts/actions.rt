@@ -1,9 +1,8 @@
-// Levels: operands of the highest level that a form takes, and of one above it. Primes, steps and
-// fairness.
+// Primes, steps and fairness: operands of the highest level that a form takes, and of one above it.
 use crate::tests::Single;
 
-/// Modules in which what is primed, enabled and squared is taken, or is not.
-pub static ACTIONS: [Single; 14] = [
+/// Modules in which names are primed, enabled and unchanged.
+pub static ACTIONS: [Single; 8] = [
     // What is primed has a value in each state.
     (
         "CONSTANT c\nVARIABLE x\nP == c\nQ == x\nU == P'\nV == Q'\nW == <<U, V>>",
@@ -46,7 +45,7 @@ modules=1 refused=1
 modules=1 refused=0
 ",
     ),
-    // But not one of primed names, nor is there a sum of formulas.
+    // A sum of primed names is not primed, and there is no sum of temporal formulas.
     (
         "EXTENDS Naturals\nVARIABLE x\nU == (x' + 1)'\nV == ([]x) + 1",
         1,
@@ -72,7 +71,7 @@ X == U /\ V /\ W",
 modules=1 refused=0
 ",
     ),
-    // And no more.
+    // UNCHANGED takes neither an action nor a temporal formula.
     (
         "VARIABLE x\nU == UNCHANGED (x')\nV == UNCHANGED <<x, x'>>\nW == UNCHANGED []x",
         1,
@@ -103,12 +102,16 @@ Z == Y'",
 modules=1 refused=0
 ",
     ),
-    // It takes no temporal formula.
+    // ENABLED takes no temporal formula.
     (
         "VARIABLE x\nU == ENABLED []x\nV == ENABLED WF_x(x')\nW == ENABLED (x ~> x)",
         1,
         "A refused\n  3:6-3:17 E601\n  4:6-4:22 E601\n  5:6-5:22 E601\nmodules=1 refused=1\n",
     ),
+];
+
+/// Modules with steps, and with what is fair.
+pub static STEPS: [Single; 6] = [
     // Two steps in one are an action.
     (
         r"VARIABLE x
@@ -127,7 +130,7 @@ W == U = V",
 modules=1 refused=0
 ",
     ),
-    // Neither of them is temporal.
+    // Neither step of the two is temporal, and the two are not primed.
     (
         r"VARIABLE x
 U == ([]x) \cdot x
@@ -161,7 +164,7 @@ W == []U /\ <>V",
 modules=1 refused=0
 ",
     ),
-    // They take no temporal formula, and below them stands what has a value in each state.
+    // Boxes and diamonds of temporal formulas, or over actions, are faults.
     (
         "VARIABLE x
 U == [[]x]_x
@@ -206,7 +209,7 @@ Y == V /\ W",
 modules=1 refused=0
 ",
     ),
-    // But not of formulas, nor over actions.
+    // There is no fairness of temporal formulas, nor over actions.
     (
         "VARIABLE x\nU == WF_x([]x)\nV == SF_(x')(x)\nW == WF_<<x, x'>>(x')",
         1,

@@ -1,7 +1,7 @@
 // What is handed to operators.
 use crate::tests::Single;
 
-/// Definitions whose uses go by what is handed to them.
+/// Modules whose definitions are used at several levels.
 pub static ARGUMENTS: [Single; 9] = [
     // The level of a use goes by what is handed on.
     (
@@ -36,7 +36,7 @@ modules=1 refused=0
 modules=1 refused=0
 ",
     ),
-    // No action, also where it is handed on once more.
+    // What is primed inside is no action, also where it is handed on once more.
     (
         "VARIABLE x
 F(a) == a'
@@ -97,13 +97,13 @@ W == U = V",
 modules=1 refused=0
 ",
     ),
-    // What is written in it is judged also where it is not used.
+    // What is written in LET is judged also where it is not used.
     (
         "VARIABLE x\nG(a) == LET b == a' IN b\nU == G(x')\nV == LET b == x'' IN 1\nW == V'",
         1,
         "A refused\n  4:6-4:11 E601\n  5:15-5:18 E601\nmodules=1 refused=1\n",
     ),
-    // What is squared and what stands below it, as parameters.
+    // What a box is of, and what it is over, as parameters.
     (
         r"VARIABLE x
 Fair(N, v) == WF_v(N) /\ [][N]_v
@@ -128,7 +128,7 @@ W == U /\ V",
 modules=1 refused=0
 ",
     ),
-    // They may be too high there.
+    // Both may be too high at a use.
     (
         "VARIABLE x
 Fair(N, v) == WF_v(N)

@@ -1,8 +1,8 @@
-// What instances without a name, in LET, and of nested modules bring.
+// Instances without a name, in LET, and of nested and built-in modules.
 use crate::tests::Case;
 
-/// Names that are brought.
-pub static BROUGHT: [Case; 11] = [
+/// Families with instances without a name, and in LET.
+pub static BROUGHT: [Case; 6] = [
     // An instance without a name.
     (
         &[
@@ -30,7 +30,7 @@ M accepted
 modules=3 refused=0
 ",
     ),
-    // Its replacements are asked once, where they stand.
+    // Its replacements are judged once, where they stand.
     (
         &[
             (
@@ -49,7 +49,7 @@ M accepted
 modules=2 refused=1
 ",
     ),
-    // What it brings goes along, with EXTENDS and behind a name.
+    // What it brings goes along with EXTENDS and behind a name.
     (
         &[
             (
@@ -127,7 +127,7 @@ M accepted
 modules=2 refused=0
 ",
     ),
-    // Which is asked where they are used.
+    // They are judged where they are used.
     (
         &[
             (
@@ -143,6 +143,10 @@ W == V(y')",
         1,
         "A refused\n  4:6-4:11 E601\nM accepted\nmodules=2 refused=1\n",
     ),
+];
+
+/// Families with instances of nested and of built-in modules.
+pub static BUILT_IN: [Case; 4] = [
     // A nested module behind an instance.
     (
         &[
@@ -248,7 +252,11 @@ M accepted
 modules=2 refused=0
 ",
     ),
-    // An instance that one without a name brings: what it replaces is asked where it is used.
+];
+
+/// Families in which what is brought is brought again.
+pub static AGAIN: [Case; 4] = [
+    // An instance that one without a name brings is judged where it is used.
     (
         &[
             ("A", "VARIABLE z\nINSTANCE B WITH y <- z\nU == J!F\nV == H"),
@@ -275,6 +283,99 @@ C refused
 M accepted
   3:8 x -> M 2:10 state
 modules=4 refused=1
+",
+    ),
+    // What is handed on may stand behind an instance of LET.
+    (
+        &[
+            (
+                "A",
+                "VARIABLE y
+E(G(_)) == G(1)
+H(x) == LET I(p) == INSTANCE M WITH v <- <<x, p>> IN E(I(1)!F)
+U == H(y)
+V == H(2)",
+            ),
+            (
+                "C",
+                "VARIABLE y
+E(G(_)) == G(1)
+H(x) == LET I(p) == INSTANCE M WITH v <- <<x, p>> IN E(I(1)!F)
+U == H(y')",
+            ),
+            ("M", "VARIABLE v\nF(a) == <<a, v>>"),
+        ],
+        1,
+        "A accepted
+  3:12 G -> A 3:3 constant
+  4:37 v -> M 2:10 state
+  4:44 x -> A 4:3 constant
+  4:47 p -> A 4:15 constant
+  4:54 E -> A 3:1 constant
+  4:56 I -> A 4:13 instance
+  4:61 F -> M 3:1 constant
+  5:6 H -> A 4:1 state
+  5:8 y -> A 2:10 state
+  6:6 H -> A 4:1 constant
+C refused
+  5:6-5:11 E601
+M accepted
+  3:11 a -> M 3:3 constant
+  3:14 v -> M 2:10 state
+modules=3 refused=1
+",
+    ),
+    // An instance without a name in a nested module.
+    (
+        &[
+            (
+                "A",
+                "VARIABLE y
+---- MODULE N ----
+INSTANCE M WITH x <- y
+G == F
+====
+I == INSTANCE N
+U == I!G
+V == I!F",
+            ),
+            ("M", "VARIABLE x\nF == <<x>>"),
+        ],
+        0,
+        "A accepted
+  4:17 x -> M 2:10 state
+  4:22 y -> A 2:10 state
+  5:6 F -> M 3:1 state
+  8:6 I -> A 7:1 instance
+  8:8 G -> A 5:1 state
+  9:6 I -> A 7:1 instance
+  9:8 F -> M 3:1 state
+M accepted
+  3:8 x -> M 2:10 state
+modules=2 refused=0
+",
+    ),
+    // LET in a definition that is brought.
+    (
+        &[
+            (
+                "A",
+                "VARIABLE y\nINSTANCE M WITH x <- y\nU == F(1)\nV == F(y')",
+            ),
+            ("M", "VARIABLE x\nF(a) == LET b == <<a, x>> IN {b}"),
+        ],
+        0,
+        "A accepted
+  3:17 x -> M 2:10 state
+  3:22 y -> A 2:10 state
+  4:6 F -> M 3:1 state
+  5:6 F -> M 3:1 action
+  5:8 y -> A 2:10 state
+M accepted
+  3:20 a -> M 3:3 constant
+  3:23 x -> M 2:10 state
+  3:31 b -> M 3:13 state
+modules=2 refused=0
 ",
     ),
 ];

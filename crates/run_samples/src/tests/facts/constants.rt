@@ -1,8 +1,8 @@
 // Instances of constant modules, whose constants take actions.
 use crate::tests::Case;
 
-/// Constant modules, and others.
-pub static CONSTANTS: [Case; 14] = [
+/// Families in which states and actions replace constants.
+pub static CONSTANTS: [Case; 4] = [
     // States and actions for constants.
     (
         &[
@@ -34,7 +34,7 @@ M accepted
 modules=2 refused=0
 ",
     ),
-    // But no temporal formulas.
+    // No temporal formulas for constants.
     (
         &[
             (
@@ -128,73 +128,10 @@ M accepted
 modules=3 refused=1
 ",
     ),
-    // Symbols for declared operators.
-    (
-        &[
-            (
-                "A",
-                r"EXTENDS Integers
-I == INSTANCE M WITH ++ <- +, C <- -.
-J == INSTANCE M WITH ++ <- \cup, C <- '
-U == I!F
-V == J!F",
-            ),
-            ("M", "CONSTANT _ ++ _, C(_)\nF == 1 ++ C(2)"),
-        ],
-        0,
-        "A accepted
-  3:22 ++ -> M 2:12 constant
-  3:28 + -> Naturals 3:3 constant
-  3:31 C -> M 2:18 constant
-  3:36 -. -> Integers 4:1 constant
-  4:22 ++ -> M 2:12 constant
-  4:34 C -> M 2:18 constant
-  5:6 I -> A 3:1 instance
-  5:8 F -> M 3:1 constant
-  6:6 J -> A 4:1 instance
-  6:8 F -> M 3:1 action
-M accepted
-  3:8 ++ -> M 2:12 constant
-  3:11 C -> M 2:18 constant
-modules=2 refused=0
-",
-    ),
-    // Operators for declared symbols.
-    (
-        &[
-            (
-                "A",
-                "VARIABLE x
-H(a) == <<a, x'>>
-K(a, b) == IF a THEN b ELSE x
-I == INSTANCE M WITH -. <- H, -- <- K
-U == I!F
-V == I!G(2)",
-            ),
-            ("M", "CONSTANT -. _, _ -- _\nF == -1\nG(a) == a -- 1"),
-        ],
-        0,
-        "A accepted
-  3:11 a -> A 3:3 constant
-  3:14 x -> A 2:10 state
-  4:15 a -> A 4:3 constant
-  4:22 b -> A 4:6 constant
-  4:29 x -> A 2:10 state
-  5:22 -. -> M 2:10 constant
-  5:28 H -> A 3:1 action
-  5:31 -- -> M 2:18 constant
-  5:37 K -> A 4:1 state
-  6:6 I -> A 5:1 instance
-  6:8 F -> M 3:1 action
-  7:6 I -> A 5:1 instance
-  7:8 G -> M 4:1 state
-M accepted
-  3:6 - -> M 2:10 constant
-  4:9 a -> M 4:3 constant
-  4:11 -- -> M 2:18 constant
-modules=2 refused=0
-",
-    ),
+];
+
+/// Families in which operators replace those of constant modules.
+pub static OPERATORS: [Case; 3] = [
     // What stands for a declared operator may take less at a use.
     (
         &[
@@ -274,6 +211,10 @@ J == INSTANCE M WITH C <- E, ++ <- ~>",
         1,
         "A refused\n  6:27-6:28 E603\n  6:36-6:38 E603\nM accepted\nmodules=2 refused=1\n",
     ),
+];
+
+/// Families with modules that are constant, or are not.
+pub static MODULES: [Case; 6] = [
     // A module is not constant by what it extends, instantiates, hands on, or has in LET.
     (
         &[
@@ -324,7 +265,7 @@ J == INSTANCE N WITH c <- 1",
         1,
         "A refused\n  7:27-7:28 E603\nmodules=1 refused=1\n",
     ),
-    // One that is nested in a module does not count,
+    // A module round one is constant all the same.
     (
         &[
             ("A", "VARIABLE y\nI == INSTANCE M WITH c <- y\nU == I!F"),
@@ -345,7 +286,7 @@ M accepted
 modules=2 refused=0
 ",
     ),
-    // unless the module has an instance of it.
+    // It is not, where it has an instance of the nested one.
     (
         &[
             ("A", "VARIABLE y\nI == INSTANCE M WITH c <- y\nU == I!F"),
@@ -403,6 +344,21 @@ W == I(y)!F(2)'",
 M accepted
   3:11 a -> M 3:3 constant
   3:14 c -> M 2:10 constant
+modules=2 refused=0
+",
+    ),
+    // What a module assumes is not judged with what replaces its constants.
+    (
+        &[
+            ("A", "VARIABLE y\nI == INSTANCE M WITH c <- y"),
+            ("M", "CONSTANT c\nASSUME c = 1"),
+        ],
+        0,
+        "A accepted
+  3:22 c -> M 2:10 constant
+  3:27 y -> A 2:10 state
+M accepted
+  3:8 c -> M 2:10 constant
 modules=2 refused=0
 ",
     ),

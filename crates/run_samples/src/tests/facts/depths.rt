@@ -67,8 +67,8 @@ M accepted
 modules=2 refused=1
 ",
     ),
-    // What replaces and what is handed to an instance counts, also where it is not written, and that
-    // of an instance without a name.
+    // What replaces and what is handed to an instance counts, also where it is not written, and
+    // that of an instance without a name.
     (
         "I(p) == INSTANCE M WITH x <- p
 J == INSTANCE M WITH x <- P9(R488)

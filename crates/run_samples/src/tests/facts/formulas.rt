@@ -1,8 +1,8 @@
-// The same of temporal formulas, and of what is assumed.
+// Temporal formulas, and what is assumed.
 use crate::tests::Single;
 
-/// Modules in which boxes, diamonds and what leads to what are taken, or are not.
-pub static FORMULAS: [Single; 13] = [
+/// Modules with boxes and diamonds.
+pub static FORMULAS: [Single; 6] = [
     // A box takes states, formulas, and steps that may stutter.
     (
         r"CONSTANT c
@@ -26,7 +26,7 @@ Y == V /\ W /\ X",
 modules=1 refused=0
 ",
     ),
-    // It takes no other action.
+    // A box takes no other action.
     (
         r"VARIABLE x
 U == [](x')
@@ -64,7 +64,7 @@ Y == V /\ W /\ X",
 modules=1 refused=0
 ",
     ),
-    // It takes no other action.
+    // A diamond takes no other action.
     (
         "VARIABLE x\nU == <>(x')\nV == <>[x']_x\nW == <>UNCHANGED x",
         1,
@@ -101,7 +101,7 @@ Y == LET D == <<v'>>_v IN <>D",
 modules=1 refused=0
 ",
     ),
-    // Any other form makes an action of it, also one that has it as its only part.
+    // Any other form makes an action of it, also one of which it is the only part.
     (
         r"VARIABLE v
 N == [v']_v
@@ -122,6 +122,10 @@ Z == [](CASE TRUE -> N)",
 modules=1 refused=1
 ",
     ),
+];
+
+/// Modules with what leads to what, with hidden variables, and with what is assumed.
+pub static CLAIMS: [Single; 7] = [
     // What leads to what is no action.
     (
         "CONSTANT c\nVARIABLE x\nU == c ~> x\nV == []x -+-> U\nW == U ~> V",
@@ -136,7 +140,7 @@ modules=1 refused=1
 modules=1 refused=0
 ",
     ),
-    // Not even one that may stutter.
+    // An action leads to nothing, not even a step that may stutter.
     (
         "VARIABLE x\nN == [x']_x\nU == x ~> x'\nV == N ~> x\nW == x' -+-> x\nX == x -+-> N",
         1,
@@ -148,7 +152,7 @@ modules=1 refused=0
 modules=1 refused=1
 ",
     ),
-    // Nor is what `\EE` and `\AA` hide a variable of.
+    // What `\EE` and `\AA` speak of is no action.
     (
         r"VARIABLE x
 U == \EE y : []y
@@ -165,7 +169,7 @@ X == U /\ W",
 modules=1 refused=0
 ",
     ),
-    // As here.
+    // Where it is one, the whole is at fault.
     (
         r"VARIABLE x
 U == \EE y : y'

@@ -1,8 +1,8 @@
 // Functions, and what is put into them.
 use crate::tests::Single;
 
-/// Definitions of functions, and the old value where one is changed.
-pub static FUNCTIONS: [Single; 11] = [
+/// Modules that define functions.
+pub static FUNCTIONS: [Single; 4] = [
     // In its own body the name of a function is constant.
     (
         r"VARIABLE x
@@ -66,7 +66,7 @@ V == F(x')",
 modules=1 refused=0
 ",
     ),
-    // Which its sets may not take.
+    // The sets of a function of LET may be too high at a use.
     (
         r"VARIABLE x
 F(a) == LET f[y \in a] == y IN f
@@ -74,6 +74,10 @@ U == F([]x)",
         1,
         "A refused\n  4:6-4:12 E601\nmodules=1 refused=1\n",
     ),
+];
+
+/// Modules that use the old value of a function.
+pub static OLD_VALUES: [Single; 8] = [
     // The old value has the level of the function and of the indices before the sign.
     (
         "VARIABLE f
@@ -91,7 +95,7 @@ W == <<U, V>>",
 modules=1 refused=0
 ",
     ),
-    // So it can't be primed where one of them is an action.
+    // The old value can't be primed where the function or an index is an action.
     (
         "VARIABLE f
 U == [f EXCEPT ![f'] = @']
@@ -110,7 +114,7 @@ Z == [f EXCEPT ![f'] = [f EXCEPT ![1] = @']]",
 modules=1 refused=1
 ",
     ),
-    // It may be a temporal formula; what it is put into may not.
+    // The old value may be a temporal formula; what it is put into may not.
     (
         r"VARIABLE x
 T == []x
@@ -152,7 +156,7 @@ W == <<U, V>>",
 modules=1 refused=0
 ",
     ),
-    // They may be too high at a use.
+    // Functions and indices may be too high at a use.
     (
         "VARIABLE f
 G(g, i) == [g EXCEPT ![i] = @']
@@ -200,5 +204,11 @@ W == [f EXCEPT ![f'] = [f EXCEPT ![@] = @']]
 X == [f EXCEPT ![1] = [f EXCEPT ![@] = @']]",
         1,
         "A refused\n  3:38-3:40 E601\n  5:41-5:43 E601\nmodules=1 refused=1\n",
+    ),
+    // The old value of a function is no step that may stutter.
+    (
+        "VARIABLE x\nN == [x']_x\nU == [N EXCEPT !.a = []@]\nV == [N EXCEPT !.a = @]",
+        1,
+        "A refused\n  4:22-4:25 E601\nmodules=1 refused=1\n",
     ),
 ];

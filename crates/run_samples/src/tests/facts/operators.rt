@@ -1,8 +1,8 @@
 // Operators that are handed to operators.
 use crate::tests::Single;
 
-/// Operators by themselves, and what takes them.
-pub static OPERATORS: [Single; 13] = [
+/// Modules in which operators are handed on.
+pub static OPERATORS: [Single; 6] = [
     // Operators that are handed on, also through two definitions.
     (
         "VARIABLE x
@@ -62,7 +62,7 @@ X == U => V",
 modules=1 refused=0
 ",
     ),
-    // What stands for it may take less.
+    // What stands for a parameter may take less.
     (
         "VARIABLE x
 F(G(_)) == G([]x)
@@ -109,7 +109,7 @@ Y == <<U, V, W, X>>",
 modules=1 refused=0
 ",
     ),
-    // Of which one may take less.
+    // An operator with two places may take less.
     (
         "VARIABLE x
 F(G(_, _)) == G(x, x')
@@ -128,6 +128,10 @@ X == F(K)",
 modules=1 refused=1
 ",
     ),
+];
+
+/// Modules in which what is handed on is judged by itself, or with what stands round it.
+pub static ALONE: [Single; 8] = [
     // An operator by itself has its level on constants.
     (
         "VARIABLE x
@@ -153,7 +157,7 @@ W == F(L)",
 modules=1 refused=0
 ",
     ),
-    // One that has none is a fault by itself, also where it is not used.
+    // An operator without a level is a fault by itself, also where it is not applied.
     (
         "F(G(_)) == 1\nH(a) == a''\nU == F(H)\nV == F(')",
         1,
@@ -172,7 +176,7 @@ modules=1 refused=0
 modules=1 refused=0
 ",
     ),
-    // And no temporal formulas.
+    // A declared operator that is handed on takes no temporal formulas.
     (
         "CONSTANT C(_)\nVARIABLE x\nF(G(_)) == G([]x)\nU == F(C)",
         1,
@@ -202,7 +206,7 @@ W == H(v')",
 modules=1 refused=0
 ",
     ),
-    // So it may be too high where it is primed.
+    // An operator of LET may be too high where it is primed.
     (
         "VARIABLE v
 F(G(_)) == G(1)'
@@ -212,7 +216,7 @@ V == H(v')",
         1,
         "A refused\n  6:6-6:11 E601\nmodules=1 refused=1\n",
     ),
-    // The same of one that hands on what it was handed.
+    // An operator of LET may hand on what was handed to the definition round it.
     (
         "VARIABLE v
 F(G(_)) == G(1)
@@ -240,6 +244,26 @@ X == H(v', M)",
   9:8 v -> A 2:10 state
   9:12 M -> A 5:1 action
 modules=1 refused=0
+",
+    ),
+    // An operator that is handed on, or declared, makes an action of a step that may stutter.
+    (
+        "VARIABLE x
+CONSTANT C(_)
+N == [x']_x
+E(K(_)) == []K(1)
+D(a) == N
+B(a) == x'
+U == E(D)
+V == E(B)
+W(K(_)) == []K(N)
+X == []C(N)",
+        1,
+        "A refused
+  9:6-9:10 E601
+  10:12-10:18 E601
+  11:6-11:12 E601
+modules=1 refused=1
 ",
     ),
 ];

@@ -1,8 +1,8 @@
 // What stands behind several instances, and behind those with parameters.
 use crate::tests::Case;
 
-/// Paths, and what is handed to their instances.
-pub static PATHS: [Case; 15] = [
+/// Families with paths, and with what is handed to their instances.
+pub static PATHS: [Case; 5] = [
     // What stands below a box may be a path.
     (
         &[
@@ -127,7 +127,7 @@ M accepted
 modules=2 refused=0
 ",
     ),
-    // What a replacement takes is asked of it also where the name is not used behind the instance.
+    // Replacements are judged also where the parameter is not used behind the instance.
     (
         &[
             (
@@ -143,6 +143,10 @@ W == I(y)!G",
         1,
         "A refused\n  4:6-4:13 E601\n  5:6-5:14 E601\nM accepted\nmodules=2 refused=1\n",
     ),
+];
+
+/// Families in which operators are handed to instances, or stand behind them.
+pub static HANDED: [Case; 5] = [
     // An action does not stand for a variable.
     (
         &[
@@ -157,51 +161,6 @@ W == I(y)!G",
   4:6-4:14 E601
 M accepted
   3:7 x -> M 2:10 state
-modules=2 refused=1
-",
-    ),
-    // Replacements that are not written, also by parameters of the instance, are no uses.
-    (
-        &[
-            (
-                "A",
-                "CONSTANT x\nI(c) == INSTANCE M\nU == I(1)!F\nV == I(x)!F",
-            ),
-            ("M", "CONSTANT c\nVARIABLE x\nF == <<c, x>>"),
-        ],
-        0,
-        "A accepted
-  4:6 I -> A 3:1 instance
-  4:11 F -> M 4:1 constant
-  5:6 I -> A 3:1 instance
-  5:8 x -> A 2:10 constant
-  5:11 F -> M 4:1 constant
-M accepted
-  4:8 c -> M 2:10 constant
-  4:11 x -> M 3:10 state
-modules=2 refused=0
-",
-    ),
-    // They are asked at each use, too.
-    (
-        &[
-            (
-                "A",
-                "VARIABLES x, y
-I(c) == INSTANCE M
-U == I(1)!F
-V == I(y)!F
-W == I(x')!G",
-            ),
-            ("M", "CONSTANT c\nVARIABLE x\nF == <<c, x>>\nG == 1"),
-        ],
-        1,
-        "A refused
-  5:6-5:12 E601
-  6:6-6:13 E601
-M accepted
-  4:8 c -> M 2:10 constant
-  4:11 x -> M 3:10 state
 modules=2 refused=1
 ",
     ),
@@ -269,7 +228,7 @@ M accepted
 modules=2 refused=0
 ",
     ),
-    // It is asked where it is applied, and where it is written.
+    // It is judged where it is applied, and where it is written.
     (
         &[
             (
@@ -334,6 +293,10 @@ M accepted
 modules=2 refused=0
 ",
     ),
+];
+
+/// Families with instances behind instances.
+pub static INNER: [Case; 3] = [
     // Operators of LET behind an instance have what stands round them.
     (
         &[

@@ -1,9 +1,8 @@
-// What a use of a name is, and where it stands: single modules beside the whole reports with facts
-// that the sentences of the language ask for.
+// What a use of a name is, and where it stands.
 use crate::tests::Single;
 
-/// Names, symbols and bound names, used, applied and handed on.
-pub static USES: [Single; 20] = [
+/// Modules with uses of names and of symbols.
+pub static USES: [Single; 9] = [
     // Bound names are declared where they are bound.
     (
         r"CONSTANT S, T, y
@@ -146,7 +145,7 @@ V == [a |-> "日本", b |-> x]"#,
 modules=1 refused=0
 ",
     ),
-    // So are those of declarations; a tab is one character.
+    // So are those of declaring names; a tab is one character.
     (
         "CONSTANT (* é *) c,\t(* 😀 *) d\r\nU == <<c,\td>>",
         0,
@@ -156,7 +155,11 @@ modules=1 refused=0
 modules=1 refused=0
 ",
     ),
-    // In LET.
+];
+
+/// Modules with names of LET, of bounds and of nested modules.
+pub static SCOPES: [Single; 8] = [
+    // Names of LET.
     (
         "VARIABLE x\nU == LET y == x' IN <<y, x>>\nV == LET G(a) == <<a, x>> IN G(x')",
         0,
@@ -221,7 +224,7 @@ Z == CHOOSE <<y, z>> \in S : y = z",
 modules=1 refused=0
 ",
     ),
-    // Those of `\EE` and `\AA` are states.
+    // Those that `\EE` and `\AA` bind are states.
     (
         r"VARIABLE x
 U == \EE y : y = x
@@ -303,82 +306,6 @@ U == I!G",
   11:6 I -> A 10:1 instance
   11:8 G -> A 8:1 action
 modules=1 refused=0
-",
-    ),
-    // Built-in modules are shown as those that declare, and have no lines.
-    (
-        r"EXTENDS Sequences, FiniteSets, Bags, TLC
-VARIABLE x
-U == x \circ <<>>
-V == Cardinality({x'})
-W == EmptyBag \oplus x
-X == 1 :> x @@ x
-Y == SelectSeq(x, Len)",
-        0,
-        r"A accepted
-  4:6 x -> A 3:10 state
-  4:8 \circ -> Sequences 4:3 state
-  5:6 Cardinality -> FiniteSets 3:1 action
-  5:19 x -> A 3:10 state
-  6:6 EmptyBag -> Bags 6:1 constant
-  6:15 \oplus -> Bags 7:3 state
-  6:22 x -> A 3:10 state
-  7:8 :> -> TLC 5:3 state
-  7:11 x -> A 3:10 state
-  7:13 @@ -> TLC 6:3 state
-  7:16 x -> A 3:10 state
-  8:6 SelectSeq -> Sequences 9:1 state
-  8:16 x -> A 3:10 state
-  8:19 Len -> Sequences 3:1 constant
-modules=1 refused=0
-",
-    ),
-    // Definitions of a built-in module are judged at their uses.
-    (
-        r"EXTENDS RealTime
-VARIABLE x
-U == RTBound(x' = 1, x, 1, 2)
-V == RTnow(x)
-W == <<now>>
-X == RTBound(x', x, x, {1})
-Y == U /\ V",
-        0,
-        "A accepted
-  4:6 RTBound -> RealTime 4:1 temporal
-  4:14 x -> A 3:10 state
-  4:22 x -> A 3:10 state
-  5:6 RTnow -> RealTime 11:1 temporal
-  5:12 x -> A 3:10 state
-  6:8 now -> RealTime 3:10 state
-  7:6 RTBound -> RealTime 4:1 temporal
-  7:14 x -> A 3:10 state
-  7:18 x -> A 3:10 state
-  7:21 x -> A 3:10 state
-  8:6 U -> A 4:1 temporal
-  8:11 V -> A 5:1 temporal
-modules=1 refused=0
-",
-    ),
-    // What they prime, square or box may be no more than they take.
-    (
-        "EXTENDS RealTime, Sequences
-VARIABLE x
-F(a) == a'
-U == RTBound([]x, x, 1, 2)
-V == RTBound(x, x', 1, 2)
-W == RTBound(x, x, 1, x')
-X == RTnow(x')
-Y == SelectSeq(x', F)
-Z == 1 + []x",
-        1,
-        "A refused
-  5:6-5:27 E601
-  6:6-6:26 E601
-  7:6-7:26 E601
-  8:6-8:15 E601
-  9:6-9:22 E601
-  10:6-10:13 E601
-modules=1 refused=1
 ",
     ),
     // Symbols of LET.

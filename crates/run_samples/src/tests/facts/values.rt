@@ -1,8 +1,8 @@
-// The same of logic, sets, functions and declared operators.
+// Logic, sets, functions and declared operators.
 use crate::tests::Single;
 
-/// Modules in which all other forms are taken, or are not.
-pub static VALUES: [Single; 11] = [
+/// Modules in which values are made of what they take.
+pub static VALUES: [Single; 5] = [
     // Forms of logic take all levels, and have the greatest.
     (
         r"VARIABLE x
@@ -69,7 +69,7 @@ X == C(1) ++ C(x)",
 modules=1 refused=0
 ",
     ),
-    // And no temporal formulas.
+    // Declared operators take no temporal formulas.
     (
         "CONSTANT C(_), _ ++ _\nVARIABLE x\nU == C([]x)\nV == x ++ (x ~> x)",
         1,
@@ -160,7 +160,11 @@ Q == <<U, V, W, X, Y, Z, R, S>>",
 modules=1 refused=0
 ",
     ),
-    // None of them takes a temporal formula: values.
+];
+
+/// Modules in which some are not.
+pub static FAULTS: [Single; 7] = [
+    // Values are made of no temporal formulas.
     (
         r"VARIABLE x
 T == []x
@@ -189,7 +193,7 @@ P == CHOOSE y : T",
 modules=1 refused=1
 ",
     ),
-    // Functions.
+    // Functions are made of none.
     (
         r"VARIABLE x
 T == []x
@@ -214,7 +218,7 @@ S == [T EXCEPT !.a = 1]",
 modules=1 refused=1
 ",
     ),
-    // Symbols.
+    // Built-in symbols take none.
     (
         r"VARIABLE x
 T == []x
@@ -259,7 +263,7 @@ Y == V",
 modules=1 refused=0
 ",
     ),
-    // But no temporal formulas, whatever is said of their elements.
+    // Sets of bounds are no temporal formulas, whatever is said of their elements.
     (
         r"VARIABLE x
 T == []x
@@ -292,5 +296,15 @@ modules=1 refused=1
   6:9-6:10 E601
 modules=1 refused=1
 ",
+    ),
+    // Each operand of a product counts.
+    (
+        r"VARIABLE x
+T == []x
+U == {} \X T \X {}
+V == {} \X x' \X {x}
+W == V'",
+        1,
+        "A refused\n  4:6-4:19 E601\n  6:6-6:8 E601\nmodules=1 refused=1\n",
     ),
 ];

@@ -1,11 +1,11 @@
 // What an edit of one module does to another.
 use crate::tests::sessions::{
-    ASK_F, CLEAN_A, CLEAN_B, CLEAN_C, CLEAN_D, EXIT, INITIALIZED, OPEN_B, OPEN_C, ROOT, SHUT,
-    SHUTDOWN, Session,
+    ASK_F, CLEAN_A, CLEAN_B, CLEAN_C, CLEAN_D, EXIT, INITIALIZED, NO_ROOT, OPEN_B, OPEN_C, ROOT,
+    SHUT, SHUTDOWN, Session,
 };
 
 /// Sessions over the folder.
-pub static EDITS: [Session; 6] = [
+pub static EDITS: [Session; 8] = [
     // Needs that lead back, and no more.
     (
         &[
@@ -131,6 +131,44 @@ pub static EDITS: [Session; 6] = [
             r#"{"jsonrpc":"2.0","method":"textDocument/publishDiagnostics","params":{"diagnostics":[],"uri":"file:///w/Naturals.tla"}}"#,
             CLEAN_A,
             r#"{"jsonrpc":"2.0","method":"textDocument/publishDiagnostics","params":{"diagnostics":[],"uri":"file:///w/Naturals.tla"}}"#,
+            SHUT,
+        ],
+        0,
+    ),
+    // What is assumed is constant, once the variable is gone.
+    (
+        &[
+            NO_ROOT,
+            r#"{"method":"textDocument/didOpen","params":{"textDocument":{"uri":"file:///w/A.tla","text":"---- MODULE A ----\nVARIABLE x\nASSUME x = 1\n====\n"}}}"#,
+            r#"{"method":"textDocument/didChange","params":{"textDocument":{"uri":"file:///w/A.tla"},"contentChanges":[{"range":{"start":{"line":2,"character":7},"end":{"line":2,"character":8}},"text":"1"}]}}"#,
+            SHUTDOWN,
+            EXIT,
+        ],
+        &[
+            INITIALIZED,
+            r#"{"jsonrpc":"2.0","method":"textDocument/publishDiagnostics","params":{"diagnostics":[{"code":"E602","message":"assumption not constant","range":{"end":{"character":12,"line":2},"start":{"character":7,"line":2}},"severity":1,"source":"sany"}],"uri":"file:///w/A.tla"}}"#,
+            CLEAN_A,
+            SHUT,
+        ],
+        0,
+    ),
+    // A definition that becomes an action brings up a fault of levels in a module that primes it.
+    (
+        &[
+            ROOT,
+            r#"{"method":"textDocument/didOpen","params":{"textDocument":{"uri":"file:///w/C.tla","text":"---- MODULE C ----\nEXTENDS B\nG == F'\n====\n"}}}"#,
+            r#"{"method":"textDocument/didOpen","params":{"textDocument":{"uri":"file:///w/B.tla","text":"---- MODULE B ----\nVARIABLE x\nF == x'\n====\n"}}}"#,
+            r#"{"method":"textDocument/didChange","params":{"textDocument":{"uri":"file:///w/B.tla"},"contentChanges":[{"range":{"start":{"line":2,"character":6},"end":{"line":2,"character":7}},"text":""}]}}"#,
+            SHUTDOWN,
+            EXIT,
+        ],
+        &[
+            INITIALIZED,
+            CLEAN_C,
+            CLEAN_B,
+            r#"{"jsonrpc":"2.0","method":"textDocument/publishDiagnostics","params":{"diagnostics":[{"code":"E601","message":"level","range":{"end":{"character":7,"line":2},"start":{"character":5,"line":2}},"severity":1,"source":"sany"}],"uri":"file:///w/C.tla"}}"#,
+            CLEAN_B,
+            CLEAN_C,
             SHUT,
         ],
         0,
