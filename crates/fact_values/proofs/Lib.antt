@@ -1,3 +1,4 @@
 pub mod NameLemmas
 pub mod ReachLemmas
 pub mod ValueLemmas
+pub mod Agreeing

@@ -2,7 +2,7 @@
 use Rattle.std.specs.Prelude.{ℕ, Bool, true, false, ◌&&◌, not, ◌≡◌, IsSome, if◌then◌else◌, List, [], Option, Some, None, map, count_by, unwrap_or}
 use Rattle.std.specs.FinMap.{get, keys}
 use Rattle.order_rec.specs.Ranked.{ranked}
-use Rattle.fact_values.specs.Names.{name_eq, Texts}
+use Rattle.fact_values.specs.Names.{has, name_eq, Texts}
 use Rattle.fact_values.specs.Reach.{leads, rank}
 use Rattle.fact_values.specs.States.{State, no_text, cyclic, broken, fact, same_given}
 
@@ -68,3 +68,8 @@ module _ {Own F : Type 0} (own_of : List ℕ → List ℕ → Own) (needs_of : O
   -- how many names that have a text then are dirty
   abbrev pub dirty : (F → F → Bool) → Texts → Texts → ℕ
   dirty same old new = count_by (is_dirty same old new) (keys new)
+
+  -- two lists of texts agree on these names, among which is all that they need
+  pub record Agree (texts others : Texts) (among : List ℕ → Bool) : Type 0 where
+    pub same : (name : List ℕ) → among name ≡ true → get texts name ≡ get others name
+    pub closed : (name need : List ℕ) → among name ≡ true → has (needs_in texts name) need ≡ true → among need ≡ true
