@@ -13,7 +13,7 @@ use Rattle.fact_values.proofs.NameLemmas.{name_eq-same, same_name}
 use Rattle.family_facts.specs.Facts.{texts_of}
 use Rattle.family_facts.specs.Family.{Member}
 use Rattle.family_facts.specs.Fronts.{front_of}
-use Rattle.family_facts.proofs.OneVerdict.{HasNoOther}
+use Rattle.family_facts.proofs.Needing.{HasNoOther}
 use Rattle.family_facts.proofs.States.{front-one}
 use Rattle.family_tables.specs.Modules.{AreModules, Entry, IsReading}
 use Rattle.family_tables.specs.Tables.{entry_of}

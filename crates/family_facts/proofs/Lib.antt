@@ -1,10 +1,6 @@
 pub mod Lists
 pub mod Members
 pub mod FrontLaws
-pub mod OneVerdict
+pub mod Needing
 pub mod Once
-pub mod Steps
-pub mod SomeVerdict
 pub mod States
-pub mod Values
-pub mod Saying

@@ -1,11 +1,15 @@
 -- Members and their names.
-use Rattle.std.proofs.Common.{◌≡◌, ℕ, zero, suc, List, [], ◌∷◌, refl, sym, ap, ◌∙◌, arith, true, false, not, ◌||◌, ⊎_elim}
+use Rattle.std.proofs.Common.{◌≡◌, ℕ, zero, suc, List, [], ◌∷◌, refl, sym, ap, ◌∙◌, arith, map, filter, true, false, not, ◌||◌, ⊎_elim}
 use Rattle.std.specs.Prelude.{Contains, slice_get}
 use Rattle.std.specs.Str.{bytes_eq}
 use Rattle.std.proofs.lemmas.Bool.{cases_Bool}
+use Rattle.std.proofs.lemmas.List.Elements.{Contains-append_left}
+use Rattle.list_laws.proofs.Lists.{contains-map}
 use Rattle.list_laws.proofs.Texts.{same-text, text-itself}
 use Rattle.family_facts.proofs.Lists.{at-same, behind, contains-at, none-there}
 use Rattle.family_facts.specs.Family.{Member, is_there, AreMembersDistinct}
+use Rattle.family_facts.specs.Verdicts.{built_in_members, family_of, member_of}
+use Rattle.family_facts.specs.declared.verdict.File.{File}
 
 -- a name that is there is that of a member
 pub there-member : (members : List Member) (name : List ℕ) → is_there members name ≡ true → (m : Member) × Contains members m × (m.name ≡ name)
@@ -39,3 +43,7 @@ one-each family distinct a b ha hb e =
     let i = contains-at family a ha in
     let j = contains-at family b hb in
     at-same family j.0 a b (ap (slice_get family) (sym (distinct i.0 j.0 a b i.1 j.1 e)) ∙ i.1) j.1
+
+-- a file is a member of its family
+pub file-there : (files : List File) (f : File) → Contains files f → Contains (family_of files) (member_of f)
+file-there files f h = Contains-append_left (map member_of files) (filter (λ m. not (is_there (map member_of files) m.name)) built_in_members) (member_of f) (contains-map member_of files f h)

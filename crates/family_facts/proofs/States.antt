@@ -26,7 +26,7 @@ use Rattle.family_facts.specs.Fronts.{front_of}
 use Rattle.family_facts.specs.Facts.{Own, own_of, needs_by, needs_of, texts_of}
 use Rattle.family_facts.proofs.Lists.{behind, first-or-rest, here, none-there}
 use Rattle.family_facts.proofs.Members.{AreOneEach, member-there, there-member}
-use Rattle.family_facts.proofs.OneVerdict.{HasNoOther, needed, needs-or-not, needs-tree, not-there, tree-needs}
+use Rattle.family_facts.proofs.Needing.{HasNoOther, needed, needs-or-not, needs-tree, not-there, tree-needs}
 use Rattle.family_facts.proofs.FrontLaws.{front-is}
 
 -- ---- names in lists

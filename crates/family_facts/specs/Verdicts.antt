@@ -1,15 +1,11 @@
 -- The verdicts on the files of a family, and what they take.
-use Rattle.std.specs.Prelude.{◌≡◌, ◌+◌, ◌-◌, ◌^◌, min, ℕ, List, [], length, map, take, sum_by, unwrap_or}
-use Rattle.std.specs.List.{All, AllZip}
+use Rattle.std.specs.Prelude.{◌+◌, ◌-◌, ◌^◌, min, ℕ, List, [], map, take, sum_by, unwrap_or}
+use Rattle.std.specs.List.{All}
 use Rattle.tla_lexeme.specs.Spans.{IsPlaced}
-use Rattle.tla_model.specs.declared.entity.Use.{Use}
-use Rattle.module_facts.specs.Checks.{unless_any}
 use Rattle.front_laws.specs.Fronts.{Front, Tree, Fault, readable_len}
-use Rattle.fact_values.specs.Names.{Texts}
 use Rattle.std_modules.specs.StdTexts.{std_names, std_text}
 use Rattle.list_laws.specs.Distinct.{AreNamedApart}
-use Rattle.family_facts.specs.Facts.{diagnosed, texts_of}
-use Rattle.family_facts.specs.Family.{Member, Diagnosed, IsDiagnosed, over}
+use Rattle.family_facts.specs.Family.{Member, over}
 use Rattle.family_facts.specs.Fronts.{front_of}
 use Rattle.family_facts.specs.declared.verdict.File.{File}
 use Rattle.family_facts.specs.declared.verdict.Verdict.{Verdict}
@@ -40,31 +36,9 @@ AreDistinct files = AreNamedApart (λ (file : File). file.name) files
 abbrev pub text_of : List ℕ → List ℕ
 text_of bytes = take (readable_len bytes) bytes
 
--- what is said of a file
-pub record IsVerdict (family : List Member) (file : File) (verdict : Verdict) : Type 0 where
-  pub name : verdict.name ≡ file.name
-  pub text : verdict.text ≡ text_of file.bytes
-  pub found : Diagnosed
-  pub diagnosed : IsDiagnosed family file.name found
-  pub faults : verdict.faults ≡ found.faults
-
--- each file has its verdict, in order, in the family of the files and the built-in modules
-abbrev pub AreVerdicts : List File → List Verdict → Type 0
-AreVerdicts files verdicts = AllZip (IsVerdict (family_of files)) files verdicts
-
 -- each fault stands in the text
 abbrev pub IsVerdictPlaced : Verdict → Type 0
 IsVerdictPlaced verdict = All (λ fault. IsPlaced verdict.text fault.span) verdict.faults
-
--- ---- as functions
-
--- the verdict on a file of these texts
-abbrev pub verdict_on : Texts → File → Verdict
-verdict_on texts file = record { name = file.name; text = text_of file.bytes; faults = (diagnosed texts file.name).faults }
-
--- the verdicts on files, over the built-in modules
-abbrev pub verdicts_on : List File → List Verdict
-verdicts_on files = map (verdict_on (texts_of (family_of files))) files
 
 -- ---- checks
 
@@ -80,17 +54,3 @@ checks_of files = sum_by (λ (m : Member). check_count (front_of m.name m.bytes)
 -- a count after so many checks
 abbrev pub after_checks : ℕ → ℕ → ℕ
 after_checks n steps = min (steps + n) (2 ^ 64 - 1)
-
--- ---- uses
-
--- the uses that are shown of a module: all of one that is accepted, and none of another
-abbrev pub shown_uses : Diagnosed → List Use
-shown_uses found = unless_any found.faults found.uses
-
--- how many uses are shown of a file of these texts
-abbrev pub use_count_on : Texts → File → ℕ
-use_count_on texts file = length (shown_uses (diagnosed texts file.name))
-
--- how many uses are shown of all files, over the built-in modules
-abbrev pub uses_on : List File → ℕ
-uses_on files = sum_by (use_count_on (texts_of (family_of files))) files

@@ -17,7 +17,7 @@ use Rattle.family_facts.specs.declared.verdict.File.{File}
 use Rattle.family_facts.specs.declared.verdict.Verdict.{Verdict}
 use Rattle.family_facts.proofs.Lists.{behind, here}
 use Rattle.family_facts.proofs.Members.{member-there}
-use Rattle.family_facts.proofs.Saying.{file-there}
+use Rattle.family_facts.proofs.Members.{file-there}
 use Rattle.family_tables.specs.Modules.{Entry}
 use Rattle.family_tables.specs.Outcomes.{IsSaid, Matches, faults_of}
 use Rattle.family_tables.specs.declared.outcome.Outcome.{Outcome}

@@ -5,7 +5,7 @@ use Rattle.std.specs.Str.{bytes_eq}
 use Rattle.list_laws.proofs.Texts.{same-text, texts-apart}
 use Rattle.family_facts.specs.Facts.{texts_of}
 use Rattle.family_facts.specs.Family.{AreMembersDistinct, Member, is_there}
-use Rattle.family_facts.proofs.OneVerdict.{HasNoOther}
+use Rattle.family_facts.proofs.Needing.{HasNoOther}
 use Rattle.family_tables.specs.Agreement.{AreAgreed}
 use Rattle.family_tables.specs.Modules.{AreModules, Entry}
 use Rattle.family_tables.specs.Plans.{IsPlan}

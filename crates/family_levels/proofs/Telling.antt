@@ -28,8 +28,8 @@ use Rattle.family_facts.specs.Verdicts.{family_of, member_of, text_of}
 use Rattle.family_facts.specs.declared.verdict.File.{File}
 use Rattle.family_facts.proofs.Lists.{contains-one, none-there, zip-left}
 use Rattle.family_facts.proofs.Members.{AreOneEach, member-there}
-use Rattle.family_facts.proofs.OneVerdict.{HasNoOther}
-use Rattle.family_facts.proofs.Saying.{file-there}
+use Rattle.family_facts.proofs.Needing.{HasNoOther}
+use Rattle.family_facts.proofs.Members.{file-there}
 use Rattle.family_facts.proofs.States.{front-one, text-of-member}
 use Rattle.family_tables.specs.Modules.{AreModules, Entry, IsEntry, IsReading}
 use Rattle.family_tables.specs.Outcomes.{faults_of}

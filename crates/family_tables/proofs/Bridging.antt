@@ -8,14 +8,14 @@ use Rattle.unit_grammar.specs.Units.{ModuleUnits}
 use Rattle.unit_grammar.specs.UnitNodes.{module_of}
 use Rattle.index_graph.specs.Leading.{Leads}
 use Rattle.family_facts.specs.Family as families
-use Rattle.family_facts.specs.Family.{Member, Diagnosed, IsDiagnosed, is_there}
+use Rattle.family_facts.specs.Family.{Member, is_there}
 use Rattle.family_tables.specs.Modules.{Entry, IsEntry, IsReading, AreModules, needs_in}
 use Rattle.family_tables.specs.Plans as plans
 use Rattle.family_tables.specs.declared.reading.Reading.TheVariants as reading
 use Rattle.family_tables.proofs.Graphs.{first-step, leads-map}
 use Rattle.family_facts.proofs.Lists.{none-there, zip-left, zip-right}
 use Rattle.family_facts.proofs.Members.{member-there}
-use Rattle.family_facts.proofs.OneVerdict.{HasNoOther, Found, of_fault, of_tree, found-of, needed, tree-same, tree-no-fault}
+use Rattle.family_facts.proofs.Needing.{HasNoOther, needed, tree-same, tree-no-fault}
 
 -- what a module that was read needs
 pub reading-needs : (m : Member) (name : List ℕ) (r : reading.the_data) (needs : List (List ℕ)) (need : List ℕ) → name ≡ m.name → IsReading name m.bytes r → needs ≡ needs_in r → Contains needs need → (found : ModuleUnits) × IsFront m.name m.bytes (Tree found) × Contains (needed m.bytes found) need
@@ -61,13 +61,6 @@ cyclic-there family name need n c = elim c as (λ _. is_there family need ≡ tr
   | inl e ↦ subst (λ x. is_there family x ≡ true) (sym e) (needs-there family name need n)
   | inr r ↦ let s = first-step r in needs-there family need s.0 s.1
 ]
-
-pub diagnosed-there : (family : List Member) (name : List ℕ) (d : Diagnosed) → IsDiagnosed family name d → is_there family name ≡ true
-diagnosed-there family name d h = by (found-of h)
-  where
-    by : Found family name d → is_there family name ≡ true
-    by (of_fault m fault there named front is) = member-there family name m there named
-    by (of_tree m units there named front is) = member-there family name m there named
 
 pub cyclic-map : (R S : List ℕ → List ℕ → Type 0) (name need : List ℕ) → ((a b : List ℕ) → R a b → S a b) → ((need ≡ name) ⊎ Leads R need name) → (need ≡ name) ⊎ Leads S need name
 cyclic-map R S name need f c = elim c as (λ _. (need ≡ name) ⊎ Leads S need name) [ inl e ↦ inl e | inr r ↦ inr (leads-map f r) ]

@@ -1,67 +1,32 @@
 -- What the modules are that a module needs, and the imports of them.
 use Rattle.std.proofs.Common.{◌≡◌, ◌<◌, ℕ, ◌+◌, List, [], ◌∷◌, ◌++◌, Option, Some, None, refl, sym, ap, ◌∙◌, cond, take, length, get_or, true, false, Bool, ⊎_elim, inl, inr, not, subst, Bor}
 use Rattle.std.specs.Prelude.{◌↔◌, Contains, IsTrue, is_some, is_none, option_copied}
-use Rattle.std.specs.Arc.{arc_value}
 use Rattle.std.specs.Str.{bytes_eq}
 use Rattle.std.proofs.lemmas.Bool.{cases_Bool, both_ways}
 use Rattle.std.proofs.lemmas.List.{take_more}
 use Rattle.std.proofs.lemmas.Option.{slice_get-get_or}
 use Rattle.std.proofs.lemmas.List.Elements.{Contains-append_left, Contains-append_right}
 use Rattle.module_model.specs.declared.imported.Import.{Import}
-use Rattle.module_model.specs.Exports.{face_outside}
 use Rattle.module_model.specs.Given.{face_of}
 use Rattle.module_model.specs.Imports.{Imports, import_of}
-use Rattle.module_facts.specs.Checks.{ImportStatus, Unknown, Cyclic, Refused, Accepted, given_by, given_in}
+use Rattle.module_facts.specs.Checks.{ImportStatus, given_by, given_in}
 use Rattle.list_laws.proofs.Texts.{same-text, text-itself}
-use Rattle.family_facts.specs.Family as families
-use Rattle.family_facts.specs.Family.{Member, IsGiven, unknown, cyclic, refused, accepted, is_there}
 use Rattle.family_tables.specs.Modules.{Entry}
 use Rattle.index_graph.specs.Leading.{LeadsBack}
 use Rattle.family_tables.specs.Plans as plans
 use Rattle.family_tables.specs.Plans.{IsPlan}
 use Rattle.family_tables.specs.Tables.{entry_of}
 use Rattle.family_tables.specs.Agreement.{AreFrom, IsFrom, found_face}
-use Rattle.family_tables.specs.Outcomes.{ImportsOnly, IsNeedTold, IsOutcome, IsReady, status_by}
+use Rattle.family_tables.specs.Outcomes.{ImportsOnly, IsNeedTold, status_by}
 use Rattle.family_tables.specs.declared.order.Plan.{Plan}
 use Rattle.family_tables.specs.declared.outcome.Outcome.{Outcome}
-use Rattle.family_tables.specs.declared.outcome.Outcome.TheVariants as outcome
 use Rattle.family_facts.proofs.Lists.{among-or-not, at-contains, contains-pushed, here}
-use Rattle.family_tables.proofs.Bridging.{cyclic-map, cyclic-there, diagnosed-there}
 
 -- ---- one import
-
--- what a module is by its outcome
-abbrev pub IsGivenBy : outcome.the_data → ImportStatus → Type 0
-IsGivenBy (outcome.Refused faults) given = given ≡ Refused
-IsGivenBy (outcome.Accepted face) given = given ≡ Accepted (face_outside (arc_value face))
 
 -- what is asked of a plan of the modules
 abbrev pub SaysCyclic : Plan → List ℕ → List ℕ → Bool → Type 0
 SaysCyclic plan name need answer = (entries : List Entry) → IsPlan entries plan → plans.Needs entries name need → IsTrue answer ↔ LeadsBack (plans.Needs entries) name need
-
-module _ (family : List Member) (plan : Plan) (outcomes : List (List ℕ × Outcome)) (name need : List ℕ) (answer : Bool) (says : SaysCyclic plan name need answer) (ready : IsReady family plan outcomes name) (n : families.Needs family name need) where
-  cyclic-here : answer ≡ true → families.IsCyclic family name need
-  cyclic-here t = cyclic-map (plans.Needs ready.entries) (families.Needs family) name need ready.own ((says ready.entries ready.planned (ready.all name need n)).0 t)
-
-  not-cyclic : answer ≡ false → families.IsCyclic family name need → ⊥
-  not-cyclic f c = both_ways answer f ((says ready.entries ready.planned (ready.all name need n)).1 (cyclic-map (families.Needs family) (plans.Needs ready.entries) name need ready.all c))
-
-  pub import-cyclic : answer ≡ true → IsGiven family name need Cyclic
-  import-cyclic t = cyclic (cyclic-there family name need n (cyclic-here t)) (cyclic-here t)
-
-  pub import-unknown : answer ≡ false → entry_of outcomes need ≡ None → IsGiven family name need Unknown
-  import-unknown f none = ⊎_elim
-      (λ (t : is_there family need ≡ true). let s : is_some (entry_of outcomes need) ≡ true = ready.before need n (not-cyclic f) t in absurd (both_ways (is_some (entry_of outcomes need)) (ap is_some none) s))
-      (λ (g : is_there family need ≡ false). unknown g)
-      (cases_Bool (is_there family need))
-
-  pub import-found : answer ≡ false → (o : outcome.the_data) (given : ImportStatus) → entry_of outcomes need ≡ Some o → IsGivenBy o given → IsGiven family name need given
-  import-found f (outcome.Refused faults) given e is =
-      let o : IsOutcome family need (outcome.Refused faults) = ready.found need (outcome.Refused faults) e in
-      subst (λ g. IsGiven family name need g) (sym is) (refused (diagnosed-there family need o.found o.diagnosed) (not-cyclic f) o.diagnosed o.says.1)
-  import-found f (outcome.Accepted face) given e is =
-      let o : IsOutcome family need (outcome.Accepted face) = ready.found need (outcome.Accepted face) e in
-      subst (λ g. IsGiven family name need g) (ap Accepted (sym o.says.1) ∙ sym is) (accepted (diagnosed-there family need o.found o.diagnosed) (not-cyclic f) o.diagnosed o.says.0)
 
 -- what is told of a need, by its outcome
 pub import-told : (plan : Plan) (outcomes : List (List ℕ × Outcome)) (name need : List ℕ) (answer : Bool) → SaysCyclic plan name need answer → (entries : List Entry) → IsPlan entries plan → plans.Needs entries name need → (status : ImportStatus) → status ≡ status_by answer (entry_of outcomes need) → IsNeedTold entries outcomes name need status

@@ -15,14 +15,14 @@ use Rattle.family_facts.specs.Verdicts.{after_checks}
 use Rattle.family_tables.specs.Modules.{Entry, IsEntry, AreModules, tree_count}
 use Rattle.family_tables.specs.Plans as plans
 use Rattle.family_tables.specs.Plans.{AreOnce, IsPlan}
-use Rattle.family_tables.specs.Outcomes.{IsMember, IsOutcome, IsReady, IsSomeModule, trees_in, trees_of}
+use Rattle.family_tables.specs.Outcomes.{IsMember, IsSomeModule, trees_in, trees_of}
 use Rattle.family_tables.specs.Tables.{entry_of, names_in}
 use Rattle.family_tables.specs.declared.order.Plan.{Plan}
 use Rattle.family_tables.specs.declared.outcome.Outcome.{Outcome}
 use Rattle.family_tables.specs.declared.reading.Module.{Module}
 use Rattle.family_facts.proofs.Lists.{at-contains, contains-at, zip-right}
 use Rattle.family_facts.proofs.Members.{there-member}
-use Rattle.family_facts.proofs.OneVerdict.{HasNoOther}
+use Rattle.family_facts.proofs.Needing.{HasNoOther}
 use Rattle.family_tables.proofs.Tabling.{entry-append, entry-found, entry-none, entry-some}
 use Rattle.family_tables.proofs.Indices.{at-taken, at-take, named-member}
 use Rattle.family_tables.proofs.Bridging.{own-needs, all-needs, cyclic-map}
@@ -63,9 +63,6 @@ module _ (modules : List Entry) (plan : Plan) (planned : IsPlan modules plan) (i
         let less : j.0 < i = planned.order.behind i j.0 name need ordered-at j.1 (all-needs one family modules are name need n, λ c. not (cyclic-map (plans.Needs modules) (families.Needs family) name need (own-needs one family modules are) c)) in
         let s = entry-some outcomes need (subst (λ ns. Contains ns need) (sym names) (at-contains (take i plan.order) j.0 need (at-take i plan.order j.0 need less j.1))) in
         ap is_some s.1
-
-    pub ready-here : ((other : List ℕ) (o : Outcome) → entry_of outcomes other ≡ Some o → IsOutcome family other o) → IsReady family plan outcomes name
-    ready-here found = record { entries = modules; planned = planned; own = own-needs one family modules are; all = all-needs one family modules are; found = found; before = before-here }
 
 -- what holds of each entry of a table and of one more holds of each behind it
 pub found-more : {T : Type 0} (P : List ℕ → T → Type 0) (entries entries' : List (List ℕ × T)) (name : List ℕ) (o : T) → entry_of entries name ≡ None → entries' ≡ entries ++ (name, o) ∷ [] → P name o →

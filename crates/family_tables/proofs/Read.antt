@@ -22,7 +22,7 @@ use Rattle.family_tables.specs.declared.reading.Reading.TheVariants as reading
 use Rattle.family_facts.specs.declared.verdict.File.{File}
 use Rattle.family_facts.proofs.Lists.{at-contains, behind, here, zip-right}
 use Rattle.family_facts.proofs.FrontLaws.{front-is}
-use Rattle.family_facts.proofs.OneVerdict.{HasNoOther, fault-same, tree-same, tree-no-fault}
+use Rattle.family_facts.proofs.Needing.{HasNoOther, fault-same, tree-same, tree-no-fault}
 
 -- what is so of each item is so of all
 pub all-by : {A : Type 0} (P : A → Type 0) (xs : List A) → ((x : A) → Contains xs x → P x) → All P xs

@@ -1,22 +1,19 @@
 -- What is found of the modules of a family, one after another.
-use Rattle.std.specs.Prelude.{◌≡◌, ◌≢◌, ◌↔◌, ℕ, Bool, true, false, List, [], Option, Some, None, Contains, IsSome, IsTrue, sum_by}
+use Rattle.std.specs.Prelude.{◌≡◌, ◌≢◌, ◌↔◌, ℕ, Bool, true, false, List, [], Option, Some, None, Contains, IsTrue, sum_by}
 use Rattle.std.specs.Arc.{arc_value}
 use Rattle.tla_model.specs.declared.Diagnostic.{Diagnostic}
-use Rattle.module_model.specs.declared.imported.Import.{Import}
 use Rattle.module_model.specs.Exports.{ModuleView, face_outside}
 use Rattle.module_model.specs.Imports.{Imports, import_of}
-use Rattle.module_facts.specs.Checks.{ImportStatus, Unknown, Cyclic, Refused, Accepted, given_by, given_in}
+use Rattle.module_facts.specs.Checks.{ImportStatus, Unknown, Cyclic, Refused, Accepted}
 use Rattle.index_graph.specs.Leading.{LeadsBack}
 use Rattle.family_facts.specs.Family as families
-use Rattle.family_facts.specs.Family.{Member, Diagnosed, IsDiagnosed, IsGiven, is_there}
+use Rattle.family_facts.specs.Family.{Member}
 use Rattle.family_tables.specs.Modules.{Entry, IsModule, IsReading, tree_count}
 use Rattle.family_tables.specs.Plans as plans
-use Rattle.family_tables.specs.Plans.{IsPlan}
 use Rattle.family_facts.specs.Verdicts.{text_of}
 use Rattle.family_tables.specs.Tables.{entry_of}
 use Rattle.family_tables.specs.declared.reading.Module.{Module}
 use Rattle.family_tables.specs.declared.reading.Reading.{Reading}
-use Rattle.family_tables.specs.declared.order.Plan.{Plan}
 use Rattle.family_tables.specs.declared.outcome.Outcome.{Outcome}
 use Rattle.family_facts.specs.declared.verdict.File.{File}
 use Rattle.family_facts.specs.declared.verdict.Verdict.{Verdict}
@@ -26,33 +23,9 @@ abbrev pub Matches : List Diagnostic → ModuleView → Outcome → Type 0
 Matches faults outside (Outcome.Refused found) = (found ≡ faults) × (faults ≢ [])
 Matches faults outside (Outcome.Accepted face) = (faults ≡ []) × (face_outside (arc_value face) ≡ outside)
 
--- an outcome says what is found of the member of a name
-pub record IsOutcome (family : List Member) (name : List ℕ) (outcome : Outcome) : Type 0 where
-  pub found : Diagnosed
-  pub diagnosed : IsDiagnosed family name found
-  pub says : Matches found.faults found.outside outcome
-
 -- ---- imports
 
--- all that is known where a module is checked
-pub record IsReady (family : List Member) (plan : Plan) (outcomes : List (List ℕ × Outcome)) (name : List ℕ) : Type 0 where
-  pub entries : List Entry
-  pub planned : IsPlan entries plan
-  pub own : (other need : List ℕ) → plans.Needs entries other need → families.Needs family other need
-  pub all : (other need : List ℕ) → families.Needs family other need → plans.Needs entries other need
-  pub found : (other : List ℕ) (outcome : Outcome) → entry_of outcomes other ≡ Some outcome → IsOutcome family other outcome
-  pub before : (need : List ℕ) → families.Needs family name need → (families.IsCyclic family name need → ⊥) → is_there family need ≡ true → IsSome (entry_of outcomes need)
-
--- an import is what a module is to one that needs it
-abbrev pub IsImport : List Member → List ℕ → List ℕ → Import → Type 0
-IsImport family name need import = IsGiven family name need (given_by (Some import))
-
--- each need is imported, and nothing else
-pub record AreImports (family : List Member) (name : List ℕ) (needs : List (List ℕ)) (imports : Imports) : Type 0 where
-  pub given : (need : List ℕ) → Contains needs need → IsGiven family name need (given_in imports need)
-  pub others : (need : List ℕ) → (Contains needs need → ⊥) → given_in imports need ≡ Unknown
-
--- nothing else is imported
+-- nothing is imported but these modules
 abbrev pub ImportsOnly : List (List ℕ) → Imports → Type 0
 ImportsOnly needs imports = (need : List ℕ) → (Contains needs need → ⊥) → import_of imports need ≡ None
 
@@ -87,10 +60,6 @@ pub record IsMember (family : List Member) (name : List ℕ) (reading : Reading)
 -- a name has some module
 abbrev pub IsSomeModule : List ℕ → Module → Type 0
 IsSomeModule name «module» = (bytes : List ℕ) × IsModule name bytes «module»
-
--- each member of a family has its outcome
-abbrev pub AreOutcomes : List Member → List (List ℕ × Outcome) → Type 0
-AreOutcomes family outcomes = (name : List ℕ) → is_there family name ≡ true → (outcome : Outcome) × (entry_of outcomes name ≡ Some outcome) × IsOutcome family name outcome
 
 -- how many of these modules have a tree
 abbrev pub trees_in : List Entry → ℕ

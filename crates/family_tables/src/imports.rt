@@ -1,11 +1,8 @@
 // What the modules are that a module needs.
 ghost use Rattle.std.specs.Prelude.{◌≡◌, ℕ, List as ListOf, None, Some, IfOk, Contains};
-ghost use Rattle.family_facts.specs.Family as families;
-ghost use Rattle.family_facts.specs.Family.{Member};
 ghost use Rattle.family_tables.specs.Agreement.{AreAgreed, AreFrom, IsFrom};
 ghost use Rattle.family_tables.specs.Modules.{Entry};
-ghost use Rattle.family_tables.specs.Outcomes.{IsReady, IsImport, IsNeedTold, AreImports};
-ghost use Rattle.family_tables.specs.Outcomes.{ImportsOnly};
+ghost use Rattle.family_tables.specs.Outcomes.{ImportsOnly, IsNeedTold};
 ghost use Rattle.family_tables.specs.Plans as plans;
 ghost use Rattle.family_tables.specs.Plans.{IsPlan};
 ghost use Rattle.family_tables.specs.Tables.{entry_of};
@@ -27,9 +24,6 @@ fn import_of(
     name: &str,
     need: &str,
 ) -> Result<Import, Memory>
-    ensures given { (family : ListOf Member) → IsReady family plan.now outcomes.now name.now
-        → families.Needs family name.now need.now
-        → IfOk result (IsImport family name.now need.now) }
     ensures told { (modules : ListOf Entry) → IsPlan modules plan.now
         → plans.Needs modules name.now need.now
         → IfOk result (λ import. IsNeedTold modules outcomes.now name.now need.now
@@ -58,9 +52,6 @@ pub fn imports_of(
 ) -> Result<Imported, Memory>
     requires agreed { AreAgreed outcomes.now }
     requires unfound { entry_of outcomes.now name.now ≡ None }
-    ensures given { (family : ListOf Member) → IsReady family plan.now outcomes.now name.now
-        → ((need : ListOf ℕ) → Contains needs.now need → families.Needs family name.now need)
-        → IfOk result (AreImports family name.now needs.now) }
     ensures told { (modules : ListOf Entry) → IsPlan modules plan.now
         → ((need : ListOf ℕ) → Contains needs.now need → plans.Needs modules name.now need)
         → IfOk result (λ imported. (need : ListOf ℕ) → Contains needs.now need

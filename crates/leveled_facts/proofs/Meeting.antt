@@ -13,7 +13,7 @@ use Rattle.family_facts.specs.Fronts.{front_of}
 use Rattle.family_facts.specs.Facts.{own_of, needs_of, texts_of}
 use Rattle.family_facts.proofs.FrontLaws.{front-named}
 use Rattle.family_facts.proofs.Members.{AreOneEach, member-there}
-use Rattle.family_facts.proofs.OneVerdict.{HasNoOther}
+use Rattle.family_facts.proofs.Needing.{HasNoOther}
 use Rattle.family_facts.proofs.States.{front-one, given-is, gives, gives-accepted, gives-cyclic, gives-refused, gives-unknown, text-of-member}
 use Rattle.flat_kinds.specs.Declarations.{HasPlaces}
 use Rattle.leveled_facts.specs.Modules as modules

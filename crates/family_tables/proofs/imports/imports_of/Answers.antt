@@ -1,10 +1,8 @@
-use Rattle.std.proofs.Common.{◌+◌, ◌∙◌, ap, subst, sym, take}
+use Rattle.std.proofs.Common.{◌+◌, ◌∙◌, subst, sym, take}
 use Rattle.std.proofs.lemmas.List.{take_all}
-use Rattle.module_facts.specs.Checks.{given_by}
 use Rattle.family_tables.specs.Agreement.{AreFrom}
 use Rattle.module_model.specs.Imports.{import_of}
 use Rattle.family_tables.proofs.Agreeing.{faces-from}
-use Rattle.family_facts.specs.Family.{IsGiven}
 use Rattle.family_tables.specs.Outcomes.{ImportsOnly, IsNeedTold}
 use Rattle.family_tables.proofs.Importing.{AreGiven, from-more, given-again, given-more, item-needed, none-from, others-again, others-more, some-from}
 use Rattle.family_tables.proofs.imports.imports_of.Goals.{then-is_none+in_ok-import_of+in_ok-add, else-is_none}
@@ -22,9 +20,6 @@ loop-need-preserved c =
           let none = none-from c.get.result c.is_none.result (import_of imports item) c.is_none.ensures w.if-is_none.true c.get.ensures in
           let e = w.imported-is ∙ w.in_ok-add.ensures.ok in
           record {
-            given = λ family ready all.
-                given-more needs i c.need-item.result item c.loop-need-test.true is imports (IsGiven family c.args.name.now) w.in_ok-import_of.field-0 c.if-is_none.imported none e
-                (w.in_ok-import_of.ensures.given family ready (all item (item-needed needs i c.need-item.result item c.loop-need-test.true is imports))) (c.loop-need.invariant.given family ready all);
             told = λ modules planned all.
                 given-more needs i c.need-item.result item c.loop-need-test.true is imports (IsNeedTold modules c.args.outcomes.now c.args.name.now) w.in_ok-import_of.field-0 c.if-is_none.imported none e
                 (w.in_ok-import_of.ensures.told modules planned (all item (item-needed needs i c.need-item.result item c.loop-need-test.true is imports))) (c.loop-need.invariant.told modules planned all);
@@ -34,9 +29,6 @@ loop-need-preserved c =
       | else-is_none w ↦
           let some = some-from c.get.result c.is_none.result (import_of imports item) c.is_none.ensures w.if-is_none.false c.get.ensures in
           record {
-            given = λ family ready all.
-                subst (λ z. AreGiven (IsGiven family c.args.name.now) (take (i + 1) needs) z) (sym w.imported-is)
-                (given-again needs i c.need-item.result item c.loop-need-test.true is imports (IsGiven family c.args.name.now) some c.loop-need.invariant.others (c.loop-need.invariant.given family ready all));
             told = λ modules planned all.
                 subst (λ z. AreGiven (IsNeedTold modules c.args.outcomes.now c.args.name.now) (take (i + 1) needs) z) (sym w.imported-is)
                 (given-again needs i c.need-item.result item c.loop-need-test.true is imports (IsNeedTold modules c.args.outcomes.now c.args.name.now) some c.loop-need.invariant.others (c.loop-need.invariant.told modules planned all));
@@ -44,15 +36,6 @@ loop-need-preserved c =
             others = subst (λ z. ImportsOnly (take (i + 1) needs) z) (sym w.imported-is) (others-again needs i c.need-item.result item c.loop-need-test.true is imports c.loop-need.invariant.others);
           }
     ]
-
-pub returns-clause-given : goal.returns-clause-given
-returns-clause-given c family ready all =
-    let needs = c.args.needs.now in
-    let whole = take_all c.loop-need.need-index needs c.loop-need-test.false in
-    record {
-      given = subst (λ ns. AreGiven (IsGiven family c.args.name.now) ns c.loop-need.imported) whole (c.loop-need.invariant.given family ready all);
-      others = λ need n. ap given_by (subst (λ ns. ImportsOnly ns c.loop-need.imported) whole c.loop-need.invariant.others need n);
-    }
 
 pub returns-clause-told : goal.returns-clause-told
 returns-clause-told c modules planned all =
