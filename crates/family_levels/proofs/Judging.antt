@@ -18,7 +18,7 @@ use Rattle.module_model.specs.Modules.{text_of}
 use Rattle.module_model.specs.Resolution.{findings, outside_in}
 use Rattle.arity_rules.specs.Arities.{arity_faults}
 use Rattle.module_facts.specs.Checks as names
-use Rattle.module_facts.specs.Checks.{CheckedModule, ImportStatus, facts_of, facts_told, files_given, given_in, name_faults, or_others}
+use Rattle.module_facts.specs.Checks.{CheckedModule, facts_of, facts_told, files_given, given_in, name_faults, or_others}
 use Rattle.module_model.specs.declared.face.Face.{Face}
 use Rattle.fact_values.specs.Names.{Texts}
 use Rattle.flattened_trees.specs.Answers.{deep_answers, level_answers}
@@ -277,14 +277,14 @@ module _ (known_laws : KnownLaws) (laws : FamilyLaws) (family : List Member) (pl
     are-levels : AreLevelsOf outs source units levels
     are-levels = record {
       faults = made.answered.faults ∙ (λ i. or_levels (depth_faults (depths-answered i)) (level_faults (levels-answered i)));
-      levels = λ start. made.answered.levels start ∙ ap (λ found. level_of found start) levels-answered;
+      levels = λ none start. made.answered.levels none start ∙ ap (λ found. level_of found start) levels-answered;
     }
 
     -- the uses of the module with their levels
     shown : levels.faults ≡ [] → map (with_level levels.levels) checked.uses ≡ (leveled texts name).uses
     shown none =
         ap (map (with_level levels.levels)) uses-are
-        ∙ (uses-leveled levels.levels (level_findings outs source units) are-levels.levels (names.all_uses (λ other. import_status (given other)) source units)
+        ∙ (uses-leveled levels.levels (level_findings outs source units) (are-levels.levels none) (names.all_uses (λ other. import_status (given other)) source units)
         ∙ (ap (λ fs. map (leveled_use (levels_by given source units fs)) (names.all_uses (λ other. import_status (given other)) source units)) (sym (all-faults ∙ (sym are-levels.faults ∙ none)))
         ∙ ap (λ (l : Leveled). l.uses) (sym is)))
 

@@ -2,7 +2,7 @@
 ghost use Rattle.std.specs.Prelude.{◌≡◌, ◌++◌, ℕ, IfOk, OnOk, nat_eq};
 ghost use Rattle.indexmap.specs.IndexMap.{get};
 ghost use Rattle.module_kinds.specs.ModuleKinds.{depth_faults as deep_faults, level_fault, level_faults as high_faults};
-ghost use Rattle.module_kinds.specs.ModuleKinds.{level_of, or_levels};
+ghost use Rattle.module_kinds.specs.ModuleKinds.{level_of};
 ghost use Rattle.found_levels.specs.Findings.{finding_of, findings_of, level_there, or_constant};
 
 use crate::findings::LevelFinding;
@@ -24,25 +24,8 @@ const NOT_CONSTANT: u16 = 602;
 /// A replacement has a higher level than it may have.
 const TOO_HIGH: u16 = 603;
 
-/// The faults of depth, by where what is too deep stands, or else those of levels, in their order.
-pub fn kind_faults(
-    alloc: Global,
-    deep: &[Lexeme],
-    found: &[LevelFinding],
-) -> Result<List<Diagnostic>, Memory>
-    ensures { IfOk result (λ faults. faults
-        ≡ or_levels (deep_faults deep.now) (high_faults (findings_of found.now))) }
-{
-    let faults = depth_faults(alloc, deep)?;
-    if faults.is_empty() {
-        let faults = level_faults(alloc, found)?;
-        return Ok(faults);
-    }
-    Ok(faults)
-}
-
-// The faults of depth.
-fn depth_faults(alloc: Global, deep: &[Lexeme]) -> Result<List<Diagnostic>, Memory>
+/// The faults of depth, by where what is too deep stands, in their order.
+pub fn depth_faults(alloc: Global, deep: &[Lexeme]) -> Result<List<Diagnostic>, Memory>
     ensures { IfOk result (λ faults. faults ≡ deep_faults deep.now) }
 {
     let mut faults = List::new(alloc);
@@ -55,8 +38,8 @@ fn depth_faults(alloc: Global, deep: &[Lexeme]) -> Result<List<Diagnostic>, Memo
     Ok(faults)
 }
 
-// The faults of levels.
-fn level_faults(alloc: Global, found: &[LevelFinding]) -> Result<List<Diagnostic>, Memory>
+/// The faults of levels, in the order in which they were found.
+pub fn level_faults(alloc: Global, found: &[LevelFinding]) -> Result<List<Diagnostic>, Memory>
     ensures { IfOk result (λ faults. faults ≡ high_faults (findings_of found.now)) }
 {
     let mut faults = List::new(alloc);

@@ -1,4 +1,5 @@
-//! What is found of levels and depths in a text, by what is asked of the nodes that were made of it.
+//! What is found of levels and depths in a text, by what is asked of the nodes that were made of
+//! it.
 //!
 //! From questions over frames to findings in their order, to faults, and to the levels of uses.
 //! Knows nothing of trees, units and files.
@@ -10,5 +11,5 @@ mod findings;
 mod stretches;
 
 pub use answers::{deep_answers, level_answers};
-pub use faults::{kind_faults, levels_of_uses};
+pub use faults::{depth_faults, level_faults, levels_of_uses};
 pub use findings::LevelFinding;

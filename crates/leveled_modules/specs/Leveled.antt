@@ -1,6 +1,6 @@
 -- What is found of the levels of a module, over what the files are that it names.
 use Rattle.indexmap.specs.IndexMap.{get}
-use Rattle.std.specs.Prelude.{◌≡◌, ◌<◌, ℕ, List, Option, nat_eq}
+use Rattle.std.specs.Prelude.{◌≡◌, ◌<◌, ℕ, List, [], Option, nat_eq}
 use Rattle.unit_grammar.specs.Units.{ModuleUnits}
 use Rattle.tla_model.specs.Scopes.{Finding}
 use Rattle.module_model.specs.Exports.{exports_of, files_of}
@@ -55,7 +55,7 @@ pub record IsModuleLeveled (files : List ℕ → FlatFace) (outsides : List ℕ 
       (symbols_of (outside outsides source units)) last asked
   pub answered : IsAnswered new.tables.state.flat asked found
 
--- faults and levels of uses are those of a module
+-- faults and, without any, levels of uses are those of a module
 pub record AreLevelsOf (outsides : List ℕ → Outside) (source : List ℕ) (units : ModuleUnits) (found : ModuleLevels) : Type 0 where
   pub faults : found.faults ≡ kind_faults outsides source units
-  pub levels : (start : ℕ) → or_constant (get nat_eq found.levels start) ≡ level_of (level_findings outsides source units) start
+  pub levels : found.faults ≡ [] → (start : ℕ) → or_constant (get nat_eq found.levels start) ≡ level_of (level_findings outsides source units) start

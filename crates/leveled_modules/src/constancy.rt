@@ -17,7 +17,8 @@ use tla_tree::ModuleTree;
 use tool_list::Memory;
 use tree_names::ModuleText;
 
-/// What files are to their instances, by the numbers of their faces. A file without a number is none.
+/// What files are to their instances, by the numbers of their faces. A file without a number is
+/// none.
 #[derive(Clone, Copy)]
 pub(crate) struct FileFaces<'a> {
     pub leads: &'a ModuleLeads,

@@ -93,9 +93,9 @@ fn level_named<'a>(
 
 /// Finds the levels of a module whose names and arities have no fault, over modules before it: its
 /// faults of depth, or else of levels, and the levels of its uses. It is given what the modules are
-/// that it names, what it is itself to others, and by name the numbers of the faces of its files: a file
-/// without a number is to it as one that is not there. `Memory` comes where there was no room; what
-/// was known of modules is gone then.
+/// that it names, what it is itself to others, and by name the numbers of the faces of its files: a
+/// file without a number is to it as one that is not there. `Memory` comes where there was no room;
+/// what was known of modules is gone then.
 pub fn level_module(
     alloc: Global,
     tree: &ModuleTree,

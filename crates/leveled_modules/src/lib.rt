@@ -1,7 +1,8 @@
 //! The levels of one module, by its tree and what the modules are that it names.
 //!
-//! Finds what its names mean, its symbols, and whether it is constant, and so its faults of depth and
-//! of levels and the levels of its uses. Knows nothing of the order in which modules are gone through.
+//! Finds what its names mean, its symbols, and whether it is constant, and so its faults of depth
+//! and of levels and the levels of its uses. Knows nothing of the order in which modules are gone
+//! through.
 #![tactic(auto)]
 
 mod answers;

@@ -35,8 +35,8 @@ pub(crate) struct ModuleStart<'a> {
     pub is_constant: bool,
 }
 
-/// A module of this face before its units become nodes, over the modules that it names, and over files
-/// that have these faces.
+/// A module of this face before its units become nodes, over the modules that it names, and over
+/// files that have these faces.
 pub(crate) fn module_start<'a>(
     alloc: Global,
     text: &ModuleText<'a>,

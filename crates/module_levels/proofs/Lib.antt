@@ -1,2 +1,3 @@
 pub mod LeveledModules
 pub mod NestedModules
+mod Answered

@@ -37,10 +37,10 @@ pub record AreBehind (known : LevelTables) : Type 0 where
   pub facts : IsFacts before known.facts
   pub depths : IsDepths before known.depths.nodes.items
 
--- faults and levels of uses are what nodes answer to these questions
+-- faults and, without any, levels of uses are what nodes answer to these questions
 pub record IsAnswered (flat : FlatModule) (asked : List Question) (found : ModuleLevels) : Type 0 where
   pub faults : found.faults ≡ or_levels (depth_faults (deep_answers flat asked)) (level_faults (level_answers flat asked))
-  pub levels : (start : ℕ) → or_constant (get nat_eq found.levels start) ≡ level_of (level_answers flat asked) start
+  pub levels : found.faults ≡ [] → (start : ℕ) → or_constant (get nat_eq found.levels start) ≡ level_of (level_answers flat asked) start
 
 -- nodes of a module are made over those of earlier ones, what it is to its instances has a number, and what is found is what nodes answer
 pub record IsLeveled (written : Written) (source : List ℕ) (units : ModuleUnits) (files : List ℕ → FlatFace) (outsides : List ℕ → Outside) (old new : LevelTables) (symbols : Exports) (constant : Bool) (found : ModuleLevels) : Type 0 where

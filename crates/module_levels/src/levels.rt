@@ -20,7 +20,7 @@ ghost use Rattle.module_levels.specs.Kept.{AreBehind, AreKept, IsAnswered, IsLev
 
 use crate::nested::nested_modules_close;
 use crate::tables::LevelTables;
-use found_levels::{deep_answers, kind_faults, level_answers, levels_of_uses};
+use found_levels::{deep_answers, depth_faults, level_answers, level_faults, levels_of_uses};
 use indexmap::IndexMap;
 use std::alloc::Global;
 use tla_model::{Diagnostic, Level};
@@ -36,14 +36,16 @@ use unit_scope::ModuleReader;
 pub struct ModuleLevels {
     /// All faults of depth, or else all of levels, in the order of the text.
     pub faults: List<Diagnostic>,
-    /// The level of each use that means a declaration, by where it begins, in bytes.
+    /// The level of each use that means a declaration, by where it begins, in bytes. Nothing is
+    /// said of a module with faults.
     pub levels: IndexMap<u32, Level>,
     /// The number of what the module is to its instances.
     pub face: usize,
 }
 
 // What the nodes that are new to the tables answer to what is asked of them, for the module whose
-// face has this number. Then their kinds and depths are known.
+// face has this number. Kinds are found only where nothing is too deep: to find one takes as many
+// calls within each other as the node is deep.
 fn judge(alloc: Global, known: &mut LevelTables, face: usize) -> Result<ModuleLevels, Memory>
     requires behind { AreBehind known.old }
     ensures tables { known.new.tables ≡ known.old.tables }
@@ -62,8 +64,15 @@ fn judge(alloc: Global, known: &mut LevelTables, face: usize) -> Result<ModuleLe
     let asked = known.tables.state.asked.as_slice();
     let frames = known.tables.state.frames.as_slice();
     let deep = deep_answers(alloc, &known.depths, flat, asked)?;
+    if !deep.is_empty() {
+        return Ok(ModuleLevels {
+            faults: depth_faults(alloc, deep.as_slice())?,
+            levels: IndexMap::new(alloc),
+            face,
+        });
+    }
     let found = level_answers(alloc, &mut known.facts, flat, frames, asked)?;
-    let faults = kind_faults(alloc, deep.as_slice(), found.as_slice())?;
+    let faults = level_faults(alloc, found.as_slice())?;
     let levels = levels_of_uses(alloc, found.as_slice())?;
     Ok(ModuleLevels {
         faults,

@@ -6,5 +6,5 @@ pub returns : goal.returns
 returns c = λ flat asked outsides source units found answered levels depths.
     record {
       faults = answered.faults ∙ (λ i. or_levels (depth_faults (depths i)) (level_faults (levels i)));
-      levels = λ start. answered.levels start ∙ ap (λ findings. level_of findings start) levels;
+      levels = λ none start. answered.levels none start ∙ ap (λ findings. level_of findings start) levels;
     }
