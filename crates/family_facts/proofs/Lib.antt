@@ -4,3 +4,4 @@ pub mod FrontLaws
 pub mod Needing
 pub mod Once
 pub mod States
+pub mod Parts

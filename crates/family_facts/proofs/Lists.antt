@@ -1,5 +1,5 @@
 -- What stands in lists.
-use Rattle.std.proofs.Common.{◌≡◌, ◌<◌, ℕ, zero, suc, ◌+◌, List, [], ◌∷◌, ◌++◌, Option, Some, refl, sym, ap, ◌∙◌, cond, map, filter, take, length, get_or, arith, true, false, Bool, ⊎_elim, inl, inr}
+use Rattle.std.proofs.Common.{◌≡◌, ◌<◌, ℕ, zero, suc, ◌+◌, List, [], ◌∷◌, ◌++◌, Option, Some, refl, sym, ap, ◌∙◌, cond, map, filter, take, length, get_or, arith, subst, true, false, Bool, ⊎_elim, inl, inr}
 use Rattle.std.specs.Prelude.{◌⊎◌, Contains, slice_get}
 use Rattle.std.specs.List.{list_any, AllZip}
 use Rattle.std.specs.Str.{bytes_eq}
@@ -50,6 +50,18 @@ module _ {A : Type 0} where
         | inr more ↦ let r = rest more in (behind y xs x r.0, r.1)
       ]
       by false t rest k = let r = rest k in (behind y xs x r.0, r.1)
+
+  -- what passes stays
+  pub filter-in : (p : A → Bool) (xs : List A) (x : A) → Contains xs x → p x ≡ true → Contains (filter p xs) x
+  filter-in p [] x h t = absurd (none-there x h)
+  filter-in p (y ∷ xs) x h t = elim (first-or-rest y xs x h) as (λ _. Contains (filter p (y ∷ xs)) x) [
+    | inl same ↦ subst (λ b. Contains (cond b (y ∷ filter p xs) (filter p xs)) x) (sym (ap p same ∙ t)) (subst (Contains (y ∷ filter p xs)) same (here y (filter p xs)))
+    | inr more ↦ kept (p y) (filter-in p xs x more t)
+  ]
+    where
+      kept : (b : Bool) → Contains (filter p xs) x → Contains (cond b (y ∷ filter p xs) (filter p xs)) x
+      kept true k = behind y (filter p xs) x k
+      kept false k = k
 
 pub mapped : {A B : Type 0} (f : A → B) (xs : List A) (y : B) → Contains (map f xs) y → (x : A) × Contains xs x × (f x ≡ y)
 mapped f [] y h = absurd (omega (arith, h.1))

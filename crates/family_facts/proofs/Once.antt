@@ -2,6 +2,7 @@
 use Rattle.std.proofs.Common.{◌≡◌, ℕ, zero, suc, ◌+◌, List, [], ◌∷◌, ◌++◌, Some, refl, sym, ap, ◌∙◌, cond, map, filter, not, length, arith, true, false, Bool, inl, inr, subst}
 use Rattle.std.specs.Prelude.{◌⊎◌, ◌&&◌, Contains, slice_get}
 use Rattle.std.specs.Str.{bytes_eq}
+use Rattle.list_laws.specs.Distinct.{AreNamedApart}
 use Rattle.list_laws.proofs.Lists.{at-mapped}
 use Rattle.list_laws.proofs.Tests.{and-both}
 use Rattle.list_laws.proofs.Texts.{text-itself}
@@ -9,7 +10,7 @@ use Rattle.std_modules.specs.StdTexts.{std_names}
 use Rattle.family_facts.specs.Family.{AreMembersDistinct, Member, is_there}
 use Rattle.family_facts.specs.Verdicts.{AreDistinct, built_in, built_in_members, family_of, member_of}
 use Rattle.family_facts.specs.declared.verdict.File.{File}
-use Rattle.family_facts.proofs.Lists.{at-contains, in-filter, mapped}
+use Rattle.family_facts.proofs.Lists.{at-contains, contains-at, in-filter, mapped}
 use Rattle.family_facts.proofs.Members.{AreOneEach, not-hidden, one-each}
 
 -- the name is none of these
@@ -49,27 +50,41 @@ built-in-named p names k a e =
     let n = mapped built_in names a (in-filter p (map built_in names) a (at-contains (filter p (map built_in names)) k a e)).0 in
     subst (λ x. Contains names x) (ap (λ (m : Member). m.name) n.2) n.1
 
-place-first : (b : Member) (rest : List Member) → AreMembersDistinct rest → ((k : ℕ) (a : Member) → slice_get rest k ≡ Some a → a.name ≡ b.name → ⊥) → AreMembersDistinct (b ∷ rest)
-place-first b rest placed apart zero zero x y ex ey same = refl
-place-first b rest placed apart zero (suc l) x y ex ey same = let s : b ≡ x = cc in absurd (apart l y ey (sym (ap (λ (m : Member). m.name) s ∙ same)))
-place-first b rest placed apart (suc k) zero x y ex ey same = let s : b ≡ y = cc in absurd (apart k x ex (same ∙ sym (ap (λ (m : Member). m.name) s)))
-place-first b rest placed apart (suc k) (suc l) x y ex ey same = ap suc (placed k l x y ex ey same)
+-- ---- items that have names of their own
 
-none-placed : AreMembersDistinct []
-none-placed zero l a b ea eb same = cc
-none-placed (suc k) l a b ea eb same = cc
+module _ {A : Type 0} (name_of : A → List ℕ) where
+  place-first : (b : A) (rest : List A) → AreNamedApart name_of rest → ((k : ℕ) (a : A) → slice_get rest k ≡ Some a → name_of a ≡ name_of b → ⊥) → AreNamedApart name_of (b ∷ rest)
+  place-first b rest placed apart zero zero x y ex ey same = refl
+  place-first b rest placed apart zero (suc l) x y ex ey same = let s : b ≡ x = cc in absurd (apart l y ey (sym (ap name_of s ∙ same)))
+  place-first b rest placed apart (suc k) zero x y ex ey same = let s : b ≡ y = cc in absurd (apart k x ex (same ∙ sym (ap name_of s)))
+  place-first b rest placed apart (suc k) (suc l) x y ex ey same = ap suc (placed k l x y ex ey same)
 
-place-kept : (t : Bool) (b : Member) (rest : List Member) → AreMembersDistinct rest → AreMembersDistinct (b ∷ rest) → AreMembersDistinct (cond t (b ∷ rest) rest)
-place-kept true b rest h k = k
-place-kept false b rest h k = h
+  none-placed : AreNamedApart name_of []
+  none-placed zero l a b ea eb same = cc
+  none-placed (suc k) l a b ea eb same = cc
+
+  place-kept : (t : Bool) (b : A) (rest : List A) → AreNamedApart name_of rest → AreNamedApart name_of (b ∷ rest) → AreNamedApart name_of (cond t (b ∷ rest) rest)
+  place-kept true b rest h k = k
+  place-kept false b rest h k = h
+
+  -- some of them have names of their own
+  pub filter-placed : (p : A → Bool) (xs : List A) → AreNamedApart name_of xs → AreNamedApart name_of (filter p xs)
+  filter-placed p [] d = none-placed
+  filter-placed p (x ∷ xs) d =
+      let rest : AreNamedApart name_of (filter p xs) = filter-placed p xs (λ k l a b ea eb same. let e : suc k ≡ suc l = d (suc k) (suc l) a b ea eb same in cc) in
+      place-kept (p x) x (filter p xs) rest
+      (place-first x (filter p xs) rest (λ k a e same.
+      let at = contains-at xs a (in-filter p xs a (at-contains (filter p xs) k a e)).0 in
+      let never : zero ≡ suc at.0 = d zero (suc at.0) x a refl at.1 (sym same) in
+      cc))
 
 built-in-placed : (p : Member → Bool) (names : List (List ℕ)) → are_apart names ≡ true → AreMembersDistinct (filter p (map built_in names))
-built-in-placed p [] apart = none-placed
+built-in-placed p [] apart = none-placed (λ (m : Member). m.name)
 built-in-placed p (n ∷ ns) apart =
     let parts = and-both (is_apart n ns) (are_apart ns) apart in
     let rest : List Member = filter p (map built_in ns) in
     let placed : AreMembersDistinct rest = built-in-placed p ns parts.1 in
-    place-kept (p (built_in n)) (built_in n) rest placed (place-first (built_in n) rest placed (λ k a e same. apart-not n ns parts.0 (subst (λ x. Contains ns x) same (built-in-named p ns k a e))))
+    place-kept (λ (m : Member). m.name) (p (built_in n)) (built_in n) rest placed (place-first (λ (m : Member). m.name) (built_in n) rest placed (λ k a e same. apart-not n ns parts.0 (subst (λ x. Contains ns x) same (built-in-named p ns k a e))))
 
 files-placed : (files : List File) → AreDistinct files → AreMembersDistinct (map member_of files)
 files-placed files d k l a b ea eb same =

@@ -68,11 +68,11 @@ module _ (family : List Member) (distinct : AreOneEach family) where
   text-of-member m h = get-from_entries nat_list_cmp_total (map (λ (x : Member). (x.name, x.bytes)) family) m.name ∙ found-first family m (λ x at. at) h
 
 -- a text that is there is that of a member
-record IsTextOf (ms : List Member) (name bytes : List ℕ) : Type 0 where
-  member : Member
-  there : Contains ms member
-  named : member.name ≡ name
-  is : member.bytes ≡ bytes
+pub record IsTextOf (ms : List Member) (name bytes : List ℕ) : Type 0 where
+  pub member : Member
+  pub there : Contains ms member
+  pub named : member.name ≡ name
+  pub is : member.bytes ≡ bytes
 
 found-member : (ms : List Member) (name bytes : List ℕ) → find name_cmp name (map (λ (x : Member). (x.name, x.bytes)) ms) ≡ Some bytes → IsTextOf ms name bytes
 found-member [] name bytes e = cc
@@ -82,7 +82,7 @@ found-member (x ∷ xs) name bytes e = by (λ k. found-member xs name bytes k) (
     by rest true t k = record { member = x; there = here x xs; named = sym (same_name name x.name t); is = cc }
     by rest false f k = let r = rest k in record { member = r.member; there = behind x xs r.member r.there; named = r.named; is = r.is }
 
-text-member : (family : List Member) (name bytes : List ℕ) → get (texts_of family) name ≡ Some bytes → IsTextOf family name bytes
+pub text-member : (family : List Member) (name bytes : List ℕ) → get (texts_of family) name ≡ Some bytes → IsTextOf family name bytes
 text-member family name bytes e = found-member family name bytes (sym (get-from_entries nat_list_cmp_total (map (λ (x : Member). (x.name, x.bytes)) family) name) ∙ e)
 
 no-text : (family : List Member) (name : List ℕ) → is_there family name ≡ false → get (texts_of family) name ≡ None
@@ -161,6 +161,10 @@ module _ {F : Type 0} (fact_of : List ℕ → Own → List (List ℕ × State F)
   need-out : (name need : List ℕ) → has (needs name) need ≡ true → Needs family name need
   unfolding needs
   need-out name need h = need-of-text name need (get texts name) refl h
+
+  pub needs-out : (name need : List ℕ) → has (values.needs_in own_of needs_of fact_of texts name) need ≡ true → Needs family name need
+  unfolding needs
+  needs-out name need h = need-out name need h
 
   -- ---- cycles
 

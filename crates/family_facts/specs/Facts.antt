@@ -1,5 +1,5 @@
 -- What a text is by itself, and which modules it needs.
-use Rattle.std.specs.Prelude.{ℕ, List, [], Option, Some, None, map}
+use Rattle.std.specs.Prelude.{ℕ, List, Option, Some, None, map}
 use Rattle.std.specs.FinMap.{from_entries}
 use Rattle.tla_model.specs.Lexemes.{spelled}
 use Rattle.module_graph.specs.Imports.{imports_of}

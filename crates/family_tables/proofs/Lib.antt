@@ -10,3 +10,4 @@ pub mod Sums
 pub mod Ordered
 pub mod Once
 pub mod Read
+pub mod Reaching

@@ -1,11 +1,11 @@
 -- In which order modules are checked, and which of their needs are cyclic.
-use Rattle.std.specs.Prelude.{◌≡◌, ◌<◌, ◌↔◌, ℕ, List, Option, Some, None, Contains, IsSome, slice_get}
+use Rattle.std.specs.Prelude.{◌≡◌, ◌<◌, ◌↔◌, ℕ, List, Option, true, Some, None, Contains, IsSome, slice_get}
 use Rattle.std.specs.FinMap.{get}
 use Rattle.index_graph.specs.Leading.{Leads, LeadsBack}
 pub use Rattle.name_graph.specs.Family.{AreOnce}
 use Rattle.name_graph.specs.Family as graphs
 use Rattle.family_tables.specs.Modules.{Entry}
-use Rattle.family_tables.specs.Tables.{names_in}
+use Rattle.family_tables.specs.Tables.{has_name, names_in}
 use Rattle.family_tables.specs.declared.order.Plan.{Plan}
 
 -- ---- needs
@@ -21,6 +21,10 @@ module _ (entries : List Entry) where
   -- a need that does not lead back
   abbrev pub NeedsBefore : List ℕ → List ℕ → Type 0
   NeedsBefore name need = Needs name need × (LeadsBack Needs name need → ⊥)
+
+-- among names is all that their modules need
+abbrev pub IsClosed : {T : Type 0} → List Entry → List (List ℕ × T) → Type 0
+IsClosed entries names = (name need : List ℕ) → has_name names name ≡ true → Needs entries name need → has_name names need ≡ true
 
 -- ---- graphs
 

@@ -8,6 +8,7 @@
 mod imports;
 mod order;
 mod outcome;
+mod reach;
 mod reading;
 mod table;
 mod verdict;
@@ -15,6 +16,7 @@ mod verdict;
 pub use imports::imports_of;
 pub use order::{Plan, plan_of};
 pub use outcome::Outcome;
+pub use reach::reached_by;
 pub use reading::{Module, Reading, SharedTree};
 pub use table::Table;
 pub use verdict::verdicts_of;

@@ -1,2 +1,3 @@
 mod Others
 mod Meeting
+pub mod Agreeing

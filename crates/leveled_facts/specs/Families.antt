@@ -1,5 +1,5 @@
 -- What is found of each module of some texts, its levels and depths among it, as a function.
-use Rattle.std.specs.Prelude.{◌≡◌, ◌≢◌, ℕ, true, false, List, [], ◌∷◌, Option, Some, None, if◌then◌else◌, length, map, slice_get, sum_by}
+use Rattle.std.specs.Prelude.{◌≡◌, ◌≢◌, ℕ, Bool, true, false, List, [], ◌∷◌, Option, Some, None, if◌then◌else◌, length, map, slice_get, sum_by}
 use Rattle.std.specs.FinMap.{get}
 use Rattle.std.specs.Str.{bytes_eq}
 use Rattle.tla_model.specs.declared.Diagnostic.{Diagnostic}
@@ -62,6 +62,10 @@ leveled_text texts name (Some bytes) = fact_of name (own_of name bytes) (values.
 -- what is found of the text of a name
 abbrev pub leveled : Texts → List ℕ → Leveled
 leveled texts name = leveled_text texts name (get texts name)
+
+-- texts agree on these names, among which is all that they need
+abbrev pub AgreeOn : Texts → Texts → (List ℕ → Bool) → Type 0
+AgreeOn = values.Agree own_of needs_of fact_of
 
 -- ---- what a module is to one that needs it
 

@@ -5,18 +5,19 @@
 //! them. Knows nothing of how any of it is found.
 #![tactic(auto)]
 
-ghost use Rattle.std.specs.Prelude.{◌≡◌, ◌≢◌, ℕ, List, [], Contains};
+ghost use Rattle.std.specs.Prelude.{◌≡◌, ◌≢◌, ℕ, Bool, List, [], Contains, true};
 ghost use Rattle.unit_grammar.specs.Units.{ModuleUnits};
 ghost use Rattle.front_laws.specs.Fronts.{Fault, IsFront, Tree};
 ghost use Rattle.tla_model.specs.declared.Diagnostic.{Diagnostic};
 ghost use Rattle.module_model.specs.Resolution.{findings, outside_in};
 ghost use Rattle.module_facts.specs.Checks as checks;
 ghost use Rattle.module_facts.specs.Ordered as ordered;
+ghost use Rattle.fact_values.specs.Names.{Texts};
 ghost use Rattle.family_facts.specs.Facts.{texts_of};
 ghost use Rattle.family_facts.specs.Family.{AreMembersDistinct, Member, Needs};
 ghost use Rattle.module_kinds.specs.ModuleKinds.{kind_faults, outside};
 ghost use Rattle.flat_kinds.specs.Declarations.{HasPlaces};
-ghost use Rattle.leveled_facts.specs.Families.{IsStatus, declares, leveled};
+ghost use Rattle.leveled_facts.specs.Families.{AgreeOn, IsStatus, declares, leveled};
 ghost use Rattle.leveled_facts.specs.Modules.{Status, Unknown, front_refused, leveled_by};
 ghost use Rattle.leveled_facts.specs.Modules.{all_faults, imports, outsides};
 
@@ -81,4 +82,10 @@ pub fn views_are_given()
     ensures itself { (given : List ℕ → Status) (source : List ℕ) (units : ModuleUnits)
         → (outside (outsides given) source units).view
         ≡ outside_in (checks.files_given (imports given)) source units }
+{}
+
+/// The same is found of a module by texts that agree on it and on all that it needs.
+pub fn parts_agree()
+    ensures { (texts others : Texts) (among : List ℕ → Bool) → AgreeOn texts others among
+        → (name : List ℕ) → among name ≡ true → leveled texts name ≡ leveled others name }
 {}
