@@ -1,5 +1,5 @@
 -- What is answered on the files of a family.
-use Rattle.std.proofs.Common.{◌≡◌, ℕ, Bool, true, false, List, [], ◌∷◌, Option, Some, refl, sym, ap, ◌∙◌, ◌+◌, length, map}
+use Rattle.std.proofs.Common.{◌≡◌, ℕ, Bool, true, false, List, [], ◌∷◌, Some, refl, sym, ap, ◌∙◌, ◌+◌, length, map}
 use mathlib.Core.Path.{fun_ext}
 use Rattle.std.specs.Prelude.{Contains, if◌then◌else◌, sum_by}
 use Rattle.std.specs.List.{AllZip}
@@ -27,7 +27,6 @@ use Rattle.leveled_facts.specs.Families.{leveled, use_count_on, uses_on, verdict
 use Rattle.fact_lines.specs.Rows.{line_by, row_of}
 use Rattle.fact_lines.specs.Lines.{fact_line}
 use Rattle.fact_lines.specs.Reports.{facts_on, report_on, reports_on, shown_uses}
-use Rattle.fact_lines.specs.declared.line.ModuleReport.{ModuleReport}
 use Rattle.family_levels.specs.Leveling.{AreNames, AreOutcomes}
 use Rattle.family_levels.specs.Findings.{facts_by, report_by, shown_by, shown_in, uses_in, uses_of}
 use Rattle.family_levels.specs.declared.findings.Findings.{Findings}

@@ -7,6 +7,9 @@ mod Steps
 mod Growing
 mod Uses
 mod Placing
+mod InTexts
 mod Answering
 mod Telling
 mod Trees
+mod Reached
+mod Named

@@ -1,156 +1,76 @@
 -- What was found of files is what the function gives, and stands in their texts.
-use Rattle.std.proofs.Common.{◌≡◌, ℕ, true, List, [], ◌∷◌, get_or, refl, sym, ap, subst, ◌∙◌}
-use Rattle.std.specs.Prelude.{Contains}
+use Rattle.std.proofs.Common.{◌≡◌, ℕ, Bool, true, false, Option, Some, None, List, [], refl, sym, ap, subst, ◌∙◌}
+use Rattle.std.specs.Prelude.{Contains, is_some, not}
+use Rattle.std.specs.Bool.{OnTrue}
 use Rattle.std.specs.List.{All}
-use Rattle.std.specs.Str.{IsUtf8}
-use Rattle.std.proofs.lemmas.List.Elements.{All-map}
 use Rattle.tla_lexeme.specs.Spans.{IsPlaced}
 use Rattle.tla_model.specs.declared.Diagnostic.{Diagnostic}
 use Rattle.tla_model.specs.declared.entity.Decl.{Decl}
 use Rattle.tla_model.specs.declared.entity.Use.{Use}
-use Rattle.tla_model.specs.Lexemes.{LexemesLie}
-use Rattle.front_laws.specs.Fronts.{Fault, Front, IsFront, Tree}
-use Rattle.unit_grammar.specs.Units.{ModuleUnits}
-use Rattle.unit_grammar.specs.UnitNodes.{module_of}
-use Rattle.span_laws.specs.NodeSpans.{NodeSpans, SpansText}
-use Rattle.span_laws.specs.UnitWords.{WordsLie}
-use Rattle.module_facts.specs.Checks as names
-use Rattle.module_facts.specs.Checks.{ImportStatus, or_others}
-use Rattle.module_facts.specs.Ordered.{in_order}
-use Rattle.module_facts.proofs.Inserting.{in-order}
-use Rattle.tree_kinds.specs.Standing.{Outside}
-use Rattle.module_kinds.specs.ModuleKinds.{kind_faults}
-use Rattle.fact_values.specs.Names.{Texts}
-use Rattle.fact_values.specs.Values as values
-use Rattle.family_facts.specs.Facts.{needs_of, own_of, texts_of}
-use Rattle.family_facts.specs.Family.{Member, is_there}
+use Rattle.family_facts.specs.Facts.{texts_of}
+use Rattle.family_facts.specs.Family.{is_there}
 use Rattle.family_facts.specs.Verdicts.{family_of, member_of, text_of}
 use Rattle.family_facts.specs.declared.verdict.File.{File}
-use Rattle.family_facts.proofs.Lists.{contains-one, none-there, zip-left}
-use Rattle.family_facts.proofs.Members.{AreOneEach, member-there}
-use Rattle.family_facts.proofs.Needing.{HasNoOther}
+use Rattle.family_facts.proofs.Lists.{none-there}
+use Rattle.family_facts.proofs.Members.{member-there}
 use Rattle.family_facts.proofs.Members.{file-there}
-use Rattle.family_facts.proofs.States.{front-one, text-of-member}
-use Rattle.family_tables.specs.Modules.{AreModules, Entry, IsEntry, IsReading}
 use Rattle.family_tables.specs.Outcomes.{faults_of}
-use Rattle.family_tables.specs.declared.reading.Reading.TheVariants as reading
-use Rattle.family_tables.proofs.Read.{all-by, says-faults, tree-text}
-use Rattle.leveled_facts.specs.Families.{fact_of, leveled, leveled_front, leveled_text, status_by_states}
-use Rattle.leveled_facts.specs.Modules.{Leveled, Status, all_faults, front_refused, imports, leveled_by, leveled_use, levels_by, outsides}
+use Rattle.family_tables.proofs.Read.{says-faults}
+use Rattle.leveled_facts.specs.Families.{AgreeOn, leveled}
+use Rattle.leveled_facts.proofs.Agreeing.{leveled-agree}
 use Rattle.family_levels.specs.Findings.{decls_of, uses_of}
 use Rattle.family_levels.specs.Leveling.{AreNames, AreOutcomes}
-use Rattle.family_levels.specs.Telling.{IsFound, StandsIn, Tells, TellsFiles}
+use Rattle.family_levels.specs.Telling.{AreFound, AreFoundIf, AreFoundOf, Stands, StandsIn, Tells}
 use Rattle.family_levels.specs.declared.findings.Findings.{Findings}
 
--- laws on where the parts of a module stand, over its lexemes, its words and its nodes
-pub record TextLaws : Type 0 where
-  pub faults : (given : List ℕ → ImportStatus) (source : List ℕ) (units : ModuleUnits) → LexemesLie source units → NodeSpans (SpansText source) units → All (λ fault. SpansText source fault.span) (names.all_faults given source units)
-  pub levels : (files : List ℕ → Outside) (source : List ℕ) (units : ModuleUnits) → LexemesLie source units → WordsLie source units → NodeSpans (SpansText source) units → All (λ fault. SpansText source fault.span) (kind_faults files source units)
-  pub uses : (given : List ℕ → ImportStatus) (source : List ℕ) (units : ModuleUnits) → LexemesLie source units → All (λ (u : Use). SpansText source u.name) (names.all_uses given source units)
-  pub decls : (given : List ℕ → ImportStatus) (source : List ℕ) (units : ModuleUnits) → LexemesLie source units → All (λ (d : Decl). SpansText source d.name) (names.all_decls given source units)
-  pub texts : (name bytes : List ℕ) (found : ModuleUnits) → IsFront name bytes (Tree found) → IsUtf8 bytes
-  pub nodes : (name bytes : List ℕ) (found : ModuleUnits) → IsFront name bytes (Tree found) → NodeSpans (SpansText bytes) found
-  pub words : (name bytes : List ℕ) (found : ModuleUnits) → IsFront name bytes (Tree found) → WordsLie bytes found
-
--- ---- lists
-
-all-none : {A : Type 0} (P : A → Type 0) → All P []
-all-none P = all-by P [] (λ x c. absurd (none-there x c))
-
-all-one : {A : Type 0} (P : A → Type 0) (x : A) → P x → All P (x ∷ [])
-all-one P x so = all-by P (x ∷ []) (λ y c. subst P (contains-one x y c) so)
-
-all-or : (P : Diagnostic → Type 0) (all others : List Diagnostic) → All P all → All P others → All P (or_others all others)
-all-or P [] others first second = second
-all-or P (fault ∷ all) others first second = first
-
-all-ordered : (P : Diagnostic → Type 0) (all : List Diagnostic) → All P all → All P (in_order all)
-all-ordered P all each = all-by P (in_order all) (λ fault c. let at = ((in-order all).same fault).0 c in subst P at.2 (each at.0 fault at.1))
-
--- ---- members
-
--- what is found of a module stands in its text
-record Stands (bytes : List ℕ) (found : Leveled) : Type 0 where
-  faults : All (λ (fault : Diagnostic). IsPlaced (text_of bytes) fault.span) found.faults
-  uses : All (λ (u : Use). StandsIn bytes u.name) found.uses
-  decls : All (λ (d : Decl). StandsIn bytes d.name) found.decls
-
-module _ (one : HasNoOther) (laws : TextLaws) (family : List Member) (distinct : AreOneEach family) where
-  abbrev texts : Texts
-  texts = texts_of family
-
-  -- what the needs of a member are to it
-  abbrev given : Member → List ℕ → Status
-  given m = status_by_states (values.given_in own_of needs_of fact_of texts m.name)
-
-  leveled-of : (m : Member) → Contains family m → (f : Front) → IsFront m.name m.bytes f → leveled texts m.name ≡ leveled_front m.bytes f (given m)
-  leveled-of m there f is = ap (leveled_text texts m.name) (text-of-member family distinct m there) ∙ ap (λ z. leveled_front m.bytes z (given m)) (front-one one m f is)
-
-  tree-stands : (m : Member) (units : ModuleUnits) → IsFront m.name m.bytes (Tree units) → LexemesLie m.bytes units → Stands m.bytes (leveled_by (given m) m.bytes units)
-  tree-stands m units front lie =
-      let source = m.bytes in
-      let utf8 = laws.texts m.name source units front in
-      let spans = laws.nodes m.name source units front in
-      let named = laws.faults (imports (given m)) source units lie spans in
-      let leveled_so = laws.levels (outsides (given m)) source units lie (laws.words m.name source units front) spans in
-      let uses = laws.uses (imports (given m)) source units lie in
-      let decls = laws.decls (imports (given m)) source units lie in
-      let all = all-ordered (λ (fault : Diagnostic). SpansText source fault.span) (all_faults (given m) source units) (all-or (λ (fault : Diagnostic). SpansText source fault.span) (names.all_faults (imports (given m)) source units) (kind_faults (outsides (given m)) source units) named leveled_so) in
-      record {
-        faults = λ k d within. subst (λ text. IsPlaced text (get_or (in_order (all_faults (given m) source units)) k d).span) (sym (tree-text front)) (all k d within).placed;
-        uses = All-map (λ (u : Use). StandsIn source u.name) (leveled_use (levels_by (given m) source units (all_faults (given m) source units))) (names.all_uses (imports (given m)) source units) (λ k d within. (utf8, (uses k d within).placed));
-        decls = λ k d within. (utf8, (decls k d within).placed);
-      }
-
-  by-reading : (m : Member) → Contains family m → (name : List ℕ) (r : reading.the_data) → name ≡ m.name → IsReading name m.bytes r → Stands m.bytes (leveled texts m.name)
-  by-reading m there name (reading.Tree tree) named is =
-      let units : ModuleUnits = module_of tree in
-      let front : IsFront m.name m.bytes (Tree units) = subst (λ n. IsFront n m.bytes (Tree units)) named is.front in
-      let lie : LexemesLie m.bytes units = subst (λ s. LexemesLie s units) is.source is.readable.lie in
-      subst (Stands m.bytes) (sym (leveled-of m there (Tree units) front)) (tree-stands m units front lie)
-  by-reading m there name (reading.Fault fault) named is =
-      let front : IsFront m.name m.bytes (Fault fault) = subst (λ n. IsFront n m.bytes (Fault fault)) named is.0 in
-      let stands : Stands m.bytes (front_refused fault) = record {
-        faults = all-one (λ (x : Diagnostic). IsPlaced (text_of m.bytes) x.span) fault is.1;
-        uses = all-none (λ (u : Use). StandsIn m.bytes u.name);
-        decls = all-none (λ (d : Decl). StandsIn m.bytes d.name);
-      } in
-      subst (Stands m.bytes) (sym (leveled-of m there (Fault fault) front)) stands
-
-  member-stands : (entries : List Entry) → AreModules family entries → (m : Member) → Contains family m → Stands m.bytes (leveled texts m.name)
-  member-stands entries are m there =
-      let e = zip-left IsEntry family entries m are there in
-      by-reading m there (e.0).0 (e.0).1.reading (e.2).named (e.2).is.reading
-
--- ---- files
-
--- what was found of each file is what the function gives
-tells-files : (files : List File) (found : Findings) → AreOutcomes (family_of files) found.outcomes → AreNames (family_of files) found.names → TellsFiles files found
-tells-files files found outcomes named f h =
+-- what was found of a file is what the function gives
+tells-file : (files : List File) (found : Findings) → AreOutcomes (family_of files) found.outcomes → AreNames (family_of files) found.names → (f : File) → Contains files f → Tells found f.name (leveled (texts_of (family_of files)) f.name)
+tells-file files found outcomes named f h =
     let texts = texts_of (family_of files) in
     let there : is_there (family_of files) f.name ≡ true = member-there (family_of files) f.name (member_of f) (file-there files f h) refl in
     let o = outcomes f.name there in
     let n = named f.name there in
     record { faults = ap faults_of o.1 ∙ says-faults (leveled texts f.name).faults (leveled texts f.name).outside.view o.0 o.2; uses = ap uses_of n; decls = ap decls_of n }
 
--- and it stands in their texts
-pub is-found : HasNoOther → TextLaws → (files : List File) (found : Findings) (entries : List Entry) → AreOneEach (family_of files) → AreModules (family_of files) entries → AreOutcomes (family_of files) found.outcomes → AreNames (family_of files) found.names → IsFound files found
-is-found one laws files found entries distinct are outcomes named =
-    let tells = tells-files files found outcomes named in
-    let stands : (f : File) → Contains files f → Stands f.bytes (leveled (texts_of (family_of files)) f.name) = λ f h. member-stands one laws (family_of files) distinct entries are (member_of f) (file-there files f h) in
+-- and it stands in its text
+pub are-found : (files : List File) (found : Findings) → AreOutcomes (family_of files) found.outcomes → AreNames (family_of files) found.names
+    → ((file : File) → Contains files file → Stands file.bytes (leveled (texts_of (family_of files)) file.name)) → AreFound files found
+are-found files found outcomes named stands f h =
+    let tells = tells-file files found outcomes named f h in
     record {
       tells = tells;
-      placed = λ f h. subst (All (λ (fault : Diagnostic). IsPlaced (text_of f.bytes) fault.span)) (sym (tells f h).faults) (stands f h).faults;
-      names = record {
-        uses = λ f h. subst (All (λ (u : Use). StandsIn f.bytes u.name)) (sym (tells f h).uses) (stands f h).uses;
-        decls = λ f h. subst (All (λ (d : Decl). StandsIn f.bytes d.name)) (sym (tells f h).decls) (stands f h).decls;
-      };
+      placed = subst (All (λ (fault : Diagnostic). IsPlaced (text_of f.bytes) fault.span)) (sym tells.faults) (stands f h).faults;
+      uses = subst (All (λ (u : Use). StandsIn f.bytes u.name)) (sym tells.uses) (stands f h).uses;
+      decls = subst (All (λ (d : Decl). StandsIn f.bytes d.name)) (sym tells.decls) (stands f h).decls;
     }
 
 -- nothing is found of no files
-pub none-found : (found : Findings) → IsFound [] found
-none-found found = record {
-  tells = λ f h. absurd (none-there f h);
-  placed = λ f h. absurd (none-there f h);
-  names = record { uses = λ f h. absurd (none-there f h); decls = λ f h. absurd (none-there f h) };
-}
+pub none-found : (found : Findings) → AreFound [] found
+none-found found f h = absurd (none-there f h)
+
+-- what was found of a part of some files that has all that the files of some names need was found of these among all
+pub part-found : (files part : List File) (found : Findings) (p : List ℕ → Bool) → AgreeOn (texts_of (family_of files)) (texts_of (family_of part)) p → (names : List (List ℕ)) → ((name : List ℕ) → Contains names name → p name ≡ true)
+    → ((f : File) → Contains files f → p f.name ≡ true → Contains part f) → AreFound part found → AreFoundOf names files found
+part-found files part found p agree names all within are f h named =
+    let among : p f.name ≡ true = all f.name named in
+    let is = are f (within f h among) in
+    record { tells = subst (Tells found f.name) (sym (leveled-agree (texts_of (family_of files)) (texts_of (family_of part)) p agree f.name among)) is.tells; placed = is.placed; uses = is.uses; decls = is.decls }
+
+-- what was found of all files was found of those of some names
+pub found-of-some : (o : Option (List (List ℕ))) → o ≡ None → (names : List (List ℕ)) (files : List File) (found : Findings) → AreFoundIf o files found → AreFoundOf names files found
+found-of-some None is names files found are f h named = are f h
+found-of-some (Some others) is names files found are f h named = cc
+
+-- what was found of files of some names was found of those of the same names
+pub found-of-same : (o : Option (List (List ℕ))) (others : List (List ℕ)) → o ≡ Some others → (names : List (List ℕ)) → others ≡ names → (files : List File) (found : Findings) → AreFoundIf o files found → AreFoundOf names files found
+found-of-same o others is names same files found are = subst (λ ns. AreFoundOf ns files found) same (subst (λ z. AreFoundIf z files found) is are)
+
+-- where it was of no names it was of all
+pub found-of-all : (o : Option (List (List ℕ))) (b : Bool) → is_some o ≡ not b → b ≡ true → (files : List File) (found : Findings) → AreFoundIf o files found → AreFound files found
+found-of-all None b is t files found are = are
+found-of-all (Some names) b is t files found are = let never : true ≡ false = is ∙ ap not t in cc
+
+-- what follows from an answer follows from it
+pub on-true-map : {P Q : Type 0} (b : Bool) → (P → Q) → OnTrue b P → OnTrue b Q
+on-true-map true f p = f p
+on-true-map false f p = p

@@ -1,5 +1,5 @@
 // A family whose texts change.
-ghost use Rattle.std.specs.Prelude.{◌≡◌, ◌↔◌, ◌≤◌, ◌<◌, ◌^◌, IfOk, IsTrue, OnErr, OnOk, length, sum_by};
+ghost use Rattle.std.specs.Prelude.{◌≡◌, ◌≤◌, ◌<◌, ◌^◌, List as ListOf, IfOk, OnErr, OnOk, filter, length, sum_by};
 ghost use Rattle.std.specs.Bool.{OnTrue};
 ghost use Rattle.std.specs.List.{All};
 ghost use Rattle.family_facts.specs.Verdicts.{AreDistinct, after_checks, checks_of, family_of};
@@ -7,26 +7,29 @@ ghost use Rattle.family_tables.specs.Keeping.{AreRead};
 ghost use Rattle.family_tables.specs.Modules.{AreModules};
 ghost use Rattle.family_tables.specs.Outcomes.{IsSomeModule};
 ghost use Rattle.family_tables.specs.Plans.{AreOnce};
-ghost use Rattle.family_tables.specs.Tables.{names_in};
+ghost use Rattle.family_tables.specs.Tables.{has_name, names_in};
 ghost use Rattle.family_levels.specs.Findings.{nothing_found};
-ghost use Rattle.family_levels.specs.Telling.{AreFaultsPlaced, AreNamesPlaced, IsFound, TellsFiles};
+ghost use Rattle.family_levels.specs.Telling.{AreFound, AreFoundIf, AreFoundOf, HasChecked};
+ghost use Rattle.family_levels.specs.declared.findings.Findings.{Findings as FindingsOf};
 
 use crate::findings::Findings;
 use crate::modules::level_all;
 use crate::standing::findings_stand_in_text;
 use family_facts::{File, names_differ};
 use family_read::read_family;
-use family_tables::{Module, Reading, SharedTree, Table, plan_of};
+use family_tables::{Module, Reading, SharedTree, Table, plan_of, reached_by};
 use std::alloc::Global;
 use std::marker::Model;
 use step_count::Steps;
-use tool_list::{List, Memory};
+use tool_list::{Chars, List, Memory, copied};
 
 /// A family whose texts change, with what was found of it last. Contracts see what was found.
 pub struct Family {
     files: List<File>,
     // The trees of its modules, but of those with a front fault.
     trees: Table<SharedTree>,
+    // The names of the modules of which it was found; none where it was of all.
+    names: Option<List<Chars>>,
     found: Findings,
 }
 
@@ -36,6 +39,7 @@ impl Drop for Family {
         let Family {
             files: _,
             trees: _,
+            names: _,
             found: _,
         } = self;
     }
@@ -43,14 +47,14 @@ impl Drop for Family {
 
 impl Model for Family {
     ghost use Rattle.family_tables.specs.Keeping.{AreRead};
-    ghost use Rattle.family_levels.specs.Telling.{IsFound};
+    ghost use Rattle.family_levels.specs.Telling.{AreFoundIf};
     ghost use Rattle.family_levels.specs.declared.findings.Findings.{Findings};
 
     ghost Value = { Findings };
 
     ghost view = { λ f. f.found };
 
-    ghost invariant = { λ f. AreRead f.trees × IsFound f.files f.found };
+    ghost invariant = { λ f. AreRead f.trees × AreFoundIf f.names f.files f.found };
 }
 
 // Whether files are one: their names and their bytes.
@@ -73,6 +77,39 @@ fn are_same(files: &[File], others: &[File]) -> bool
         }
     }
     true
+}
+
+// Whether names are one.
+fn is_same_name(name: &Chars, other: &Chars) -> bool
+    ensures { OnTrue result (name.now ≡ other.now) }
+{
+    name.as_str() == other.as_str()
+}
+
+// Whether they are the same names, in the same order.
+fn are_same_names(names: &[Chars], others: &[Chars]) -> bool
+    ensures { OnTrue result (names.now ≡ others.now) }
+{
+    if names.len() != others.len() {
+        return false;
+    }
+    for index in 0..names.len() {
+        if !is_same_name(&names[index], &others[index]) {
+            return false;
+        }
+    }
+    true
+}
+
+// Whether what was found of modules of some names, or else of all, was found of those of these names.
+fn covers(found: &Option<List<Chars>>, names: &[Chars]) -> bool
+    ensures { OnTrue result ((files : ListOf File) (findings : FindingsOf)
+        → AreFoundIf found.now files findings → AreFoundOf names.now files findings) }
+{
+    match found {
+        Some(found) => are_same_names(found.as_slice(), names),
+        None => true,
+    }
 }
 
 // The trees of modules, but of those with a front fault.
@@ -100,7 +137,7 @@ fn find_modules<L>(
 ) -> Result<Findings, Memory>
     requires distinct { AreDistinct files.now }
     requires modules { AreModules (family_of files.now) modules.now }
-    ensures found { IfOk result (IsFound files.now) }
+    ensures found { IfOk result (AreFound files.now) }
     ensures steps { IfOk result (λ _. steps.new ≡ after_checks (checks_of files.now) steps.old) }
 {
     front_laws::one_front();
@@ -121,7 +158,7 @@ fn find_family<L>(
     requires distinct { AreDistinct files }
     requires small { sum_by (λ file. length file.bytes) files < 2 ^ 31 }
     requires kept { AreRead kept.now }
-    ensures found { IfOk result (IsFound files) }
+    ensures found { IfOk result (AreFound files) }
     ensures steps { IfOk result (λ _. steps.new ≡ after_checks (checks_of files) steps.old) }
 {
     let modules = read_family(alloc, kept, files.as_slice())?;
@@ -130,6 +167,88 @@ fn find_family<L>(
     Ok(Family {
         files,
         trees,
+        names: None,
+        found,
+    })
+}
+
+// A copy of a file.
+fn copy_of(alloc: Global, file: &File) -> Result<File, Memory>
+    ensures { IfOk result (λ copy. copy ≡ file.now) }
+{
+    Ok(File {
+        name: file.name.copied()?,
+        bytes: copied(alloc, file.bytes.as_slice())?,
+    })
+}
+
+// The files of these names.
+fn named_files(alloc: Global, files: &[File], names: &Table<()>) -> Result<List<File>, Memory>
+    ensures { IfOk result (λ part. part ≡ filter (λ file. has_name names.now file.name) files.now) }
+{
+    let mut part = List::new(alloc);
+    for file in files {
+        if names.get(file.name.as_str()).is_some() {
+            part.push(copy_of(alloc, file)?)?;
+        }
+    }
+    Ok(part)
+}
+
+// What is found of the modules of some names: of the files whose family has these modules it looks
+// at those that they reach.
+fn find_reached<L>(
+    alloc: Global,
+    files: &[File],
+    modules: &Table<Module>,
+    trees: &Table<SharedTree>,
+    names: &[Chars],
+    steps: &mut Steps<L>,
+) -> Result<Findings, Memory>
+    requires distinct { AreDistinct files.now }
+    requires small { sum_by (λ file. length file.bytes) files.now < 2 ^ 31 }
+    requires modules { AreModules (family_of files.now) modules.now }
+    requires trees { AreRead trees.now }
+    ensures found { IfOk result (AreFoundOf names.now files.now) }
+    ensures steps { IfOk result (λ _. HasChecked files.now steps.old steps.new) }
+{
+    front_laws::one_front();
+    let plan = plan_of(alloc, modules)?;
+    let reached = reached_by(alloc, modules, &plan, names)?;
+    let part = named_files(alloc, files, &reached)?;
+    let modules = read_family(alloc, trees, part.as_slice())?;
+    let found = find_modules(alloc, part.as_slice(), &modules, steps)?;
+    Ok(found)
+}
+
+// Files with what is found of the modules of some names, by trees that were kept.
+fn find_part<L>(
+    alloc: Global,
+    files: List<File>,
+    names: List<Chars>,
+    kept: &Table<SharedTree>,
+    steps: &mut Steps<L>,
+) -> Result<Family, Memory>
+    requires distinct { AreDistinct files }
+    requires small { sum_by (λ file. length file.bytes) files < 2 ^ 31 }
+    requires kept { AreRead kept.now }
+    ensures found { IfOk result (AreFoundOf names files) }
+    ensures steps { IfOk result (λ _. HasChecked files steps.old steps.new) }
+{
+    let modules = read_family(alloc, kept, files.as_slice())?;
+    let trees = trees_of(alloc, &modules)?;
+    let found = find_reached(
+        alloc,
+        files.as_slice(),
+        &modules,
+        &trees,
+        names.as_slice(),
+        steps,
+    )?;
+    Ok(Family {
+        files,
+        trees,
+        names: Some(names),
         found,
     })
 }
@@ -142,6 +261,7 @@ impl Family {
         Family {
             files: List::new(alloc),
             trees: Table::new(alloc),
+            names: None,
             found: Findings::new(alloc),
         }
     }
@@ -153,10 +273,10 @@ impl Family {
         &self.found
     }
 
-    /// Finds what there is to find of files over the built-in modules, levels and depths among it: a
-    /// file hides the built-in module of its name. Where they are the files of before, all of it was
-    /// found. Else each module without front fault is checked, which is one step; one whose text is
-    /// what it was is not read again. After `Memory` all is as before.
+    /// Finds what there is to find of files over the built-in modules, levels and depths among it:
+    /// a file hides the built-in module of its name. Where they are the files of before, all of it
+    /// was found. Else each module without front fault is checked, which is one step; one whose
+    /// text is what it was is not read again. After `Memory` all is as before.
     pub fn find<L>(
         &mut self,
         alloc: Global,
@@ -165,18 +285,44 @@ impl Family {
     ) -> Result<(), Memory>
         requires distinct { AreDistinct files }
         requires small { sum_by (λ file. length file.bytes) files < 2 ^ 31 }
-        ensures tells { OnOk result (TellsFiles files self.new) }
-        ensures placed { OnOk result (AreFaultsPlaced files self.new) }
-        ensures names { OnOk result (AreNamesPlaced files self.new) }
+        ensures found { OnOk result (AreFound files self.new) }
         ensures steps { OnOk result (steps.new ≤ after_checks (checks_of files) steps.old) }
         ensures err { OnErr result (self.new ≡ self.old) }
     {
         // The proof needs that a count is below 2^64.
         let _count = steps.count();
-        if are_same(self.files.as_slice(), files.as_slice()) {
+        if self.names.is_none() && are_same(self.files.as_slice(), files.as_slice()) {
             return Ok(());
         }
         let family = find_family(alloc, files, &self.trees, steps)?;
+        *self = family;
+        Ok(())
+    }
+
+    /// Finds what there is to find of the files of some names, as `find` does of all: modules that
+    /// they do not reach by what they need are read and not checked. After `Memory` all is as
+    /// before.
+    pub fn find_named<L>(
+        &mut self,
+        alloc: Global,
+        files: List<File>,
+        names: List<Chars>,
+        steps: &mut Steps<L>,
+    ) -> Result<(), Memory>
+        requires distinct { AreDistinct files }
+        requires small { sum_by (λ file. length file.bytes) files < 2 ^ 31 }
+        ensures found { OnOk result (AreFoundOf names files self.new) }
+        ensures steps { OnOk result (HasChecked files steps.old steps.new) }
+        ensures err { OnErr result (self.new ≡ self.old) }
+    {
+        // The proof needs that a count is below 2^64.
+        let _count = steps.count();
+        if covers(&self.names, names.as_slice())
+            && are_same(self.files.as_slice(), files.as_slice())
+        {
+            return Ok(());
+        }
+        let family = find_part(alloc, files, names, &self.trees, steps)?;
         *self = family;
         Ok(())
     }

@@ -35,8 +35,8 @@ impl Findings {
         }
     }
 
-    /// The faults of the module of a name: by start, then end, then code. There are none where it is
-    /// accepted, and where it is not there.
+    /// The faults of the module of a name: by start, then end, then code. There are none where it
+    /// is accepted, and where it is not there.
     pub fn faults(&self, name: &str) -> &[Diagnostic]
         ensures { result.now ≡ findings.faults_in self.now name.now }
     {
@@ -46,8 +46,8 @@ impl Findings {
         }
     }
 
-    /// The uses in the module of a name that mean a declaration, in the order of the text. There are none
-    /// after a fault of its front or of an import.
+    /// The uses in the module of a name that mean a declaration, in the order of the text. There
+    /// are none after a fault of its front or of an import.
     pub fn uses(&self, name: &str) -> &[Use]
         ensures { result.now ≡ findings.uses_in self.now name.now }
     {
@@ -57,8 +57,8 @@ impl Findings {
         }
     }
 
-    /// The names that the module of a name declares, in the order of the text. There are none after a
-    /// fault of its front or of an import.
+    /// The names that the module of a name declares, in the order of the text. There are none after
+    /// a fault of its front or of an import.
     pub fn decls(&self, name: &str) -> &[Decl]
         ensures { result.now ≡ findings.decls_in self.now name.now }
     {
@@ -68,7 +68,8 @@ impl Findings {
         }
     }
 
-    /// The uses that are shown of the module of a name: all of one that is accepted, and none of another.
+    /// The uses that are shown of the module of a name: all of one that is accepted, and none of
+    /// another.
     pub(crate) fn shown(&self, name: &str) -> &[Use]
         ensures { result.now ≡ findings.shown_in self.now name.now }
     {

@@ -8,8 +8,8 @@ use std::alloc::Global;
 use tla_model::{Decl, Level, Use};
 use tool_list::List;
 
-/// The uses of names in a module, with their levels where it is accepted, and its declarations, both in
-/// the order of the text. There are none after a fault of its front or of an import.
+/// The uses of names in a module, with their levels where it is accepted, and its declarations,
+/// both in the order of the text. There are none after a fault of its front or of an import.
 pub struct Names {
     pub uses: List<Use>,
     pub decls: List<Decl>,

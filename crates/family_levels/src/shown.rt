@@ -43,8 +43,8 @@ fn facts_of(
     fact_lines(alloc, places, found.shown(name))
 }
 
-/// What is said of files by their verdicts, by what was found of their modules and by where the names
-/// stand that modules declare: with facts, if they are asked for.
+/// What is said of files by their verdicts, by what was found of their modules and by where the
+/// names stand that modules declare: with facts, if they are asked for.
 pub(crate) fn reports_of(
     alloc: Global,
     facts: bool,

@@ -19,7 +19,7 @@ use Rattle.family_facts.proofs.Lists.{at-contains, behind, first-or-rest, here, 
 use Rattle.std.specs.List.{All}
 use Rattle.tla_symbols.specs.declared.lexeme.Span.{Span}
 use Rattle.family_levels.specs.Findings.{decls_in, faults_in, uses_in}
-use Rattle.family_levels.specs.Telling.{AreFaultsPlaced, AreNamesPlaced, StandsIn, TellsFiles}
+use Rattle.family_levels.specs.Telling.{AreFound as AreFilesFound, AreFoundOf, StandsIn}
 use Rattle.family_levels.specs.declared.findings.Findings.{Findings}
 use Rattle.sany_files.proofs.DistinctLemmas.{sorted-apart}
 use Rattle.lsp_answers.specs.States.{ModuleText, Opened, State, bytes_of, limit_of, most_bytes, most_modules}
@@ -28,7 +28,7 @@ use Rattle.server_notes.specs.Areas.{notes_on}
 use Rattle.server_locations.specs.Standing.{HasNamesPlaced, Stands}
 use Rattle.server_texts.specs.Answers.{all_found, found_in}
 use Rattle.server_texts.specs.Notes.{file_of_text, files_of, notes_in, notes_of}
-use Rattle.workspace.specs.Found.{AreFound, found_of}
+use Rattle.workspace.specs.Found.{AreFound, AreNamesFound, IsNameFound, found_of}
 
 -- ---- files
 
@@ -56,10 +56,12 @@ files-bytes (t ∷ texts) =
     ∙ sym (sum_by-cons (λ (text : ModuleText). length text.bytes) t texts)
 
 -- what is found of the files is found of the texts
-pub texts-found : (texts : List ModuleText) (found : Findings) → TellsFiles (files_of texts) found → AreFaultsPlaced (files_of texts) found → AreNamesPlaced (files_of texts) found → AreFound texts found
-texts-found texts found tells placed names t there =
-    let at = contains-map file_of_text texts t there in
-    record { tells = tells (file_of_text t) at; placed = placed (file_of_text t) at; uses = names.uses (file_of_text t) at; decls = names.decls (file_of_text t) at }
+pub texts-found : (texts : List ModuleText) (found : Findings) → AreFilesFound (files_of texts) found → AreFound texts found
+texts-found texts found are t there = are (file_of_text t) (contains-map file_of_text texts t there)
+
+-- and what is found of those of some names
+pub names-found : (texts : List ModuleText) (found : Findings) (names : List (List ℕ)) → AreFoundOf names (files_of texts) found → AreNamesFound texts found names
+names-found texts found names are name wanted t there named = are (file_of_text t) (contains-map file_of_text texts t there) (subst (Contains names) (sym named) wanted)
 
 -- ---- modules
 
@@ -120,7 +122,7 @@ named-there (t ∷ texts) name bytes e = by (bytes_eq name t.name) refl e (named
 pub whole : (bytes : List ℕ) → IsUtf8 bytes → text_of bytes ≡ bytes
 whole bytes utf8 = ap (λ n. take n bytes) (readable_len-text bytes utf8) ∙ take-length bytes
 
-module _ (s : State) (found : Findings) (are : AreFound s.texts found) (name bytes : List ℕ) (at : text_in s name ≡ Some bytes) (utf8 : IsUtf8 bytes) where
+module _ (s : State) (found : Findings) (name bytes : List ℕ) (is : IsNameFound s.texts found name) (at : text_in s name ≡ Some bytes) (utf8 : IsUtf8 bytes) where
   abbrev this : ModuleText
   this = record { name = name; bytes = bytes }
 
@@ -129,12 +131,12 @@ module _ (s : State) (found : Findings) (are : AreFound s.texts found) (name byt
 
   -- its faults stand in the text
   pub faults-placed : All (λ fault. IsPlaced bytes fault.span) (faults_in found name)
-  faults-placed = subst (λ text. All (λ fault. IsPlaced text fault.span) (faults_in found name)) (whole bytes utf8) (are this there).placed
+  faults-placed = subst (λ text. All (λ fault. IsPlaced text fault.span) (faults_in found name)) (whole bytes utf8) (is this there refl).placed
 
   -- the notes of a module that has this text
   pub notes-are : notes_on bytes (faults_in found name) ≡ notes_of s name
   notes-are =
-      (λ i. notes_on (sym (whole bytes utf8) i) ((are this there).tells.faults i))
+      (λ i. notes_on (sym (whole bytes utf8) i) ((is this there refl).tells.faults i))
       ∙ sym (ap (notes_in s.texts name) at)
 
 -- ---- open documents

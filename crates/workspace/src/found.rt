@@ -5,7 +5,7 @@ ghost use Rattle.std.specs.List.Sorted.{IsStrictlySortedBy};
 ghost use Rattle.std.specs.Ordering.{nat_cmp};
 ghost use Rattle.lsp_answers.specs.States.{bytes_of, most_bytes};
 ghost use Rattle.server_texts.specs.Notes as in_notes;
-ghost use Rattle.workspace.specs.Found.{AreFound, found_of};
+ghost use Rattle.workspace.specs.Found.{AreFound, AreNamesFound, found_of};
 
 use family_facts::File;
 use family_levels::{Family, Findings};
@@ -13,7 +13,7 @@ use server_documents::{Documents, ModuleText};
 use server_locations::FoundModule;
 use std::alloc::Global;
 use step_count::Steps;
-use tool_list::{List, Memory};
+use tool_list::{Chars, List, Memory};
 
 // The file that a text is.
 fn file_of(alloc: Global, text: &ModuleText<'_>) -> Result<File, Memory>
@@ -36,8 +36,8 @@ fn files_of(alloc: Global, texts: &[ModuleText<'_>]) -> Result<List<File>, Memor
     Ok(files)
 }
 
-/// Finds what there is to find of texts, over the built-in modules. What was found before is kept where
-/// it still holds.
+/// Finds what there is to find of texts, over the built-in modules. What was found before is kept
+/// where it still holds.
 pub fn find_texts<L>(
     alloc: Global,
     texts: &[ModuleText<'_>],
@@ -50,6 +50,24 @@ pub fn find_texts<L>(
 {
     let files = files_of(alloc, texts)?;
     family.find(alloc, files, steps)?;
+    Ok(())
+}
+
+/// Finds the same of the texts of some names: modules that they do not reach by what they need are
+/// read and not checked.
+pub fn find_named<L>(
+    alloc: Global,
+    texts: &[ModuleText<'_>],
+    names: List<Chars>,
+    family: &mut Family,
+    steps: &mut Steps<L>,
+) -> Result<(), Memory>
+    requires order { IsStrictlySortedBy (slice_cmp nat_cmp) (map (λ t. t.name) texts.now) }
+    requires few { bytes_of texts.now ≤ most_bytes }
+    ensures { OnOk result (AreNamesFound texts.now family.new names) }
+{
+    let files = files_of(alloc, texts)?;
+    family.find_named(alloc, files, names, steps)?;
     Ok(())
 }
 

@@ -3,7 +3,7 @@ ghost use Rattle.std.specs.Prelude.{◌≡◌, IfOk, is_some, map, true};
 ghost use Rattle.std.specs.List.{All};
 ghost use Rattle.server_documents.specs.Documents.{opened_as};
 ghost use Rattle.server_texts.specs.Notes as in_notes;
-ghost use Rattle.workspace.specs.Found.{AreFound};
+ghost use Rattle.workspace.specs.Found.{AreNamesFound, IsNameFound};
 
 use family_levels::Findings;
 use lsp_wire::Note;
@@ -19,7 +19,7 @@ fn notes_of(
     found: &Findings,
     name: &Chars,
 ) -> Result<List<Note>, Memory>
-    requires found { AreFound documents.now.texts found.now }
+    requires found { IsNameFound documents.now.texts found.now name.now }
     requires opened { is_some (opened_as documents.now name.now) ≡ true }
     ensures { IfOk result (λ notes. notes ≡ in_notes.notes_of documents.now name.now) }
 {
@@ -39,7 +39,7 @@ pub fn all_notes(
     found: &Findings,
     names: &[Chars],
 ) -> Result<List<List<Note>>, Memory>
-    requires found { AreFound documents.now.texts found.now }
+    requires found { AreNamesFound documents.now.texts found.now names.now }
     requires opened { All (λ name. is_some (opened_as documents.now name) ≡ true) names.now }
     ensures { IfOk result (λ notes. notes ≡ map (in_notes.notes_of documents.now) names.now) }
 {

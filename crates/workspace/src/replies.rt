@@ -109,8 +109,8 @@ fn references_at<L>(
     Ok(reply)
 }
 
-/// The reply to a question on the texts. To ask for definitions and references finds what is not found
-/// yet of the modules.
+/// The reply to a question on the texts. To ask for definitions and references finds what is not
+/// found yet of the modules.
 /// `Memory` comes where there was no room, and where they pass a limit.
 pub fn reply_to<L>(
     alloc: Global,

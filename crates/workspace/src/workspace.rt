@@ -8,7 +8,7 @@ ghost use Rattle.server_folder.specs.Folders.{with_told};
 ghost use Rattle.server_texts.specs.Notes as in_notes;
 ghost use Rattle.server_texts.specs.Server.{server_meaning};
 
-use crate::found::find_texts;
+use crate::found::find_named;
 use crate::notes::all_notes;
 use crate::replies::reply_to;
 use family_levels::Family;
@@ -21,8 +21,8 @@ use step_count::Steps;
 use tool_io::Folder;
 use tool_list::{Chars, List, Memory};
 
-/// The texts of a root's modules over a folder. Each answer is derived from the texts as they stand:
-/// what was found of a module is kept where it still holds.
+/// The texts of a root's modules over a folder. Each answer is derived from the texts as they
+/// stand: what was found of a module is kept where it still holds.
 pub struct Workspace<F> {
     folder: F,
     documents: Documents,
@@ -73,7 +73,8 @@ fn notes_in<L>(
         return Err(Memory);
     }
     let texts = documents.texts(alloc)?;
-    find_texts(alloc, texts.as_slice(), family, steps)?;
+    let wanted = documents.opened(alloc)?;
+    find_named(alloc, texts.as_slice(), wanted, family, steps)?;
     let notes = all_notes(alloc, documents, family.found(), names.as_slice())?;
     Ok(notes)
 }

@@ -1,9 +1,9 @@
-use Rattle.std.proofs.Common.{◌≡◌, ◌∙◌, ap, subst, sym}
+use Rattle.std.proofs.Common.{◌∙◌, ap, subst, sym}
 use Rattle.family_facts.specs.Verdicts.{AreDistinct, after_checks, checks_of, family_of}
 use Rattle.family_tables.specs.Modules.{AreModules}
 use Rattle.family_tables.proofs.Once.{modules-once}
 use Rattle.family_tables.proofs.Read.{modules-some}
-use Rattle.family_levels.specs.Telling.{IsFound}
+use Rattle.family_levels.specs.Telling.{AreFound}
 use Rattle.family_levels.proofs.changing.find_family.Goals as goal
 
 pub trees_of-requires-clause-once : goal.trees_of-requires-clause-once
@@ -19,10 +19,10 @@ find_modules-requires g c = record {
 }
 
 pub invariant_of-result : goal.invariant_of-result
-invariant_of-result g c = (c.in_ok-trees.ensures, subst (λ files. IsFound files c.in_ok-found.found) c.as_slice-2.ensures c.in_ok-found.ensures.found)
+invariant_of-result g c = (c.in_ok-trees.ensures, subst (λ files. AreFound files c.in_ok-found.found) c.as_slice-2.ensures c.in_ok-found.ensures.found)
 
 pub returns-clause-found : goal.returns-clause-found
-returns-clause-found g c = subst (λ files. IsFound files c.in_ok-found.found) c.as_slice-2.ensures c.in_ok-found.ensures.found
+returns-clause-found g c = subst (λ files. AreFound files c.in_ok-found.found) c.as_slice-2.ensures c.in_ok-found.ensures.found
 
 pub returns-clause-steps : goal.returns-clause-steps
 returns-clause-steps g c = c.in_ok-found.ensures.steps ∙ ap (λ files. after_checks (checks_of files) c.args.steps.now) c.as_slice-2.ensures

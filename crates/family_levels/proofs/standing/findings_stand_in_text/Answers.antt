@@ -1,17 +1,5 @@
-use Rattle.family_facts.proofs.Once.{members-differ}
-use Rattle.family_levels.proofs.Telling.{is-found}
+use Rattle.family_levels.proofs.Telling.{are-found}
 use Rattle.family_levels.proofs.standing.findings_stand_in_text.Goals as goal
 
 pub returns : goal.returns
-returns c files modules found distinct are outcomes named =
-    is-found c.one_front.ensures.same
-    (record {
-      faults = c.faults_stand_in_text.ensures;
-      levels = c.level_faults_stand_in_text.ensures;
-      uses = c.uses_stand_in_text.ensures;
-      decls = c.decls_stand_in_text.ensures;
-      texts = c.modules_are_texts.ensures;
-      nodes = c.front_nodes_placed.ensures;
-      words = c.front_words_lie.ensures;
-    })
-    files found modules (members-differ files distinct) are outcomes named
+returns c files modules found distinct are outcomes named = are-found files found outcomes named (c.files_stand_in_text.ensures files modules distinct are)

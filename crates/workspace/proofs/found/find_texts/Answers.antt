@@ -2,7 +2,7 @@ use Rattle.std.proofs.Common.{◌≡◌, List, length, arith, subst, sym, ap}
 use Rattle.std.specs.Prelude.{sum_by}
 use Rattle.family_facts.specs.Verdicts.{AreDistinct}
 use Rattle.family_facts.specs.declared.verdict.File.{File}
-use Rattle.family_levels.specs.Telling.{AreFaultsPlaced, AreNamesPlaced, TellsFiles}
+use Rattle.family_levels.specs.Telling.{AreFound}
 use Rattle.server_texts.specs.Notes.{files_of}
 use Rattle.workspace.proofs.Finding.{files-apart, files-bytes, texts-found}
 use Rattle.workspace.proofs.found.find_texts.Goals as goal
@@ -18,7 +18,4 @@ find-requires-clause-small g c =
     omega (arith, count, bytes, c.requires.few)
 
 pub returns : goal.returns
-returns g c =
-    texts-found c.args.texts.now c.find.new.self (subst (λ files. TellsFiles files c.find.new.self) c.in_ok-files.ensures c.in_ok-find.ensures.tells)
-    (subst (λ files. AreFaultsPlaced files c.find.new.self) c.in_ok-files.ensures c.in_ok-find.ensures.placed)
-    (subst (λ files. AreNamesPlaced files c.find.new.self) c.in_ok-files.ensures c.in_ok-find.ensures.names)
+returns g c = texts-found c.args.texts.now c.find.new.self (subst (λ files. AreFound files c.find.new.self) c.in_ok-files.ensures c.in_ok-find.ensures.found)
