@@ -231,10 +231,11 @@ fn answer<F: Folder, S: Source, K: Sink, L>(
     (status, folder)
 }
 
-/// Does all that the program does, and hands the folder back. Its first answer is the status. Where the
-/// words do not ask for the server, it is 0 where each module is accepted, 1 where some module is refused,
-/// 2 where the words ask for nothing, 3 and 5 where the folder and the output failed, 6 where there was
-/// no room, 7 where a limit is passed; the input is not read. The server's are those of `serve` of
+/// Does all that the program does, and hands the folder back. Its first answer is the status. Where
+/// the words do not ask for the server, it is 0 where each module is accepted, 1 where some module
+/// is refused, 2 where the words ask for nothing, 3 and 5 where the folder and the output failed, 6
+/// where there was no room, 7 where a limit is passed; the input is not read. The server's are
+/// those of `serve` of
 /// `lsp_serve`.
 pub fn run<F: Folder, S: Source, K: Sink, L>(
     alloc: Global,
@@ -245,9 +246,9 @@ pub fn run<F: Folder, S: Source, K: Sink, L>(
     steps: &mut Steps<L>,
 ) -> (u8, F)
     // Whatever the status, the bytes written are from the front of the program's. Where no object
-    // failed and there was room, all of them are written and the status is the program's. Those of the
-    // server are a session's over the input, however that is cut, with each message answered before
-    // the input is read further.
+    // failed and there was room, all of them are written and the status is the program's. Those of
+    // the server are a session's over the input, however that is cut, with each message answered
+    // before the input is read further.
     ensures answers { OnFalse (is_serve (request_in (texts words.now))) (IfSome (F.told folder)
         (λ t. Answers (program (texts words.now) t) result.0 (K.taken output.old)
         (K.taken output.new))) }
@@ -277,9 +278,9 @@ pub fn run<F: Folder, S: Source, K: Sink, L>(
         (λ t. OnFalse (is_stopped result.0) ((result.0 ≡ 7)
         ↔ (is_over (texts words.now) t ≡ true)))) }
 
-    // What it leaves, where it is not to serve. The folder is as the calls of the program leave it, and
-    // with 3 and 6 as the first ones of them do, one at least with 3: none is made behind the one with
-    // which a limit is passed.
+    // What it leaves, where it is not to serve. The folder is as the calls of the program leave it,
+    // and with 3 and 6 as the first ones of them do, one at least with 3: none is made behind the
+    // one with which a limit is passed.
     ensures folder_after { OnFalse (is_serve (request_in (texts words.now)))
         (OnFalse (is_stopped result.0) (F.told result.1
         ≡ option_map (told_after (texts words.now)) (F.told folder))) }

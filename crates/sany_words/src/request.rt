@@ -13,7 +13,8 @@ use tool_list::{Chars, Memory};
 /// What is asked for.
 #[derive(Drop)]
 pub enum Request {
-    /// To check the modules of the folder of this path, and to show facts too where they are asked for.
+    /// To check the modules of the folder of this path, and to show facts too where they are asked
+    /// for.
     Check { folder: Chars, facts: bool },
     /// To make so many modules and check them.
     Generate(u16),
@@ -124,8 +125,8 @@ fn request_in(alloc: Global, matches: &ArgMatches<'_>) -> Result<Option<Request>
     )
 }
 
-/// What the words ask for. None where the command refuses them, or where it takes them and they are no
-/// request.
+/// What the words ask for. None where the command refuses them, or where it takes them and they are
+/// no request.
 pub fn request_of(alloc: Global, words: &[String]) -> Result<Option<Request>, Memory>
     ensures { IfOk result (λ request. request ≡ words_of.request_of (texts words.now)) }
 {

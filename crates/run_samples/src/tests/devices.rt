@@ -1,8 +1,8 @@
 // Runs over devices that fail, and over large files.
 use std::alloc::{AllocError, Global};
 
-/// The words; the numbers of the folder's and the output's calls that fail, or 0; the output's room;
-/// the status; and what is written.
+/// The words; the numbers of the folder's and the output's calls that fail, or 0; the output's
+/// room; the status; and what is written.
 pub type Trial = (&'static [&'static str], u32, u32, u32, u8, &'static str);
 
 /// A text of pieces that are repeated so often; the status; and the report.

@@ -1,4 +1,5 @@
-// Small families of modules with INSTANCE beside the whole reports that the sentences of the language ask for.
+// Small families of modules with INSTANCE beside the whole reports that the sentences of the
+// language ask for.
 pub mod brought;
 pub mod inner;
 pub mod needed;
