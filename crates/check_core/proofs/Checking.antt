@@ -112,6 +112,10 @@ unless-these (fault ∷ all) items some = refl
 in-one-order : (all found : List Diagnostic) → AreInOrder all found → found ≡ in_order all
 in-one-order all found order = order-is-one all found (in_order all) order (in-order all)
 
+-- a module with faults of imports has faults
+pub refused-faulty : (all : List Diagnostic) (checked : CheckedModule) → (all ≡ [] → ⊥) → IsRefused all checked → checked.faults ≡ [] → ⊥
+refused-faulty all checked some refused none = some (none-at-all all (subst (AreInOrder all) none refused.faults))
+
 pub refused-checked : (imports : Imports) (source : List ℕ) (units : ModuleUnits) (all : List Diagnostic) (checked : CheckedModule) → all ≡ import_faults (given_in imports) source units → (all ≡ [] → ⊥) → IsRefused all checked → facts_told checked ≡ facts_of (given_in imports) source units
 refused-checked imports source units all checked are some refused =
     let any : import_faults (given_in imports) source units ≡ [] → ⊥ = λ none. some (are ∙ none) in
@@ -120,7 +124,7 @@ refused-checked imports source units all checked are some refused =
           (rw (or-these (import_faults (given_in imports) source units) (name_faults (findings (files_given (given_in imports)) source units) units) any) (subst (λ z. AreInOrder z checked.faults) are refused.faults));
       uses = refused.uses ∙ sym (unless-these (import_faults (given_in imports) source units) _ any);
       decls = refused.decls ∙ sym (unless-these (import_faults (given_in imports) source units) _ any);
-      outside = λ none. absurd (some (none-at-all all (subst (λ z. AreInOrder all z) none refused.faults)));
+      outside = λ none. absurd (refused-faulty all checked some refused none);
     })
 
 -- with names resolved

@@ -1,11 +1,14 @@
 // A module that was checked.
-ghost use Rattle.std.specs.Prelude.{◌≡◌, ◌++◌, ◌+◌, ◌-◌, ◌^◌, min, IfOk};
+ghost use Rattle.std.specs.Prelude.{◌≡◌, ◌++◌, ◌+◌, ◌-◌, ◌^◌, [], min, IfOk};
 ghost use Rattle.unit_grammar.specs.UnitNodes.{module_of};
 ghost use Rattle.tla_model.specs.Lexemes.{spelled};
 ghost use Rattle.module_model.specs.Given.{AreFaces, IsFaceOver, IsReadable};
 ghost use Rattle.module_facts.specs.Checks.{facts_of, facts_told, given_in};
 ghost use Rattle.module_faces.specs.Faces.{IsRefusedFace};
 ghost use Rattle.module_model.specs.Bindings.{AreInOrder};
+ghost use Rattle.module_model.specs.Exports.{files_of};
+ghost use Rattle.module_model.specs.Resolution.{findings};
+ghost use Rattle.written_names.specs.Names.{AreNamesOf};
 ghost use Rattle.check_core.specs.Outcomes as outcomes;
 ghost use Rattle.check_core.specs.Outcomes.{IsFaceWith, IsJudged, IsRefused, IsResolved, IsWithArities};
 ghost use Rattle.std.specs.Arc.{arc_value};
@@ -23,6 +26,7 @@ use symbol_scope::{Resolved, resolve};
 use tla_model::{Decl, Diagnostic, Use};
 use tla_tree::ModuleTree;
 use tool_list::{List, Memory};
+use written_names::WrittenNames;
 
 /// What a check of a module found. Only `check_module` makes one. Contracts see its faults, uses and
 /// declarations, and its face.
@@ -118,13 +122,17 @@ fn without_names(alloc: Global, faults: List<Diagnostic>, face: Arc<Face>) -> Ch
     }
 }
 
-// A module with faults of imports, which exports nothing.
-fn refused(alloc: Global, name: &str, faults: List<Diagnostic>) -> Result<Checked, Memory>
-    ensures found { IfOk result (λ checked. IsRefused faults checked) }
-    ensures face { IfOk result (λ checked. IsRefusedFace name.now checked.face) }
+// A module with faults of imports, which exports nothing. Its names mean nothing.
+fn refused(
+    alloc: Global,
+    name: &str,
+    faults: List<Diagnostic>,
+) -> Result<(Checked, WrittenNames), Memory>
+    ensures found { IfOk result (λ made. IsRefused faults made.0) }
+    ensures face { IfOk result (λ made. IsRefusedFace name.now made.0.face) }
 {
     let face = shared_face(alloc, name, None)?;
-    Ok(without_names(alloc, faults, face))
+    Ok((without_names(alloc, faults, face), WrittenNames::new(alloc)))
 }
 
 // A module with what its names stand for, and its face.
@@ -167,14 +175,19 @@ fn with_arities(
     found: Resolved,
     arities: List<Diagnostic>,
 ) -> Result<Resolved, Memory>
-    ensures { IfOk result
+    ensures arities { IfOk result
         (λ judged. IsWithArities arities found.bound found.face judged.bound judged.face) }
+    ensures names { IfOk result (λ judged. judged.names ≡ found.names) }
 {
-    let Resolved { mut bound, face } = found;
+    let Resolved {
+        mut bound,
+        names,
+        face,
+    } = found;
     let face = face_unless(&arities, face);
     let faults = mem::replace(&mut bound.faults, List::new(alloc));
     bound.faults = joined(faults, arities)?;
-    Ok(Resolved { bound, face })
+    Ok(Resolved { bound, names, face })
 }
 
 // What the names of a module stand for whose imports are accepted, and what is at fault with names and
@@ -182,8 +195,10 @@ fn with_arities(
 fn judged(alloc: Global, tree: &ModuleTree, imported: &Imported) -> Result<Resolved, Memory>
     requires readable { IsReadable tree.now }
     requires faces { AreFaces imported.now (spelled tree.now.source tree.now.name) }
-    ensures { IfOk result (λ judged. IsJudged imported.now tree.now.source (module_of tree.now)
-        judged.bound judged.face) }
+    ensures judged { IfOk result (λ judged. IsJudged imported.now tree.now.source
+        (module_of tree.now) judged.bound judged.face) }
+    ensures names { IfOk result (λ judged. AreNamesOf
+        (findings (files_of imported.now) tree.now.source (module_of tree.now)) judged.names) }
 {
     let found = resolve(alloc, tree, imported)?;
     let arities = check_arity(alloc, tree, &found.bound)?;
@@ -196,36 +211,41 @@ fn resolved(
     name: &str,
     tree: &ModuleTree,
     imported: &Imported,
-) -> Result<Checked, Memory>
+) -> Result<(Checked, WrittenNames), Memory>
     requires readable { IsReadable tree.now }
     requires faces { AreFaces imported.now name.now }
     requires name { spelled tree.now.source tree.now.name ≡ name.now }
     ensures found { IfOk result
-        (λ checked. IsResolved imported.now tree.now.source (module_of tree.now) checked) }
-    ensures face { IfOk result (λ checked. IsFaceWith imported.now tree.now.source
-        (module_of tree.now) checked.faults checked.face) }
+        (λ made. IsResolved imported.now tree.now.source (module_of tree.now) made.0) }
+    ensures face { IfOk result (λ made. IsFaceWith imported.now tree.now.source
+        (module_of tree.now) made.0.faults made.0.face) }
+    ensures names { IfOk result (λ made. AreNamesOf
+        (findings (files_of imported.now) tree.now.source (module_of tree.now)) made.1) }
 {
     let found = judged(alloc, tree, imported)?;
-    let Resolved { bound, face } = found;
+    let Resolved { bound, names, face } = found;
     let face = shared_face(alloc, name, face)?;
-    Ok(with_names(alloc, bound, face))
+    Ok((with_names(alloc, bound, face), names))
 }
 
 /// Checks a module over the modules that it names, which is one step. Its face holds what its exports
-/// reach; one that is not accepted exports nothing. `Memory` comes where there was no room.
+/// reach; one that is not accepted exports nothing. Beside it stands what each of its names means
+/// where it is accepted. `Memory` comes where there was no room.
 pub fn check_module<L>(
     alloc: Global,
     name: &str,
     tree: &ModuleTree,
     imported: &Imported,
     steps: &mut Steps<L>,
-) -> Result<Checked, Memory>
+) -> Result<(Checked, WrittenNames), Memory>
     requires readable { IsReadable tree.now }
     requires faces { AreFaces imported.now name.now }
     requires name { spelled tree.now.source tree.now.name ≡ name.now }
-    ensures facts { IfOk result (λ checked. facts_told checked
+    ensures facts { IfOk result (λ made. facts_told made.0
         ≡ facts_of (given_in imported.now) tree.now.source (module_of tree.now)) }
-    ensures face { IfOk result (λ checked. IsFaceOver imported.now name.now checked.face) }
+    ensures face { IfOk result (λ made. IsFaceOver imported.now name.now made.0.face) }
+    ensures names { IfOk result (λ made. made.0.faults ≡ [] → AreNamesOf
+        (findings (files_of imported.now) tree.now.source (module_of tree.now)) made.1) }
     ensures tick { steps.new ≡ min (steps.old + 1) (2 ^ 64 - 1) }
 {
     steps.tick();

@@ -96,13 +96,14 @@ fn judge<L>(
         (get_by_text files.now) known made.0 made.1) }
     ensures steps { IfOk result (λ _. steps.new ≡ after_checks 1 steps.old) }
 {
-    let checked = check_module(alloc, name, tree, imports, steps)?;
+    let (checked, names) = check_module(alloc, name, tree, imports, steps)?;
     let faults = checked.faults();
     if !faults.is_empty() {
         let faults = copied(alloc, faults.as_slice())?;
         return Ok((known, refused(faults, Names::of(checked))));
     }
-    let (known, levels) = level_module(alloc, tree, imports, checked.face(), known, files)?;
+    let face = checked.face();
+    let (known, levels) = level_module(alloc, tree, imports, face, &names, known, files)?;
     let found = found_by(checked, levels)?;
     Ok((known, found))
 }

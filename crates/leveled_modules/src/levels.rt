@@ -11,7 +11,7 @@ ghost use Rattle.module_model.specs.Resolution.{findings, outside_in};
 ghost use Rattle.tree_kinds.specs.Standing.{Outside};
 ghost use Rattle.module_leads.specs.Leading.{leading_in};
 ghost use Rattle.module_levels.specs.Kept.{AreKept};
-ghost use Rattle.leveled_modules.specs.Parts.{AreNamesOf};
+ghost use Rattle.written_names.specs.Names.{AreNamesOf};
 ghost use Rattle.leveled_modules.specs.Leveled.{AreFilesOf, IsModuleLeveled, faces_by};
 
 use crate::constancy::FileFaces;
@@ -24,6 +24,7 @@ use std::alloc::Global;
 use tla_tree::ModuleTree;
 use tool_list::Memory;
 use tree_flattener::Written;
+use written_names::WrittenNames;
 
 // Finds the levels of a module by its text and what its names mean.
 fn level_named<'a>(
@@ -40,7 +41,7 @@ fn level_named<'a>(
     requires text { named.now.text ≡ text_of tree.now.source (module_of tree.now) }
     requires names { AreNamesOf
         (findings (files_of imported.now) tree.now.source (module_of tree.now))
-        named.now.names }
+        named.now.names.now }
     requires faces { AreFaces imported.now named.now.text.file }
     requires front { (name : ListOf ℕ)
         × IsFront name tree.now.source (Tree (module_of tree.now)) }
@@ -93,14 +94,15 @@ fn level_named<'a>(
 
 /// Finds the levels of a module whose names and arities have no fault, over modules before it: its
 /// faults of depth, or else of levels, and the levels of its uses. It is given what the modules are
-/// that it names, what it is itself to others, and by name the numbers of the faces of its files: a
-/// file without a number is to it as one that is not there. `Memory` comes where there was no room;
-/// what was known of modules is gone then.
+/// that it names, what it is itself to others, what its names mean, and by name the numbers of the
+/// faces of its files: a file without a number is to it as one that is not there. `Memory` comes
+/// where there was no room; what was known of modules is gone then.
 pub fn level_module(
     alloc: Global,
     tree: &ModuleTree,
     imported: &Imported,
     face: &Face,
+    names: &WrittenNames,
     known: LevelTables,
     files: &IndexMap<String, usize>,
 ) -> Result<(LevelTables, ModuleLevels), Memory>
@@ -110,6 +112,8 @@ pub fn level_module(
         × IsFront name tree.now.source (Tree (module_of tree.now)) }
     requires face { face_outside face.now
         ≡ outside_in (files_of imported.now) tree.now.source (module_of tree.now) }
+    requires names { AreNamesOf
+        (findings (files_of imported.now) tree.now.source (module_of tree.now)) names.now }
     requires kept { AreKept known }
     requires files { (name : ListOf ℕ) → IfSome (get_by_text files.now name)
         (λ number. number < (leading_in known.tables.leads).count) }
@@ -119,7 +123,7 @@ pub fn level_module(
         → IsModuleLeveled (faces_by known (get_by_text files.now)) outsides tree.now.source
         (module_of tree.now) known made.0 made.1) }
 {
-    let named = named_text(alloc, tree, imported)?;
+    let named = named_text(alloc, tree, names)?;
     let made = level_named(alloc, &named, tree, imported, face, known, files)?;
     Ok(made)
 }

@@ -1,8 +1,7 @@
-//! The levels of one module, by its tree and what the modules are that it names.
+//! The levels of one module, by its tree, what its names mean and what the modules are that it names.
 //!
-//! Finds what its names mean, its symbols, and whether it is constant, and so its faults of depth
-//! and of levels and the levels of its uses. Knows nothing of the order in which modules are gone
-//! through.
+//! Finds its symbols and whether it is constant, and so its faults of depth and of levels and the
+//! levels of its uses. Knows nothing of scopes, and of the order in which modules are gone through.
 #![tactic(auto)]
 
 mod answers;

@@ -7,5 +7,5 @@
 mod reading;
 mod resolution;
 
-pub use reading::{found_in, text_of, unread};
+pub use reading::{text_of, unread};
 pub use resolution::{Resolved, resolve};

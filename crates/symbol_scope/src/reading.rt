@@ -73,7 +73,7 @@ pub fn unread<'a>(
 }
 
 /// Reads a module, and answers what is found of its names, in the order of the text.
-pub fn found_in<'a>(
+pub(crate) fn found_in<'a>(
     alloc: Global,
     text: &ModuleText<'a>,
     tree: &'a ModuleTree,

@@ -14,6 +14,7 @@ ghost use Rattle.unit_scope.specs.Readings.{Over};
 ghost use Rattle.unit_scope.specs.Steps.{IsLast, IsUnread, outside_at};
 ghost use Rattle.tla_model.specs.Lexemes.{LexemesLie, spelled as spelled_in};
 ghost use Rattle.unit_grammar.specs.UnitNodes.{HasNodes, module_of};
+ghost use Rattle.written_names.specs.Names.{AreNamesOf};
 
 use crate::reading::{found_in, text_of, unread};
 use declared_names::declaring;
@@ -27,15 +28,17 @@ use tla_tree::ModuleTree;
 use tool_list::{Chars, List, Memory};
 use tree_names::ModuleText;
 use unit_scope::ModuleReader;
+use written_names::{WrittenNames, written_names};
 
-// Reads a module, and puts what its names stand for and its faults into nothing.
+// Reads a module, puts what its names stand for and its faults into nothing, and answers what each
+// means.
 fn bind_uses<'a>(
     alloc: Global,
     text: &ModuleText<'a>,
     tree: &'a ModuleTree,
     reader: &mut ModuleReader<'a>,
     bound: &mut Bound,
-) -> Result<(), Memory>
+) -> Result<WrittenNames, Memory>
     requires nodes { HasNodes tree.now }
     requires lie { LexemesLie text.now.source (module_of tree.now) }
     requires text { text.now ≡ in_modules.text_of tree.now.source (module_of tree.now) }
@@ -49,11 +52,15 @@ fn bind_uses<'a>(
         (IsSorted
         (in_resolution.findings (files_of reader.old.scope.imported.now) tree.now.source
         (module_of tree.now)) bound.new) }
+    ensures names { IfOk result (AreNamesOf
+        (in_resolution.findings (files_of reader.old.scope.imported.now) tree.now.source
+        (module_of tree.now))) }
 {
     let findings = found_in(alloc, text, tree, reader)?;
+    let names = written_names(alloc, findings.as_slice())?;
     sort_out(findings, bound)?;
     order(alloc, &mut bound.faults);
-    Ok(())
+    Ok(names)
 }
 
 // The face of a module that was read.
@@ -95,15 +102,15 @@ fn face_unless<'a>(
     Ok(Some(face))
 }
 
-// Reads a module, puts what its names stand for and its faults into nothing, and answers its face,
-// unless it has faults.
+// Reads a module, puts what its names stand for and its faults into nothing, and answers what each
+// means, and its face, unless it has faults.
 fn bind_module<'a>(
     alloc: Global,
     text: &ModuleText<'a>,
     tree: &'a ModuleTree,
     reader: &mut ModuleReader<'a>,
     bound: &mut Bound,
-) -> Result<Option<Face>, Memory>
+) -> Result<(WrittenNames, Option<Face>), Memory>
     requires nodes { HasNodes tree.now }
     requires lie { LexemesLie text.now.source (module_of tree.now) }
     requires text { text.now ≡ in_modules.text_of tree.now.source (module_of tree.now) }
@@ -114,24 +121,26 @@ fn bind_module<'a>(
         (IsSorted
         (in_resolution.findings (files_of reader.old.scope.imported.now) tree.now.source
         (module_of tree.now)) bound.new) }
-    ensures face { IfOk result
-        (IsShown reader.old.scope.imported.now tree.now.source (module_of tree.now)
-        bound.new.faults) }
+    ensures names { IfOk result (λ made. AreNamesOf
+        (in_resolution.findings (files_of reader.old.scope.imported.now) tree.now.source
+        (module_of tree.now)) made.0) }
+    ensures face { IfOk result (λ made. IsShown reader.old.scope.imported.now tree.now.source
+        (module_of tree.now) bound.new.faults made.1) }
 {
-    bind_uses(alloc, text, tree, reader, bound)?;
+    let names = bind_uses(alloc, text, tree, reader, bound)?;
     let face = face_unless(alloc, text, reader, bound.faults.as_slice())?;
-    Ok(face)
+    Ok((names, face))
 }
 
-// Puts what the names of a text stand for and its faults into nothing, and answers its face, unless it
-// has faults.
+// Puts what the names of a text stand for and its faults into nothing, and answers what each means,
+// and its face, unless it has faults.
 fn bind_text<'a>(
     alloc: Global,
     text: &ModuleText<'a>,
     tree: &'a ModuleTree,
     imported: &'a Imported,
     bound: &mut Bound,
-) -> Result<Option<Face>, Memory>
+) -> Result<(WrittenNames, Option<Face>), Memory>
     requires nodes { HasNodes tree.now }
     requires lie { LexemesLie text.now.source (module_of tree.now) }
     requires text { text.now ≡ in_modules.text_of tree.now.source (module_of tree.now) }
@@ -141,8 +150,11 @@ fn bind_text<'a>(
         (IsSorted
         (in_resolution.findings (files_of imported.now) tree.now.source (module_of tree.now))
         bound.new) }
-    ensures face { IfOk result
-        (IsShown imported.now tree.now.source (module_of tree.now) bound.new.faults) }
+    ensures names { IfOk result (λ made. AreNamesOf
+        (in_resolution.findings (files_of imported.now) tree.now.source (module_of tree.now))
+        made.0) }
+    ensures face { IfOk result (λ made. IsShown imported.now tree.now.source (module_of tree.now)
+        bound.new.faults made.1) }
 {
     let mut reader = unread(alloc, text, tree, imported)?;
     bind_module(alloc, text, tree, &mut reader, bound)
@@ -181,32 +193,38 @@ fn push_declarations(
     Ok(())
 }
 
-// Puts what names stand for into nothing, and answers the module's face, unless it has faults.
+// Puts what names stand for into nothing, and answers what each means, and the module's face, unless
+// it has faults.
 fn bind(
     alloc: Global,
     tree: &ModuleTree,
     imported: &Imported,
     bound: &mut Bound,
-) -> Result<Option<Face>, Memory>
+) -> Result<(WrittenNames, Option<Face>), Memory>
     requires readable { IsReadable tree.now }
     requires faces { AreFaces imported.now (spelled_in tree.now.source tree.now.name) }
     requires nothing { IsNothing bound.old }
     ensures bound { OnOk result
         (IsBound (files_of imported.now) tree.now.source (module_of tree.now) bound.new) }
-    ensures face { IfOk result
-        (IsShown imported.now tree.now.source (module_of tree.now) bound.new.faults) }
+    ensures names { IfOk result (λ made. AreNamesOf
+        (in_resolution.findings (files_of imported.now) tree.now.source (module_of tree.now))
+        made.0) }
+    ensures face { IfOk result (λ made. IsShown imported.now tree.now.source (module_of tree.now)
+        bound.new.faults made.1) }
 {
-    let names = declaring(alloc, tree)?;
-    let text = text_of(alloc, tree, names.as_slice())?;
-    let face = bind_text(alloc, &text, tree, imported, bound)?;
-    push_declarations(alloc, &text, names, &mut bound.decls)?;
-    Ok(face)
+    let binders = declaring(alloc, tree)?;
+    let text = text_of(alloc, tree, binders.as_slice())?;
+    let (names, face) = bind_text(alloc, &text, tree, imported, bound)?;
+    push_declarations(alloc, &text, binders, &mut bound.decls)?;
+    Ok((names, face))
 }
 
 /// What the names of a module stand for, and what it is to those that name it.
 #[derive(Drop)]
 pub struct Resolved {
     pub bound: Bound,
+    /// What each name means, by where it begins.
+    pub names: WrittenNames,
     /// What the module is to others. It is there exactly where the module has no fault.
     pub face: Option<Face>,
 }
@@ -219,11 +237,14 @@ pub fn resolve(alloc: Global, tree: &ModuleTree, imported: &Imported) -> Result<
     requires faces { AreFaces imported.now (spelled_in tree.now.source tree.now.name) }
     ensures bound { IfOk result (λ resolved. IsBound (files_of imported.now) tree.now.source
         (module_of tree.now) resolved.bound) }
+    ensures names { IfOk result (λ resolved. AreNamesOf
+        (in_resolution.findings (files_of imported.now) tree.now.source (module_of tree.now))
+        resolved.names) }
     ensures face { IfOk result
         (λ resolved. IsShown imported.now tree.now.source (module_of tree.now)
         resolved.bound.faults resolved.face) }
 {
     let mut bound = nothing(alloc);
-    let face = bind(alloc, tree, imported, &mut bound)?;
-    Ok(Resolved { bound, face })
+    let (names, face) = bind(alloc, tree, imported, &mut bound)?;
+    Ok(Resolved { bound, names, face })
 }

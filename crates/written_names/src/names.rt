@@ -1,8 +1,8 @@
 // What names mean, and what stands in, by where names begin.
 ghost use Rattle.std.specs.Prelude.{◌≡◌, ◌++◌, ◌∷◌, [], ℕ, IfOk, OnOk, if◌then◌else◌, nat_eq, unwrap_or};
 ghost use Rattle.indexmap.specs.IndexMap.{get};
-ghost use Rattle.readable_laws.specs.Uses.{implied_at, implied_by, means_by};
-ghost use Rattle.written_names.specs.Names.{meaning_there, means_there};
+ghost use Rattle.readable_laws.specs.Uses.{implied_at};
+ghost use Rattle.written_names.specs.Names.{AreNamesOf, meaning_there, means_there};
 
 use indexmap::IndexMap;
 use std::alloc::Global;
@@ -25,6 +25,18 @@ impl Drop for WrittenNames {
             means: _,
             implied: _,
         } = self;
+    }
+}
+
+impl WrittenNames {
+    /// What names mean where nothing was found. It takes no memory.
+    pub fn new(alloc: Global) -> WrittenNames
+        ensures { AreNamesOf [] result }
+    {
+        WrittenNames {
+            means: IndexMap::new(alloc),
+            implied: IndexMap::new(alloc),
+        }
     }
 }
 
@@ -84,15 +96,9 @@ fn put(alloc: Global, names: &mut WrittenNames, finding: &Finding) -> Result<(),
 /// What the names of a text mean where these findings are all that was found of it. Of two uses
 /// that begin at one place the first counts.
 pub fn written_names(alloc: Global, findings: &[Finding]) -> Result<WrittenNames, Memory>
-    ensures means { IfOk result (λ names. (start : ℕ)
-        → get nat_eq names.means start ≡ means_by findings.now start) }
-    ensures implied { IfOk result (λ names. (start : ℕ)
-        → unwrap_or (get nat_eq names.implied start) [] ≡ implied_by findings.now start) }
+    ensures { IfOk result (AreNamesOf findings.now) }
 {
-    let mut names = WrittenNames {
-        means: IndexMap::new(alloc),
-        implied: IndexMap::new(alloc),
-    };
+    let mut names = WrittenNames::new(alloc);
     for finding in findings {
         put(alloc, &mut names, finding)?;
     }

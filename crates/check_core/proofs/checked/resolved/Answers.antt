@@ -14,9 +14,9 @@ pub returns-clause-found : goal.returns-clause-found
 returns-clause-found c =
     let found = c.in_ok-found.found in
     record {
-      faults = subst (AreInOrder _) (sym c.with_names.ensures.faults) c.in_ok-found.ensures.faults;
-      uses = c.with_names.ensures.uses ∙ c.in_ok-found.ensures.uses;
-      decls = c.with_names.ensures.decls ∙ c.in_ok-found.ensures.decls;
+      faults = subst (AreInOrder _) (sym c.with_names.ensures.faults) c.in_ok-found.ensures.judged.faults;
+      uses = c.with_names.ensures.uses ∙ c.in_ok-found.ensures.judged.uses;
+      decls = c.with_names.ensures.decls ∙ c.in_ok-found.ensures.judged.decls;
     }
 
 pub returns-clause-face : goal.returns-clause-face
@@ -26,5 +26,5 @@ returns-clause-face c =
     let units = module_of c.args.tree.now in
     let found = c.in_ok-found.found in
     subst (λ faults. IsFaceWith imports source units faults c.with_names.result.face) (sym c.with_names.ensures.faults)
-    (face-with imports source units c.args.name.now found.bound.faults found.face c.with_names.result.face c.requires.name c.in_ok-found.ensures.shown
+    (face-with imports source units c.args.name.now found.bound.faults found.face c.with_names.result.face c.requires.name c.in_ok-found.ensures.judged.shown
     (subst (λ face. IsOwnOrRefused c.args.name.now found.face face) (sym c.with_names.ensures.face) c.in_ok-face.ensures))

@@ -16,7 +16,7 @@ level_module-requires-clause-front g c =
 pub level_module-requires-clause-face : goal.level_module-requires-clause-face
 level_module-requires-clause-face g c =
     let none = sym c.faults-faults.ensures ∙ nil_from_length c.faults-faults.result.now (c.if-not-is_empty.ensures.0 refl) in
-    ap face_outside (c.deref.ensures ∙ c.face.ensures) ∙ face-outside c.args.imports.now c.args.tree.now.source (module_of c.args.tree.now) c.in_ok-checked.checked c.in_ok-checked.ensures.facts none
+    ap face_outside (c.deref.ensures ∙ c.face-face.ensures) ∙ face-outside c.args.imports.now c.args.tree.now.source (module_of c.args.tree.now) c.in_ok-checked.checked c.in_ok-checked.ensures.facts none
 
 pub returns-clause-judged : goal.returns-clause-judged
 returns-clause-judged g c =

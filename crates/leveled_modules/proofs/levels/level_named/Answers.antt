@@ -26,5 +26,5 @@ returns-clause-leveled c =
     let says = c.in_ok-start.ensures in
     let names = c.requires.names in
     leveled-answer c.args.imported.now start.reader.scope.imported.now (faces_by c.args.known (get_by_text c.args.files.now)) c.args.tree.now.source (module_of c.args.tree.now) _ c.args.known (entries_in start.symbols) start.is_constant
-    c.find_levels-made.result c.find_levels-made.ensures.leveled (ap (λ (over : Over). over.imports) says.reader.kept) names.means (λ place. listed-or-none (get nat_eq c.args.named.now.names.implied place) ∙ names.implied place)
+    c.find_levels-made.result c.find_levels-made.ensures.leveled (ap (λ (over : Over). over.imports) says.reader.kept) names.means (λ place. listed-or-none (get nat_eq c.args.named.now.names.now.implied place) ∙ names.implied place)
     (says.symbols ∙ ap (λ (view : ModuleView). view.parameters) c.requires.face) says.constant

@@ -15,7 +15,7 @@ face_unless-requires c =
     record {
       over = over_for imports units;
       state = last (files_of imports) c.args.tree.now.source units;
-      at = c.in_ok-bind_uses.ensures.state;
+      at = c.in_ok-names.ensures.state;
       settled = settled-last (files_of imports) c.args.tree.now.source units;
     }
 
@@ -25,4 +25,4 @@ returns-clause-face c =
     let units = module_of c.args.tree.now in
     let state = last (files_of imports) c.args.tree.now.source units in
     subst (λ title. IsFaceUnless c.bind_uses.new.bound.faults imports title (outside_at state) c.in_ok-face.face) (ap (λ (t : Text). t.file) c.requires.text)
-    (subst (λ faults. IsFaceUnless faults imports c.args.text.now.file (outside_at state) c.in_ok-face.face) c.as_slice.ensures (c.in_ok-face.ensures (over_for imports units) state c.in_ok-bind_uses.ensures.state))
+    (subst (λ faults. IsFaceUnless faults imports c.args.text.now.file (outside_at state) c.in_ok-face.face) c.as_slice.ensures (c.in_ok-face.ensures (over_for imports units) state c.in_ok-names.ensures.state))

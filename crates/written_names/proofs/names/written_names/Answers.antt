@@ -15,11 +15,10 @@ loop-finding-preserved c = record {
       (λ start. c.in_ok-put.ensures.implied start ∙ ap (λ finding. unwrap_or (get nat_eq c.loop-finding.names.implied start) [] ++ implied_at start finding) c.finding-item.is);
 }
 
-pub returns-clause-means : goal.returns-clause-means
-returns-clause-means c = λ start.
-    c.loop-finding.invariant.means start ∙ ap (λ found. kept None found start) (take_all c.loop-finding.finding-index c.args.findings.now c.loop-finding-test.false)
-    ∙ kept-is c.args.findings.now start
-
-pub returns-clause-implied : goal.returns-clause-implied
-returns-clause-implied c = λ start.
-    c.loop-finding.invariant.implied start ∙ ap (λ found. implied_by found start) (take_all c.loop-finding.finding-index c.args.findings.now c.loop-finding-test.false)
+pub returns : goal.returns
+returns c =
+    let all = take_all c.loop-finding.finding-index c.args.findings.now c.loop-finding-test.false in
+    record {
+      means = λ start. c.loop-finding.invariant.means start ∙ ap (λ found. kept None found start) all ∙ kept-is c.args.findings.now start;
+      implied = λ start. c.loop-finding.invariant.implied start ∙ ap (λ found. implied_by found start) all;
+    }
