@@ -1,5 +1,6 @@
 pub mod Graphs
 pub mod Tabling
+pub mod Taking
 pub mod LexemesInText
 pub mod Indices
 pub mod Texts

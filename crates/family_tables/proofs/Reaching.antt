@@ -1,18 +1,16 @@
 -- Names among which all comes that their modules need.
-use Rattle.std.proofs.Common.{◌≡◌, ◌<◌, ◌≤◌, ℕ, ◌+◌, List, [], ◌∷◌, ◌++◌, Option, Some, None, refl, sym, ap, ◌∙◌, arith, cond, get_or, inl, inr, length, subst, take, true, false, Bool}
-use Rattle.std.specs.Prelude.{◌⊎◌, Contains, is_some, option_copied, slice_get}
-use Rattle.std.specs.Borrow.{Bor}
+use Rattle.std.proofs.Common.{◌≡◌, ◌<◌, ◌≤◌, ℕ, ◌+◌, List, [], ◌∷◌, ◌++◌, Some, None, refl, sym, ap, ◌∙◌, arith, cond, inl, inr, length, subst, true, false, Bool}
+use Rattle.std.specs.Prelude.{◌⊎◌, Contains, is_some, slice_get}
 use Rattle.std.specs.Str.{bytes_eq}
 use Rattle.std.proofs.lemmas.Bool.{cases_lt}
-use Rattle.std.proofs.lemmas.List.{take_more}
-use Rattle.std.proofs.lemmas.List.Elements.{Contains-append_left, Contains-append_right}
 use Rattle.std.proofs.lemmas.Option.{slice_get_within}
 use Rattle.list_laws.proofs.Texts.{same-text, text-itself}
 use Rattle.list_laws.proofs.Tests.{same-or-other}
 use Rattle.index_graph.specs.Leading.{last, more}
-use Rattle.family_facts.proofs.Lists.{at-same, contains-at, contains-pushed, here}
+use Rattle.index_graph.proofs.Ways.{leads-leads}
+use Rattle.family_facts.proofs.Lists.{at-same, contains-at}
 use Rattle.family_tables.specs.Modules.{Entry}
-use Rattle.family_tables.specs.Plans.{AreOnce, IsClosed, IsCycles, IsOrder, Needs}
+use Rattle.family_tables.specs.Plans.{AreOnce, IsClosed, IsCycles, IsOrder, IsReached, Needs}
 use Rattle.family_tables.specs.Tables.{entry_of, has_name, names_in}
 use Rattle.family_tables.specs.declared.reading.Module.{Module}
 use Rattle.family_tables.proofs.Graphs.{needs-named, same-entry}
@@ -56,29 +54,14 @@ beyond j i count apart {n} place past = elim (cases_lt i j) as (λ _. n ≤ j + 
   | inr most ↦ absurd (apart (omega (arith, most, place, past)))
 ]
 
--- ---- the first names of some
+-- ---- names that were not there
 
-module _ (names : List (List ℕ)) (i : ℕ) (d item : List ℕ) (l : i < length names) (is : item ≡ get_or names i d) where
-  taken : take i names ++ item ∷ [] ≡ take (i + 1) names
-  taken = ap (λ x. take i names ++ x ∷ []) is ∙ sym (take_more names i d l)
-
-  pub item-taken : Contains (take (i + 1) names) item
-  item-taken = subst (λ ns. Contains ns item) taken (Contains-append_right (take i names) (item ∷ []) item (here item []))
-
-  pub before-taken : (x : List ℕ) → Contains (take i names) x → Contains (take (i + 1) names) x
-  before-taken x h = subst (λ ns. Contains ns x) taken (Contains-append_left (take i names) (item ∷ []) x h)
-
-  pub taken-cases : (x : List ℕ) → Contains (take (i + 1) names) x → Contains (take i names) x ⊎ (item ≡ x)
-  taken-cases x h = contains-pushed (take i names) item x (subst (λ ns. Contains ns x) (sym taken) h)
-
--- what is looked up is there, or not
-pub gone : {T : Type 0} (o : Option (Bor T)) (b : Bool) (x : Option T) → b ≡ is_some o → b ≡ false → option_copied o ≡ x → x ≡ None
-gone None b x e f s = sym s
-gone (Some y) b x e f s = let k : false ≡ true = sym f ∙ e in cc
-
-pub held : {T : Type 0} (o : Option (Bor T)) (b : Bool) (x : Option T) → b ≡ is_some o → b ≡ true → option_copied o ≡ x → is_some x ≡ true
-held None b x e t s = let k : true ≡ false = sym t ∙ e in cc
-held (Some y) b x e t s = ap is_some (sym s)
+-- without names before, a name is given
+pub given-alone : {T : Type 0} (given : List (List ℕ)) (before : List (List ℕ × T)) (name : List ℕ) → before ≡ [] → (has_name before name ≡ true) ⊎ Contains given name → Contains given name
+given-alone {T} given before name none known = elim known as (λ _. Contains given name) [
+  | inl there ↦ let k : false ≡ true = subst (λ (b : List (List ℕ × T)). has_name b name ≡ true) none there in cc
+  | inr is ↦ is
+]
 
 -- ---- needs
 
@@ -96,6 +79,25 @@ module _ (modules : List Entry) where
       let s = entry-some modules name (needs-named modules name need n) in
       let k : None ≡ Some s.0 = sym e ∙ s.1 in
       cc
+
+  -- ---- what names reach
+
+  -- what the module of a reached name needs is reached
+  pub reached-more : (Is Old New : List ℕ → Type 0) (name : List ℕ) → ((other : List ℕ) → New other → Old other ⊎ (Old name × Needs modules name other)) → ((other : List ℕ) → Old other → IsReached modules Is other) → (other : List ℕ) → New other → IsReached modules Is other
+  reached-more Is Old New name only before other h = elim (only other h) as (λ _. IsReached modules Is other) [
+    | inl was ↦ before other was
+    | inr needed ↦ elim (before name needed.0) as (λ _. IsReached modules Is other) [
+      | inl given ↦ inr (name, given, last needed.1)
+      | inr far ↦ inr (far.0, far.1, leads-leads far.2 (last needed.1))
+    ]
+  ]
+
+  -- names that are among others reach what these reach
+  pub reached-from : (Is Are : List ℕ → Type 0) → ((name : List ℕ) → Is name → Are name) → (name : List ℕ) → IsReached modules Is name → IsReached modules Are name
+  reached-from Is Are within name reached = elim reached as (λ _. IsReached modules Are name) [
+    | inl given ↦ inl (within name given)
+    | inr far ↦ inr (far.0, within far.0 far.1, far.2)
+  ]
 
   -- ---- one module after another
 
@@ -136,7 +138,7 @@ module _ (modules : List Entry) where
     pub closed-more : {T : Type 0} (count i : ℕ) (name : List ℕ) (old new : List (List ℕ × T)) → i + count + 1 ≡ length order → slice_get order i ≡ Some name
         → ((other : List ℕ) → has_name old other ≡ true → has_name new other ≡ true)
         → (has_name old name ≡ true → (need : List ℕ) → Needs modules name need → has_name new need ≡ true)
-        → ((other : List ℕ) → has_name new other ≡ true → (has_name old other ≡ true) ⊎ Needs modules name other)
+        → ((other : List ℕ) → has_name new other ≡ true → (has_name old other ≡ true) ⊎ ((has_name old name ≡ true) × Needs modules name other))
         → IsClosedBehind order count old → IsClosedBehind order (count + 1) new
     closed-more count i name old new place at kept needs only before j other need past ej h n = elim (only other h) as (λ _. has_name new need ≡ true) [
       | inl was ↦ elim (same-or-other j i) as (λ _. has_name new need ≡ true) [
@@ -145,7 +147,7 @@ module _ (modules : List Entry) where
             needs (subst (λ x. has_name old x ≡ true) is was) need (subst (λ x. Needs modules x need) is n)
         | inr apart ↦ kept need (before j other need (beyond j i count apart place past) ej was n)
       ]
-      | inr needed ↦ let less : j < i = needed-before i j name other at ej needed in absurd (omega (arith, less, place, past))
+      | inr needed ↦ let less : j < i = needed-before i j name other at ej needed.1 in absurd (omega (arith, less, place, past))
     ]
 
     pub closed-all : {T : Type 0} (count : ℕ) (names : List (List ℕ × T)) → length order ≤ count → IsClosedBehind order count names → IsClosed modules names

@@ -1,6 +1,7 @@
 -- Rows of a table, as names with items.
 use Rattle.std.proofs.Common.{◌≡◌, ℕ, zero, suc, List, [], ◌∷◌, ◌++◌, Option, Some, None, refl, sym, ap, ◌∙◌, cond, arith, true, false, Bool, ⊎_elim}
-use Rattle.std.specs.Prelude.{string_bytes, String, Contains}
+use Rattle.std.specs.Prelude.{string_bytes, String, Contains, is_some, option_copied}
+use Rattle.std.specs.Borrow.{Bor}
 use Rattle.std.proofs.lemmas.Bool.{cases_Bool}
 use Rattle.std.specs.Map.{lookup}
 use Rattle.std.specs.Str.{bytes_eq}
@@ -63,6 +64,15 @@ entry-some {T} (entry ∷ rest) name h = ⊎_elim
     beyond : Contains (names_in (entry ∷ rest)) name → bytes_eq name entry.0 ≡ false → Contains (names_in rest) name
     beyond (zero, l, e) f = let k : true ≡ false = sym (text-itself name entry.0 (sym e)) ∙ f in cc
     beyond (suc i, l, e) f = (i, (omega (arith, l)), e)
+
+-- what is looked up is there, or not
+pub gone : {T : Type 0} (o : Option (Bor T)) (x : Option T) → is_some o ≡ false → option_copied o ≡ x → x ≡ None
+gone None x f s = sym s
+gone (Some y) x f s = let k : true ≡ false = f in cc
+
+pub held : {T : Type 0} (o : Option (Bor T)) (x : Option T) → is_some o ≡ true → option_copied o ≡ x → is_some x ≡ true
+held None x t s = let k : false ≡ true = t in cc
+held (Some y) x t s = ap is_some (sym s)
 
 -- an item under a name that has none
 pub entry-append : {T : Type 0} (entries : List (List ℕ × T)) (name item : List ℕ) (o : T) → entry_of entries item ≡ None → entry_of (entries ++ (item, o) ∷ []) name ≡ cond (bytes_eq name item) (Some o) (entry_of entries name)

@@ -1,5 +1,5 @@
 -- In which order modules are checked, and which of their needs are cyclic.
-use Rattle.std.specs.Prelude.{◌≡◌, ◌<◌, ◌↔◌, ℕ, List, Option, true, Some, None, Contains, IsSome, slice_get}
+use Rattle.std.specs.Prelude.{◌≡◌, ◌<◌, ◌↔◌, ◌⊎◌, ℕ, List, Option, true, Some, None, Contains, IsSome, slice_get}
 use Rattle.std.specs.FinMap.{get}
 use Rattle.index_graph.specs.Leading.{Leads, LeadsBack}
 pub use Rattle.name_graph.specs.Family.{AreOnce}
@@ -25,6 +25,10 @@ module _ (entries : List Entry) where
 -- among names is all that their modules need
 abbrev pub IsClosed : {T : Type 0} → List Entry → List (List ℕ × T) → Type 0
 IsClosed entries names = (name need : List ℕ) → has_name names name ≡ true → Needs entries name need → has_name names need ≡ true
+
+-- a name is one of some, or modules of some lead to it by what they need
+abbrev pub IsReached : List Entry → (List ℕ → Type 0) → List ℕ → Type 0
+IsReached entries Is name = Is name ⊎ ((start : List ℕ) × Is start × Leads (Needs entries) start name)
 
 -- ---- graphs
 

@@ -1,6 +1,7 @@
 // Which modules some of them reach.
 ghost use Rattle.std.specs.Prelude.{◌≡◌, ◌⊎◌, ℕ, List as ListOf, None, IfOk, OnOk, Contains, true};
-ghost use Rattle.family_tables.specs.Plans.{AreOnce, IsClosed, IsCycles, IsOrder, IsPlan, Needs};
+ghost use Rattle.family_tables.specs.Plans.{AreOnce, IsClosed, IsCycles, IsOrder, IsPlan};
+ghost use Rattle.family_tables.specs.Plans.{IsReached, Needs};
 ghost use Rattle.family_tables.specs.Tables.{has_name, names_in};
 
 use crate::order::Plan;
@@ -69,7 +70,8 @@ fn add_needs_of(
     ensures needs { OnOk result (has_name names.old name.now ≡ true → (need : ListOf ℕ)
         → Needs modules.now name.now need → has_name names.new need ≡ true) }
     ensures only { OnOk result ((other : ListOf ℕ) → has_name names.new other ≡ true
-        → (has_name names.old other ≡ true) ⊎ Needs modules.now name.now other) }
+        → (has_name names.old other ≡ true)
+        ⊎ ((has_name names.old name.now ≡ true) × Needs modules.now name.now other)) }
 {
     if names.get(name).is_none() {
         return Ok(());
@@ -97,6 +99,8 @@ fn add_needs(
     ensures kept { OnOk result ((other : ListOf ℕ) → has_name names.old other ≡ true
         → has_name names.new other ≡ true) }
     ensures closed { OnOk result (IsClosed modules.now names.new) }
+    ensures only { OnOk result ((other : ListOf ℕ) → has_name names.new other ≡ true
+        → IsReached modules.now (λ name. has_name names.old name ≡ true) other) }
 {
     for count in 0..order.len() {
         let last = order.len() - 1 - count;
@@ -105,8 +109,8 @@ fn add_needs(
     Ok(())
 }
 
-/// The names of the modules that modules of some names reach by what they need, and these names.
-/// Where some module reaches itself, what any other module needs is among them.
+/// Some names, and those of all modules that modules of these reach by what they need. Where some
+/// module reaches itself, what any other module needs may be among them too.
 pub fn reached_by(
     alloc: Global,
     modules: &Table<Module>,
@@ -118,6 +122,8 @@ pub fn reached_by(
     ensures names { IfOk result (λ reached. (name : ListOf ℕ) → Contains names.now name
         → has_name reached name ≡ true) }
     ensures closed { IfOk result (IsClosed modules.now) }
+    ensures only { IfOk result (λ reached. (name : ListOf ℕ) → plan.now.cycles ≡ None
+        → has_name reached name ≡ true → IsReached modules.now (Contains names.now) name) }
 {
     let mut reached = Table::new(alloc);
     add_names(alloc, &mut reached, names)?;

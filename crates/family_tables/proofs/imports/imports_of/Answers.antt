@@ -1,10 +1,11 @@
-use Rattle.std.proofs.Common.{◌+◌, ◌∙◌, subst, sym, take}
+use Rattle.std.proofs.Common.{◌+◌, ◌∙◌, ap, not, subst, sym, take}
 use Rattle.std.proofs.lemmas.List.{take_all}
 use Rattle.family_tables.specs.Agreement.{AreFrom}
 use Rattle.module_model.specs.Imports.{import_of}
 use Rattle.family_tables.proofs.Agreeing.{faces-from}
 use Rattle.family_tables.specs.Outcomes.{ImportsOnly, IsNeedTold}
-use Rattle.family_tables.proofs.Importing.{AreGiven, from-more, given-again, given-more, item-needed, none-from, others-again, others-more, some-from}
+use Rattle.family_tables.proofs.Importing.{AreGiven, from-more, given-again, given-more, item-needed, others-again, others-more}
+use Rattle.family_tables.proofs.Tabling.{gone, held}
 use Rattle.family_tables.proofs.imports.imports_of.Goals.{then-is_none+in_ok-import_of+in_ok-add, else-is_none}
 use Rattle.family_tables.proofs.imports.imports_of.Goals as goal
 
@@ -17,7 +18,7 @@ loop-need-preserved c =
     let is = c.as_str-need.ensures ∙ c.need-item.is in
     elim c.if-is_none.branch [
       | then-is_none+in_ok-import_of+in_ok-add w ↦
-          let none = none-from c.get.result c.is_none.result (import_of imports item) c.is_none.ensures w.if-is_none.true c.get.ensures in
+          let none = gone c.get.result (import_of imports item) (c.is_none.ensures ∙ ap not w.if-is_none.true) c.get.ensures in
           let e = w.imported-is ∙ w.in_ok-add.ensures.ok in
           record {
             told = λ modules planned all.
@@ -27,7 +28,7 @@ loop-need-preserved c =
             others = others-more needs i c.need-item.result item c.loop-need-test.true is imports w.in_ok-import_of.field-0 c.if-is_none.imported none e c.loop-need.invariant.others;
           }
       | else-is_none w ↦
-          let some = some-from c.get.result c.is_none.result (import_of imports item) c.is_none.ensures w.if-is_none.false c.get.ensures in
+          let some = ap not (held c.get.result (import_of imports item) (c.is_none.ensures ∙ ap not w.if-is_none.false) c.get.ensures) in
           record {
             told = λ modules planned all.
                 subst (λ z. AreGiven (IsNeedTold modules c.args.outcomes.now c.args.name.now) (take (i + 1) needs) z) (sym w.imported-is)

@@ -2,7 +2,7 @@ use Rattle.std.proofs.Common.{◌≡◌, ◌∙◌, ◌⊎◌, ◌+◌, inl, inr
 use Rattle.std.specs.Prelude.{Contains}
 use Rattle.std.proofs.lemmas.List.{take_all}
 use Rattle.family_tables.specs.Tables.{has_name}
-use Rattle.family_tables.proofs.Reaching.{before-taken, item-taken, taken-cases}
+use Rattle.family_tables.proofs.Taking.{before-taken, item-taken, taken-cases}
 use Rattle.family_tables.proofs.reach.add_names.Goals as goal
 
 pub loop-name-preserved : goal.loop-name-preserved

@@ -1,7 +1,8 @@
-use Rattle.std.proofs.Common.{◌≡◌, ◌-◌, ◌<◌, ◌∙◌, Some, ap, arith, length, sym}
+use Rattle.std.proofs.Common.{◌≡◌, ◌-◌, ◌<◌, ◌∙◌, Some, ap, arith, length, sym, true}
 use Rattle.std.specs.Prelude.{slice_get}
 use Rattle.std.proofs.lemmas.Option.{slice_get-get_or}
-use Rattle.family_tables.proofs.Reaching.{closed-all, closed-more}
+use Rattle.family_tables.specs.Tables.{has_name}
+use Rattle.family_tables.proofs.Reaching.{closed-all, closed-more, reached-more}
 use Rattle.family_tables.proofs.reach.add_needs.Goals as goal
 
 pub returns-clause-kept : goal.returns-clause-kept
@@ -18,7 +19,11 @@ loop-count-preserved c =
     record {
       kept = λ other h. ensures.kept other (c.loop-count.invariant.kept other h);
       closed = closed-more c.args.modules.now order c.requires.order c.requires.acyclic count i c.as_str.result.now c.loop-count.names c.add_needs_of.new.names (omega (arith, less)) at ensures.kept ensures.needs ensures.only c.loop-count.invariant.closed;
+      only = reached-more c.args.modules.now (λ name. has_name c.args.names.now name ≡ true) (λ name. has_name c.loop-count.names name ≡ true) (λ name. has_name c.add_needs_of.new.names name ≡ true) c.as_str.result.now ensures.only c.loop-count.invariant.only;
     }
+
+pub returns-clause-only : goal.returns-clause-only
+returns-clause-only c = c.loop-count.invariant.only
 
 pub returns-clause-closed : goal.returns-clause-closed
 returns-clause-closed c = closed-all c.args.modules.now c.args.order.now c.requires.order c.requires.acyclic c.loop-count.count c.loop-count.names c.loop-count-test.false c.loop-count.invariant.closed
