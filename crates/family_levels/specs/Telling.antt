@@ -6,7 +6,7 @@ use Rattle.tla_symbols.specs.declared.lexeme.Span.{Span}
 use Rattle.tla_lexeme.specs.Spans.{IsPlaced}
 use Rattle.span_laws.specs.NodeSpans.{SpansText}
 use Rattle.family_facts.specs.Facts.{texts_of}
-use Rattle.family_facts.specs.Verdicts.{after_checks, checks_of, family_of, text_of}
+use Rattle.family_facts.specs.Verdicts.{AreDistinct, after_checks, checks_of, family_of, text_of}
 use Rattle.family_facts.specs.declared.verdict.File.{File}
 use Rattle.leveled_facts.specs.Families.{leveled}
 use Rattle.leveled_facts.specs.Modules.{Leveled}
@@ -55,5 +55,6 @@ AreFoundIf (Some names) files found = AreFoundOf names files found
 -- each module of some of these files was checked at most once
 pub record HasChecked (files : List File) (before after : ℕ) : Type 0 where
   pub part : List File
+  pub distinct : AreDistinct part
   pub within : (file : File) → Contains part file → Contains files file
   pub most : after ≤ after_checks (checks_of part) before

@@ -48,6 +48,7 @@ returns-clause-steps g c =
     let same = c.in_ok-found.ensures.steps ∙ ap (λ fs. after_checks (checks_of fs) c.args.steps.now) (c.as_slice-2.ensures ∙ c.in_ok-part.ensures) in
     record {
       part = part (has_name c.in_ok-reached.reached) c.args.files.now c.requires.distinct;
+      distinct = part-distinct (has_name c.in_ok-reached.reached) c.args.files.now c.requires.distinct;
       within = λ file h. (in-filter (λ (f : File). has_name c.in_ok-reached.reached f.name) c.args.files.now file h).0;
       most = omega (arith, same);
     }

@@ -17,7 +17,7 @@ pub returns-then-are_same-clause-steps : goal.returns-then-are_same-clause-steps
 returns-then-are_same-clause-steps g c =
     let count = c.count-count.type_inv in
     let same = c.count-count.ensures in
-    record { part = c.args.files; within = λ file h. h; most = omega (arith, count, same) }
+    record { part = c.args.files; distinct = c.requires.distinct; within = λ file h. h; most = omega (arith, count, same) }
 
 pub find_part-requires : goal.find_part-requires
 find_part-requires g c = record { distinct = c.requires.distinct; small = c.requires.small; kept = c.self.invariant.0 }
