@@ -1,7 +1,6 @@
 -- What was found of files is what the function gives, and stands in their texts.
 use Rattle.std.proofs.Common.{◌≡◌, ℕ, Bool, true, false, Option, Some, None, List, [], refl, sym, ap, subst, ◌∙◌}
 use Rattle.std.specs.Prelude.{Contains, is_some, not}
-use Rattle.std.specs.Bool.{OnTrue}
 use Rattle.std.specs.List.{All}
 use Rattle.tla_lexeme.specs.Spans.{IsPlaced}
 use Rattle.tla_model.specs.declared.Diagnostic.{Diagnostic}
@@ -61,16 +60,13 @@ pub found-of-some : (o : Option (List (List ℕ))) → o ≡ None → (names : L
 found-of-some None is names files found are f h named = are f h
 found-of-some (Some others) is names files found are f h named = cc
 
--- what was found of files of some names was found of those of the same names
-pub found-of-same : (o : Option (List (List ℕ))) (others : List (List ℕ)) → o ≡ Some others → (names : List (List ℕ)) → others ≡ names → (files : List File) (found : Findings) → AreFoundIf o files found → AreFoundOf names files found
-found-of-same o others is names same files found are = subst (λ ns. AreFoundOf ns files found) same (subst (λ z. AreFoundIf z files found) is are)
+-- what was found of files of some names was found of those of names that are among these
+pub found-among : (o : Option (List (List ℕ))) (others : List (List ℕ)) → o ≡ Some others → (names : List (List ℕ)) → ((name : List ℕ) → Contains names name → Contains others name) → (files : List File) (found : Findings) → AreFoundIf o files found → AreFoundOf names files found
+found-among o others is names among files found are =
+    let kept : AreFoundOf others files found = subst (λ z. AreFoundIf z files found) is are in
+    λ file there named. kept file there (among file.name named)
 
 -- where it was of no names it was of all
 pub found-of-all : (o : Option (List (List ℕ))) (b : Bool) → is_some o ≡ not b → b ≡ true → (files : List File) (found : Findings) → AreFoundIf o files found → AreFound files found
 found-of-all None b is t files found are = are
 found-of-all (Some names) b is t files found are = let never : true ≡ false = is ∙ ap not t in cc
-
--- what follows from an answer follows from it
-pub on-true-map : {P Q : Type 0} (b : Bool) → (P → Q) → OnTrue b P → OnTrue b Q
-on-true-map true f p = f p
-on-true-map false f p = p

@@ -1,5 +1,6 @@
 // A family whose texts change.
-ghost use Rattle.std.specs.Prelude.{◌≡◌, ◌≤◌, ◌<◌, ◌^◌, List as ListOf, IfOk, OnErr, OnOk, filter, length, sum_by};
+ghost use Rattle.std.specs.Prelude.{◌≡◌, ◌≤◌, ◌<◌, ◌^◌, ℕ, List as ListOf, Contains, IfOk};
+ghost use Rattle.std.specs.Prelude.{OnErr, OnOk, filter, length, sum_by};
 ghost use Rattle.std.specs.Bool.{OnTrue};
 ghost use Rattle.std.specs.List.{All};
 ghost use Rattle.family_facts.specs.Verdicts.{AreDistinct, after_checks, checks_of, family_of};
@@ -86,28 +87,39 @@ fn is_same_name(name: &Chars, other: &Chars) -> bool
     name.as_str() == other.as_str()
 }
 
-// Whether they are the same names, in the same order.
-fn are_same_names(names: &[Chars], others: &[Chars]) -> bool
-    ensures { OnTrue result (names.now ≡ others.now) }
+// Whether a name is one of these.
+fn is_among(name: &Chars, names: &[Chars]) -> bool
+    ensures { OnTrue result (Contains names.now name.now) }
 {
-    if names.len() != others.len() {
-        return false;
+    for other in names {
+        if is_same_name(name, other) {
+            return true;
+        }
     }
-    for index in 0..names.len() {
-        if !is_same_name(&names[index], &others[index]) {
+    false
+}
+
+// Whether each of these names is one of others.
+fn are_among(names: &[Chars], others: &[Chars]) -> bool
+    ensures { OnTrue result ((name : ListOf ℕ) → Contains names.now name
+        → Contains others.now name) }
+{
+    for name in names {
+        if !is_among(name, others) {
             return false;
         }
     }
     true
 }
 
-// Whether what was found of modules of some names, or else of all, was found of those of these names.
+// Whether what was found of modules of some names, or else of all, was found of those of these
+// names.
 fn covers(found: &Option<List<Chars>>, names: &[Chars]) -> bool
     ensures { OnTrue result ((files : ListOf File) (findings : FindingsOf)
         → AreFoundIf found.now files findings → AreFoundOf names.now files findings) }
 {
     match found {
-        Some(found) => are_same_names(found.as_slice(), names),
+        Some(found) => are_among(names, found.as_slice()),
         None => true,
     }
 }
@@ -184,7 +196,8 @@ fn copy_of(alloc: Global, file: &File) -> Result<File, Memory>
 
 // The files of these names.
 fn named_files(alloc: Global, files: &[File], names: &Table<()>) -> Result<List<File>, Memory>
-    ensures { IfOk result (λ part. part ≡ filter (λ file. has_name names.now file.name) files.now) }
+    ensures { IfOk result (λ part. part
+        ≡ filter (λ file. has_name names.now file.name) files.now) }
 {
     let mut part = List::new(alloc);
     for file in files {

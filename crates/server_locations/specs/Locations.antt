@@ -113,9 +113,13 @@ abbrev pub place_reply : Option Location → Reply
 place_reply None = Null
 place_reply (Some at) = Place at
 
--- what the use at a place means
+-- what the use at a place of a module means
+abbrev pub meant_in : Position → Found → Option DeclId
+meant_in at m = used_at m.uses (offset_of m.bytes at)
+
+-- where that is declared
 abbrev pub definition_in : State → List Found → Position → Found → Reply
-definition_in s found at m = place_reply (option_and_then (declaration_of s found) (used_at m.uses (offset_of m.bytes at)))
+definition_in s found at m = place_reply (option_and_then (declaration_of s found) (meant_in at m))
 
 -- the declaration's location stands first, where it is asked for and has one
 abbrev pub with_declared : Bool → Option Location → List Location → List Location

@@ -64,8 +64,8 @@ fn location_in(
     })
 }
 
-// Where a declaration stands in a module's text.
-fn declaration_in(
+/// Where a declaration stands in a module's text, if it is one of its own.
+pub fn declaration_in(
     alloc: Global,
     documents: &Documents,
     module: &FoundModule<'_>,

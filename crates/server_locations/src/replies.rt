@@ -7,7 +7,7 @@ ghost use Rattle.server_locations.specs.Locations as in_locations;
 ghost use Rattle.server_locations.specs.Standing.{HasNamesPlaced};
 
 use crate::found::{FoundModule, module_named};
-use crate::locations::{declaration_of, places_of};
+use crate::locations::places_of;
 use crate::names::{named_at, used_at};
 use lsp_wire::{Position, Reply};
 use server_documents::Documents;
@@ -31,15 +31,14 @@ fn offset_in(alloc: Global, bytes: &[u8], at: Position) -> Result<Option<u32>, M
     }
 }
 
-// What the use at a place of a module means.
-fn used_in_place(
+/// What the use at a place of a module means, if there is one.
+pub fn used_in_place(
     alloc: Global,
     module: &FoundModule<'_>,
     at: Position,
 ) -> Result<Option<DeclId>, Memory>
     requires { HasNamesPlaced module.now }
-    ensures { IfOk result (λ decl. decl
-        ≡ in_locations.used_at module.now.uses (offset_of module.now.bytes at)) }
+    ensures { IfOk result (λ decl. decl ≡ in_locations.meant_in at module.now) }
 {
     let Some(offset) = offset_in(alloc, module.bytes(), at)? else {
         return Ok(None);
@@ -65,28 +64,6 @@ fn named_in_place(
     Ok(decl)
 }
 
-// What the use at a place of a module means, as a reply.
-fn definition_in(
-    alloc: Global,
-    documents: &Documents,
-    modules: &[FoundModule<'_>],
-    at: Position,
-    module: &FoundModule<'_>,
-) -> Result<Reply, Memory>
-    requires all { All HasNamesPlaced modules.now }
-    requires one { HasNamesPlaced module.now }
-    ensures { IfOk result (λ reply. reply
-        ≡ in_locations.definition_in documents.now modules.now at module.now) }
-{
-    let Some(decl) = used_in_place(alloc, module, at)? else {
-        return Ok(Reply::Null);
-    };
-    match declaration_of(alloc, documents, modules, &decl)? {
-        Some(place) => Ok(Reply::Place(place)),
-        None => Ok(Reply::Null),
-    }
-}
-
 // The uses of what is used or declared at a place of a module, as a reply.
 fn references_in(
     alloc: Global,
@@ -106,30 +83,6 @@ fn references_in(
     };
     let places = places_of(alloc, documents, modules, &decl, declared)?;
     Ok(Reply::Places(places))
-}
-
-/// The reply to `textDocument/definition` at a place of a document, by what is found of the modules of
-/// the root: the place of the declaration that the name there means. It is null where the document is
-/// none of these modules, where no use stands, and for a declaration of a built-in module.
-pub fn definition(
-    alloc: Global,
-    documents: &Documents,
-    modules: &[FoundModule<'_>],
-    uri: &str,
-    at: Position,
-) -> Result<Reply, Memory>
-    requires { All HasNamesPlaced modules.now }
-    ensures { IfOk result (λ reply. reply
-        ≡ in_locations.definition_by documents.now modules.now uri.now at) }
-{
-    let Some(name) = module_of(alloc, documents.root(), uri)? else {
-        return Ok(Reply::Null);
-    };
-    let Some(module) = module_named(modules, name.as_str()) else {
-        return Ok(Reply::Null);
-    };
-    let reply = definition_in(alloc, documents, modules, at, module)?;
-    Ok(reply)
 }
 
 /// The reply to `textDocument/references` at a place of a document, by what is found of the modules of

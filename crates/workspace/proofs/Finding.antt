@@ -1,5 +1,5 @@
 -- What is found of the texts that are held.
-use Rattle.std.proofs.Common.{◌≡◌, ◌≤◌, ℕ, ◌+◌, Bool, true, false, cond, List, [], ◌∷◌, length, get_or, map, take, Option, Some, None, if◌then◌else◌, inl, inr, nat_lt, refl, sym, ap, ◌∙◌, subst, arith}
+use Rattle.std.proofs.Common.{◌≡◌, ◌≤◌, ℕ, ◌+◌, Bool, true, false, cond, List, [], ◌∷◌, ◌++◌, length, get_or, map, take, Option, Some, None, if◌then◌else◌, inl, inr, nat_lt, refl, sym, ap, ◌∙◌, subst, arith}
 use Rattle.std.specs.Prelude.{Contains, is_some, option_map, slice_get, sum_by}
 use Rattle.std.specs.Cmp.Lexicographic.{slice_cmp}
 use Rattle.std.specs.List.Sorted.{IsStrictlySortedBy}
@@ -8,6 +8,7 @@ use Rattle.std.specs.Str.{IsUtf8, bytes_eq}
 use Rattle.tla_lexeme.specs.Spans.{IsPlaced}
 use Rattle.std.proofs.Math.Seq.{take-length}
 use Rattle.std.proofs.lemmas.Bool.{ltb-false}
+use Rattle.std.proofs.lemmas.List.Elements.{Contains-append_right}
 use Rattle.std.proofs.lemmas.List.Sums.{sum_by-cons}
 use Rattle.std.proofs.lemmas.Option.{slice_get-get_or, slice_get-map}
 use Rattle.list_laws.proofs.Lists.{contains-map}
@@ -25,10 +26,11 @@ use Rattle.sany_files.proofs.DistinctLemmas.{sorted-apart}
 use Rattle.lsp_answers.specs.States.{ModuleText, Opened, State, bytes_of, limit_of, most_bytes, most_modules}
 use Rattle.server_documents.specs.Documents.{named, opened_as, text_of as text_in}
 use Rattle.server_notes.specs.Areas.{notes_on}
+use Rattle.server_locations.specs.Locations.{module_named}
 use Rattle.server_locations.specs.Standing.{HasNamesPlaced, Stands}
 use Rattle.server_texts.specs.Answers.{all_found, found_in}
 use Rattle.server_texts.specs.Notes.{file_of_text, files_of, notes_in, notes_of}
-use Rattle.workspace.specs.Found.{AreFound, AreNamesFound, IsNameFound, found_of}
+use Rattle.workspace.specs.Found.{AreFound, AreNamesFound, IsFoundOf, IsNameFound, found_of}
 
 -- ---- files
 
@@ -85,23 +87,24 @@ most-of (u ∷ ts) t h =
       | inr rest ↦ let l = most-of ts t rest in omega (arith, more, l)
     ]
 
--- its names stand in the texts
+stands-in : (bytes : List ℕ) (span : Span) → StandsIn bytes span → Stands bytes span
+stands-in bytes span h = record { utf8 = h.0; placed = h.1 }
+
+-- the names of a module stand in its text
+module-placed : (texts : List ModuleText) (found : Findings) (t : ModuleText) → IsFoundOf texts found t → length t.bytes ≤ most_bytes → HasNamesPlaced (found_of found t)
+module-placed texts found t is few = record {
+  short = omega (arith, few);
+  uses = λ k d l. stands-in t.bytes (get_or (uses_in found t.name) k d).name (is.uses k d l);
+  decls = λ k d l. stands-in t.bytes (get_or (decls_in found t.name) k d).name (is.decls k d l);
+}
+
+-- and those of all in theirs
 pub modules-placed : (s : State) (found : Findings) → AreFound s.texts found → bytes_of s.texts ≤ most_bytes → All HasNamesPlaced (map (found_of found) s.texts)
 modules-placed s found are few = λ k d l.
     (let all = map (found_of found) s.texts in
     let at = mapped (found_of found) s.texts (get_or all k d) (at-contains all k (get_or all k d) (slice_get-get_or all k d l)) in
-    subst HasNamesPlaced at.2 (placed at.0 at.1))
-  where
-    stand : (bytes : List ℕ) (span : Span) → StandsIn bytes span → Stands bytes span
-    stand bytes span h = record { utf8 = h.0; placed = h.1 }
-
-    placed : (t : ModuleText) → Contains s.texts t → HasNamesPlaced (found_of found t)
-    placed t h =
-        let is = are t h in record {
-          short = let m = most-of s.texts t h in omega (arith, m, few);
-          uses = λ k d l. stand t.bytes (get_or (uses_in found t.name) k d).name (is.uses k d l);
-          decls = λ k d l. stand t.bytes (get_or (decls_in found t.name) k d).name (is.decls k d l);
-        }
+    let most = most-of s.texts at.0 at.1 in
+    subst HasNamesPlaced at.2 (module-placed s.texts found at.0 (are at.0 at.1) (omega (arith, most, few))))
 
 -- ---- notes
 
@@ -138,6 +141,60 @@ module _ (s : State) (found : Findings) (name bytes : List ℕ) (is : IsNameFoun
   notes-are =
       (λ i. notes_on (sym (whole bytes utf8) i) ((is this there refl).tells.faults i))
       ∙ sym (ap (notes_in s.texts name) at)
+
+-- ---- one module
+
+-- what is found of some names and one more is found of that one
+pub last-found : (texts given : List ModuleText) (found : Findings) (names wanted : List (List ℕ)) (name copy : List ℕ) → texts ≡ given → wanted ≡ names ++ copy ∷ [] → copy ≡ name → AreNamesFound texts found wanted → IsNameFound given found name
+last-found texts given found names wanted name copy same more copied are =
+    subst (λ ts. IsNameFound ts found name) same
+    (are name (subst (λ ns. Contains ns name) (sym more) (Contains-append_right names (copy ∷ []) name (subst (Contains (copy ∷ [])) copied (here copy [])))))
+
+-- a text that is found by its name is this one
+text-named : (name bytes : List ℕ) (ts : List ModuleText) → option_map (λ t. t.bytes) (named name_of name ts) ≡ Some bytes → named name_of name ts ≡ Some (record { name = name; bytes = bytes })
+text-named name bytes [] e = cc
+text-named name bytes (t ∷ ts) e = by (bytes_eq name t.name) refl e (text-named name bytes ts)
+  where
+    by : (b : Bool) → bytes_eq name t.name ≡ b → option_map (λ (m : ModuleText). m.bytes) (cond b (Some t) (named name_of name ts)) ≡ Some bytes
+        → (option_map (λ m. m.bytes) (named name_of name ts) ≡ Some bytes → named name_of name ts ≡ Some (record { name = name; bytes = bytes }))
+        → cond b (Some t) (named name_of name ts) ≡ Some (record { name = name; bytes = bytes })
+    by true same e rest = let is : t.bytes ≡ bytes = cc in λ i. Some (record { name = sym (same-text name t.name same) i; bytes = is i })
+    by false apart e rest = rest e
+
+-- the module of a name among those of texts is that of the text of this name
+named-found : (s : State) (name : List ℕ) (ts : List ModuleText) → module_named (map (found_in s) ts) name ≡ option_map (found_in s) (named name_of name ts)
+named-found s name [] = refl
+named-found s name (t ∷ ts) = by (bytes_eq name t.name) (named-found s name ts)
+  where
+    by : (b : Bool) → module_named (map (found_in s) ts) name ≡ option_map (found_in s) (named name_of name ts) → cond b (Some (found_in s t)) (module_named (map (found_in s) ts) name) ≡ option_map (found_in s) (cond b (Some t) (named name_of name ts))
+    by true h = refl
+    by false h = h
+
+no-text : (o : Option ModuleText) → option_map (λ t. t.bytes) o ≡ None → o ≡ None
+no-text None e = refl
+no-text (Some t) e = cc
+
+-- there is none without a text
+pub none-found : (s : State) (name : List ℕ) → text_in s name ≡ None → None ≡ module_named (all_found s) name
+none-found s name e = sym (named-found s name s.texts ∙ ap (option_map (found_in s)) (no-text (named name_of name s.texts) e))
+
+module _ (s : State) (found : Findings) (name bytes : List ℕ) (is : IsNameFound s.texts found name) (at : text_in s name ≡ Some bytes) where
+  abbrev own : ModuleText
+  own = record { name = name; bytes = bytes }
+
+  own-there : Contains s.texts own
+  own-there = named-there s.texts name bytes at
+
+  -- what is found of a module that has a text
+  pub one-found : Some (found_of found own) ≡ module_named (all_found s) name
+  one-found =
+      let tells = (is own own-there refl).tells in
+      (λ i. Some (record { name = name; bytes = bytes; uses = tells.uses i; decls = tells.decls i }))
+      ∙ sym (named-found s name s.texts ∙ ap (option_map (found_in s)) (text-named name bytes s.texts at))
+
+  -- its names stand in its text
+  pub one-placed : bytes_of s.texts ≤ most_bytes → HasNamesPlaced (found_of found own)
+  one-placed few = let most = most-of s.texts own own-there in module-placed s.texts found own (is own own-there refl) (omega (arith, most, few))
 
 -- ---- open documents
 

@@ -1,26 +1,28 @@
 // The replies to questions on the texts.
-ghost use Rattle.std.specs.Prelude.{◌≡◌, IfOk};
+ghost use Rattle.std.specs.Prelude.{◌≡◌, IfOk, IfSome, option_and_then};
 ghost use Rattle.std.specs.List.{All};
 ghost use Rattle.family_facts.specs.Fronts.{front_of};
 ghost use Rattle.server_outlines.specs.Outlines.{symbols_by};
+ghost use Rattle.server_locations.specs.Locations.{declaration_of, meant_in, module_named};
 ghost use Rattle.server_locations.specs.Standing.{HasNamesPlaced};
 ghost use Rattle.server_texts.specs.Answers.{all_found, definition_reply, references_reply};
 ghost use Rattle.server_texts.specs.Outlines.{symbols_reply};
 ghost use Rattle.server_texts.specs.Server as in_server;
 
-use crate::found::{find_texts, found_modules};
+use crate::found::{find_named, find_texts, found_modules};
 use family_facts::one_front_of;
 use family_levels::Family;
-use lsp_wire::{Call, Position, Reply, Symbol};
+use lsp_wire::{Call, Location, Position, Reply, Symbol};
 use server_documents::Documents;
-use server_locations::{FoundModule, definition, references};
+use server_locations::{FoundModule, declaration_in, references, used_in_place};
 use server_outlines::symbols_of;
 use server_uris::module_of;
 use std::alloc::Global;
 use step_count::Steps;
 use tla_front::{FrontError, front};
+use tla_model::DeclId;
 use tla_text::Text;
-use tool_list::{List, Memory};
+use tool_list::{Chars, List, Memory};
 
 // The names of a module's text. One with a fault of its front has none. A text of 2 GiB is want of
 // memory.
@@ -76,7 +78,74 @@ fn modules_of<'a, L>(
     Ok(modules)
 }
 
-// The reply to `definition` at a place of a document.
+// The module of a name, with what is found of it. It is found together with the open documents: so
+// where it is one of these, nothing is found anew.
+fn module_found<'a, L>(
+    alloc: Global,
+    documents: &'a Documents,
+    family: &'a mut Family,
+    name: &'a Chars,
+    steps: &mut Steps<L>,
+) -> Result<Option<FoundModule<'a>>, Memory>
+    ensures found { IfOk result
+        (λ found. found ≡ module_named (all_found documents.now) name.now) }
+    ensures placed { IfOk result (λ found. IfSome found HasNamesPlaced) }
+{
+    if documents.limit().is_some() {
+        return Err(Memory);
+    }
+    let Some(bytes) = documents.text(name) else {
+        return Ok(None);
+    };
+    let texts = documents.texts(alloc)?;
+    let mut wanted = documents.opened(alloc)?;
+    wanted.push(name.copied()?)?;
+    find_named(alloc, texts.as_slice(), wanted, family, steps)?;
+    let found = family.found();
+    let uses = found.uses(name.as_str());
+    let decls = found.decls(name.as_str());
+    Ok(Some(FoundModule::new(name, bytes, uses, decls)))
+}
+
+// What the use at a place of the module of a name means.
+fn meant_at<L>(
+    alloc: Global,
+    documents: &Documents,
+    family: &mut Family,
+    name: &Chars,
+    at: Position,
+    steps: &mut Steps<L>,
+) -> Result<Option<DeclId>, Memory>
+    ensures { IfOk result (λ decl. decl
+        ≡ option_and_then (meant_in at) (module_named (all_found documents.now) name.now)) }
+{
+    let Some(module) = module_found(alloc, documents, family, name, steps)? else {
+        return Ok(None);
+    };
+    let decl = used_in_place(alloc, &module, at)?;
+    Ok(decl)
+}
+
+// Where a declaration stands.
+fn place_of<L>(
+    alloc: Global,
+    documents: &Documents,
+    family: &mut Family,
+    decl: &DeclId,
+    steps: &mut Steps<L>,
+) -> Result<Option<Location>, Memory>
+    ensures { IfOk result (λ at. at
+        ≡ declaration_of documents.now (all_found documents.now) decl.now) }
+{
+    let Some(module) = module_found(alloc, documents, family, &decl.module, steps)? else {
+        return Ok(None);
+    };
+    let at = declaration_in(alloc, documents, &module, decl)?;
+    Ok(at)
+}
+
+// The reply to `definition` at a place of a document. It looks at the module of the document, and
+// at that of the declaration.
 fn definition_at<L>(
     alloc: Global,
     documents: &Documents,
@@ -87,9 +156,16 @@ fn definition_at<L>(
 ) -> Result<Reply, Memory>
     ensures { IfOk result (λ reply. reply ≡ definition_reply documents.now uri.now at) }
 {
-    let modules = modules_of(alloc, documents, family, steps)?;
-    let reply = definition(alloc, documents, modules.as_slice(), uri, at)?;
-    Ok(reply)
+    let Some(name) = module_of(alloc, documents.root(), uri)? else {
+        return Ok(Reply::Null);
+    };
+    let Some(decl) = meant_at(alloc, documents, family, &name, at, steps)? else {
+        return Ok(Reply::Null);
+    };
+    match place_of(alloc, documents, family, &decl, steps)? {
+        Some(place) => Ok(Reply::Place(place)),
+        None => Ok(Reply::Null),
+    }
 }
 
 // The reply to `references` at a place of a document.
@@ -109,9 +185,9 @@ fn references_at<L>(
     Ok(reply)
 }
 
-/// The reply to a question on the texts. To ask for definitions and references finds what is not
-/// found yet of the modules.
-/// `Memory` comes where there was no room, and where they pass a limit.
+/// The reply to a question on the texts. To ask for references finds what is not found yet of all
+/// modules, and to ask for a definition that of two. `Memory` comes where there was no room, and
+/// where they pass a limit.
 pub fn reply_to<L>(
     alloc: Global,
     documents: &Documents,
