@@ -65,13 +65,23 @@ fn needs_of(alloc: Global, tree: &ModuleTree) -> Result<List<Chars>, Memory>
     spellings(alloc, tree.source.as_str(), named.needed.as_slice())
 }
 
+// The same names.
+fn copies(alloc: Global, names: &[Chars]) -> Result<List<Chars>, Memory>
+    ensures { IfOk result (λ copies. copies ≡ names.now) }
+{
+    let mut copies = List::new(alloc);
+    for name in names {
+        copies.push(name.copied()?)?;
+    }
+    Ok(copies)
+}
+
 // The module that a tree is.
 fn module_of_tree(alloc: Global, tree: SharedTree) -> Result<Module, Memory>
-    requires { (name bytes : ListOf ℕ) × IsTreeOf name bytes tree }
     ensures { (name bytes : ListOf ℕ) → IsTreeOf name bytes tree
         → IfOk result (IsModule name bytes) }
 {
-    let needs = needs_of(alloc, tree.tree())?;
+    let needs = copies(alloc, tree.needs().as_slice())?;
     Ok(Module {
         reading: Reading::Tree(tree),
         needs,
@@ -113,7 +123,8 @@ fn read_module(
     }
     match read_front(alloc, name, bytes) {
         Ok(tree) => {
-            let tree = SharedTree::new(alloc, tree)?;
+            let needs = needs_of(alloc, &tree)?;
+            let tree = SharedTree::new(alloc, tree, needs)?;
             let module = module_of_tree(alloc, tree)?;
             Ok(module)
         }

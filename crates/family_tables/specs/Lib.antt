@@ -1,4 +1,5 @@
 pub mod Tables
+pub mod Needs
 pub mod Modules
 pub mod Plans
 pub mod Outcomes

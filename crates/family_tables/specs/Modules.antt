@@ -1,5 +1,5 @@
 -- What was read of modules, and which modules are those of a family.
-use Rattle.std.specs.Prelude.{◌≡◌, ℕ, List, [], ◌∷◌, ◌++◌, if◌then◌else◌, map}
+use Rattle.std.specs.Prelude.{◌≡◌, ℕ, List, [], ◌∷◌, ◌++◌, if◌then◌else◌}
 use Rattle.std.specs.List.{AllZip}
 use Rattle.tla_lexeme.specs.Spans.{IsPlaced}
 use Rattle.tla_tree.specs.declared.unit.ModuleTree.{ModuleTree}
@@ -7,9 +7,9 @@ use Rattle.tla_model.specs.Lexemes.{spelled}
 use Rattle.front_laws.specs.Fronts.{IsFront, Tree, Fault}
 use Rattle.unit_grammar.specs.UnitNodes.{module_of}
 use Rattle.module_model.specs.Given.{IsReadable}
-use Rattle.module_graph.specs.Imports.{imports_of}
 use Rattle.family_facts.specs.Family.{Member, is_there}
 use Rattle.family_facts.specs.Verdicts.{text_of}
+pub use Rattle.family_tables.specs.Needs.{needs_of}
 use Rattle.family_tables.specs.declared.reading.Module.{Module}
 use Rattle.family_tables.specs.declared.reading.Reading.{Reading}
 
@@ -24,10 +24,6 @@ pub record IsTreeOf (name bytes : List ℕ) (tree : ModuleTree) : Type 0 where
 abbrev pub IsReading : List ℕ → List ℕ → Reading → Type 0
 IsReading name bytes (Reading.Tree tree) = IsTreeOf name bytes tree
 IsReading name bytes (Reading.Fault fault) = IsFront name bytes (Fault fault) × IsPlaced (text_of bytes) fault.span
-
--- the names of the modules that a tree needs
-abbrev pub needs_of : ModuleTree → List (List ℕ)
-needs_of tree = map (spelled tree.source) (imports_of tree.source (module_of tree))
 
 -- a module with a front fault needs nothing
 abbrev pub needs_in : Reading → List (List ℕ)
