@@ -1,9 +1,8 @@
 -- Where a module begins: code walks before its first unit.
 use Rattle.std.proofs.Common.{◌≡◌, ℕ, ◌<◌, List, [], ◌∷◌, Option, reverse, refl, sym, ap, subst, ◌∙◌, arith}
-use Rattle.std.specs.Prelude.{IfSome, map}
+use Rattle.std.specs.Prelude.{IfSome}
 use Rattle.tla_tree.specs.declared.unit.ModuleTree.{ModuleTree}
-use Rattle.tla_tree.specs.declared.unit.Unit.TheVariants as unit
-use Rattle.unit_grammar.specs.UnitNodes.{module_of, unit_at}
+use Rattle.unit_grammar.specs.UnitNodes.{module_of}
 use Rattle.unit_grammar.specs.Units.{ModuleUnits}
 use Rattle.tla_model.specs.Entities.{Meaning, Text}
 use Rattle.module_scope.specs.Environments.{first as first_scope}
@@ -24,8 +23,8 @@ use Rattle.module_leads.proofs.Led.{entered-there}
 use Rattle.unit_scope.specs.EnclosingReadings.{IsAt}
 use Rattle.unit_scope.specs.Steps.{IsFirst, over_for}
 use Rattle.unit_scope.specs.declared.reader.ModuleReader.{ModuleReader}
-use Rattle.unit_flattener.specs.Ahead.{AreBegun, AreOwned, own_ahead}
-use Rattle.unit_flattener.specs.Modules.{EndsAreBegun, IsBetween, IsModuleBegun}
+use Rattle.unit_flattener.specs.Ahead.{AreOwned, own_ahead}
+use Rattle.unit_flattener.specs.Modules.{AreOwnOf, EndsAreBegun, IsBetween, IsModuleBegun}
 use Rattle.unit_flattener.specs.Numbers.{AreBelow, KeepsFaces, file_faces}
 use Rattle.unit_flattener.specs.Walking.{AreNumbered, AreSettingsOf, IsSettingOf, IsWalking, IsWithinUnits, Walk, ahead, files_in, state_at}
 use Rattle.unit_flattener.specs.declared.flattener.UnitFlattener.{UnitFlattener}
@@ -141,14 +140,14 @@ module _ (text : Text) (imports : Imports) (source : List ℕ) (units : ModuleUn
 
 -- ---- by what code does
 
--- a module is opened by a reader behind what it extends, where another one went ahead
-pub opens : (written : Written) (tree : ModuleTree) (imports others : Imports) (tables : Tables) (numbers : List ℕ → Option ℕ) (entries : Exports) (title : List ℕ) (units : List unit.the_data) (reader other : ModuleReader) (own : List (List Meaning)) (symbols : List Meaning) (code : UnitFlattener)
-    → written.tree.now ≡ tree.tree → written.text.now ≡ text_of tree.source (module_of tree) → others ≡ imports → units ≡ tree.units → symbols ≡ meanings_of entries → title ≡ written.text.now.file
+-- a module is opened by a reader behind what it extends, where its own symbols are known
+pub opens : (written : Written) (tree : ModuleTree) (imports others : Imports) (tables : Tables) (numbers : List ℕ → Option ℕ) (entries : Exports) (title : List ℕ) (reader : ModuleReader) (own : List (List Meaning)) (symbols : List Meaning) (code : UnitFlattener)
+    → written.text.now ≡ text_of tree.source (module_of tree) → others ≡ imports → symbols ≡ meanings_of entries → title ≡ written.text.now.file
     → EndsAreBegun imports tree.source (module_of tree) → IsBetween tables → ((name : List ℕ) → IfSome (numbers name) (λ number. number < (leading_in tables.leads).count))
-    → IsFirst written.text.now others tree.source (module_of tree) other → AreBegun written.text.now other (map (unit_at written.tree.now) units) (reverse own)
+    → AreOwnOf written.text.now others tree.source (module_of tree) (reverse own)
     → IsFirst written.text.now imports tree.source (module_of tree) reader → IsModuleBegun tables title reader own symbols code → ((name : List ℕ) → files_in code name ≡ numbers name)
     → IsOpened written.text.now imports tree.source (module_of tree) tables numbers (meanings_of entries) code
-opens written tree imports others tables numbers entries title units reader other own symbols code nodes text-is same listed symbols-are named ends between below ahead begins first begun files =
+opens written tree imports others tables numbers entries title reader own symbols code text-is same symbols-are named ends between below owned first begun files =
     record {
       reader = reader;
       own = own;
@@ -158,7 +157,6 @@ opens written tree imports others tables numbers entries title units reader othe
       files = files;
       below = below;
       first = first;
-      owns = begins (over_for others (module_of tree)) (first_read (files_of others) tree.source (module_of tree)) ahead
-          ∙ (λ i. (own_ahead (text-is i) (files_of (same i)) (words_of (module_of tree)) (first_read (files_of (same i)) tree.source (module_of tree)) (map (unit_at (nodes i)) (listed i))).begun);
+      owns = owned ∙ (λ i. (own_ahead (text-is i) (files_of (same i)) (words_of (module_of tree)) (first_read (files_of (same i)) tree.source (module_of tree)) (module_of tree).units).begun);
       ends = ends;
     }

@@ -1,5 +1,5 @@
 -- Own symbols of nested modules, by the units that are ahead: a module that begins has those that it turns out to have at its end.
-use Rattle.std.specs.Prelude.{◌≡◌, ⊤, ℕ, List, [], ◌∷◌, ◌++◌, drop, length, reverse}
+use Rattle.std.specs.Prelude.{◌≡◌, ⊤, ℕ, Bool, true, false, List, [], ◌∷◌, ◌++◌, drop, length, reverse}
 use Rattle.tla_tree.specs.Arena.{Node}
 use Rattle.tla_tree.specs.declared.unit.Unit.TheVariants as unit
 use Rattle.unit_grammar.specs.Units.{UnitTree, ModuleBegin, ModuleEnd}
@@ -20,6 +20,11 @@ use Rattle.unit_scope.specs.declared.reader.ModuleReader.{ModuleReader}
 pub record Owned : Type 0 where
   pub begun : List (List Meaning)
   pub round : List (List Meaning)
+
+-- a nested module begins
+abbrev pub begins : unit.the_data → Bool
+begins (unit.ModuleBegin dashes name extends) = true
+begins x = false
 
 -- the first of these, or no symbols
 abbrev pub first_own : List (List Meaning) → List Meaning

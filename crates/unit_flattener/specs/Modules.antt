@@ -1,7 +1,7 @@
 -- What is made of modules, one after another.
 use Rattle.std.specs.Prelude.{◌≡◌, ◌<◌, ℕ, Bool, List, []}
 use Rattle.unit_grammar.specs.Units.{ModuleUnits}
-use Rattle.tla_model.specs.Entities.{Meaning}
+use Rattle.tla_model.specs.Entities.{Meaning, Text}
 use Rattle.module_scope.specs.Environments.{first as first_scope}
 use Rattle.module_model.specs.Exports.{Exports, exports_of, files_of}
 use Rattle.module_model.specs.Imports.{Imports}
@@ -28,6 +28,10 @@ use Rattle.unit_flattener.specs.declared.modules.Tables.{Tables}
 -- each end of a nested module among the units of a module belongs to one that begins there
 abbrev pub EndsAreBegun : Imports → List ℕ → ModuleUnits → Type 0
 EndsAreBegun imports source units = (own_ahead (text_of source units) (files_of imports) (words_of units) (first_read (files_of imports) source units) units.units).round ≡ []
+
+-- the own symbols of the nested modules that begin in it
+abbrev pub AreOwnOf : Text → Imports → List ℕ → ModuleUnits → List (List Meaning) → Type 0
+AreOwnOf text imports source units begun = begun ≡ (own_ahead text (files_of imports) (words_of units) (first_read (files_of imports) source units) units.units).begun
 
 -- and each that begins there ends there
 abbrev pub BeginsAreEnded : Imports → List ℕ → ModuleUnits → Type 0

@@ -21,7 +21,7 @@ ghost use Rattle.unit_flattener.specs.Numbers.{file_faces};
 
 use crate::flattener::UnitFlattener;
 use crate::meanings::{meanings_of, with_more};
-use crate::own::own_symbols;
+use crate::own::symbols_ahead;
 use crate::scope::ModuleNumbers;
 use brought_entries::exports;
 use indexmap::IndexMap;
@@ -146,10 +146,8 @@ pub fn flatten_module<'a>(
 {
     let (reader, ahead) = readers;
     let mut reader = reader;
-    let mut ahead = ahead;
     let units = tree.units.as_slice();
-    ahead.pass_extended(alloc, written.text, tree)?;
-    let own = own_symbols(alloc, written.text, &mut ahead, written.tree, units)?;
+    let own = symbols_ahead(alloc, written.text, tree, ahead)?;
     reader.pass_extended(alloc, written.text, tree)?;
     let meanings = meanings_of(alloc, &symbols)?;
     let mut walker = begun(

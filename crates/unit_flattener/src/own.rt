@@ -1,20 +1,25 @@
 // Own symbols of nested modules, which are known at their ends and asked for where they begin.
-ghost use Rattle.std.specs.Prelude.{◌≡◌, ◌∷◌, [], IfOk, OnOk, List as ListOf, drop, map, reverse};
-ghost use Rattle.std.specs.List.{AllByRecursion};
+ghost use Rattle.std.specs.Prelude.{◌≡◌, ◌∷◌, [], IfOk, OnOk, List as ListOf, drop, false, map, reverse};
+ghost use Rattle.std.specs.Bool.{OnTrue};
+ghost use Rattle.std.specs.List.{All, AllByRecursion};
 ghost use Rattle.tla_symbols.specs.declared.lexeme.Lexeme.{Lexeme};
 ghost use Rattle.tla_tree.specs.Arena.{AreThere, Node};
-ghost use Rattle.tla_model.specs.Lexemes.{LiesIn, unit_lexemes};
-ghost use Rattle.unit_grammar.specs.UnitNodes.{nodes_in, unit_at};
+ghost use Rattle.tla_model.specs.Lexemes.{LexemesLie, LiesIn, unit_lexemes};
+ghost use Rattle.module_model.specs.Modules.{text_of};
+ghost use Rattle.unit_grammar.specs.UnitNodes.{HasNodes, module_of, nodes_in, unit_at};
 ghost use Rattle.unit_grammar.specs.Units.{ModuleEnd};
 ghost use Rattle.unit_scope.specs.EnclosingReadings.{IsSomewhere};
-ghost use Rattle.unit_scope.specs.Steps.{Leads, behind_unit};
-ghost use Rattle.unit_flattener.specs.Ahead.{AppendsEnds, AreBegun, IsTakenAt, first_own, taken_by, taken_in};
+ghost use Rattle.unit_scope.specs.Steps.{IsUnread, Leads, behind_unit};
+ghost use Rattle.unit_flattener.specs.Ahead as in_ahead;
+ghost use Rattle.unit_flattener.specs.Ahead.{AppendsEnds, AreBegun, IsTakenAt, first_own};
+ghost use Rattle.unit_flattener.specs.Ahead.{taken_by, taken_in};
+ghost use Rattle.unit_flattener.specs.Modules.{AreOwnOf};
 
 use crate::meanings::meanings_of;
 use brought_entries::end_nested;
 use std::alloc::Global;
 use tla_model::Meaning;
-use tla_tree::{Tree, Unit};
+use tla_tree::{ModuleTree, Tree, Unit};
 use tool_list::{List, Memory};
 use tree_names::ModuleText;
 use unit_scope::ModuleReader;
@@ -149,9 +154,28 @@ fn begun_in(
     Ok(begun)
 }
 
-/// The own symbols of the nested modules that begin in units, those of the first one last: what
-/// each turns out to have at its end. The reader goes behind the units.
-pub fn own_symbols<'a>(
+// Whether a nested module begins.
+fn begins(unit: &Unit) -> bool
+    ensures { result ≡ in_ahead.begins unit.now }
+{
+    matches!(unit, Unit::ModuleBegin { .. })
+}
+
+// Whether no nested module begins in units.
+fn has_no_nested(units: &[Unit]) -> bool
+    ensures { OnTrue result (All (λ unit. in_ahead.begins unit ≡ false) units.now) }
+{
+    for unit in units {
+        if begins(unit) {
+            return false;
+        }
+    }
+    true
+}
+
+// The own symbols of the nested modules that begin in units, those of the first one last: what each
+// turns out to have at its end. The reader goes behind the units.
+fn own_symbols<'a>(
     alloc: Global,
     text: &ModuleText<'a>,
     reader: &mut ModuleReader<'a>,
@@ -168,5 +192,30 @@ pub fn own_symbols<'a>(
 {
     let ends = ends_in(alloc, text, reader, tree, units)?;
     let own = begun_in(alloc, units, ends)?;
+    Ok(own)
+}
+
+/// The own symbols of the nested modules that begin in a module, those of the first one last, by a
+/// reader that stands before what the module extends. It goes ahead where there are such modules.
+pub fn symbols_ahead<'a>(
+    alloc: Global,
+    text: &ModuleText<'a>,
+    tree: &ModuleTree,
+    reader: ModuleReader<'a>,
+) -> Result<Vec<List<Meaning>>, Memory>
+    requires nodes { HasNodes tree.now }
+    requires lie { LexemesLie text.now.source (module_of tree.now) }
+    requires text { text.now ≡ text_of tree.now.source (module_of tree.now) }
+    requires unread { IsUnread text.now reader.scope.imported.now (module_of tree.now) reader }
+    ensures { IfOk result (λ own. AreOwnOf text.now reader.entry.scope.imported.now
+        tree.now.source (module_of tree.now) (reverse own.items)) }
+{
+    let mut reader = reader;
+    let units = tree.units.as_slice();
+    if has_no_nested(units) {
+        return Ok(Vec::new(alloc));
+    }
+    reader.pass_extended(alloc, text, tree)?;
+    let own = own_symbols(alloc, text, &mut reader, &tree.tree, units)?;
     Ok(own)
 }

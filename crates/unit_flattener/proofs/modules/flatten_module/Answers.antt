@@ -14,18 +14,13 @@ use Rattle.unit_flattener.proofs.Opening.{opens, within-first}
 use Rattle.unit_flattener.proofs.Results.{if-four}
 use Rattle.unit_flattener.proofs.modules.flatten_module.Goals as goal
 
-pub own_symbols-requires-clause-lie : goal.own_symbols-requires-clause-lie
-own_symbols-requires-clause-lie c =
-    subst (λ nodes. AllByRecursion (λ unit. AllByRecursion (LiesIn c.args.written.now.text.now.source) (unit_lexemes (unit_at nodes unit))) c.as_slice-units.result.now) (sym c.requires.tree)
-    (units-lie (LiesIn c.args.written.now.text.now.source) c.args.tree.now c.as_slice-units.result.now c.as_slice-units.ensures c.requires.lie)
-
 pub extend-requires-clause-within : goal.extend-requires-clause-within
 extend-requires-clause-within c =
     within-first c.args.written.now.text.now c.args.readers.0.scope.imported.now c.args.tree.now.source (module_of c.args.tree.now) c.args.tables (get_by_text c.args.files.now) _ c.in_ok-walker.walker (
     opens c.args.written.now c.args.tree.now c.args.readers.0.scope.imported.now c.args.readers.1.scope.imported.now c.args.tables (get_by_text c.args.files.now) (entries_in c.args.symbols) c.file.result.now
-    c.as_slice-units.result.now c.pass_extended-2.new.self c.pass_extended.new.self c.in_ok-own.own.items c.as_slice.result.now c.in_ok-walker.walker
-    c.requires.tree c.requires.text (ap (λ over. over.imports) c.requires.ahead.kept) c.as_slice-units.ensures (c.as_slice.ensures ∙ c.in_ok-meanings.ensures) c.file.ensures c.requires.ends c.requires.between c.requires.files
-    c.in_ok-pass_extended.ensures.state c.in_ok-own.ensures c.in_ok-pass_extended-2.ensures.state c.in_ok-walker.ensures.begun (λ name. ap (λ files. get_by_text files name) c.in_ok-walker.ensures.files))
+    c.pass_extended.new.self c.in_ok-own.own.items c.as_slice.result.now c.in_ok-walker.walker
+    c.requires.text (ap (λ over. over.imports) c.requires.ahead.kept) (c.as_slice.ensures ∙ c.in_ok-meanings.ensures) c.file.ensures c.requires.ends c.requires.between c.requires.files
+    c.in_ok-own.ensures c.in_ok-pass_extended.ensures.state c.in_ok-walker.ensures.begun (λ name. ap (λ files. get_by_text files name) c.in_ok-walker.ensures.files))
 
 pub extend-requires-clause-lie : goal.extend-requires-clause-lie
 extend-requires-clause-lie c =
@@ -38,9 +33,9 @@ walk_all-requires-clause-before c =
     subst (λ units. IsBefore c.args.written.now.text.now units c.extend.new.self) (sym (λ i. map (unit_at (c.requires.tree i)) (c.as_slice-units.ensures i)))
     (before-units c.args.written.now c.args.readers.0.scope.imported.now c.args.tree.now.source (module_of c.args.tree.now) c.args.tables (get_by_text c.args.files.now) (entries_in c.args.symbols) c.in_ok-walker.walker c.extend.new.self (
     opens c.args.written.now c.args.tree.now c.args.readers.0.scope.imported.now c.args.readers.1.scope.imported.now c.args.tables (get_by_text c.args.files.now) (entries_in c.args.symbols) c.file.result.now
-    c.as_slice-units.result.now c.pass_extended-2.new.self c.pass_extended.new.self c.in_ok-own.own.items c.as_slice.result.now c.in_ok-walker.walker
-    c.requires.tree c.requires.text (ap (λ over. over.imports) c.requires.ahead.kept) c.as_slice-units.ensures (c.as_slice.ensures ∙ c.in_ok-meanings.ensures) c.file.ensures c.requires.ends c.requires.between c.requires.files
-    c.in_ok-pass_extended.ensures.state c.in_ok-own.ensures c.in_ok-pass_extended-2.ensures.state c.in_ok-walker.ensures.begun (λ name. ap (λ files. get_by_text files name) c.in_ok-walker.ensures.files))
+    c.pass_extended.new.self c.in_ok-own.own.items c.as_slice.result.now c.in_ok-walker.walker
+    c.requires.text (ap (λ over. over.imports) c.requires.ahead.kept) (c.as_slice.ensures ∙ c.in_ok-meanings.ensures) c.file.ensures c.requires.ends c.requires.between c.requires.files
+    c.in_ok-own.ensures c.in_ok-pass_extended.ensures.state c.in_ok-walker.ensures.begun (λ name. ap (λ files. get_by_text files name) c.in_ok-walker.ensures.files))
     (subst (λ names. ExtendsAll c.args.written.now names c.in_ok-walker.walker c.extend.new.self) c.as_slice-2.ensures c.in_ok-extend.ensures.extended))
 
 pub walk_all-requires-clause-there : goal.walk_all-requires-clause-there
@@ -56,9 +51,9 @@ pub ended-requires : goal.ended-requires
 ended-requires c =
     last-sound c.args.written.now c.args.readers.0.scope.imported.now c.args.tree.now.source (module_of c.args.tree.now) c.args.tables (get_by_text c.args.files.now) (entries_in c.args.symbols) c.in_ok-walker.walker c.extend.new.self (
     opens c.args.written.now c.args.tree.now c.args.readers.0.scope.imported.now c.args.readers.1.scope.imported.now c.args.tables (get_by_text c.args.files.now) (entries_in c.args.symbols) c.file.result.now
-    c.as_slice-units.result.now c.pass_extended-2.new.self c.pass_extended.new.self c.in_ok-own.own.items c.as_slice.result.now c.in_ok-walker.walker
-    c.requires.tree c.requires.text (ap (λ over. over.imports) c.requires.ahead.kept) c.as_slice-units.ensures (c.as_slice.ensures ∙ c.in_ok-meanings.ensures) c.file.ensures c.requires.ends c.requires.between c.requires.files
-    c.in_ok-pass_extended.ensures.state c.in_ok-own.ensures c.in_ok-pass_extended-2.ensures.state c.in_ok-walker.ensures.begun (λ name. ap (λ files. get_by_text files name) c.in_ok-walker.ensures.files))
+    c.pass_extended.new.self c.in_ok-own.own.items c.as_slice.result.now c.in_ok-walker.walker
+    c.requires.text (ap (λ over. over.imports) c.requires.ahead.kept) (c.as_slice.ensures ∙ c.in_ok-meanings.ensures) c.file.ensures c.requires.ends c.requires.between c.requires.files
+    c.in_ok-own.ensures c.in_ok-pass_extended.ensures.state c.in_ok-walker.ensures.begun (λ name. ap (λ files. get_by_text files name) c.in_ok-walker.ensures.files))
     (subst (λ names. ExtendsAll c.args.written.now names c.in_ok-walker.walker c.extend.new.self) c.as_slice-2.ensures c.in_ok-extend.ensures.extended) c.walk_all.new.self
     (subst (λ units. WalksAll c.args.written.now units c.extend.new.self c.walk_all.new.self) (λ i. map (unit_at (c.requires.tree i)) (c.as_slice-units.ensures i)) c.in_ok-walk_all.ensures)
 
@@ -67,9 +62,9 @@ returns c =
     if-four c.ended.result c.ended.ensures.state c.ended.ensures.number c.ended.ensures.sound c.ended.ensures.known (λ made state number sound known.
     module-walks c.args.written.now c.args.readers.0.scope.imported.now c.args.tree.now.source (module_of c.args.tree.now) c.args.tables (get_by_text c.args.files.now) (entries_in c.args.symbols) c.in_ok-walker.walker c.extend.new.self (
     opens c.args.written.now c.args.tree.now c.args.readers.0.scope.imported.now c.args.readers.1.scope.imported.now c.args.tables (get_by_text c.args.files.now) (entries_in c.args.symbols) c.file.result.now
-    c.as_slice-units.result.now c.pass_extended-2.new.self c.pass_extended.new.self c.in_ok-own.own.items c.as_slice.result.now c.in_ok-walker.walker
-    c.requires.tree c.requires.text (ap (λ over. over.imports) c.requires.ahead.kept) c.as_slice-units.ensures (c.as_slice.ensures ∙ c.in_ok-meanings.ensures) c.file.ensures c.requires.ends c.requires.between c.requires.files
-    c.in_ok-pass_extended.ensures.state c.in_ok-own.ensures c.in_ok-pass_extended-2.ensures.state c.in_ok-walker.ensures.begun (λ name. ap (λ files. get_by_text files name) c.in_ok-walker.ensures.files))
+    c.pass_extended.new.self c.in_ok-own.own.items c.as_slice.result.now c.in_ok-walker.walker
+    c.requires.text (ap (λ over. over.imports) c.requires.ahead.kept) (c.as_slice.ensures ∙ c.in_ok-meanings.ensures) c.file.ensures c.requires.ends c.requires.between c.requires.files
+    c.in_ok-own.ensures c.in_ok-pass_extended.ensures.state c.in_ok-walker.ensures.begun (λ name. ap (λ files. get_by_text files name) c.in_ok-walker.ensures.files))
     (subst (λ names. ExtendsAll c.args.written.now names c.in_ok-walker.walker c.extend.new.self) c.as_slice-2.ensures c.in_ok-extend.ensures.extended) c.walk_all.new.self
     (subst (λ units. WalksAll c.args.written.now units c.extend.new.self c.walk_all.new.self) (λ i. map (unit_at (c.requires.tree i)) (c.as_slice-units.ensures i)) c.in_ok-walk_all.ensures)
     made.tables c.args.is_constant made.face c.requires.begins state number sound known)
