@@ -1,5 +1,5 @@
 -- What is kept is right where more is defined.
-use Rattle.std.proofs.Common.{◌≡◌, ℕ, suc, List, [], ◌∷◌, ◌++◌, Option, Some, None, refl, sym, ap, ◌∙◌, subst, map, arith}
+use Rattle.std.proofs.Common.{Vec, Global, ◌≡◌, ℕ, suc, List, [], ◌∷◌, ◌++◌, Option, Some, None, refl, sym, ap, ◌∙◌, subst, map, arith}
 use Rattle.std.specs.Prelude.{slice_get}
 use mathlib.Core.Path.{fun_ext}
 use Rattle.tla_symbols.specs.declared.level.Kind as level
@@ -16,7 +16,8 @@ use Rattle.kind_table.specs.Table.{arg_item, meaning, meanings}
 use Rattle.kind_table.proofs.Firsts.{firsts-kept, keeps-longer}
 use Rattle.level_facts.specs.declared.facts.Key.{Key}
 use Rattle.level_facts.specs.declared.facts.KindFacts.{KindFacts}
-use Rattle.level_facts.specs.Facts.{HasBody, IsFacts, NameBodies, NamesBody, Remembers}
+use Rattle.level_facts.specs.Facts.{AddsFrames, HasBody, IsFacts, NameBodies, NamesBody, Remembers, frame_of}
+use Rattle.level_facts.proofs.Keeping.{frames_on}
 
 module _ (flat more : FlatModule) (extends : Extends flat more) (ordered : IsOrdered flat) where
   -- a definition whose body is there is the same
@@ -44,16 +45,17 @@ module _ (flat more : FlatModule) (extends : Extends flat more) (ordered : IsOrd
   meanings-kept table h [] = refl
   meanings-kept table h (n ∷ ns) = ap (λ x. x ∷ meanings flat table ns) (meaning-kept table h n) ∙ ap (λ xs. meaning more table n ∷ xs) (meanings-kept table h ns)
 
-  remembers-kept : (table : List Arg) → NameBodies flat table → (es : List (Key × Option level.Kind)) → Remembers flat table es → Remembers more table es
-  remembers-kept table h [] all = tt
-  remembers-kept table h (e ∷ es) all = (
+  remembers-kept : (table : List Arg) (frames : List (Vec ℕ Global)) → NameBodies flat table → (es : List (Key × Option level.Kind)) → Remembers flat table frames es → Remembers more table frames es
+  remembers-kept table frames h [] all = tt
+  remembers-kept table frames h (e ∷ es) all = (
     record {
       there = body-there e.0.definition all.0.there;
+      stored = all.0.stored;
       within = all.0.within;
-      value = all.0.value ∙ ap (λ s. kind (text_of flat e.0.definition s)) (meanings-kept table h e.0.frame.items)
-          ∙ ap (λ b. kind (b (λ outer. meanings more table e.0.frame.items))) (body-kept e.0.definition all.0.there);
+      value = all.0.value ∙ ap (λ s. kind (text_of flat e.0.definition s)) (meanings-kept table h (frame_of frames e.0.frame))
+          ∙ ap (λ b. kind (b (λ outer. meanings more table (frame_of frames e.0.frame)))) (body-kept e.0.definition all.0.there);
     },
-    remembers-kept table h es all.1,
+    remembers-kept table frames h es all.1,
   )
 
   names-kept : (a : Arg) → NamesBody flat a → NamesBody more a
@@ -63,20 +65,29 @@ module _ (flat more : FlatModule) (extends : Extends flat more) (ordered : IsOrd
   names-kept (Operator d ns) h = body-there d h
 
   -- all that is kept, with the first nodes of what was added
-  pub extended : (facts new : KindFacts) → IsFacts flat facts → new.arguments.keys ≡ facts.arguments.keys → new.kept.entries ≡ facts.kept.entries → GivesFirsts more facts.firsts.items new.firsts.items → IsFacts more new
-  extended facts new h args kept firsts =
+  pub extended : (facts new : KindFacts) → IsFacts flat facts → new.arguments.keys ≡ facts.arguments.keys → new.frames.keys ≡ facts.frames.keys → new.kept.entries ≡ facts.kept.entries → GivesFirsts more facts.firsts.items new.firsts.items → IsFacts more new
+  extended facts new h args frames kept firsts =
       let f = firsts-kept flat more facts.firsts.items extends h.firsts in record {
         firsts = firsts f.0 f.1;
         table = subst (λ t. Rattle.kind_table.specs.Table.IsTable t) (sym args) h.table;
         bodies = subst (NameBodies more) (sym args) (λ i a e. names-kept a (h.bodies i a e));
-        kept = subst (λ t. Remembers more t new.kept.entries) (sym args) (subst (Remembers more facts.arguments.keys) (sym kept) (remembers-kept facts.arguments.keys h.bodies facts.kept.entries h.kept));
+        kept = subst (λ t. Remembers more t new.frames.keys new.kept.entries) (sym args) (subst (λ fs. Remembers more facts.arguments.keys fs new.kept.entries) (sym frames) (subst (Remembers more facts.arguments.keys facts.frames.keys) (sym kept) (remembers-kept facts.arguments.keys facts.frames.keys h.bodies facts.kept.entries h.kept)));
       }
 
 -- and where nothing was added
-pub facts_stay : (flat : FlatModule) (facts new : KindFacts) → IsFacts flat facts → new.arguments.keys ≡ facts.arguments.keys → new.kept.entries ≡ facts.kept.entries → new.firsts.items ≡ facts.firsts.items → IsFacts flat new
-facts_stay flat facts new h args kept firsts = record {
+pub facts_stay : (flat : FlatModule) (facts new : KindFacts) → IsFacts flat facts → new.arguments.keys ≡ facts.arguments.keys → new.frames.keys ≡ facts.frames.keys → new.kept.entries ≡ facts.kept.entries → new.firsts.items ≡ facts.firsts.items → IsFacts flat new
+facts_stay flat facts new h args frames kept firsts = record {
   firsts = subst (IsFirsts flat) (sym firsts) h.firsts;
   table = subst (λ t. Rattle.kind_table.specs.Table.IsTable t) (sym args) h.table;
   bodies = subst (NameBodies flat) (sym args) h.bodies;
-  kept = subst (λ t. Remembers flat t new.kept.entries) (sym args) (subst (Remembers flat facts.arguments.keys) (sym kept) h.kept);
+  kept = subst (λ t. Remembers flat t new.frames.keys new.kept.entries) (sym args) (subst (λ fs. Remembers flat facts.arguments.keys fs new.kept.entries) (sym frames) (subst (Remembers flat facts.arguments.keys facts.frames.keys) (sym kept) h.kept));
+}
+
+-- and where frames were added alone
+pub frames_added : (flat : FlatModule) (facts new : KindFacts) → IsFacts flat facts → new.arguments.keys ≡ facts.arguments.keys → new.kept.entries ≡ facts.kept.entries → new.firsts.items ≡ facts.firsts.items → AddsFrames facts.frames.keys new.frames.keys → IsFacts flat new
+frames_added flat facts new h args kept firsts adds = record {
+  firsts = subst (IsFirsts flat) (sym firsts) h.firsts;
+  table = subst (λ t. Rattle.kind_table.specs.Table.IsTable t) (sym args) h.table;
+  bodies = subst (NameBodies flat) (sym args) h.bodies;
+  kept = subst (λ t. Remembers flat t new.frames.keys new.kept.entries) (sym args) (subst (Remembers flat facts.arguments.keys new.frames.keys) (sym kept) (frames_on flat facts.arguments.keys facts.frames.keys new.frames.keys adds facts.kept.entries h.kept));
 }

@@ -1,12 +1,15 @@
 -- What is kept of kinds, and what callers put in.
-use Rattle.std.proofs.Common.{Vec, Global, ◌≡◌, ℕ, ◌<◌, ◌≤◌, Bool, true, false, cond, List, [], ◌∷◌, ◌++◌, Option, Some, None, inl, inr, length, refl, sym, ap, ◌∙◌, subst, map}
+use Rattle.std.proofs.Common.{arith, Vec, Global, ◌≡◌, ℕ, ◌<◌, ◌≤◌, Bool, true, false, cond, List, [], ◌∷◌, ◌++◌, Option, Some, None, inl, inr, length, length-append, append-nil, get_or, refl, sym, ap, ◌∙◌, subst, map}
 use Rattle.std.specs.Prelude.{◌⊎◌, nat_eq, slice_get}
 use mathlib.Core.Path.{fun_ext}
 use Rattle.std.specs.Map.{lookup}
+use Rattle.std.specs.List.{list_any, position}
 use Rattle.std.specs.Cmp.Lexicographic.{pointwise}
-use Rattle.std.proofs.lemmas.Option.{slice_get_within}
+use Rattle.std.proofs.lemmas.Option.{slice_get_cases, slice_get_within, slice_get-get_or}
+use Rattle.std.proofs.lemmas.List.Quantifiers.{position-Some}
 use Rattle.std.proofs.lemmas.Bool.{cases_lt, eqb-true, and_parts}
 use Rattle.indexmap.specs.IndexMap.{insert_entry}
+use Rattle.indexmap.specs.IndexSet.{insert_key}
 use Rattle.tla_symbols.specs.declared.level.Kind as level
 use Rattle.tla_symbols.specs.declared.level.Rule.{Rule}
 use Rattle.kind_text.specs.ExpandedKind.{kind}
@@ -23,48 +26,98 @@ use Rattle.level_facts.specs.contracts.facts.KeyPartialEq as key
 use Rattle.level_facts.specs.declared.facts.Key.{Key}
 use Rattle.level_facts.specs.declared.facts.Argument.{Argument}
 use Rattle.level_facts.specs.declared.facts.Argument.TheVariants.{Value, Stays, BuiltIn, Operator}
-use Rattle.level_facts.specs.Facts.{AddsArguments, HasBody, HasNoBody, IsKept, NameBodies, NamesBody, Remembers, argument_item}
+use Rattle.level_facts.specs.Facts.{AddsArguments, AddsFrames, HasBody, HasNoBody, HasNumber, IsKept, NameBodies, NamesBody, Remembers, argument_item, frame_items, frame_of}
 
-key-exact : (a b : Key) → (key.TheImpl.eq-value).it a b ≡ true → (a.definition ≡ b.definition) × (a.frame.items ≡ b.frame.items)
+key-exact : (a b : Key) → (key.TheImpl.eq-value).it a b ≡ true → (a.definition ≡ b.definition) × (a.frame ≡ b.frame)
 key-exact a b h =
-    let p = and_parts (nat_eq a.definition b.definition) (pointwise nat_eq a.frame.items b.frame.items) h in
-    (eqb-true _ _ p.0, numbers-equal _ _ p.1)
+    let p = and_parts (nat_eq a.definition b.definition) (nat_eq a.frame b.frame) h in
+    (eqb-true _ _ p.0, eqb-true _ _ p.1)
 
 abbrev key_eq : Key → Key → Bool
 key_eq = (key.TheImpl.eq-value).it
 
-module _ (flat : FlatModule) (table : List Arg) where
+module _ (flat : FlatModule) (table : List Arg) (frames : List (Vec ℕ Global)) where
   -- an equal key has the same kind
-  kept-same : (a b : Key) (k : Option level.Kind) → (a.definition ≡ b.definition) × (a.frame.items ≡ b.frame.items) → IsKept flat table a k → IsKept flat table b k
+  kept-same : (a b : Key) (k : Option level.Kind) → (a.definition ≡ b.definition) × (a.frame ≡ b.frame) → IsKept flat table frames a k → IsKept flat table frames b k
   kept-same a b k e h = record {
     there = subst (HasBody flat) e.0 h.there;
-    within = subst (λ x. AllWithin table x) e.1 h.within;
-    value = h.value ∙ ap (λ d. kind (text_of flat d (meanings flat table a.frame.items))) e.0 ∙ ap (λ x. kind (text_of flat b.definition (meanings flat table x))) e.1;
+    stored = subst (λ n. n < length frames) e.1 h.stored;
+    within = subst (λ n. AllWithin table (frame_of frames n)) e.1 h.within;
+    value = h.value ∙ ap (λ d. kind (text_of flat d (meanings flat table (frame_of frames a.frame)))) e.0 ∙ ap (λ n. kind (text_of flat b.definition (meanings flat table (frame_of frames n)))) e.1;
   }
 
-  pub kept-insert : (es : List (Key × Option level.Kind)) (a : Key) (k : Option level.Kind) → Remembers flat table es → IsKept flat table a k → Remembers flat table (insert_entry key_eq es a k)
+  pub kept-insert : (es : List (Key × Option level.Kind)) (a : Key) (k : Option level.Kind) → Remembers flat table frames es → IsKept flat table frames a k → Remembers flat table frames (insert_entry key_eq es a k)
   kept-insert [] a k h n = (n, tt)
   kept-insert (e ∷ es) a k h n = choice (kept-insert es a k h.1 n) (key_eq a e.0) refl
     where
-      choice : Remembers flat table (insert_entry key_eq es a k) → (b : Bool) → key_eq a e.0 ≡ b → Remembers flat table (cond b ((e.0, k) ∷ es) (e ∷ insert_entry key_eq es a k))
+      choice : Remembers flat table frames (insert_entry key_eq es a k) → (b : Bool) → key_eq a e.0 ≡ b → Remembers flat table frames (cond b ((e.0, k) ∷ es) (e ∷ insert_entry key_eq es a k))
       choice rest true q = (kept-same a e.0 k (key-exact a e.0 q) n, h.1)
       choice rest false q = (h.0, rest)
 
-  pub kept-lookup : (es : List (Key × Option level.Kind)) (a : Key) (k : Option level.Kind) → Remembers flat table es → lookup (key_eq a) es ≡ Some k → IsKept flat table a k
+  pub kept-lookup : (es : List (Key × Option level.Kind)) (a : Key) (k : Option level.Kind) → Remembers flat table frames es → lookup (key_eq a) es ≡ Some k → IsKept flat table frames a k
   kept-lookup [] a k h q = cc
   kept-lookup (e ∷ es) a k h q = choice (kept-lookup es a k h.1) (key_eq a e.0) refl q
     where
-      choice : (lookup (key_eq a) es ≡ Some k → IsKept flat table a k) → (b : Bool) → key_eq a e.0 ≡ b → cond b (Some e.1) (lookup (key_eq a) es) ≡ Some k → IsKept flat table a k
+      choice : (lookup (key_eq a) es ≡ Some k → IsKept flat table frames a k) → (b : Bool) → key_eq a e.0 ≡ b → cond b (Some e.1) (lookup (key_eq a) es) ≡ Some k → IsKept flat table frames a k
       choice rest true p r =
           let x : e.1 ≡ k = cc in let s = key-exact a e.0 p in
-          subst (λ y. IsKept flat table a y) x (kept-same e.0 a e.1 (sym s.0, sym s.1) h.0)
+          subst (λ y. IsKept flat table frames a y) x (kept-same e.0 a e.1 (sym s.0, sym s.1) h.0)
       choice rest false p r = rest r
 
 -- a longer table keeps what is kept
-pub kept_on : (flat : FlatModule) {a b : List Arg} → Grows a b → (es : List (Key × Option level.Kind)) → Remembers flat a es → Remembers flat b es
-kept_on flat g [] h = tt
-kept_on flat {a} {b} g (e ∷ es) h =
-    (record { there = h.0.there; within = within_on g e.0.frame.items h.0.within; value = h.0.value ∙ ap (λ x. kind (text_of flat e.0.definition x)) (sym (meanings_on flat g e.0.frame.items h.0.within)) }, kept_on flat g es h.1)
+pub kept_on : (flat : FlatModule) {a b : List Arg} → Grows a b → (frames : List (Vec ℕ Global)) (es : List (Key × Option level.Kind)) → Remembers flat a frames es → Remembers flat b frames es
+kept_on flat g frames [] h = tt
+kept_on flat {a} {b} g frames (e ∷ es) h =
+    let frame = frame_of frames e.0.frame in
+    (record { there = h.0.there; stored = h.0.stored; within = within_on g frame h.0.within; value = h.0.value ∙ ap (λ x. kind (text_of flat e.0.definition x)) (sym (meanings_on flat g frame h.0.within)) }, kept_on flat g frames es h.1)
+
+-- ---- frames
+
+-- a frame that is there has the number that it had
+frame-more : (frames more : List (Vec ℕ Global)) (n : ℕ) → n < length frames → frame_of (frames ++ more) n ≡ frame_of frames n
+frame-more frames more n l = ap frame_items (slice_get-more frames more n l)
+
+kept-more : (flat : FlatModule) (table : List Arg) (frames more : List (Vec ℕ Global)) (es : List (Key × Option level.Kind)) → Remembers flat table frames es → Remembers flat table (frames ++ more) es
+kept-more flat table frames more [] h = tt
+kept-more flat table frames more (e ∷ es) h =
+    let same = sym (frame-more frames more e.0.frame h.0.stored) in let l = h.0.stored in (
+      record {
+        there = h.0.there;
+        stored = omega (arith, l, length-append frames more);
+        within = subst (AllWithin table) same h.0.within;
+        value = h.0.value ∙ ap (λ x. kind (text_of flat e.0.definition (meanings flat table x))) same;
+      },
+      kept-more flat table frames more es h.1,
+    )
+
+-- further frames keep what is kept
+pub frames_on : (flat : FlatModule) (table : List Arg) (a b : List (Vec ℕ Global)) → AddsFrames a b → (es : List (Key × Option level.Kind)) → Remembers flat table a es → Remembers flat table b es
+frames_on flat table a b g es h = subst (λ x. Remembers flat table x es) (sym g.1) (kept-more flat table a g.0 es h)
+
+pub no_frames : (frames : List (Vec ℕ Global)) → AddsFrames frames frames
+no_frames frames = ([], sym (append-nil frames))
+
+module _ (eq : Vec ℕ Global → Vec ℕ Global → Bool) where
+  -- a frame is put behind the others, unless it is there
+  pub adds_frame : (old new : List (Vec ℕ Global)) (frame : Vec ℕ Global) → new ≡ insert_key eq old frame → AddsFrames old new
+  adds_frame old new frame e = subst (AddsFrames old) (sym e) (choice (list_any (eq frame) old))
+    where
+      choice : (b : Bool) → AddsFrames old (cond b old (old ++ frame ∷ []))
+      choice true = no_frames old
+      choice false = (frame ∷ [], refl)
+
+-- a frame with the same numbers stands there
+pub has_number : (frames : List (Vec ℕ Global)) (n : ℕ) (frame : List ℕ) (k : Vec ℕ Global) → slice_get frames n ≡ Some k → pointwise nat_eq frame k.items ≡ true → HasNumber frames n frame
+has_number frames n frame k e h = record { within = slice_get_within frames n k e; is = ap frame_items e ∙ sym (numbers-equal frame k.items h) }
+
+-- so it does where it was found
+pub number_found : (frames : List (Vec ℕ Global)) (n : ℕ) (frame : List ℕ) → n < length frames → position (λ k. pointwise nat_eq frame k.items) frames ≡ Some n → HasNumber frames n frame
+number_found frames n frame within e = elim (slice_get_cases frames n).1 [
+  | inl found ↦
+      let p = position-Some (λ (k : Vec ℕ Global). pointwise nat_eq frame k.items) frames n found.0 e in
+      has_number frames n frame (get_or frames n found.0) (slice_get-get_or frames n found.0 p.0) p.1
+  | inr past ↦ let l = past.0 in absurd (omega (arith, within, l))
+]
 
 -- what is added names bodies
 bodies-more : (flat : FlatModule) (P : Arg → Type 0) {a b : List Arg} → Grows a b → NameBodies flat a → AddsOnly P a b → ((x : Arg) → P x → NamesBody flat x) → NameBodies flat b

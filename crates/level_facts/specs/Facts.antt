@@ -1,5 +1,6 @@
 -- What is kept of kinds that were found.
-use Rattle.std.specs.Prelude.{◌≡◌, ℕ, ◌+◌, ◌-◌, ◌<◌, ◌≤◌, List, Option, Some, None, length, map, slice_get}
+use Rattle.std.specs.Global.{Global}
+use Rattle.std.specs.Prelude.{Vec, ◌≡◌, ℕ, ◌+◌, ◌-◌, ◌<◌, ◌≤◌, ◌++◌, List, [], Option, Some, None, length, map, slice_get}
 use Rattle.std.specs.List.{AllByRecursion}
 use Rattle.tla_symbols.specs.declared.level.Kind.{Kind}
 use Rattle.kind_text.specs.ExpandedKind.{Given, Ruled, kind}
@@ -49,22 +50,41 @@ NameBodies flat table = (i : ℕ) (a : Arg) → slice_get table i ≡ Some a →
 
 -- ---- what is kept
 
+-- the items of a frame, if it is there
+abbrev pub frame_items : Option (Vec ℕ Global) → List ℕ
+frame_items None = []
+frame_items (Some frame) = frame.items
+
+-- the frame of a number
+abbrev pub frame_of : List (Vec ℕ Global) → ℕ → List ℕ
+frame_of frames n = frame_items (slice_get frames n)
+
+-- a frame has this number
+pub record HasNumber (frames : List (Vec ℕ Global)) (n : ℕ) (frame : List ℕ) : Type 0 where
+  pub within : n < length frames
+  pub is : frame_of frames n ≡ frame
+
+-- frames, and maybe more
+abbrev pub AddsFrames : List (Vec ℕ Global) → List (Vec ℕ Global) → Type 0
+AddsFrames old new = (more : List (Vec ℕ Global)) × (new ≡ old ++ more)
+
 -- a kept kind is that of the definition's expansion on its frame
-pub record IsKept (flat : FlatModule) (table : List Arg) (key : Key) (k : Option Kind) : Type 0 where
+pub record IsKept (flat : FlatModule) (table : List Arg) (frames : List (Vec ℕ Global)) (key : Key) (k : Option Kind) : Type 0 where
   pub there : HasBody flat key.definition
-  pub within : AllWithin table key.frame.items
-  pub value : k ≡ kind (text_of flat key.definition (meanings flat table key.frame.items))
+  pub stored : key.frame < length frames
+  pub within : AllWithin table (frame_of frames key.frame)
+  pub value : k ≡ kind (text_of flat key.definition (meanings flat table (frame_of frames key.frame)))
 
 -- each kept kind is such
-abbrev pub Remembers : FlatModule → List Arg → List (Key × Option Kind) → Type 0
-Remembers flat table = AllByRecursion (λ e. IsKept flat table e.0 e.1)
+abbrev pub Remembers : FlatModule → List Arg → List (Vec ℕ Global) → List (Key × Option Kind) → Type 0
+Remembers flat table frames = AllByRecursion (λ e. IsKept flat table frames e.0 e.1)
 
 -- all that is kept is right
 pub record IsFacts (flat : FlatModule) (facts : KindFacts) : Type 0 where
   pub firsts : IsFirsts flat facts.firsts.items
   pub table : IsTable facts.arguments.keys
   pub bodies : NameBodies flat facts.arguments.keys
-  pub kept : Remembers flat facts.arguments.keys facts.kept.entries
+  pub kept : Remembers flat facts.arguments.keys facts.frames.keys facts.kept.entries
 
 -- what callers put in has these numbers
 pub record AddsArguments (flat : FlatModule) (old new : List Arg) (ns : List ℕ) (arguments : List Argument) : Type 0 where

@@ -6,12 +6,12 @@ ghost use Rattle.kind_text.specs.FlatModule.{Extends, IsOrdered};
 ghost use Rattle.kind_text.specs.FlatModule as text;
 ghost use Rattle.kind_table.specs.Flattened.{first_node, flat_of};
 ghost use Rattle.kind_table.specs.Table.{Grows, IsArg, IsStored};
-ghost use Rattle.level_facts.specs.Facts.{AddsArguments, IsFacts, IsKept, NamesBody, argument_item};
+ghost use Rattle.level_facts.specs.Facts.{AddsArguments, AddsFrames, HasNumber, IsFacts, IsKept, NamesBody, argument_item};
 
 use crate::judging::kind_on;
 use crate::steps::body_of;
 use indexmap::{IndexMap, IndexSet};
-use kind_table::{Arg, FlatModule, extend_first_nodes, first_nodes, number_at};
+use kind_table::{Arg, FlatModule, copied, extend_first_nodes, first_nodes, number_at};
 use std::alloc::{AllocError, Global};
 use tla_symbols::{Kind, Rule};
 
@@ -28,17 +28,19 @@ pub enum Argument {
     Operator(usize),
 }
 
-/// A definition with the numbers of what stands round it and of its arguments.
-#[derive(Drop, PartialEq, Eq, Hash)]
+/// A definition with the number of a frame: what stands round it, and then its arguments.
+#[derive(Clone, Copy, PartialEq, Eq, Hash)]
 pub struct Key {
     pub definition: usize,
-    pub frame: Vec<usize>,
+    pub frame: usize,
 }
 
 /// The arguments of a flat module by their numbers, and the kinds that were found.
 pub struct KindFacts {
     pub(crate) firsts: Vec<usize>,
     pub(crate) arguments: IndexSet<Arg>,
+    // Each frame once, however many definitions stand in it.
+    pub(crate) frames: IndexSet<Vec<usize>>,
     pub(crate) kept: IndexMap<Key, Option<Kind>>,
 }
 
@@ -48,6 +50,7 @@ impl Drop for KindFacts {
         let KindFacts {
             firsts: _,
             arguments: _,
+            frames: _,
             kept: _,
         } = self;
     }
@@ -61,6 +64,7 @@ impl KindFacts {
         Ok(KindFacts {
             firsts: first_nodes(alloc, flat)?,
             arguments: IndexSet::new(alloc),
+            frames: IndexSet::new(alloc),
             kept: IndexMap::new(alloc),
         })
     }
@@ -191,10 +195,27 @@ pub(crate) fn keep(
     kind: Option<Kind>,
 ) -> Result<(), AllocError>
     requires facts { IsFacts (flat_of flat.now) facts.old }
-    requires kept { IsKept (flat_of flat.now) facts.old.arguments.keys key kind }
+    requires kept { IsKept (flat_of flat.now) facts.old.arguments.keys facts.old.frames.keys key kind }
     ensures facts { IsFacts (flat_of flat.now) facts.new }
     ensures arguments { facts.new.arguments.keys ≡ facts.old.arguments.keys }
 {
     facts.kept.insert(key, kind)?;
     Ok(())
+}
+
+/// The number of a frame, which is new or stands there already.
+pub(crate) fn frame_number(
+    alloc: Global,
+    frames: &mut IndexSet<Vec<usize>>,
+    frame: &[usize],
+) -> Result<usize, AllocError>
+    ensures adds { AddsFrames frames.old.keys frames.new.keys }
+    ensures number { IfOk result (λ n. HasNumber frames.new.keys n frame.now) }
+{
+    if let Some(n) = frames.get_index_of(frame) {
+        return Ok(n);
+    }
+    let frame = copied(alloc, frame)?;
+    let (n, _) = frames.insert_full(frame)?;
+    Ok(n)
 }

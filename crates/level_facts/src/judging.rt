@@ -10,14 +10,14 @@ ghost use Rattle.kind_table.specs.Weights.{load};
 ghost use Rattle.level_facts.specs.Facts.{IsFacts};
 ghost use Rattle.level_facts.specs.Judged.{Evaluates, EvaluatesAll, Found, IsReached, LeadsThrough, MeetsGuards, ReachesPath, Steps, UsesPath, is_within, lower_cost_of, use_kind_of};
 
-use crate::facts::{Key, KindFacts, keep, number};
+use crate::facts::{Key, KindFacts, frame_number, keep, number};
 use crate::steps::{
     Reached, add_operands, around, body_of, closure, operand, operation_kind, places,
     quantifier_kind, start,
 };
 use kind_table::{
-    Arg, FlatModule, Form, Instance, Replacement, after, behind, constants, copied, is_at_most,
-    number_at, pick, ruled_kind, value, values,
+    Arg, FlatModule, Form, Instance, Replacement, after, constants, copied, is_at_most, number_at,
+    pick, ruled_kind, value, values,
 };
 use std::alloc::{AllocError, Global};
 use tla_symbols::{Kind, Rule};
@@ -39,9 +39,10 @@ pub(crate) fn kind_on(
     ensures kind { IfOk result (λ k. k ≡ kind (text_of (flat_of flat.now) definition
         (meanings (flat_of flat.now) facts.new.arguments.keys frame.now))) }
 {
+    let known = frame_number(alloc, &mut facts.frames, frame)?;
     let key = Key {
         definition,
-        frame: copied(alloc, frame)?,
+        frame: known,
     };
     if let Some(kind) = facts.kept.get(&key) {
         return Ok(*kind);
@@ -51,6 +52,11 @@ pub(crate) fn kind_on(
         Some(body) => {
             let n = judge(alloc, flat, facts, body.root, frame)?;
             let kind = value(&facts.arguments, n);
+            let number = frame_number(alloc, &mut facts.frames, frame)?;
+            let key = Key {
+                definition,
+                frame: number,
+            };
             keep(flat, facts, key, kind)?;
             Ok(kind)
         }
@@ -296,7 +302,7 @@ fn use_kind(
         return Ok(None);
     }
     let body = flat.definitions[definition];
-    let round = behind(alloc, &reached.frame, body.outer, &reached.rest)?;
+    let round = reached.round(body.outer)?;
     let kind = kind_on(alloc, flat, facts, definition, &round)?;
     Ok(kind)
 }

@@ -1,5 +1,5 @@
 // What of a node needs no other body.
-ghost use Rattle.std.specs.Prelude.{◌≡◌, ◌<◌, ◌≤◌, IfOk, MatchOption, OnOk, true, length, map, slice_get};
+ghost use Rattle.std.specs.Prelude.{◌≡◌, ◌<◌, ◌≤◌, ◌++◌, IfOk, MatchOption, OnOk, true, length, map, slice_get, take};
 ghost use Rattle.kind_text.specs.ExpandedKind.{ruled};
 ghost use Rattle.kind_text.specs.FlatModule.{places_of};
 ghost use Rattle.kind_table.specs.Flattened.{flat_of};
@@ -32,6 +32,23 @@ impl Drop for Reached {
             rest: _,
             met: _,
         } = self;
+    }
+}
+
+impl Reached {
+    /// What stands round a body: so much of what stands round its name, and then the arguments that
+    /// are left.
+    pub(crate) fn round(self, outer: usize) -> Result<Vec<usize>, AllocError>
+        ensures { IfOk result (λ v. v.items ≡ take outer self.frame.items ++ self.rest.items) }
+    {
+        let Reached {
+            mut frame,
+            rest,
+            met: _,
+        } = self;
+        frame.truncate(outer);
+        frame.extend_from_slice(&rest)?;
+        Ok(frame)
     }
 }
 

@@ -9,6 +9,6 @@ returns-clause-facts c = record {
   firsts = c.requires.facts.firsts;
   table = c.requires.facts.table;
   bodies = c.requires.facts.bodies;
-  kept = subst (λ es. Remembers (flat_of c.args.flat.now) c.args.facts.now.arguments.keys es) (sym c.in_ok-insert.ensures.entries)
-      (kept-insert (flat_of c.args.flat.now) c.args.facts.now.arguments.keys c.args.facts.now.kept.entries c.args.key c.args.kind c.requires.facts.kept c.requires.kept);
+  kept = subst (λ es. Remembers (flat_of c.args.flat.now) c.args.facts.now.arguments.keys c.args.facts.now.frames.keys es) (sym c.in_ok-insert.ensures.entries)
+      (kept-insert (flat_of c.args.flat.now) c.args.facts.now.arguments.keys c.args.facts.now.frames.keys c.args.facts.now.kept.entries c.args.key c.args.kind c.requires.facts.kept c.requires.kept);
 }

@@ -7,7 +7,7 @@ returns-clause-facts c = record {
   firsts = c.requires.facts.firsts;
   table = c.number.ensures.grows.table;
   bodies = bodies_on (flat_of c.args.flat.now) c.args.arg c.number.ensures.grows c.requires.facts.bodies c.number.ensures.only c.requires.body;
-  kept = kept_on (flat_of c.args.flat.now) c.number.ensures.grows c.args.facts.now.kept.entries c.requires.facts.kept;
+  kept = kept_on (flat_of c.args.flat.now) c.number.ensures.grows c.args.facts.now.frames.keys c.args.facts.now.kept.entries c.requires.facts.kept;
 }
 
 pub returns-in_err-n-clause-facts : goal.returns-in_err-n-clause-facts
@@ -15,5 +15,5 @@ returns-in_err-n-clause-facts c = record {
   firsts = c.requires.facts.firsts;
   table = c.number.ensures.grows.table;
   bodies = bodies_on (flat_of c.args.flat.now) c.args.arg c.number.ensures.grows c.requires.facts.bodies c.number.ensures.only c.requires.body;
-  kept = kept_on (flat_of c.args.flat.now) c.number.ensures.grows c.args.facts.now.kept.entries c.requires.facts.kept;
+  kept = kept_on (flat_of c.args.flat.now) c.number.ensures.grows c.args.facts.now.frames.keys c.args.facts.now.kept.entries c.requires.facts.kept;
 }

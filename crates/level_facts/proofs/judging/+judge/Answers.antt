@@ -1,5 +1,6 @@
 use Rattle.std.proofs.Common.{◌≡◌, ◌<◌, ◌≤◌, ◌++◌, [], ◌∷◌, Some, None, arith, refl, sym, ap, ◌∙◌, subst, take, drop, map, length, get_or}
 use Rattle.std.specs.Prelude.{◌&&◌, slice_get}
+use Rattle.std.proofs.lemmas.Bool.{not-false, not-true}
 use Rattle.std.proofs.lemmas.List.{map_more, take_all, take_more}
 use Rattle.kind_text.specs.ExpandedKind.{Given, is_at_most, kind, ruled}
 use Rattle.kind_text.specs.FlatModule.{places_of}
@@ -17,7 +18,8 @@ use Rattle.kind_table.proofs.Growth.{grows_not, grows_on, load_on, within_on}
 use Rattle.kind_table.proofs.Weighing.{all-lower, cost-split, load-at, lower-at}
 use Rattle.level_facts.specs.Judged.{EvaluatesAll, Found, IsClosure, LeadsThrough, MeetsGuards, ReachesPath, is_within, use_kind_of}
 use Rattle.kind_table.proofs.Lookups.{definition_got, node_gone}
-use Rattle.level_facts.proofs.Keeping.{kept-lookup}
+use Rattle.level_facts.proofs.Extending.{frames_added}
+use Rattle.level_facts.proofs.Keeping.{frames_on, kept-lookup}
 use Rattle.level_facts.proofs.Calling.{body_kind, built_in_kind, evaluates_more, no_body_kind, no_operator_kind, operator_kind, staying_kind}
 use Rattle.level_facts.proofs.Finding.{call_kind, lambda_found, missing_found, name_met, name_not_met, parameter_found, part_kinds, parts_bounded, reads-below, symbol_found, use_found}
 use Rattle.level_facts.proofs.Picking.{begins_at, found_more, left_out, let_body, let_missing}
@@ -29,11 +31,28 @@ use Rattle.level_facts.proofs.judging.+judge.Goals as goal
 
 -- kind_on
 
+pub kind_on-returns-in_err-known-clause-facts : goal.kind_on-returns-in_err-known-clause-facts
+kind_on-returns-in_err-known-clause-facts t c = frames_added (flat_of c.args.flat.now) c.args.facts.now _ c.requires.facts refl refl refl c.frame_number.ensures.adds
+
+pub kind_on-returns-in-Some-clause-facts : goal.kind_on-returns-in-Some-clause-facts
+kind_on-returns-in-Some-clause-facts t c = frames_added (flat_of c.args.flat.now) c.args.facts.now _ c.requires.facts refl refl refl c.frame_number.ensures.adds
+
+pub kind_on-returns-in-None-clause-facts : goal.kind_on-returns-in-None-clause-facts
+kind_on-returns-in-None-clause-facts t c = frames_added (flat_of c.args.flat.now) c.args.facts.now _ c.requires.facts refl refl refl c.frame_number.ensures.adds
+
+pub kind_on-returns-in_err-number-in-Some-body_of-clause-facts : goal.kind_on-returns-in_err-number-in-Some-body_of-clause-facts
+kind_on-returns-in_err-number-in-Some-body_of-clause-facts t c = frames_added (flat_of c.args.flat.now) c.judge.new.facts _ c.judge.ensures.facts refl refl refl c.frame_number-in-Some-body_of.ensures.adds
+
+pub kind_on-keep-requires-clause-facts : goal.kind_on-keep-requires-clause-facts
+kind_on-keep-requires-clause-facts t c = frames_added (flat_of c.args.flat.now) c.judge.new.facts _ c.judge.ensures.facts refl refl refl c.frame_number-in-Some-body_of.ensures.adds
+
 pub kind_on-returns-in-Some-clause-kind : goal.kind_on-returns-in-Some-clause-kind
 kind_on-returns-in-Some-clause-kind t c =
-    let m = flat_of c.args.flat.now in
-    let h = kept-lookup m c.args.facts.now.arguments.keys c.args.facts.now.kept.entries (record { definition = c.args.definition; frame = c.in_ok-copied.field-0 }) c.in-Some.kind.now c.requires.facts.kept (sym c.in-Some.ensures.value) in
-    h.value ∙ ap (λ x. kind (text_of m c.args.definition (meanings m c.args.facts.now.arguments.keys x))) c.in_ok-copied.ensures
+    let m = flat_of c.args.flat.now in let table = c.args.facts.now.arguments.keys in
+    let frames = c.frame_number.new.frames.keys in let number = c.in_ok-known.ensures.number in
+    let kept = frames_on m table c.args.facts.now.frames.keys frames c.frame_number.ensures.adds c.args.facts.now.kept.entries c.requires.facts.kept in
+    let h = kept-lookup m table frames c.args.facts.now.kept.entries (record { definition = c.args.definition; frame = c.in_ok-known.known }) c.in-Some.kind.now kept (sym c.in-Some.ensures.value) in
+    h.value ∙ ap (λ x. kind (text_of m c.args.definition (meanings m table x))) number.is
 
 pub kind_on-returns-in-None-clause-kind : goal.kind_on-returns-in-None-clause-kind
 kind_on-returns-in-None-clause-kind t c =
@@ -44,17 +63,20 @@ pub kind_on-judge-requires : goal.kind_on-judge-requires
 kind_on-judge-requires t c =
     let at_d = c.in-Some-body_of.ensures.here in
     let b = ap (body_cost (flat_of c.args.flat.now)) at_d in
-    (omega (arith, b), (c.requires.ordered, (c.requires.facts, c.requires.frame)))
+    let facts = frames_added (flat_of c.args.flat.now) c.args.facts.now _ c.requires.facts refl refl refl c.frame_number.ensures.adds in
+    (omega (arith, b), (c.requires.ordered, (facts, c.requires.frame)))
 
 pub kind_on-keep-requires-clause-kept : goal.kind_on-keep-requires-clause-kept
 kind_on-keep-requires-clause-kept t c =
     let m = flat_of c.args.flat.now in
     let at_d = c.in-Some-body_of.ensures.here in
     let g = c.in_ok-n-in-Some-body_of.ensures.found.grows in let k = c.value-kind.ensures ∙ body_kind m c.args.definition c.in_ok-n-in-Some-body_of.n c.args.frame.now (definition_of c.in-Some-body_of.body) at_d c.in_ok-n-in-Some-body_of.ensures.found.found in
+    let number = c.in_ok-number-in-Some-body_of.ensures.number in
     record {
       there = (definition_of c.in-Some-body_of.body, at_d, c.in-Some-body_of.ensures.root);
-      within = subst (AllWithin c.judge.new.facts.arguments.keys) (sym c.in_ok-copied.ensures) (within_on g c.args.frame.now c.requires.frame);
-      value = k ∙ ap (λ x. kind (text_of m c.args.definition (meanings m c.judge.new.facts.arguments.keys x))) (sym c.in_ok-copied.ensures);
+      stored = number.within;
+      within = subst (AllWithin c.judge.new.facts.arguments.keys) (sym number.is) (within_on g c.args.frame.now c.requires.frame);
+      value = k ∙ ap (λ x. kind (text_of m c.args.definition (meanings m c.judge.new.facts.arguments.keys x))) (sym number.is);
     }
 
 pub kind_on-returns-in_ok-keep-in-Some-body_of-clause-kind : goal.kind_on-returns-in_ok-keep-in-Some-body_of-clause-kind
@@ -282,7 +304,7 @@ use_kind-reach-requires t c =
 
 pub use_kind-returns-then-not-reached-clause-kind : goal.use_kind-returns-then-not-reached-clause-kind
 use_kind-returns-then-not-reached-clause-kind t c =
-    used_not_met (flat_of c.args.flat.now) c.args.node (path_at c.args.flat.now.paths.items c.args.path) c.args.definition c.args.frame.now c.args.numbers.now c.in_ok-reached.reached c.in_ok-reached.ensures.reaches c.if-not-reached.true
+    used_not_met (flat_of c.args.flat.now) c.args.node (path_at c.args.flat.now.paths.items c.args.path) c.args.definition c.args.frame.now c.args.numbers.now c.in_ok-reached.reached c.in_ok-reached.ensures.reaches (not-true c.in_ok-reached.reached.met c.if-not-reached.true)
 
 pub use_kind-index-body-requires : goal.use_kind-index-body-requires
 use_kind-index-body-requires t c =
@@ -291,16 +313,16 @@ use_kind-index-body-requires t c =
 pub use_kind-kind_on-requires : goal.use_kind-kind_on-requires
 use_kind-kind_on-requires t c =
     let m = flat_of c.args.flat.now in let path = path_at c.args.flat.now.paths.items c.args.path in let x = c.index-body.result.now in let r = c.in_ok-reached.reached in
-    let round_is = c.deref-3.ensures.value ∙ c.in_ok-round.ensures ∙ ap (λ y. take x.outer y ++ c.deref-2.result.now) c.deref.ensures.value ∙ ap (λ y. take x.outer r.frame.items ++ y) c.deref-2.ensures.value in
-    let w = used_light m c.args.node path c.args.definition (definition_of x) c.args.frame.now c.args.numbers.now c.deref-3.result.now r c.requires.definition c.in_ok-reached.ensures.reaches round_is c.requires.light in
-    (omega (arith, w), (c.requires.ordered, (c.in_ok-reached.ensures.facts, used_within m c.args.node path (definition_of x) c.args.frame.now c.args.numbers.now c.deref-3.result.now r c.in_ok-reached.ensures.reaches round_is)))
+    let round_is = c.deref.ensures.value ∙ c.in_ok-round.ensures in
+    let w = used_light m c.args.node path c.args.definition (definition_of x) c.args.frame.now c.args.numbers.now c.deref.result.now r c.requires.definition c.in_ok-reached.ensures.reaches round_is c.requires.light in
+    (omega (arith, w), (c.requires.ordered, (c.in_ok-reached.ensures.facts, used_within m c.args.node path (definition_of x) c.args.frame.now c.args.numbers.now c.deref.result.now r c.in_ok-reached.ensures.reaches round_is)))
 
 pub use_kind-returns-clause-kind : goal.use_kind-returns-clause-kind
 use_kind-returns-clause-kind t c =
     let m = flat_of c.args.flat.now in let path = path_at c.args.flat.now.paths.items c.args.path in let x = c.index-body.result.now in let r = c.in_ok-reached.reached in
-    let round_is = c.deref-3.ensures.value ∙ c.in_ok-round.ensures ∙ ap (λ y. take x.outer y ++ c.deref-2.result.now) c.deref.ensures.value ∙ ap (λ y. take x.outer r.frame.items ++ y) c.deref-2.ensures.value in
+    let round_is = c.deref.ensures.value ∙ c.in_ok-round.ensures in
     let at_d = definition_got c.args.flat.now c.args.flat.now.definitions.items c.args.definition x refl (definition_within c.args.flat.now c.args.node c.args.definition c.requires.definition) c.index-body.ensures in
-    used_met m c.args.node path c.args.definition (definition_of x) c.args.frame.now c.args.numbers.now c.deref-3.result.now r c.in_ok-kind.kind at_d c.in_ok-reached.ensures.reaches c.if-not-reached.false round_is c.in_ok-kind.ensures.grows c.in_ok-kind.ensures.kind
+    used_met m c.args.node path c.args.definition (definition_of x) c.args.frame.now c.args.numbers.now c.deref.result.now r c.in_ok-kind.kind at_d c.in_ok-reached.ensures.reaches (not-false c.in_ok-reached.reached.met c.if-not-reached.false) round_is c.in_ok-kind.ensures.grows c.in_ok-kind.ensures.kind
 
 -- judge
 
