@@ -28,22 +28,22 @@ use Rattle.flat_kinds.specs.Declarations.{AreNamesDeclared, AreUnitsDeclared, De
 use Rattle.flattened_trees.specs.Leads.{FlatFace, Setting}
 use Rattle.flattened_trees.specs.Questions.{Question}
 use Rattle.flattened_units.specs.Units.{AreUnitsMade, IsEnded, IsModuleMade, IsUnitMade, Reader}
-use Rattle.module_meanings.specs.Premises.{AreUnitsGiven, IsEndGiven, IsFileAt, IsModuleGiven, IsUnitGivenBy, first_seen, seen_behind}
-use Rattle.module_answers.specs.Deep.{AreUnitsArranged, IsArrangedBringing, IsBegunArranged, IsDeepBehind, IsModuleArranged, IsUnitArranged, SeenStayDeep}
-use Rattle.module_answers.specs.Shaped.{AreUnitsShaped, IsModuleShaped, IsUnitShaped}
-use Rattle.grammar_shapes.specs.Units.{IsArrangedUnit, IsArrangedWith}
-use Rattle.grammar_shapes.proofs.Arranged.{front-arranged}
-use Rattle.accepted_modules.specs.Behind.{IsForeignView}
-use Rattle.accepted_modules.specs.Faces.{FacesReadAs}
-use Rattle.accepted_modules.specs.States.{kinds_behind}
-use Rattle.accepted_modules.proofs.Views.{named-same, own-read}
+use Rattle.given_modules.specs.Passed.{AreUnitsGiven, IsEndGiven, IsFileAt, IsModuleGiven, IsUnitGivenBy, first_seen, seen_behind}
+use Rattle.given_modules.specs.Passed.{AreUnitsArranged, IsArrangedBringing, IsBegunArranged, IsDeepBehind, IsModuleArranged, IsUnitArranged, SeenStayDeep}
+use Rattle.given_modules.specs.Passed.{AreUnitsShaped, IsModuleShaped, IsUnitShaped}
+use Rattle.given_modules.specs.Passed.{IsArrangedUnit, IsArrangedWith}
+use Rattle.given_modules.proofs.Passed.{front-arranged}
+use Rattle.given_modules.specs.Passed.{IsForeignView}
+use Rattle.given_modules.specs.Passed.{FacesReadAs}
+use Rattle.given_modules.specs.Passed.{kinds_behind}
+use Rattle.given_modules.proofs.Passed.{named-same, own-read}
 use Rattle.given_modules.proofs.Ahead.{IsAt}
 use Rattle.given_modules.proofs.AtUnits.{IsMet, keeps-at, met-first, met-next, symbol-no_definition}
-use Rattle.given_depths.specs.Given.{AreEndsGiven, AreModulesGiven, ArePlainNames, AreSeenGiven, AreSymbolsPlain, GivenDepths, Gives, IsGivenOutside}
-use Rattle.given_depths.specs.Own.{HasOwnNames, if_replaced}
-use Rattle.given_depths.proofs.Coming.{begins-gives, brings-gives, modules-give}
-use Rattle.given_depths.proofs.Plain.{own-plain, plain-after, plain-first}
-use Rattle.given_depths.proofs.Seen.{seen-after, seen-first, seen-stays}
+use Rattle.given_modules.specs.Passed.{AreEndsGiven, AreModulesGiven, ArePlainNames, AreSeenGiven, AreSymbolsPlain, GivenDepths, Gives, IsGivenOutside}
+use Rattle.given_modules.specs.Passed.{HasOwnNames, if_replaced}
+use Rattle.given_modules.proofs.Passed.{begins-gives, brings-gives, modules-give}
+use Rattle.given_modules.proofs.Passed.{own-plain, plain-after, plain-first}
+use Rattle.given_modules.proofs.Passed.{seen-after, seen-first, seen-stays}
 use Rattle.arranged_modules.specs.Files.{IsDeepFace}
 use Rattle.arranged_modules.proofs.Files.{behind-deep, file-deep, files-deep}
 use Rattle.arranged_modules.proofs.Replacing.{unreplaced}

@@ -15,9 +15,9 @@ use Rattle.flat_trees.specs.Stands.{Stand}
 use Rattle.flattened_trees.specs.Leads.{FlatFace}
 use Rattle.flattened_depths.specs.Rounds.{LeadsAs}
 use Rattle.flattened_units.specs.Units.{Reader, face_in, face_under}
-use Rattle.module_answers.specs.Deep.{IsDeepBehind, IsDeepBehindBy, IsDeepFile, IsDeepFileBy}
-use Rattle.accepted_modules.specs.Faces.{FacesReadAs}
-use Rattle.accepted_modules.proofs.Faces.{IsFoundAs, found-as}
+use Rattle.given_modules.specs.Passed.{IsDeepBehind, IsDeepBehindBy, IsDeepFile, IsDeepFileBy}
+use Rattle.given_modules.specs.Passed.{FacesReadAs}
+use Rattle.given_modules.proofs.Passed.{IsFoundAs, found-as}
 use Rattle.arranged_modules.specs.Files.{IsDeepFace}
 
 module _ (flat : FlatModule) (text : Text) (means : ℕ → Option Meaning) (implied : ℕ → List Meaning) (files : List ℕ → FlatFace) (outsides : List ℕ → Outside) (words : List ℕ) (inside : List ℕ → Named → Stand) (each : (name : List ℕ) → IsDeepFace flat (inside name) (files name) (outsides name)) where

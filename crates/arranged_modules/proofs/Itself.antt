@@ -19,11 +19,11 @@ use Rattle.flattened_trees.specs.Leads.{FlatFace, Lead}
 use Rattle.flattened_trees.specs.NodeForms.{lead_of}
 use Rattle.flattened_trees.specs.Questions.{Question}
 use Rattle.flattened_units.specs.Units.{AreUnitsMade, IsModuleMade, Reader, exported_leads, symbol_setting}
-use Rattle.module_meanings.specs.Premises.{AreUnitsGiven, IsModuleGiven, seen_behind}
-use Rattle.module_meanings.proofs.Further.{AllDefinitionsLead, extended-further, first-further, unit-further}
-use Rattle.module_meanings.proofs.Instancing.{table-own}
-use Rattle.module_meanings.proofs.NestedFaces.{brought-entry, further-takes}
-use Rattle.module_answers.specs.Deep.{IsDeepSo}
+use Rattle.given_modules.specs.Passed.{AreUnitsGiven, IsModuleGiven, seen_behind}
+use Rattle.given_modules.proofs.Passed.{AllDefinitionsLead, extended-further, first-further, unit-further}
+use Rattle.given_modules.proofs.Passed.{table-own}
+use Rattle.given_modules.proofs.Passed.{brought-entry, further-takes}
+use Rattle.given_modules.specs.Passed.{IsDeepSo}
 use Rattle.given_modules.specs.Good.{face_of}
 use Rattle.arranged_modules.specs.Files.{IsDeepFace}
 

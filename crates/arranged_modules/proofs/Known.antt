@@ -11,11 +11,11 @@ use Rattle.module_kinds.specs.ModuleKinds.{first}
 use Rattle.flat_trees.specs.Stands.{Stand}
 use Rattle.flat_kinds.specs.Declarations.{AreUnitsDeclared, Declarations}
 use Rattle.flattened_trees.specs.Leads.{FlatFace}
-use Rattle.accepted_modules.specs.Behind.{Behinds}
+use Rattle.given_modules.specs.Passed.{Behinds}
 use Rattle.given_modules.specs.Good.{AreGoodFiles, IsFaultless}
-use Rattle.given_depths.specs.Given.{GivenDepths}
-use Rattle.given_depths.specs.Own.{AreOwnApart, IsOfNone, IsOfOthers, with_own_depths}
-use Rattle.given_depths.proofs.Own.{file-kept, gives-own, symbols-kept}
+use Rattle.given_modules.specs.Passed.{GivenDepths}
+use Rattle.given_modules.specs.Passed.{AreOwnApart, IsOfNone, IsOfOthers, with_own_depths}
+use Rattle.given_modules.proofs.Passed.{file-kept, gives-own, symbols-kept}
 use Rattle.arranged_modules.specs.Files.{AreDeepFiles}
 use Rattle.arranged_modules.proofs.Along.{IsKnownDeep}
 use Rattle.given_modules.proofs.Others.{brought-others}

@@ -7,3 +7,4 @@ mod Itself
 mod Along
 mod Others
 mod Known
+pub mod Passed

@@ -10,10 +10,10 @@ use Rattle.flat_depths.proofs.Growing.{has-kept}
 use Rattle.flat_kinds.specs.Declarations.{Declarations}
 use Rattle.flattened_trees.specs.Leads.{FlatFace}
 use Rattle.flattened_depths.proofs.Knowing.{takes-kept}
-use Rattle.module_meanings.specs.Faces.{IsFaceWithin}
-use Rattle.module_meanings.proofs.Growing.{names-within}
+use Rattle.given_modules.specs.Passed.{IsFaceWithin}
+use Rattle.given_modules.proofs.Passed.{names-within}
 use Rattle.given_modules.specs.Good.{with_file}
-use Rattle.given_depths.specs.Given.{AreSymbolsPlain, GivenDepths, IsGivenOutside}
+use Rattle.given_modules.specs.Passed.{AreSymbolsPlain, GivenDepths, IsGivenOutside}
 use Rattle.given_modules.specs.Others.{BringsOthers}
 use Rattle.arranged_modules.specs.Files.{AreDeepFiles, IsDeepFace}
 

@@ -21,10 +21,10 @@ use Rattle.module_model.specs.Instances.{brought_entries, nested_view, through}
 use Rattle.module_model.specs.Modules.{Reading, begun_in, brings, constants, extended, extends_all, left, nested, text_of, unread}
 use Rattle.module_model.specs.NamedModules.{module_at, unit_of, view_of}
 use Rattle.module_model.specs.Resolution.{ReadState, after, first, instance_brings, last, module_named, outside_in, read_all, words_of}
-use Rattle.accepted_modules.specs.Named.{AllNamed}
-use Rattle.accepted_modules.proofs.Contexts.{brings-exported}
-use Rattle.accepted_modules.proofs.Holding.{HoldsPlace, HoldsReading, HoldsView, OfEntry, Own, added-known, declared-more, joined-more, module-says, nested-holds, nothing-holds, passed-hold}
-use Rattle.accepted_modules.proofs.Tables.{all-passing, table-once}
+use Rattle.given_modules.specs.Passed.{AllNamed}
+use Rattle.given_modules.proofs.Passed.{brings-exported}
+use Rattle.given_modules.proofs.Passed.{HoldsPlace, HoldsReading, HoldsView, OfEntry, Own, added-known, declared-more, joined-more, module-says, nested-holds, nothing-holds, passed-hold}
+use Rattle.given_modules.proofs.Passed.{all-passing, table-once}
 use Rattle.given_modules.specs.Others.{IsNamedOf}
 
 module _ (title : List ℕ) where

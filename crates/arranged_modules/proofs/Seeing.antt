@@ -24,10 +24,10 @@ use Rattle.flattened_trees.specs.Agreeing.{is_seen}
 use Rattle.flattened_trees.specs.Leads.{FlatFace}
 use Rattle.flattened_meanings.proofs.Fresh.{IsOneOf}
 use Rattle.flattened_units.specs.Units.{Reader, meanings_of}
-use Rattle.module_meanings.specs.Premises.{extended_meanings, first_seen, seen_behind}
-use Rattle.module_meanings.proofs.Beginning.{built-in-means}
-use Rattle.module_meanings.proofs.Contexts.{IsEntry, declared-means, entry-seen, joined-means, one-is-seen, seen-left, seen-right}
-use Rattle.module_meanings.proofs.Extending.{BringSame, extends-means}
+use Rattle.given_modules.specs.Passed.{extended_meanings, first_seen, seen_behind}
+use Rattle.given_modules.proofs.Passed.{built-in-means}
+use Rattle.given_modules.proofs.Passed.{IsEntry, declared-means, entry-seen, joined-means, one-is-seen, seen-left, seen-right}
+use Rattle.given_modules.proofs.Passed.{BringSame, extends-means}
 
 -- all names that can be used in a module were seen
 abbrev pub IsAllSeen : List Meaning → Reading → Type 0

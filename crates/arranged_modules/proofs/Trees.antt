@@ -3,7 +3,7 @@ use Rattle.tla_symbols.specs.declared.lexeme.Lexeme.{Lexeme}
 use Rattle.tla_tree.specs.declared.form.Form.TheVariants as Form
 use Rattle.tla_tree.specs.Syntax.{Tree, Trees, Node, Nil, Cons}
 use Rattle.tla_model.specs.Entities.{Defines, Module, defines}
-use Rattle.grammar_shapes.specs.Instances.{HoldThrough, HoldsAmong, HoldsIn, HoldsOf, HoldsThrough}
+use Rattle.given_modules.specs.Passed.{HoldThrough, HoldsAmong, HoldsIn, HoldsOf, HoldsThrough}
 
 module _ (holds : Lexeme → Lexeme → Type 0) (each : (own l : Lexeme) → holds own l) where
   pub form-holds : (own : Lexeme) (form : Form.the_data) → HoldsOf holds own form

@@ -12,7 +12,7 @@ use Rattle.flat_kinds.specs.Declarations.{Declarations}
 use Rattle.flattened_trees.specs.Agreeing.{TakesBehind, lead_by}
 use Rattle.flattened_trees.specs.Leads.{FlatFace}
 use Rattle.flattened_depths.specs.Rounds.{TakesParameters}
-use Rattle.given_depths.specs.Given.{AreSymbolsPlain, GivenDepths, IsGivenOutside}
+use Rattle.given_modules.specs.Passed.{AreSymbolsPlain, GivenDepths, IsGivenOutside}
 use Rattle.given_modules.specs.Others.{BringsOthers}
 
 -- the names of a module lead where these stand, as deep as outside of it, and take what it has behind an instance

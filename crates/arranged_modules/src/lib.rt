@@ -22,29 +22,25 @@ ghost use Rattle.flattened_trees.specs.Answers.{deep_answers};
 ghost use Rattle.flattened_trees.specs.Leads.{FlatFace};
 ghost use Rattle.flattened_trees.specs.Questions.{Question};
 ghost use Rattle.flattened_units.specs.Units.{IsModuleMade, Reader, no_face};
-ghost use Rattle.module_meanings.specs.Faces.{IsFaceWithin};
-ghost use Rattle.module_meanings.specs.Premises.{IsModuleGiven};
-ghost use Rattle.module_answers.specs.Deep.{IsDeepSo, IsModuleArranged};
+ghost use Rattle.given_modules.specs.Passed.{IsFaceWithin, IsModuleGiven};
+ghost use Rattle.given_modules.specs.Passed.{IsDeepSo, IsModuleArranged};
 ghost use Rattle.readable_laws.specs.Uses.{implied_by, means_by};
-ghost use Rattle.accepted_modules.specs.Behind.{Behinds};
+ghost use Rattle.given_modules.specs.Passed.{Behinds};
 ghost use Rattle.given_modules.specs.Good.{AreGoodFiles, IsFaultless, face_of, with_file};
 ghost use Rattle.given_modules.specs.Others.{BringsOthers};
-ghost use Rattle.given_depths.specs.Given.{GivenDepths, IsGivenOutside};
-ghost use Rattle.given_depths.specs.Own.{with_own_depths};
+ghost use Rattle.given_modules.specs.Passed.{GivenDepths, IsGivenOutside};
+ghost use Rattle.given_modules.specs.Passed.{with_own_depths};
 ghost use Rattle.arranged_modules.specs.Files.{AreDeepFiles, IsDeepFace};
 
 use flat_kinds::places_are_declared;
-use given_depths::own_names_are_apart;
-use given_modules::faultless_modules_are_shaped;
+use given_modules::{faultless_modules_are_shaped, module_depths_are_found, own_names_are_apart};
 use lexeme_laws::names_begin_apart;
-use module_answers::module_depths_are_found;
 
 // Laws above stand on these beside those that are stated here.
-pub use accepted_modules::brought_names_come;
-pub use given_depths::own_depths_are_given;
 pub use given_modules::{
-    declarations_yield_names, faultless_modules_answer, faultless_modules_are_given,
-    given_modules_are_good, modules_are_steady, nested_names_are_given,
+    brought_names_come, declarations_yield_names, faultless_modules_answer,
+    faultless_modules_are_given, given_modules_are_good, modules_are_steady,
+    nested_names_are_given, own_depths_are_given,
 };
 
 /// A module without faults that is given is arranged, over files that are good, and whose names

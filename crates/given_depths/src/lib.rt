@@ -47,6 +47,9 @@ ghost use Rattle.given_depths.specs.Given.{GivenDepths, IsGiven, IsGivenOutside,
 
 use lexeme_laws::names_begin_apart;
 
+// Laws above stand on these beside those that are stated here.
+pub use module_answers::{module_depths_are_found, module_levels_are_found};
+
 /// What is by its declaration no definition and no instance has no depth, and neither has what is
 /// bound: behind what a module extends, and behind units. So own symbols of a nested module have
 /// none.

@@ -25,3 +25,4 @@ mod Steady
 mod Again
 mod Yielding
 mod NextFiles
+pub mod Passed

@@ -17,7 +17,7 @@ use Rattle.flattened_trees.specs.Leads.{FlatFace}
 use Rattle.flattened_trees.specs.Questions.{Question}
 use Rattle.flattened_units.specs.Units.{AreUnitsMade, IsModuleMade, Reader}
 use Rattle.module_meanings.specs.Premises.{seen_behind}
-use Rattle.module_answers.specs.Shaped.{AreUnitsShaped, IsModuleShaped, IsShapedInstance, IsUnitShaped}
+use Rattle.given_depths.specs.Passed.{AreUnitsShaped, IsModuleShaped, IsShapedInstance, IsUnitShaped}
 use Rattle.grammar_shapes.specs.Units.{IsShapedUnit}
 use Rattle.given_modules.proofs.AtUnits.{IsKnown, IsMet, met-first, met-next, tree-given, unit-read}
 

@@ -3,3 +3,4 @@ pub mod Good
 pub mod Nested
 pub mod Others
 pub mod Yielding
+pub mod Passed

@@ -30,7 +30,7 @@ ghost use Rattle.flattened_trees.specs.Leads.{FlatFace};
 ghost use Rattle.flattened_trees.specs.Questions.{Question};
 ghost use Rattle.flattened_units.specs.Units.{IsModuleMade, Reader, no_face};
 ghost use Rattle.module_meanings.specs.Premises.{IsModuleGiven};
-ghost use Rattle.module_answers.specs.Shaped.{IsModuleShaped};
+ghost use Rattle.given_depths.specs.Passed.{IsModuleShaped};
 ghost use Rattle.readable_laws.specs.Uses.{implied_by, means_by};
 ghost use Rattle.accepted_modules.specs.Behind.{Behinds, IsForeignView, with_own};
 ghost use Rattle.accepted_modules.specs.States.{kinds_behind};
@@ -42,15 +42,17 @@ ghost use Rattle.given_modules.specs.Others.{BringsOthers};
 ghost use Rattle.given_modules.specs.Yielding.{with_own_yields};
 
 use accepted_modules::{
-    brought_names_come, faultless_units_are_read, modules_come_steady, readers_end,
-    symbols_are_parameters,
+    faultless_units_are_read, modules_come_steady, readers_end, symbols_are_parameters,
 };
 use flat_kinds::{names_come_again, places_are_declared};
 use fresh_names::declared_names_are_new;
-use given_depths::own_names_are_apart;
+use given_depths::module_levels_are_found;
 use grammar_shapes::fronts_are_shaped;
 use lexeme_laws::{lexemes_are_held_once, names_begin_apart};
-use module_answers::module_levels_are_found;
+
+// Laws above stand on these beside those that are stated here.
+pub use accepted_modules::brought_names_come;
+pub use given_depths::{module_depths_are_found, own_depths_are_given, own_names_are_apart};
 
 /// The names of all trees of a module that is the front of some bytes are new, each at its unit, if
 /// no file has a name that the module declares.

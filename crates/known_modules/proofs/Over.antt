@@ -10,7 +10,7 @@ use Rattle.tree_kinds.specs.Standing.{Outside}
 use Rattle.flat_kinds.specs.Declarations.{Declarations, IsNoDefinition}
 use Rattle.flattened_trees.specs.Leads.{FlatFace}
 use Rattle.flattened_trees.specs.Questions.{Question}
-use Rattle.flattened_units.specs.Units.{Reader}
+use Rattle.arranged_modules.specs.Passed.{Reader}
 use Rattle.arranged_modules.specs.Passed.{AreGoodFiles}
 use Rattle.arranged_modules.specs.Passed.{declared_depth, no_reach}
 use Rattle.arranged_modules.specs.Files.{AreDeepFiles}

@@ -18,8 +18,8 @@ use Rattle.flat_kinds.specs.Yields.{IsYielding, Yields}
 use Rattle.steady_kinds.specs.Steady.{IsOpen, IsSteady}
 use Rattle.flattened_trees.specs.Leads.{FlatFace}
 use Rattle.flattened_trees.specs.Questions.{Question}
-use Rattle.flattened_units.specs.Units.{IsModuleMade, Reader}
-use Rattle.readable_laws.specs.Uses.{implied_by, means_by}
+use Rattle.arranged_modules.specs.Passed.{IsModuleMade, Reader}
+use Rattle.arranged_modules.specs.Passed.{implied_by, means_by}
 use Rattle.arranged_modules.specs.Passed.{Behinds, IsForeignView, with_own}
 use Rattle.arranged_modules.specs.Passed.{IsFaultless, IsGoodFile}
 use Rattle.arranged_modules.specs.Passed.{BringsOthers}

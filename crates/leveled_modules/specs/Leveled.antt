@@ -15,11 +15,11 @@ use Rattle.flattened_trees.specs.Leads.{FlatFace}
 use Rattle.flattened_trees.specs.Questions.{Question}
 use Rattle.flattened_units.specs.Units.{IsModuleMade, Reader}
 use Rattle.readable_laws.specs.Uses.{implied_by, means_by}
-use Rattle.found_levels.specs.Findings.{or_constant}
+use Rattle.module_levels.specs.Passed.{or_constant}
 use Rattle.module_leads.specs.Leading.{face_over}
 pub use Rattle.module_leads.specs.Leading.{leading_in}
 pub use Rattle.module_leads.specs.Ways.{face_at}
-pub use Rattle.unit_flattener.specs.Numbers.{file_faces}
+pub use Rattle.module_levels.specs.Passed.{file_faces}
 use Rattle.module_levels.specs.Kept.{IsAnswered}
 pub use Rattle.module_levels.specs.Kept.{AreKept}
 pub use Rattle.module_levels.specs.declared.levels.ModuleLevels.{ModuleLevels}

@@ -6,7 +6,7 @@ ghost use Rattle.tla_model.specs.Lexemes.{LexemesLie};
 ghost use Rattle.module_model.specs.Modules.{text_of};
 ghost use Rattle.module_leads.specs.Leading.{leading_in};
 ghost use Rattle.module_constancy.specs.Places.{IsConstancyOf};
-ghost use Rattle.unit_flattener.specs.Numbers.{file_faces};
+ghost use Rattle.module_levels.specs.Passed.{file_faces};
 ghost use Rattle.leveled_modules.specs.Parts.{constant_files};
 
 use indexmap::IndexMap;
@@ -28,7 +28,7 @@ pub(crate) struct FileFaces<'a> {
 impl<'a> Files for FileFaces<'a> {
     ghost use Rattle.indexmap.specs.IndexMap.{get_by_text};
     ghost use Rattle.module_leads.specs.Leading.{leading_in};
-    ghost use Rattle.unit_flattener.specs.Numbers.{file_faces};
+    ghost use Rattle.module_levels.specs.Passed.{file_faces};
     ghost use Rattle.leveled_modules.specs.Parts.{constant_files};
 
     ghost constant = { λ files. constant_files (file_faces (leading_in files.leads.now).faces

@@ -10,7 +10,7 @@ ghost use Rattle.tree_names.specs.Parameters.{entries_in};
 ghost use Rattle.module_leads.specs.Leading.{leading_in};
 ghost use Rattle.module_constancy.specs.Places.{IsConstancyOf};
 ghost use Rattle.unit_scope.specs.Steps.{IsUnread};
-ghost use Rattle.unit_flattener.specs.Numbers.{file_faces};
+ghost use Rattle.module_levels.specs.Passed.{file_faces};
 ghost use Rattle.leveled_modules.specs.Parts.{constant_files};
 
 use crate::constancy::{FileFaces, is_constant_over};

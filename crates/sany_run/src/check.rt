@@ -14,13 +14,13 @@ ghost use Rattle.sany_files.specs.Reading as reading;
 
 use fact_lines::ModuleReport;
 use family_facts::File;
-use family_levels::check_family;
 use sany_files::files_of_folder;
 use sany_report::{report_on, report_status};
 use std::alloc::Global;
 use step_count::Steps;
 use tool_io::{Folder, IoFault};
 use tool_list::{List, Memory};
+use workspace::check_family;
 
 /// What a run is to write, and its status.
 #[derive(Drop)]

@@ -6,12 +6,12 @@ ghost use Rattle.sany_run.specs.Answers.{is_done};
 ghost use Rattle.sany_run.specs.Program as program;
 
 use crate::check::Outcome;
-use family_levels::{FamilyCheck, check_family};
 use gen_texts::generated;
 use sany_report::{counts_of, report_status};
 use std::alloc::Global;
 use step_count::Steps;
 use tool_list::{List, Memory};
+use workspace::{FamilyCheck, check_family};
 
 // The counts of what was found.
 fn counted(alloc: Global, found: &FamilyCheck) -> Result<Outcome, Memory>

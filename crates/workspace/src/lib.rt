@@ -9,4 +9,6 @@ mod notes;
 mod replies;
 mod workspace;
 
+// Who stands on both asks for a check of files here, beside what a session asks.
+pub use family_levels::{FamilyCheck, check_family};
 pub use workspace::Workspace;

@@ -6,8 +6,8 @@ use Rattle.module_kinds.specs.ModuleKinds.{first, last, outside, views}
 use Rattle.flat_kinds.proofs.Declarations.{keeps-all, keeps-first}
 use Rattle.readable_laws.specs.Uses.{implied_by, means_by}
 use Rattle.given_modules.proofs.Usable.{behind-usable, direct-of, exported-usable, view-one}
-use Rattle.given_depths.specs.Own.{with_own_depths}
-use Rattle.given_depths.proofs.Coming.{file-gives}
+use Rattle.given_modules.specs.Passed.{with_own_depths}
+use Rattle.given_modules.proofs.Passed.{file-gives}
 use Rattle.arranged_modules.proofs.Along.{module-seen}
 use Rattle.arranged_modules.proofs.Itself.{itself-deep}
 use Rattle.arranged_modules.proofs.Known.{known-deep}
@@ -15,7 +15,7 @@ use Rattle.arranged_modules.proofs.NextFiles.{face-grows, next-deep}
 use Rattle.given_modules.specs.Others.{IsNamedOf}
 use Rattle.given_modules.proofs.Others.{brought-others}
 use Rattle.arranged_modules.proofs.Others.{outside-others}
-use Rattle.accepted_modules.proofs.Holding.{nothing-holds}
+use Rattle.given_modules.proofs.Passed.{nothing-holds}
 use Rattle.arranged_modules.proofs.deep_modules_are_files.Goals as goal
 
 pub returns-clause-itself : goal.returns-clause-itself

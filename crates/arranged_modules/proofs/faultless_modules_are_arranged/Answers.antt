@@ -2,7 +2,7 @@ use Rattle.module_model.specs.Modules.{text_of}
 use Rattle.module_model.specs.Resolution.{findings, words_of}
 use Rattle.module_kinds.specs.ModuleKinds.{views}
 use Rattle.readable_laws.specs.Uses.{implied_by, means_by}
-use Rattle.given_depths.specs.Own.{with_own_depths}
+use Rattle.given_modules.specs.Passed.{with_own_depths}
 use Rattle.arranged_modules.proofs.Along.{module-arranged}
 use Rattle.arranged_modules.proofs.Known.{known-deep}
 use Rattle.arranged_modules.proofs.faultless_modules_are_arranged.Goals as goal

@@ -1,4 +1,4 @@
-use Rattle.readable_laws.specs.Uses.{implied_by, means_by}
+use Rattle.arranged_modules.specs.Passed.{implied_by, means_by}
 use Rattle.known_modules.specs.Known.{found_over}
 use Rattle.known_modules.proofs.Over.{good-files}
 use Rattle.known_modules.proofs.made_modules_are_given.Goals as goal

@@ -1,5 +1,5 @@
 use Rattle.std.proofs.Common.{ℕ, List}
-use Rattle.readable_laws.specs.Uses.{implied_by, means_by}
+use Rattle.arranged_modules.specs.Passed.{implied_by, means_by}
 use Rattle.known_modules.specs.Known.{found_over}
 use Rattle.known_modules.proofs.Over.{deep-files, good-files, nothing-plain}
 use Rattle.known_modules.proofs.made_modules_are_known.Goals as goal

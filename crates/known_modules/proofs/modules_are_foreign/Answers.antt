@@ -1,5 +1,5 @@
 use Rattle.arranged_modules.specs.Passed.{IsForeign}
-use Rattle.accepted_modules.proofs.Holding.{nothing-holds}
+use Rattle.arranged_modules.proofs.Passed.{nothing-holds}
 use Rattle.arranged_modules.specs.Passed.{IsNamedOf}
 use Rattle.known_modules.proofs.modules_are_foreign.Goals as goal
 
