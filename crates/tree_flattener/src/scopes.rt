@@ -24,10 +24,21 @@ pub(crate) struct Entered {
     pub count: usize,
 }
 
-// The same meanings.
-fn copied_meanings(alloc: Global, meanings: &[Meaning]) -> Result<List<Meaning>, Memory>
+// The most places of the frames of one module, taken together: some 70 bytes each.
+const MOST_PLACES: usize = 67_108_864;
+
+// The same meanings, for one more frame beside so many. `Memory` comes where so many frames of this
+// length would have too many places.
+fn copied_meanings(
+    alloc: Global,
+    meanings: &[Meaning],
+    frames: usize,
+) -> Result<List<Meaning>, Memory>
     ensures { IfOk result (λ copies. copies ≡ meanings.now) }
 {
+    if meanings.len().saturating_mul(frames) > MOST_PLACES {
+        return Err(Memory);
+    }
     let mut copies = List::new(alloc);
     for meaning in meanings {
         copies.push(meaning.copied()?)?;
@@ -107,7 +118,8 @@ pub(crate) fn enter(
 {
     let names = binders(alloc, written.tree, node, written.tree.children(node))?;
     let count = names.len();
-    let mut meanings = copied_meanings(alloc, state.frames[frame].as_slice())?;
+    let frames = state.frames.len();
+    let mut meanings = copied_meanings(alloc, state.frames[frame].as_slice(), frames)?;
     place_all(alloc, written.text, &mut state.locals, &mut meanings, names)?;
     let number = state.frames.len();
     state.frames.push(meanings)?;
