@@ -6,7 +6,8 @@ ghost use Rattle.kind_text.specs.FlatModule.{Extends, IsOrdered};
 ghost use Rattle.kind_text.specs.FlatModule as text;
 ghost use Rattle.kind_table.specs.Flattened.{first_node, flat_of};
 ghost use Rattle.kind_table.specs.Table.{Grows, IsArg, IsStored};
-ghost use Rattle.level_facts.specs.Facts.{AddsArguments, AddsFrames, HasNumber, IsFacts, IsKept, NamesBody, argument_item};
+ghost use Rattle.level_facts.specs.Facts.{AddsArguments, AddsFrames, HasNumber, IsFacts, IsKept};
+ghost use Rattle.level_facts.specs.Facts.{NamesBody, argument_item};
 
 use crate::judging::kind_on;
 use crate::steps::body_of;
@@ -195,7 +196,8 @@ pub(crate) fn keep(
     kind: Option<Kind>,
 ) -> Result<(), AllocError>
     requires facts { IsFacts (flat_of flat.now) facts.old }
-    requires kept { IsKept (flat_of flat.now) facts.old.arguments.keys facts.old.frames.keys key kind }
+    requires kept { IsKept (flat_of flat.now) facts.old.arguments.keys facts.old.frames.keys key
+        kind }
     ensures facts { IsFacts (flat_of flat.now) facts.new }
     ensures arguments { facts.new.arguments.keys ≡ facts.old.arguments.keys }
 {
