@@ -4,5 +4,5 @@ pub mod Equality
 pub mod Weighing
 pub mod TableEntries
 pub mod Firsts
-pub mod KindLists
 pub mod Lookups
+pub mod Operands

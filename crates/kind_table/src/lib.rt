@@ -13,5 +13,5 @@ pub use argument::{Arg, add_values, number, value, values};
 pub use flat::{
     Definition, FlatModule, Form, Instance, Node, Replacement, extend_first_nodes, first_nodes,
 };
-pub use kinds::{bounded_kind, is_at_most, ruled_kind};
-pub use numbers::{after, behind, constants, copied, first, number_at, pick};
+pub use kinds::{is_at_most, operation_kind, quantifier_kind, ruled_kind};
+pub use numbers::{after, behind, constants, copied, first, number_at, pick, picked};

@@ -1,6 +1,6 @@
 // Lists of numbers of arguments.
 ghost use Rattle.std.specs.Prelude.{◌≡◌, ◌++◌, IfOk, Some, drop, map, replicate, slice_index_or, take};
-ghost use Rattle.kind_table.specs.Table.{picked};
+ghost use Rattle.kind_table.specs.Table.{picked as number_picked};
 
 use std::alloc::{AllocError, Global};
 use tla_symbols::Kind;
@@ -50,6 +50,13 @@ pub fn behind(
     Ok(both)
 }
 
+/// The number that was found of a node, where the first one is of the node start.
+pub fn picked(node: usize, start: usize, found: &[usize]) -> usize
+    ensures { result ≡ number_picked start found.now node }
+{
+    number_at(found, node.saturating_sub(start))
+}
+
 /// The numbers that were found of these nodes, where the first one is of the node start.
 pub fn pick(
     alloc: Global,
@@ -57,11 +64,11 @@ pub fn pick(
     start: usize,
     found: &[usize],
 ) -> Result<Vec<usize>, AllocError>
-    ensures { IfOk result (λ v. v.items ≡ map (picked start found.now) nodes.now) }
+    ensures { IfOk result (λ v. v.items ≡ map (number_picked start found.now) nodes.now) }
 {
     let mut numbers = Vec::new(alloc);
     for node in nodes {
-        numbers.push(number_at(found, (*node).saturating_sub(start)))?;
+        numbers.push(picked(*node, start, found))?;
     }
     Ok(numbers)
 }

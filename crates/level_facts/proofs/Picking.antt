@@ -69,18 +69,18 @@ module _ (flat : FlatModule) (table : List Arg) (start i : ℕ) (frame found : L
         light = omega (arith, one.light, c);
       }
 
-  -- and what was found of its body is the first of the numbers of its parts
-  pub let_body : (ordered : IsOrdered flat) (parts ns : List ℕ) (n : ℕ) → Reads flat i Form.Let parts → ns ≡ map (picked start found) parts → Some n ≡ slice_get ns 0 → start ≤ first_node flat i → IsFound flat table i frame n
-  let_body ordered [] ns n r is e s = let none : Some n ≡ slice_get (map (picked start found) []) 0 = e ∙ ap (λ x. slice_get x 0) is in cc
-  let_body ordered (part ∷ rest) ns n r is e s =
-      let body : Some n ≡ Some (picked start found part) = e ∙ ap (λ x. slice_get x 0) is in
-      let same : n ≡ picked start found part = cc in
-      subst (IsFound flat table i frame) (sym same) (let_found ordered (part ∷ rest) part rest r refl s)
+  -- and its body is the first of its parts
+  pub let_body : (ordered : IsOrdered flat) (parts : List ℕ) (inner n : ℕ) → Reads flat i Form.Let parts → Some inner ≡ slice_get parts 0 → n ≡ picked start found inner → start ≤ first_node flat i → IsFound flat table i frame n
+  let_body ordered [] inner n r e is s = let none : Some inner ≡ None = e in cc
+  let_body ordered (part ∷ rest) inner n r e is s =
+      let body : Some inner ≡ Some part = e in
+      let same : inner ≡ part = cc in
+      subst (IsFound flat table i frame) (sym (is ∙ ap (picked start found) same)) (let_found ordered (part ∷ rest) part rest r refl s)
 
 -- LET without a body has no kind
-pub let_missing : (flat : FlatModule) (f : ℕ → ℕ) (parts ns : List ℕ) (s : List Item) → ns ≡ map f parts → None ≡ slice_get ns 0 → form_item flat (text flat) Form.Let parts s ≡ expression (Given None)
-let_missing flat f [] ns s is e = refl
-let_missing flat f (part ∷ rest) ns s is e = let some : None ≡ Some (f part) = e ∙ ap (λ x. slice_get x 0) is in cc
+pub let_missing : (flat : FlatModule) (parts : List ℕ) (s : List Item) → None ≡ slice_get parts 0 → form_item flat (text flat) Form.Let parts s ≡ expression (Given None)
+let_missing flat [] s e = refl
+let_missing flat (part ∷ rest) s e = let some : None ≡ Some part = e in cc
 
 -- ---- one node more
 

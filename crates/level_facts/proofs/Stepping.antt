@@ -1,5 +1,5 @@
 -- What a step knows of its node.
-use Rattle.std.proofs.Common.{◌≡◌, ℕ, ◌+◌, ◌*◌, ◌<◌, ◌≤◌, List, Option, Some, sym, ap, ◌∙◌, subst, map, length, get_or, arith}
+use Rattle.std.proofs.Common.{◌≡◌, ℕ, ◌+◌, ◌*◌, ◌<◌, ◌≤◌, List, Option, Some, refl, sym, ap, ◌∙◌, subst, map, length, get_or, arith}
 use Rattle.std.specs.Prelude.{slice_get}
 use Rattle.std.specs.List.{AllByRecursion}
 use Rattle.tla_symbols.specs.declared.level.Kind.{Kind}
@@ -42,6 +42,11 @@ step_at t facts start i first frame found firsts parts ns n ordered h l f e firs
       finds = f;
       numbers = ns_are ∙ ap (map (picked start found)) parts_are;
     }
+
+-- the same where its parts are read in place
+pub step_here : (t : tables.FlatModule) (facts : KindFacts) (start i first : ℕ) (frame found firsts : List ℕ) (n : node.Node) → IsOrdered (flat_of t) → IsFacts (flat_of t) facts → i < length t.nodes.items → Found (flat_of t) facts.arguments.keys start i frame found → first ≡ get_or firsts i 0 → firsts ≡ facts.firsts.items → start ≤ first → n ≡ get_or t.nodes.items i n → StepAt t facts.arguments.keys start i frame found (map (picked start found) n.parts.items) n
+step_here t facts start i first frame found firsts n ordered h l f e firsts_are s is =
+    step_at t facts start i first frame found firsts n.parts.items (map (picked start found) n.parts.items) n ordered h l f e firsts_are s is refl refl
 
 module _ {t : tables.FlatModule} {old : List Arg} {start i : ℕ} {frame found ns : List ℕ} {n : node.Node} (h : StepAt t old start i frame found ns n) (form : table.Form) (e : n.form ≡ form) where
   pub step_reads : Reads (flat_of t) i (form_of t.paths.items form) n.parts.items

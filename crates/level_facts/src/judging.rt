@@ -11,13 +11,10 @@ ghost use Rattle.level_facts.specs.Facts.{IsFacts};
 ghost use Rattle.level_facts.specs.Judged.{Evaluates, EvaluatesAll, Found, IsReached, LeadsThrough, MeetsGuards, ReachesPath, Steps, UsesPath, is_within, lower_cost_of, use_kind_of};
 
 use crate::facts::{Key, KindFacts, frame_number, keep, number};
-use crate::steps::{
-    Reached, add_operands, around, body_of, closure, operand, operation_kind, places,
-    quantifier_kind, start,
-};
+use crate::steps::{Reached, add_operands, around, body_of, closure, operand, places, start};
 use kind_table::{
     Arg, FlatModule, Form, Instance, Replacement, after, constants, copied, is_at_most, number_at,
-    pick, ruled_kind, value, values,
+    operation_kind, pick, picked, quantifier_kind, ruled_kind, value, values,
 };
 use std::alloc::{AllocError, Global};
 use tla_symbols::{Kind, Rule};
@@ -83,14 +80,8 @@ fn called(
     match facts.arguments.get_index(operator) {
         None => Ok(None),
         Some(Arg::Value(_)) => Ok(None),
-        Some(Arg::Stays(rule)) => {
-            let kind = ruled_kind(alloc, *rule, operands)?;
-            Ok(kind)
-        }
-        Some(Arg::BuiltIn(rule)) => {
-            let kind = ruled_kind(alloc, *rule, operands)?;
-            Ok(kind)
-        }
+        Some(Arg::Stays(rule)) => Ok(ruled_kind(*rule, operands)),
+        Some(Arg::BuiltIn(rule)) => Ok(ruled_kind(*rule, operands)),
         Some(Arg::Operator(d, outer)) => {
             let definition = *d;
             let mut frame = copied(alloc, outer)?;
@@ -333,7 +324,6 @@ pub(crate) fn step(
         return Ok(0);
     }
     let here = &flat.nodes[node];
-    let numbers = pick(alloc, &here.parts, start, found)?;
     match here.form {
         Form::Leaf(kind) => {
             let n = number(flat, facts, Arg::Value(Some(kind)))?;
@@ -345,39 +335,42 @@ pub(crate) fn step(
         }
         Form::Call(place) => {
             let operator = operand(flat, facts, frame, place)?;
+            let numbers = pick(alloc, &here.parts, start, found)?;
             let kinds = values(alloc, &facts.arguments, &numbers)?;
             let kind = called(alloc, flat, facts, operator, &kinds)?;
             let n = number(flat, facts, Arg::Value(kind))?;
             Ok(n)
         }
         Form::Operation(rule) => {
-            let kind = operation_kind(alloc, &facts.arguments, rule, &numbers)?;
+            let kind = operation_kind(&facts.arguments, rule, &here.parts, start, found);
             let n = number(flat, facts, Arg::Value(kind))?;
             Ok(n)
         }
         Form::Bounded => {
-            let kind = quantifier_kind(alloc, &facts.arguments, &numbers)?;
+            let kind = quantifier_kind(&facts.arguments, &here.parts, start, found);
             let n = number(flat, facts, Arg::Value(kind))?;
             Ok(n)
         }
         Form::Old => {
-            let kind = operation_kind(alloc, &facts.arguments, Rule::Boolean, &numbers)?;
+            let kind = operation_kind(&facts.arguments, Rule::Boolean, &here.parts, start, found);
             let n = number(flat, facts, Arg::Value(kind))?;
             Ok(n)
         }
-        Form::Let => match numbers.first() {
-            Some(inner) => Ok(*inner),
+        Form::Let => match here.parts.first() {
+            Some(inner) => Ok(picked(*inner, start, found)),
             None => {
                 let n = number(flat, facts, Arg::Value(None))?;
                 Ok(n)
             }
         },
         Form::Use(path, definition) => {
+            let numbers = pick(alloc, &here.parts, start, found)?;
             let kind = use_kind(alloc, flat, facts, node, path, definition, &numbers, frame)?;
             let n = number(flat, facts, Arg::Value(kind))?;
             Ok(n)
         }
         Form::Name(path, definition) => {
+            let numbers = pick(alloc, &here.parts, start, found)?;
             let reached = reach(alloc, flat, facts, node, path, &numbers, frame)?;
             if !reached.met {
                 let n = number(flat, facts, Arg::Value(None))?;

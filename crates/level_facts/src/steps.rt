@@ -1,18 +1,13 @@
 // What of a node needs no other body.
 ghost use Rattle.std.specs.Prelude.{◌≡◌, ◌<◌, ◌≤◌, ◌++◌, IfOk, MatchOption, OnOk, true, length, map, slice_get, take};
-ghost use Rattle.kind_text.specs.ExpandedKind.{ruled};
 ghost use Rattle.kind_text.specs.FlatModule.{places_of};
 ghost use Rattle.kind_table.specs.Flattened.{flat_of};
-ghost use Rattle.kind_table.specs.Table.{AddsValues, AllWithin, bounded_kind as kind_over_sets, value_at};
+ghost use Rattle.kind_table.specs.Table.{AddsValues, AllWithin};
 ghost use Rattle.level_facts.specs.Facts.{HasNoBody, IsBody, IsFacts};
 ghost use Rattle.level_facts.specs.Judged.{IsClosure, IsOperand, around_of};
 
 use crate::facts::{KindFacts, number};
-use indexmap::IndexSet;
-use kind_table::{
-    Arg, Definition, FlatModule, Instance, add_values, behind, bounded_kind, copied, first,
-    ruled_kind, values,
-};
+use kind_table::{Arg, Definition, FlatModule, Instance, add_values, behind, copied, first};
 use std::alloc::{AllocError, Global};
 use tla_symbols::{Kind, Rule};
 
@@ -80,34 +75,6 @@ pub(crate) fn around(
     let arguments = first(alloc, &reached.rest, instance.parameters)?;
     let round = behind(alloc, &reached.frame, instance.outer, &arguments)?;
     Ok(round)
-}
-
-/// The kind that a rule gives on operands of these numbers.
-pub(crate) fn operation_kind(
-    alloc: Global,
-    arguments: &IndexSet<Arg>,
-    rule: Rule,
-    numbers: &[usize],
-) -> Result<Option<Kind>, AllocError>
-    ensures { IfOk result (λ k. k ≡ ruled rule (map (value_at arguments.now.keys) numbers.now)) }
-{
-    let kinds = values(alloc, arguments, numbers)?;
-    let kind = ruled_kind(alloc, rule, &kinds)?;
-    Ok(kind)
-}
-
-/// The kind of a quantifier over sets, where its body and the sets have these numbers.
-pub(crate) fn quantifier_kind(
-    alloc: Global,
-    arguments: &IndexSet<Arg>,
-    numbers: &[usize],
-) -> Result<Option<Kind>, AllocError>
-    ensures { IfOk result (λ k. k ≡ kind_over_sets (map (value_at arguments.now.keys)
-        numbers.now)) }
-{
-    let kinds = values(alloc, arguments, numbers)?;
-    let kind = bounded_kind(alloc, &kinds)?;
-    Ok(kind)
 }
 
 /// The number of what stands at a place of a frame. Past its end a constant stands.

@@ -1,6 +1,7 @@
-use Rattle.std.proofs.Common.{drop}
-use Rattle.kind_table.proofs.KindLists.{AreKnown}
+use Rattle.std.proofs.Common.{◌≡◌, drop}
+use Rattle.kind_text.specs.ExpandedKind.{ruled}
+use Rattle.kind_table.specs.Operands.{ruled_on}
 use Rattle.kind_table.proofs.kinds.ruled_kind.Given as goal
 
-abbrev pub invariant-loop-kind : goal.invariant-loop-kind
-invariant-loop-kind l = AreKnown l.known.items (drop l.kind-index l.kinds) l.kinds
+abbrev pub invariant-loop-place : goal.invariant-loop-place
+invariant-loop-place l = ruled l.rule l.kinds ≡ ruled_on l.rule l.place l.greatest (drop l.place l.kinds)

@@ -23,7 +23,7 @@ use Rattle.level_facts.proofs.Keeping.{frames_on, kept-lookup}
 use Rattle.level_facts.proofs.Calling.{body_kind, built_in_kind, evaluates_more, no_body_kind, no_operator_kind, operator_kind, staying_kind}
 use Rattle.level_facts.proofs.Finding.{call_kind, lambda_found, missing_found, name_met, name_not_met, parameter_found, part_kinds, parts_bounded, reads-below, symbol_found, use_found}
 use Rattle.level_facts.proofs.Picking.{begins_at, found_more, left_out, let_body, let_missing}
-use Rattle.level_facts.proofs.Stepping.{step_at, step_parts, step_reads, uses_light, value_steps}
+use Rattle.level_facts.proofs.Stepping.{step_at, step_here, step_parts, step_reads, uses_light, value_steps}
 use Rattle.level_facts.proofs.Guards.{decide_more, decide_none, judges_at, meets_all, meets_free, meets_not}
 use Rattle.level_facts.proofs.Paths.{around_light, around_within, definition_within, frame_long, guards_light, instance_within, leads_through, path_begins, path_light, path_more, reads_instance, root_light, roots_light, used_light, used_met, used_not_met, used_within, uses_at}
 use Rattle.level_facts.proofs.judging.+judge.Goals.{lead_through-then-reached, lead_through-else-reached}
@@ -92,13 +92,13 @@ pub called-returns-in-Some-Value-clause-kind : goal.called-returns-in-Some-Value
 called-returns-in-Some-Value-clause-kind t c =
     no_operator_kind (flat_of c.args.flat.now) c.args.operator _ c.args.operands.now c.requires.facts.table (sym c.in-Some-Value.ensures.key ∙ ap Some c.in-Some-Value.field-0-is)
 
-pub called-returns-in_ok-kind-in-Some-Stays-clause-kind : goal.called-returns-in_ok-kind-in-Some-Stays-clause-kind
-called-returns-in_ok-kind-in-Some-Stays-clause-kind t c =
-    c.in_ok-kind-in-Some-Stays.ensures ∙ staying_kind (flat_of c.args.flat.now) c.args.operator _ c.args.operands.now c.requires.facts.table (sym c.in-Some-Stays.ensures.key ∙ ap Some c.in-Some-Stays.field-0-is)
+pub called-returns-in-Some-Stays-clause-kind : goal.called-returns-in-Some-Stays-clause-kind
+called-returns-in-Some-Stays-clause-kind t c =
+    c.ruled_kind.ensures ∙ staying_kind (flat_of c.args.flat.now) c.args.operator _ c.args.operands.now c.requires.facts.table (sym c.in-Some-Stays.ensures.key ∙ ap Some c.in-Some-Stays.field-0-is)
 
-pub called-returns-in_ok-kind-in-Some-BuiltIn-clause-kind : goal.called-returns-in_ok-kind-in-Some-BuiltIn-clause-kind
-called-returns-in_ok-kind-in-Some-BuiltIn-clause-kind t c =
-    c.in_ok-kind-in-Some-BuiltIn.ensures ∙ built_in_kind (flat_of c.args.flat.now) c.args.operator _ c.args.operands.now c.requires.facts.table (sym c.in-Some-BuiltIn.ensures.key ∙ ap Some c.in-Some-BuiltIn.field-0-is)
+pub called-returns-in-Some-BuiltIn-clause-kind : goal.called-returns-in-Some-BuiltIn-clause-kind
+called-returns-in-Some-BuiltIn-clause-kind t c =
+    c.ruled_kind-in-Some-BuiltIn.ensures ∙ built_in_kind (flat_of c.args.flat.now) c.args.operator _ c.args.operands.now c.requires.facts.table (sym c.in-Some-BuiltIn.ensures.key ∙ ap Some c.in-Some-BuiltIn.field-0-is)
 
 pub called-add_operands-requires-clause-frame : goal.called-add_operands-requires-clause-frame
 called-add_operands-requires-clause-frame t c =
@@ -380,139 +380,135 @@ step-called-requires t c =
 pub step-use_kind-requires : goal.step-use_kind-requires
 step-use_kind-requires t c =
     let m = flat_of c.args.flat.now in let old = c.args.facts.now.arguments.keys in
-    let s = step_at c.args.flat.now c.args.facts.now c.args.start c.args.node c.number_at.result c.args.frame.now c.args.found.now c.deref.result.now c.deref-2.result.now c.in_ok-numbers.numbers.items c.index-here.result.now c.requires.ordered c.requires.facts c.requires.node c.requires.found c.number_at.ensures c.deref.ensures.value c.if-number_at-start.false c.index-here.ensures c.in_ok-numbers.ensures c.deref-2.ensures.value in
-    let ns = c.in_ok-numbers.numbers.items in
+    let s = step_at c.args.flat.now c.args.facts.now c.args.start c.args.node c.number_at.result c.args.frame.now c.args.found.now c.deref.result.now c.deref-in-Use.result.now c.in_ok-numbers-in-Use.numbers.items c.index-here.result.now c.requires.ordered c.requires.facts c.requires.node c.requires.found c.number_at.ensures c.deref.ensures.value c.if-number_at-start.false c.index-here.ensures c.in_ok-numbers-in-Use.ensures c.deref-in-Use.ensures.value in
+    let ns = c.in_ok-numbers-in-Use.numbers.items in
     let f = variant.Use c.in-Use.path c.in-Use.definition in let path = path_at c.args.flat.now.paths.items c.in-Use.path in
     let r = step_reads s f c.in-Use.is in let p = step_parts s f c.in-Use.is refl in
     let uses = (reads-below m c.requires.ordered r).1 in let w = uses_light m path c.in-Use.definition r refl uses.1 in
-    let l = ap (load m old) c.deref-in-Use.ensures.value in
-    (omega (arith, w), (c.requires.ordered, (c.requires.facts, (uses.0, (uses.1, (c.requires.frame, (subst (AllWithin old) (sym c.deref-in-Use.ensures.value) p.within, omega (arith, l, p.light))))))))
+    let l = ap (load m old) c.deref-in-Use-2.ensures.value in
+    (omega (arith, w), (c.requires.ordered, (c.requires.facts, (uses.0, (uses.1, (c.requires.frame, (subst (AllWithin old) (sym c.deref-in-Use-2.ensures.value) p.within, omega (arith, l, p.light))))))))
 
 pub step-reach-requires : goal.step-reach-requires
 step-reach-requires t c =
     let m = flat_of c.args.flat.now in let old = c.args.facts.now.arguments.keys in
-    let s = step_at c.args.flat.now c.args.facts.now c.args.start c.args.node c.number_at.result c.args.frame.now c.args.found.now c.deref.result.now c.deref-2.result.now c.in_ok-numbers.numbers.items c.index-here.result.now c.requires.ordered c.requires.facts c.requires.node c.requires.found c.number_at.ensures c.deref.ensures.value c.if-number_at-start.false c.index-here.ensures c.in_ok-numbers.ensures c.deref-2.ensures.value in
-    let ns = c.in_ok-numbers.numbers.items in
+    let s = step_at c.args.flat.now c.args.facts.now c.args.start c.args.node c.number_at.result c.args.frame.now c.args.found.now c.deref.result.now c.deref-in-Name.result.now c.in_ok-numbers-in-Name.numbers.items c.index-here.result.now c.requires.ordered c.requires.facts c.requires.node c.requires.found c.number_at.ensures c.deref.ensures.value c.if-number_at-start.false c.index-here.ensures c.in_ok-numbers-in-Name.ensures c.deref-in-Name.ensures.value in
+    let ns = c.in_ok-numbers-in-Name.numbers.items in
     let f = variant.Name c.in-Name.path c.in-Name.definition in let path = path_at c.args.flat.now.paths.items c.in-Name.path in
     let r = step_reads s f c.in-Name.is in let p = step_parts s f c.in-Name.is refl in
     let uses = (reads-below m c.requires.ordered r).1 in let w = uses_light m path c.in-Name.definition r refl uses.1 in
-    let l = ap (load m old) c.deref-in-Name.ensures.value in
-    (omega (arith, w, l, p.light), (c.requires.ordered, (c.requires.facts, (uses.0, (c.requires.frame, subst (AllWithin old) (sym c.deref-in-Name.ensures.value) p.within)))))
+    let l = ap (load m old) c.deref-in-Name-2.ensures.value in
+    (omega (arith, w, l, p.light), (c.requires.ordered, (c.requires.facts, (uses.0, (c.requires.frame, subst (AllWithin old) (sym c.deref-in-Name-2.ensures.value) p.within)))))
 
 pub step-returns-then-not-reached-clause-steps : goal.step-returns-then-not-reached-clause-steps
 step-returns-then-not-reached-clause-steps t c =
     let m = flat_of c.args.flat.now in let old = c.args.facts.now.arguments.keys in
-    let s = step_at c.args.flat.now c.args.facts.now c.args.start c.args.node c.number_at.result c.args.frame.now c.args.found.now c.deref.result.now c.deref-2.result.now c.in_ok-numbers.numbers.items c.index-here.result.now c.requires.ordered c.requires.facts c.requires.node c.requires.found c.number_at.ensures c.deref.ensures.value c.if-number_at-start.false c.index-here.ensures c.in_ok-numbers.ensures c.deref-2.ensures.value in
-    let ns = c.in_ok-numbers.numbers.items in
+    let s = step_at c.args.flat.now c.args.facts.now c.args.start c.args.node c.number_at.result c.args.frame.now c.args.found.now c.deref.result.now c.deref-in-Name.result.now c.in_ok-numbers-in-Name.numbers.items c.index-here.result.now c.requires.ordered c.requires.facts c.requires.node c.requires.found c.number_at.ensures c.deref.ensures.value c.if-number_at-start.false c.index-here.ensures c.in_ok-numbers-in-Name.ensures c.deref-in-Name.ensures.value in
+    let ns = c.in_ok-numbers-in-Name.numbers.items in
     let f = variant.Name c.in-Name.path c.in-Name.definition in let path = path_at c.args.flat.now.paths.items c.in-Name.path in
     let r = step_reads s f c.in-Name.is in let p = step_parts s f c.in-Name.is refl in
-    let h = subst (λ y. ReachesPath m old c.reach.new.facts.arguments.keys c.args.node path c.args.frame.now y c.in_ok-reached-in-Name.reached) c.deref-in-Name.ensures.value c.in_ok-reached-in-Name.ensures.reaches in
+    let h = subst (λ y. ReachesPath m old c.reach.new.facts.arguments.keys c.args.node path c.args.frame.now y c.in_ok-reached-in-Name.reached) c.deref-in-Name-2.ensures.value c.in_ok-reached-in-Name.ensures.reaches in
     record { grows = grows_on h.grows c.in_ok-n-in-Name.ensures.grows; found = λ _. name_not_met m c.requires.ordered path c.in-Name.definition r c.args.frame.now ns c.in_ok-reached-in-Name.reached c.requires.frame p h c.in_ok-n-in-Name.n c.if-not-reached.true c.in_ok-n-in-Name.ensures.grows c.in_ok-n-in-Name.ensures.stored }
 
-pub step-returns-in-Leaf-clause-steps : goal.step-returns-in-Leaf-clause-steps
-step-returns-in-Leaf-clause-steps t c =
+pub step-returns-in_ok-n-in-Leaf-clause-steps : goal.step-returns-in_ok-n-in-Leaf-clause-steps
+step-returns-in_ok-n-in-Leaf-clause-steps t c =
     let m = flat_of c.args.flat.now in let old = c.args.facts.now.arguments.keys in
-    let s = step_at c.args.flat.now c.args.facts.now c.args.start c.args.node c.number_at.result c.args.frame.now c.args.found.now c.deref.result.now c.deref-2.result.now c.in_ok-numbers.numbers.items c.index-here.result.now c.requires.ordered c.requires.facts c.requires.node c.requires.found c.number_at.ensures c.deref.ensures.value c.if-number_at-start.false c.index-here.ensures c.in_ok-numbers.ensures c.deref-2.ensures.value in
-    let ns = c.in_ok-numbers.numbers.items in
+    let s = step_here c.args.flat.now c.args.facts.now c.args.start c.args.node c.number_at.result c.args.frame.now c.args.found.now c.deref.result.now c.index-here.result.now c.requires.ordered c.requires.facts c.requires.node c.requires.found c.number_at.ensures c.deref.ensures.value c.if-number_at-start.false c.index-here.ensures in
     value_steps s (variant.Leaf c.in-Leaf.kind) c.in-Leaf.is c.in_ok-n-in-Leaf.n (Some c.in-Leaf.kind) (Given (Some c.in-Leaf.kind)) c.requires.frame c.in_ok-n-in-Leaf.ensures.grows refl refl c.in_ok-n-in-Leaf.ensures.stored
 
-pub step-returns-in-Symbol-clause-steps : goal.step-returns-in-Symbol-clause-steps
-step-returns-in-Symbol-clause-steps t c =
+pub step-returns-in_ok-n-in-Symbol-clause-steps : goal.step-returns-in_ok-n-in-Symbol-clause-steps
+step-returns-in_ok-n-in-Symbol-clause-steps t c =
     let m = flat_of c.args.flat.now in let old = c.args.facts.now.arguments.keys in
-    let s = step_at c.args.flat.now c.args.facts.now c.args.start c.args.node c.number_at.result c.args.frame.now c.args.found.now c.deref.result.now c.deref-2.result.now c.in_ok-numbers.numbers.items c.index-here.result.now c.requires.ordered c.requires.facts c.requires.node c.requires.found c.number_at.ensures c.deref.ensures.value c.if-number_at-start.false c.index-here.ensures c.in_ok-numbers.ensures c.deref-2.ensures.value in
-    let ns = c.in_ok-numbers.numbers.items in
+    let s = step_here c.args.flat.now c.args.facts.now c.args.start c.args.node c.number_at.result c.args.frame.now c.args.found.now c.deref.result.now c.index-here.result.now c.requires.ordered c.requires.facts c.requires.node c.requires.found c.number_at.ensures c.deref.ensures.value c.if-number_at-start.false c.index-here.ensures in
     let r = step_reads s (variant.Symbol c.in-Symbol.rule) c.in-Symbol.is in
     record { grows = c.in_ok-n-in-Symbol.ensures.grows; found = λ _. symbol_found m c.requires.ordered c.in-Symbol.rule r c.args.frame.now c.in_ok-n-in-Symbol.n c.in_ok-n-in-Symbol.ensures.grows c.in_ok-n-in-Symbol.ensures.stored }
 
-pub step-returns-in-Parameter-clause-steps : goal.step-returns-in-Parameter-clause-steps
-step-returns-in-Parameter-clause-steps t c =
+pub step-returns-in_ok-n-in-Parameter-clause-steps : goal.step-returns-in_ok-n-in-Parameter-clause-steps
+step-returns-in_ok-n-in-Parameter-clause-steps t c =
     let m = flat_of c.args.flat.now in let old = c.args.facts.now.arguments.keys in
-    let s = step_at c.args.flat.now c.args.facts.now c.args.start c.args.node c.number_at.result c.args.frame.now c.args.found.now c.deref.result.now c.deref-2.result.now c.in_ok-numbers.numbers.items c.index-here.result.now c.requires.ordered c.requires.facts c.requires.node c.requires.found c.number_at.ensures c.deref.ensures.value c.if-number_at-start.false c.index-here.ensures c.in_ok-numbers.ensures c.deref-2.ensures.value in
-    let ns = c.in_ok-numbers.numbers.items in
+    let s = step_here c.args.flat.now c.args.facts.now c.args.start c.args.node c.number_at.result c.args.frame.now c.args.found.now c.deref.result.now c.index-here.result.now c.requires.ordered c.requires.facts c.requires.node c.requires.found c.number_at.ensures c.deref.ensures.value c.if-number_at-start.false c.index-here.ensures in
     let r = step_reads s (variant.Parameter c.in-Parameter.place) c.in-Parameter.is in let o = c.in_ok-n-in-Parameter.ensures.found in
     record { grows = o.grows; found = λ _. parameter_found m c.requires.ordered c.in-Parameter.place r c.args.frame.now c.in_ok-n-in-Parameter.n o }
 
-pub step-returns-clause-steps : goal.step-returns-clause-steps
-step-returns-clause-steps t c =
+pub step-returns-in_ok-n-in-Lambda-clause-steps : goal.step-returns-in_ok-n-in-Lambda-clause-steps
+step-returns-in_ok-n-in-Lambda-clause-steps t c =
     let m = flat_of c.args.flat.now in let old = c.args.facts.now.arguments.keys in
-    let s = step_at c.args.flat.now c.args.facts.now c.args.start c.args.node c.number_at.result c.args.frame.now c.args.found.now c.deref.result.now c.deref-2.result.now c.in_ok-numbers.numbers.items c.index-here.result.now c.requires.ordered c.requires.facts c.requires.node c.requires.found c.number_at.ensures c.deref.ensures.value c.if-number_at-start.false c.index-here.ensures c.in_ok-numbers.ensures c.deref-2.ensures.value in
-    let ns = c.in_ok-numbers.numbers.items in
+    let s = step_here c.args.flat.now c.args.facts.now c.args.start c.args.node c.number_at.result c.args.frame.now c.args.found.now c.deref.result.now c.index-here.result.now c.requires.ordered c.requires.facts c.requires.node c.requires.found c.number_at.ensures c.deref.ensures.value c.if-number_at-start.false c.index-here.ensures in
     let r = step_reads s (variant.Lambda c.in-Lambda.definition) c.in-Lambda.is in let o = c.in_ok-n-in-Lambda.ensures.found in
     record { grows = o.grows; found = λ _. lambda_found m c.requires.ordered c.in-Lambda.definition r c.args.frame.now c.in_ok-n-in-Lambda.n o }
 
-pub step-returns-in-Operation-clause-steps : goal.step-returns-in-Operation-clause-steps
-step-returns-in-Operation-clause-steps t c =
+pub step-returns-in_ok-n-in-Operation-clause-steps : goal.step-returns-in_ok-n-in-Operation-clause-steps
+step-returns-in_ok-n-in-Operation-clause-steps t c =
     let m = flat_of c.args.flat.now in let old = c.args.facts.now.arguments.keys in
-    let s = step_at c.args.flat.now c.args.facts.now c.args.start c.args.node c.number_at.result c.args.frame.now c.args.found.now c.deref.result.now c.deref-2.result.now c.in_ok-numbers.numbers.items c.index-here.result.now c.requires.ordered c.requires.facts c.requires.node c.requires.found c.number_at.ensures c.deref.ensures.value c.if-number_at-start.false c.index-here.ensures c.in_ok-numbers.ensures c.deref-2.ensures.value in
-    let ns = c.in_ok-numbers.numbers.items in
+    let s = step_here c.args.flat.now c.args.facts.now c.args.start c.args.node c.number_at.result c.args.frame.now c.args.found.now c.deref.result.now c.index-here.result.now c.requires.ordered c.requires.facts c.requires.node c.requires.found c.number_at.ensures c.deref.ensures.value c.if-number_at-start.false c.index-here.ensures in
+    let ns = map (picked c.args.start c.args.found.now) c.index-here.result.now.parts.items in
     let r = step_reads s (variant.Operation c.in-Operation.rule) c.in-Operation.is in let p = step_parts s (variant.Operation c.in-Operation.rule) c.in-Operation.is refl in
     let g = c.in_ok-n-in-Operation.ensures.grows in
-    value_steps s (variant.Operation c.in-Operation.rule) c.in-Operation.is c.in_ok-n-in-Operation.n c.in_ok-kind-in-Operation.kind _ c.requires.frame g refl
-    (c.in_ok-kind-in-Operation.ensures ∙ ap (λ y. ruled c.in-Operation.rule (map (value_at old) y)) c.deref-in-Operation.ensures.value ∙ ap (ruled c.in-Operation.rule) (part_kinds m c.requires.ordered r old c.args.frame.now ns p)) c.in_ok-n-in-Operation.ensures.stored
+    value_steps s (variant.Operation c.in-Operation.rule) c.in-Operation.is c.in_ok-n-in-Operation.n c.operation_kind-kind.result _ c.requires.frame g refl
+    (c.operation_kind-kind.ensures ∙ ap (λ y. ruled c.in-Operation.rule (map (value_at old) (map (picked c.args.start c.args.found.now) y))) c.deref-in-Operation.ensures.value ∙ ap (ruled c.in-Operation.rule) (part_kinds m c.requires.ordered r old c.args.frame.now ns p)) c.in_ok-n-in-Operation.ensures.stored
 
-pub step-returns-in-Old-clause-steps : goal.step-returns-in-Old-clause-steps
-step-returns-in-Old-clause-steps t c =
+pub step-returns-in_ok-n-in-Old-clause-steps : goal.step-returns-in_ok-n-in-Old-clause-steps
+step-returns-in_ok-n-in-Old-clause-steps t c =
     let m = flat_of c.args.flat.now in let old = c.args.facts.now.arguments.keys in
-    let s = step_at c.args.flat.now c.args.facts.now c.args.start c.args.node c.number_at.result c.args.frame.now c.args.found.now c.deref.result.now c.deref-2.result.now c.in_ok-numbers.numbers.items c.index-here.result.now c.requires.ordered c.requires.facts c.requires.node c.requires.found c.number_at.ensures c.deref.ensures.value c.if-number_at-start.false c.index-here.ensures c.in_ok-numbers.ensures c.deref-2.ensures.value in
-    let ns = c.in_ok-numbers.numbers.items in
+    let s = step_here c.args.flat.now c.args.facts.now c.args.start c.args.node c.number_at.result c.args.frame.now c.args.found.now c.deref.result.now c.index-here.result.now c.requires.ordered c.requires.facts c.requires.node c.requires.found c.number_at.ensures c.deref.ensures.value c.if-number_at-start.false c.index-here.ensures in
+    let ns = map (picked c.args.start c.args.found.now) c.index-here.result.now.parts.items in
     let r = step_reads s variant.Old c.in-Old.is in let p = step_parts s variant.Old c.in-Old.is refl in
     let g = c.in_ok-n-in-Old.ensures.grows in
-    value_steps s variant.Old c.in-Old.is c.in_ok-n-in-Old.n c.in_ok-kind-in-Old.kind _ c.requires.frame g refl
-    (c.in_ok-kind-in-Old.ensures ∙ ap (λ y. ruled Boolean (map (value_at old) y)) c.deref-in-Old.ensures.value ∙ ap (ruled Boolean) (part_kinds m c.requires.ordered r old c.args.frame.now ns p)) c.in_ok-n-in-Old.ensures.stored
+    value_steps s variant.Old c.in-Old.is c.in_ok-n-in-Old.n c.operation_kind-kind-in-Old.result _ c.requires.frame g refl
+    (c.operation_kind-kind-in-Old.ensures ∙ ap (λ y. ruled Boolean (map (value_at old) (map (picked c.args.start c.args.found.now) y))) c.deref-in-Old.ensures.value ∙ ap (ruled Boolean) (part_kinds m c.requires.ordered r old c.args.frame.now ns p)) c.in_ok-n-in-Old.ensures.stored
 
-pub step-returns-in-Bounded-clause-steps : goal.step-returns-in-Bounded-clause-steps
-step-returns-in-Bounded-clause-steps t c =
+pub step-returns-in_ok-n-in-Bounded-clause-steps : goal.step-returns-in_ok-n-in-Bounded-clause-steps
+step-returns-in_ok-n-in-Bounded-clause-steps t c =
     let m = flat_of c.args.flat.now in let old = c.args.facts.now.arguments.keys in
-    let s = step_at c.args.flat.now c.args.facts.now c.args.start c.args.node c.number_at.result c.args.frame.now c.args.found.now c.deref.result.now c.deref-2.result.now c.in_ok-numbers.numbers.items c.index-here.result.now c.requires.ordered c.requires.facts c.requires.node c.requires.found c.number_at.ensures c.deref.ensures.value c.if-number_at-start.false c.index-here.ensures c.in_ok-numbers.ensures c.deref-2.ensures.value in
-    let ns = c.in_ok-numbers.numbers.items in
+    let s = step_here c.args.flat.now c.args.facts.now c.args.start c.args.node c.number_at.result c.args.frame.now c.args.found.now c.deref.result.now c.index-here.result.now c.requires.ordered c.requires.facts c.requires.node c.requires.found c.number_at.ensures c.deref.ensures.value c.if-number_at-start.false c.index-here.ensures in
+    let ns = map (picked c.args.start c.args.found.now) c.index-here.result.now.parts.items in
     let r = step_reads s variant.Bounded c.in-Bounded.is in let p = step_parts s variant.Bounded c.in-Bounded.is refl in
     let g = c.in_ok-n-in-Bounded.ensures.grows in
-    value_steps s variant.Bounded c.in-Bounded.is c.in_ok-n-in-Bounded.n c.in_ok-kind-in-Bounded.kind _ c.requires.frame g refl
-    (c.in_ok-kind-in-Bounded.ensures ∙ ap (λ y. bounded_kind (map (value_at old) y)) c.deref-in-Bounded.ensures.value ∙ parts_bounded m c.requires.ordered r old c.args.frame.now ns p) c.in_ok-n-in-Bounded.ensures.stored
+    value_steps s variant.Bounded c.in-Bounded.is c.in_ok-n-in-Bounded.n c.quantifier_kind-kind.result _ c.requires.frame g refl
+    (c.quantifier_kind-kind.ensures ∙ ap (λ y. bounded_kind (map (value_at old) (map (picked c.args.start c.args.found.now) y))) c.deref-in-Bounded.ensures.value ∙ parts_bounded m c.requires.ordered r old c.args.frame.now ns p) c.in_ok-n-in-Bounded.ensures.stored
 
-pub step-returns-in-Use-clause-steps : goal.step-returns-in-Use-clause-steps
-step-returns-in-Use-clause-steps t c =
+pub step-returns-in_ok-n-in-Use-clause-steps : goal.step-returns-in_ok-n-in-Use-clause-steps
+step-returns-in_ok-n-in-Use-clause-steps t c =
     let m = flat_of c.args.flat.now in let old = c.args.facts.now.arguments.keys in
-    let s = step_at c.args.flat.now c.args.facts.now c.args.start c.args.node c.number_at.result c.args.frame.now c.args.found.now c.deref.result.now c.deref-2.result.now c.in_ok-numbers.numbers.items c.index-here.result.now c.requires.ordered c.requires.facts c.requires.node c.requires.found c.number_at.ensures c.deref.ensures.value c.if-number_at-start.false c.index-here.ensures c.in_ok-numbers.ensures c.deref-2.ensures.value in
-    let ns = c.in_ok-numbers.numbers.items in
+    let s = step_at c.args.flat.now c.args.facts.now c.args.start c.args.node c.number_at.result c.args.frame.now c.args.found.now c.deref.result.now c.deref-in-Use.result.now c.in_ok-numbers-in-Use.numbers.items c.index-here.result.now c.requires.ordered c.requires.facts c.requires.node c.requires.found c.number_at.ensures c.deref.ensures.value c.if-number_at-start.false c.index-here.ensures c.in_ok-numbers-in-Use.ensures c.deref-in-Use.ensures.value in
+    let ns = c.in_ok-numbers-in-Use.numbers.items in
     let r = step_reads s (variant.Use c.in-Use.path c.in-Use.definition) c.in-Use.is in let p = step_parts s (variant.Use c.in-Use.path c.in-Use.definition) c.in-Use.is refl in
     let g = grows_on c.in_ok-kind-in-Use.ensures.grows c.in_ok-n-in-Use.ensures.grows in
     value_steps s (variant.Use c.in-Use.path c.in-Use.definition) c.in-Use.is c.in_ok-n-in-Use.n c.in_ok-kind-in-Use.kind _ c.requires.frame g refl
-    (use_found m (path_at c.args.flat.now.paths.items c.in-Use.path) c.in-Use.definition c.args.frame.now ns c.in_ok-kind-in-Use.kind p (c.in_ok-kind-in-Use.ensures.kind ∙ ap (λ y. use_kind_of m (path_at c.args.flat.now.paths.items c.in-Use.path) c.in-Use.definition (meanings m old c.args.frame.now) (meanings m old y)) c.deref-in-Use.ensures.value)) c.in_ok-n-in-Use.ensures.stored
+    (use_found m (path_at c.args.flat.now.paths.items c.in-Use.path) c.in-Use.definition c.args.frame.now ns c.in_ok-kind-in-Use.kind p (c.in_ok-kind-in-Use.ensures.kind ∙ ap (λ y. use_kind_of m (path_at c.args.flat.now.paths.items c.in-Use.path) c.in-Use.definition (meanings m old c.args.frame.now) (meanings m old y)) c.deref-in-Use-2.ensures.value)) c.in_ok-n-in-Use.ensures.stored
 
-pub step-returns-in-Call-clause-steps : goal.step-returns-in-Call-clause-steps
-step-returns-in-Call-clause-steps t c =
+pub step-returns-in_ok-n-in-Call-clause-steps : goal.step-returns-in_ok-n-in-Call-clause-steps
+step-returns-in_ok-n-in-Call-clause-steps t c =
     let m = flat_of c.args.flat.now in let old = c.args.facts.now.arguments.keys in
-    let s = step_at c.args.flat.now c.args.facts.now c.args.start c.args.node c.number_at.result c.args.frame.now c.args.found.now c.deref.result.now c.deref-2.result.now c.in_ok-numbers.numbers.items c.index-here.result.now c.requires.ordered c.requires.facts c.requires.node c.requires.found c.number_at.ensures c.deref.ensures.value c.if-number_at-start.false c.index-here.ensures c.in_ok-numbers.ensures c.deref-2.ensures.value in
-    let ns = c.in_ok-numbers.numbers.items in
+    let s = step_at c.args.flat.now c.args.facts.now c.args.start c.args.node c.number_at.result c.args.frame.now c.args.found.now c.deref.result.now c.deref-in-Call.result.now c.in_ok-numbers-in-Call.numbers.items c.index-here.result.now c.requires.ordered c.requires.facts c.requires.node c.requires.found c.number_at.ensures c.deref.ensures.value c.if-number_at-start.false c.index-here.ensures c.in_ok-numbers-in-Call.ensures c.deref-in-Call.ensures.value in
+    let ns = c.in_ok-numbers-in-Call.numbers.items in
     let r = step_reads s (variant.Call c.in-Call.place) c.in-Call.is in let p = step_parts s (variant.Call c.in-Call.place) c.in-Call.is refl in
     let g = grows_on c.in_ok-operator-in-Call.ensures.found.grows (grows_on c.in_ok-kind-in-Call.ensures.grows c.in_ok-n-in-Call.ensures.grows) in
     value_steps s (variant.Call c.in-Call.place) c.in-Call.is c.in_ok-n-in-Call.n c.in_ok-kind-in-Call.kind _ c.requires.frame g refl
-    (call_kind m c.in-Call.place c.in_ok-operator-in-Call.operator c.args.frame.now ns c.in_ok-kinds-in-Call.kinds.items c.in_ok-kind-in-Call.kind c.requires.frame p p.within c.in_ok-operator-in-Call.ensures.found (c.in_ok-kinds-in-Call.ensures ∙ ap (map (value_at c.operand-in-Call.new.facts.arguments.keys)) c.deref-in-Call.ensures.value) c.in_ok-kind-in-Call.ensures.grows (c.in_ok-kind-in-Call.ensures.kind ∙ ap (λ y. kind ((meaning m c.called.new.facts.arguments.keys c.in_ok-operator-in-Call.operator).call (leaves y))) c.deref-in-Call-2.ensures.value)) c.in_ok-n-in-Call.ensures.stored
+    (call_kind m c.in-Call.place c.in_ok-operator-in-Call.operator c.args.frame.now ns c.in_ok-kinds-in-Call.kinds.items c.in_ok-kind-in-Call.kind c.requires.frame p p.within c.in_ok-operator-in-Call.ensures.found (c.in_ok-kinds-in-Call.ensures ∙ ap (map (value_at c.operand-in-Call.new.facts.arguments.keys)) c.deref-in-Call-2.ensures.value) c.in_ok-kind-in-Call.ensures.grows (c.in_ok-kind-in-Call.ensures.kind ∙ ap (λ y. kind ((meaning m c.called.new.facts.arguments.keys c.in_ok-operator-in-Call.operator).call (leaves y))) c.deref-in-Call-3.ensures.value)) c.in_ok-n-in-Call.ensures.stored
 
 pub step-returns-in-Some-clause-steps : goal.step-returns-in-Some-clause-steps
 step-returns-in-Some-clause-steps t c =
     let m = flat_of c.args.flat.now in let old = c.args.facts.now.arguments.keys in
-    let s = step_at c.args.flat.now c.args.facts.now c.args.start c.args.node c.number_at.result c.args.frame.now c.args.found.now c.deref.result.now c.deref-2.result.now c.in_ok-numbers.numbers.items c.index-here.result.now c.requires.ordered c.requires.facts c.requires.node c.requires.found c.number_at.ensures c.deref.ensures.value c.if-number_at-start.false c.index-here.ensures c.in_ok-numbers.ensures c.deref-2.ensures.value in
-    let ns = c.in_ok-numbers.numbers.items in
+    let s = step_here c.args.flat.now c.args.facts.now c.args.start c.args.node c.number_at.result c.args.frame.now c.args.found.now c.deref.result.now c.index-here.result.now c.requires.ordered c.requires.facts c.requires.node c.requires.found c.number_at.ensures c.deref.ensures.value c.if-number_at-start.false c.index-here.ensures in
+    let ns = map (picked c.args.start c.args.found.now) c.index-here.result.now.parts.items in
     let r = step_reads s variant.Let c.in-Let.is in
-    record { grows = grows_not old c.requires.facts.table; found = λ _. let_body m old c.args.start c.args.node c.args.frame.now c.args.found.now c.requires.found c.requires.ordered c.index-here.result.now.parts.items ns c.in-Some.inner.now r s.numbers (c.in-Some.ensures.value ∙ ap (λ y. slice_get y 0) c.deref-in-Let.ensures.value) s.later }
+    record { grows = grows_not old c.requires.facts.table; found = λ _. let_body m old c.args.start c.args.node c.args.frame.now c.args.found.now c.requires.found c.requires.ordered c.index-here.result.now.parts.items c.in-Some.inner.now c.picked.result r (c.in-Some.ensures.value ∙ ap (λ y. slice_get y 0) c.deref-in-Let.ensures.value) c.picked.ensures s.later }
 
-pub step-returns-in-Let-clause-steps : goal.step-returns-in-Let-clause-steps
-step-returns-in-Let-clause-steps t c =
+pub step-returns-in_ok-n-in-None-clause-steps : goal.step-returns-in_ok-n-in-None-clause-steps
+step-returns-in_ok-n-in-None-clause-steps t c =
     let m = flat_of c.args.flat.now in let old = c.args.facts.now.arguments.keys in
-    let s = step_at c.args.flat.now c.args.facts.now c.args.start c.args.node c.number_at.result c.args.frame.now c.args.found.now c.deref.result.now c.deref-2.result.now c.in_ok-numbers.numbers.items c.index-here.result.now c.requires.ordered c.requires.facts c.requires.node c.requires.found c.number_at.ensures c.deref.ensures.value c.if-number_at-start.false c.index-here.ensures c.in_ok-numbers.ensures c.deref-2.ensures.value in
-    let ns = c.in_ok-numbers.numbers.items in
-    let none = let_missing m (picked c.args.start c.args.found.now) c.index-here.result.now.parts.items ns (meanings m old c.args.frame.now) s.numbers (c.in-None.ensures.value ∙ ap (λ y. slice_get y 0) c.deref-in-Let.ensures.value) in
+    let s = step_here c.args.flat.now c.args.facts.now c.args.start c.args.node c.number_at.result c.args.frame.now c.args.found.now c.deref.result.now c.index-here.result.now c.requires.ordered c.requires.facts c.requires.node c.requires.found c.number_at.ensures c.deref.ensures.value c.if-number_at-start.false c.index-here.ensures in
+    let ns = map (picked c.args.start c.args.found.now) c.index-here.result.now.parts.items in
+    let none = let_missing m c.index-here.result.now.parts.items (meanings m old c.args.frame.now) (c.in-None.ensures.value ∙ ap (λ y. slice_get y 0) c.deref-in-Let.ensures.value) in
     value_steps s variant.Let c.in-Let.is c.in_ok-n-in-None.n None (Given None) c.requires.frame c.in_ok-n-in-None.ensures.grows none refl c.in_ok-n-in-None.ensures.stored
 
-pub step-returns-in-Name-clause-steps : goal.step-returns-in-Name-clause-steps
-step-returns-in-Name-clause-steps t c =
+pub step-returns-in_ok-n-in-Name-2-clause-steps : goal.step-returns-in_ok-n-in-Name-2-clause-steps
+step-returns-in_ok-n-in-Name-2-clause-steps t c =
     let m = flat_of c.args.flat.now in let old = c.args.facts.now.arguments.keys in
-    let s = step_at c.args.flat.now c.args.facts.now c.args.start c.args.node c.number_at.result c.args.frame.now c.args.found.now c.deref.result.now c.deref-2.result.now c.in_ok-numbers.numbers.items c.index-here.result.now c.requires.ordered c.requires.facts c.requires.node c.requires.found c.number_at.ensures c.deref.ensures.value c.if-number_at-start.false c.index-here.ensures c.in_ok-numbers.ensures c.deref-2.ensures.value in
-    let ns = c.in_ok-numbers.numbers.items in
+    let s = step_at c.args.flat.now c.args.facts.now c.args.start c.args.node c.number_at.result c.args.frame.now c.args.found.now c.deref.result.now c.deref-in-Name.result.now c.in_ok-numbers-in-Name.numbers.items c.index-here.result.now c.requires.ordered c.requires.facts c.requires.node c.requires.found c.number_at.ensures c.deref.ensures.value c.if-number_at-start.false c.index-here.ensures c.in_ok-numbers-in-Name.ensures c.deref-in-Name.ensures.value in
+    let ns = c.in_ok-numbers-in-Name.numbers.items in
     let f = variant.Name c.in-Name.path c.in-Name.definition in let path = path_at c.args.flat.now.paths.items c.in-Name.path in
     let r = step_reads s f c.in-Name.is in let p = step_parts s f c.in-Name.is refl in
-    let h = subst (λ y. ReachesPath m old c.reach.new.facts.arguments.keys c.args.node path c.args.frame.now y c.in_ok-reached-in-Name.reached) c.deref-in-Name.ensures.value c.in_ok-reached-in-Name.ensures.reaches in
-    let o = subst (λ y. IsClosure m c.reach.new.facts.arguments.keys c.closure.new.facts.arguments.keys c.in-Name.definition y c.in_ok-n-in-Name-2.n) c.deref-in-Name-2.ensures.value c.in_ok-n-in-Name-2.ensures.found in
+    let h = subst (λ y. ReachesPath m old c.reach.new.facts.arguments.keys c.args.node path c.args.frame.now y c.in_ok-reached-in-Name.reached) c.deref-in-Name-2.ensures.value c.in_ok-reached-in-Name.ensures.reaches in
+    let o = subst (λ y. IsClosure m c.reach.new.facts.arguments.keys c.closure.new.facts.arguments.keys c.in-Name.definition y c.in_ok-n-in-Name-2.n) c.deref-in-Name-3.ensures.value c.in_ok-n-in-Name-2.ensures.found in
     record { grows = grows_on h.grows o.grows; found = λ _. name_met m c.requires.ordered path c.in-Name.definition r c.args.frame.now ns c.in_ok-reached-in-Name.reached c.requires.frame p h c.in_ok-n-in-Name-2.n c.if-not-reached.false o }
