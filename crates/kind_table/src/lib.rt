@@ -14,4 +14,4 @@ pub use flat::{
     Definition, FlatModule, Form, Instance, Node, Replacement, extend_first_nodes, first_nodes,
 };
 pub use kinds::{is_at_most, operation_kind, quantifier_kind, ruled_kind};
-pub use numbers::{after, behind, constants, copied, first, number_at, pick, picked};
+pub use numbers::{after, behind, constants, copied, first, front, number_at, pick, picked};

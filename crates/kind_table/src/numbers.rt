@@ -29,6 +29,16 @@ pub fn first(alloc: Global, numbers: &[usize], count: usize) -> Result<Vec<usize
     numbers.iter().take(count).copied().collect(alloc)
 }
 
+/// The first numbers of a list, so many, where they stand.
+pub fn front(numbers: &[usize], count: usize) -> &[usize]
+    ensures { result.now ≡ take count numbers.now }
+{
+    match numbers.get(..count) {
+        Some(front) => front,
+        None => numbers,
+    }
+}
+
 /// The numbers of a list behind its first ones.
 pub fn after(alloc: Global, numbers: &[usize], count: usize) -> Result<Vec<usize>, AllocError>
     ensures { IfOk result (λ v. v.items ≡ drop count numbers.now) }
@@ -45,7 +55,9 @@ pub fn behind(
 ) -> Result<Vec<usize>, AllocError>
     ensures { IfOk result (λ v. v.items ≡ take count numbers.now ++ more.now) }
 {
-    let mut both = first(alloc, numbers, count)?;
+    let front = front(numbers, count);
+    let mut both = Vec::with_capacity(alloc, front.len().saturating_add(more.len()))?;
+    both.extend_from_slice(front)?;
     both.extend_from_slice(more)?;
     Ok(both)
 }

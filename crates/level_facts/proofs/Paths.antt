@@ -1,8 +1,9 @@
 -- How far a path leads, one instance after another.
 use Rattle.std.proofs.Common.{◌≡◌, ℕ, zero, suc, ◌+◌, ◌*◌, ◌<◌, ◌≤◌, max, Bool, true, false, cond, List, [], ◌∷◌, ◌++◌, Option, Some, None, refl, sym, ap, ◌∙◌, subst, map, take, drop, length, get_or, length-take, arith}
-use Rattle.std.specs.Prelude.{◌&&◌, slice_get}
+use Rattle.std.specs.Prelude.{◌&&◌, ◌==◌, slice_get}
 use Rattle.std.specs.List.{AllByRecursion}
-use Rattle.std.proofs.lemmas.List.{length-map, length_push}
+use Rattle.std.proofs.lemmas.Bool.Decides.{nat_tests}
+use Rattle.std.proofs.lemmas.List.{append-nil, length-map, length_push}
 use Rattle.std.proofs.lemmas.Option.{slice_get_read, slice_get_within}
 use Rattle.tla_symbols.specs.declared.level.Kind.{Kind}
 use Rattle.kind_text.proofs.Zips.{zip-append, zip-drop, zip-take}
@@ -34,6 +35,11 @@ all-at : (P : ℕ → Type 0) (path : List ℕ) (k j : ℕ) → k < length path 
 all-at P [] k j l e h = absurd (omega arith)
 all-at P (i ∷ path) zero j l e h = subst P (sym e) h.0
 all-at P (i ∷ path) (suc k) j l e h = all-at P path k j (omega arith) e h.1
+
+-- what stands round a body, where nothing is put in for parameters
+pub round_alone : (outer : ℕ) (frame ns round : List ℕ) → round ≡ take outer frame → (length ns == 0) ≡ true → round ≡ take outer frame ++ ns
+round_alone outer frame [] round is none = is ∙ sym (append-nil (take outer frame))
+round_alone outer frame (n ∷ ns) round is none = absurd (grind (arith, nat_tests))
 
 -- the instance at a place of a path is one that the node uses
 pub uses_at : (flat : FlatModule) (node : ℕ) (path : List ℕ) (k j : ℕ) → k < length path → j ≡ get_or path k 0 → UsesPath flat node path → UsesInstance flat node j
@@ -230,3 +236,27 @@ module _ (flat : FlatModule) where
       let from = along_path flat (text flat) path (start (meanings flat old frame) (meanings flat old ns)) in
       sym (ap (λ b. cond b (kind (body (text flat) (slice_get flat.definitions d) (λ outer. take outer from.frame ++ from.rest))) None) (sym h.reaches.met ∙ fails))
       ∙ sym (kind-guard from.guards (body (text flat) (slice_get flat.definitions d) (λ outer. take outer from.frame ++ from.rest)))
+
+  -- ---- a definition behind no path
+
+  -- what stands round it is there
+  pub direct_within : (table : List Arg) (outer : ℕ) (frame ns round : List ℕ) → AllWithin table frame → AllWithin table ns → round ≡ take outer frame ++ ns → AllWithin table round
+  direct_within table outer frame ns round w v is = subst (AllWithin table) (sym is) (within-append table _ _ (within-take table outer frame w) v)
+
+  -- the work of its body
+  pub direct_light : (table : List Arg) (node d outer : ℕ) (frame ns round : List ℕ) → UsesDefinition flat node d → round ≡ take outer frame ++ ns → load flat table ns ≤ load flat table frame + lower_cost_of flat node → load flat table round + body_cost flat (slice_get flat.definitions d) ≤ load flat table frame + 2 * lower_cost_of flat node + 4
+  direct_light table node d outer frame ns round u is light =
+      let f = weight flat table in
+      let l = ap (heaviest f) is ∙ load-append f (take outer frame) ns in
+      let t = load-take f outer frame in let c = (closure_cost flat node d u).0 in
+      omega (arith, l, t, c, light)
+
+  pub direct_met : {old new : List Arg} (d : ℕ) (x : Definition) (frame ns round : List ℕ) (k : Option Kind) → slice_get flat.definitions d ≡ Some x → AllWithin old frame → AllWithin old ns → round ≡ take x.outer frame ++ ns → Grows old new → k ≡ kind (text_of flat d (meanings flat new round)) → k ≡ use_kind_of flat [] d (meanings flat old frame) (meanings flat old ns)
+  direct_met {old} {new} d x frame ns round k at_d w v round_is g is =
+      let m = meaning flat old in
+      let it : meanings flat new round ≡ take x.outer (meanings flat old frame) ++ meanings flat old ns =
+      meanings_on flat g round (direct_within old x.outer frame ns round w v round_is)
+      ∙ ap (map m) round_is ∙ map-append m (take x.outer frame) ns ∙ ap (λ y. y ++ map m ns) (map-take m x.outer frame) in
+      is ∙ ap (λ s. kind (text_of flat d s)) it
+      ∙ ap (λ o. kind (body (text flat) o (λ outer. take x.outer (meanings flat old frame) ++ meanings flat old ns))) at_d
+      ∙ sym (ap (λ o. kind (body (text flat) o (λ outer. take outer (meanings flat old frame) ++ meanings flat old ns))) at_d)

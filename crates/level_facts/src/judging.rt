@@ -1,5 +1,5 @@
 // The kinds of bodies, node by node: only a use of a definition goes deeper.
-ghost use Rattle.std.specs.Prelude.{◌≡◌, ◌+◌, ◌<◌, ◌≤◌, IfOk, OnOk, length, slice_get, map};
+ghost use Rattle.std.specs.Prelude.{◌≡◌, ◌+◌, ◌<◌, ◌≤◌, [], IfOk, OnOk, length, slice_get, map};
 ghost use Rattle.kind_text.specs.ExpandedKind.{kind};
 ghost use Rattle.kind_text.specs.Substitution.{judged, leaves};
 ghost use Rattle.kind_text.specs.FlatModule.{IsOrdered, UsesDefinition, UsesInstance, places_of};
@@ -13,8 +13,9 @@ ghost use Rattle.level_facts.specs.Judged.{Evaluates, EvaluatesAll, Found, IsRea
 use crate::facts::{Key, KindFacts, frame_number, keep, number};
 use crate::steps::{Reached, add_operands, around, body_of, closure, operand, places, start};
 use kind_table::{
-    Arg, FlatModule, Form, Instance, Replacement, after, constants, copied, is_at_most, number_at,
-    operation_kind, pick, picked, quantifier_kind, ruled_kind, value, values,
+    Arg, FlatModule, Form, Instance, Replacement, after, behind, constants, copied, front,
+    is_at_most, number_at, operation_kind, pick, picked, quantifier_kind, ruled_kind, value,
+    values,
 };
 use std::alloc::{AllocError, Global};
 use tla_symbols::{Kind, Rule};
@@ -260,6 +261,41 @@ fn reach(
     Ok(reached)
 }
 
+/// The kind of a definition behind no path, with the numbers of the arguments at a use.
+#[cycle(judge)]
+fn direct_kind(
+    alloc: Global,
+    flat: &FlatModule,
+    facts: &mut KindFacts,
+    node: usize,
+    definition: usize,
+    numbers: &[usize],
+    frame: &[usize],
+) -> Result<Option<Kind>, AllocError>
+    requires ordered { IsOrdered (flat_of flat.now) }
+    requires facts { IsFacts (flat_of flat.now) facts.old }
+    requires definition { UsesDefinition (flat_of flat.now) node definition }
+    requires frame { AllWithin facts.old.arguments.keys frame.now }
+    requires numbers { AllWithin facts.old.arguments.keys numbers.now }
+    requires light { load (flat_of flat.now) facts.old.arguments.keys numbers.now
+        ≤ load (flat_of flat.now) facts.old.arguments.keys frame.now
+        + lower_cost_of (flat_of flat.now) node }
+    ensures facts { IsFacts (flat_of flat.now) facts.new }
+    ensures grows { OnOk result (Grows facts.old.arguments.keys facts.new.arguments.keys) }
+    ensures kind { IfOk result (λ k. k ≡ use_kind_of (flat_of flat.now) [] definition
+        (meanings (flat_of flat.now) facts.old.arguments.keys frame.now)
+        (meanings (flat_of flat.now) facts.old.arguments.keys numbers.now)) }
+{
+    let body = flat.definitions[definition];
+    if numbers.is_empty() {
+        let kind = kind_on(alloc, flat, facts, definition, front(frame, body.outer))?;
+        return Ok(kind);
+    }
+    let round = behind(alloc, frame, body.outer, numbers)?;
+    let kind = kind_on(alloc, flat, facts, definition, &round)?;
+    Ok(kind)
+}
+
 /// The kind of a definition behind a path, with the numbers of the arguments at a use.
 #[cycle(judge)]
 fn use_kind(
@@ -288,6 +324,10 @@ fn use_kind(
         (meanings (flat_of flat.now) facts.old.arguments.keys frame.now)
         (meanings (flat_of flat.now) facts.old.arguments.keys numbers.now)) }
 {
+    if flat.path(path).is_empty() {
+        let kind = direct_kind(alloc, flat, facts, node, definition, numbers, frame)?;
+        return Ok(kind);
+    }
     let reached = reach(alloc, flat, facts, node, path, numbers, frame)?;
     if !reached.met {
         return Ok(None);

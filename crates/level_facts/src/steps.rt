@@ -7,7 +7,7 @@ ghost use Rattle.level_facts.specs.Facts.{HasNoBody, IsBody, IsFacts};
 ghost use Rattle.level_facts.specs.Judged.{IsClosure, IsOperand, around_of};
 
 use crate::facts::{KindFacts, number};
-use kind_table::{Arg, Definition, FlatModule, Instance, add_values, behind, copied, first};
+use kind_table::{Arg, Definition, FlatModule, Instance, add_values, behind, copied, first, front};
 use std::alloc::{AllocError, Global};
 use tla_symbols::{Kind, Rule};
 
@@ -72,8 +72,8 @@ pub(crate) fn around(
 ) -> Result<Vec<usize>, AllocError>
     ensures { IfOk result (λ v. v.items ≡ around_of instance.now reached.now) }
 {
-    let arguments = first(alloc, &reached.rest, instance.parameters)?;
-    let round = behind(alloc, &reached.frame, instance.outer, &arguments)?;
+    let arguments = front(&reached.rest, instance.parameters);
+    let round = behind(alloc, &reached.frame, instance.outer, arguments)?;
     Ok(round)
 }
 

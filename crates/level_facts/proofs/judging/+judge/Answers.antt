@@ -25,7 +25,7 @@ use Rattle.level_facts.proofs.Finding.{call_kind, lambda_found, missing_found, n
 use Rattle.level_facts.proofs.Picking.{begins_at, found_more, left_out, let_body, let_missing}
 use Rattle.level_facts.proofs.Stepping.{step_at, step_here, step_parts, step_reads, uses_light, value_steps}
 use Rattle.level_facts.proofs.Guards.{decide_more, decide_none, judges_at, meets_all, meets_free, meets_not}
-use Rattle.level_facts.proofs.Paths.{around_light, around_within, definition_within, frame_long, guards_light, instance_within, leads_through, path_begins, path_light, path_more, reads_instance, root_light, roots_light, used_light, used_met, used_not_met, used_within, uses_at}
+use Rattle.level_facts.proofs.Paths.{around_light, around_within, definition_within, direct_light, direct_met, direct_within, frame_long, guards_light, instance_within, leads_through, path_begins, path_light, path_more, reads_instance, root_light, roots_light, round_alone, used_light, used_met, used_not_met, used_within, uses_at}
 use Rattle.level_facts.proofs.judging.+judge.Goals.{lead_through-then-reached, lead_through-else-reached}
 use Rattle.level_facts.proofs.judging.+judge.Goals as goal
 
@@ -322,7 +322,40 @@ use_kind-returns-clause-kind t c =
     let m = flat_of c.args.flat.now in let path = path_at c.args.flat.now.paths.items c.args.path in let x = c.index-body.result.now in let r = c.in_ok-reached.reached in
     let round_is = c.deref.ensures.value ∙ c.in_ok-round.ensures in
     let at_d = definition_got c.args.flat.now c.args.flat.now.definitions.items c.args.definition x refl (definition_within c.args.flat.now c.args.node c.args.definition c.requires.definition) c.index-body.ensures in
-    used_met m c.args.node path c.args.definition (definition_of x) c.args.frame.now c.args.numbers.now c.deref.result.now r c.in_ok-kind.kind at_d c.in_ok-reached.ensures.reaches (not-false c.in_ok-reached.reached.met c.if-not-reached.false) round_is c.in_ok-kind.ensures.grows c.in_ok-kind.ensures.kind
+    used_met m c.args.node path c.args.definition (definition_of x) c.args.frame.now c.args.numbers.now c.deref.result.now r c.in_ok-kind-2.kind at_d c.in_ok-reached.ensures.reaches (not-false c.in_ok-reached.reached.met c.if-not-reached.false) round_is c.in_ok-kind-2.ensures.grows c.in_ok-kind-2.ensures.kind
+
+-- direct_kind
+
+pub direct_kind-index-body-requires : goal.direct_kind-index-body-requires
+direct_kind-index-body-requires t c =
+    let d = definition_within c.args.flat.now c.args.node c.args.definition c.requires.definition in omega (arith, d, c.args.flat.now.definitions.ok.0)
+
+pub direct_kind-kind_on-requires : goal.direct_kind-kind_on-requires
+direct_kind-kind_on-requires t c =
+    let m = flat_of c.args.flat.now in let old = c.args.facts.now.arguments.keys in let x = definition_of c.index-body.result.now in
+    let round = c.front.result.now in let is = round_alone x.outer c.args.frame.now c.args.numbers.now round c.front.ensures (sym c.is_empty.ensures ∙ c.if-is_empty.true) in
+    let w = direct_light m old c.args.node c.args.definition x.outer c.args.frame.now c.args.numbers.now round c.requires.definition is c.requires.light in
+    (omega (arith, w), (c.requires.ordered, (c.requires.facts, direct_within m old x.outer c.args.frame.now c.args.numbers.now round c.requires.frame c.requires.numbers is)))
+
+pub direct_kind-kind_on-requires-2 : goal.direct_kind-kind_on-requires-2
+direct_kind-kind_on-requires-2 t c =
+    let m = flat_of c.args.flat.now in let old = c.args.facts.now.arguments.keys in let x = definition_of c.index-body.result.now in
+    let round = c.deref.result.now in let is = c.deref.ensures.value ∙ c.in_ok-round.ensures in
+    let w = direct_light m old c.args.node c.args.definition x.outer c.args.frame.now c.args.numbers.now round c.requires.definition is c.requires.light in
+    (omega (arith, w), (c.requires.ordered, (c.requires.facts, direct_within m old x.outer c.args.frame.now c.args.numbers.now round c.requires.frame c.requires.numbers is)))
+
+pub direct_kind-returns-then-is_empty-clause-kind : goal.direct_kind-returns-then-is_empty-clause-kind
+direct_kind-returns-then-is_empty-clause-kind t c =
+    let m = flat_of c.args.flat.now in let old = c.args.facts.now.arguments.keys in let x = c.index-body.result.now in
+    let round = c.front.result.now in let is = round_alone x.outer c.args.frame.now c.args.numbers.now round c.front.ensures (sym c.is_empty.ensures ∙ c.if-is_empty.true) in
+    let at_d = definition_got c.args.flat.now c.args.flat.now.definitions.items c.args.definition x refl (definition_within c.args.flat.now c.args.node c.args.definition c.requires.definition) c.index-body.ensures in
+    direct_met m c.args.definition (definition_of x) c.args.frame.now c.args.numbers.now round c.in_ok-kind.kind at_d c.requires.frame c.requires.numbers is c.in_ok-kind.ensures.grows c.in_ok-kind.ensures.kind
+
+pub direct_kind-returns-clause-kind : goal.direct_kind-returns-clause-kind
+direct_kind-returns-clause-kind t c =
+    let m = flat_of c.args.flat.now in let old = c.args.facts.now.arguments.keys in let x = c.index-body.result.now in
+    let at_d = definition_got c.args.flat.now c.args.flat.now.definitions.items c.args.definition x refl (definition_within c.args.flat.now c.args.node c.args.definition c.requires.definition) c.index-body.ensures in
+    direct_met m c.args.definition (definition_of x) c.args.frame.now c.args.numbers.now c.deref.result.now c.in_ok-kind-2.kind at_d c.requires.frame c.requires.numbers (c.deref.ensures.value ∙ c.in_ok-round.ensures) c.in_ok-kind-2.ensures.grows c.in_ok-kind-2.ensures.kind
 
 -- judge
 

@@ -35,6 +35,9 @@ decreases-reach l = max (load (flat_of l.flat.now) l.facts.now.arguments.keys l.
 abbrev pub decreases-use_kind : goal.decreases-use_kind
 decreases-use_kind l = load (flat_of l.flat.now) l.facts.now.arguments.keys l.frame.now + 2 * lower_cost_of (flat_of l.flat.now) l.node + times (length (path_at l.flat.now.paths.items l.path)) (lower_cost_of (flat_of l.flat.now) l.node) + 7
 
+abbrev pub decreases-direct_kind : goal.decreases-direct_kind
+decreases-direct_kind l = load (flat_of l.flat.now) l.facts.now.arguments.keys l.frame.now + 2 * lower_cost_of (flat_of l.flat.now) l.node + 5
+
 abbrev pub decreases-step : goal.decreases-step
 decreases-step l = load (flat_of l.flat.now) l.facts.now.arguments.keys l.frame.now + node_cost (flat_of l.flat.now) l.node + 2
 
