@@ -30,7 +30,7 @@ pub(crate) fn no_stretches(alloc: Global, frames: usize) -> Result<Vec<Stretch>,
     ensures { IfOk result (λ kept. (flat : text.FlatModule) (all : List (List entities.Meaning))
         → length all ≡ frames → AreKept flat all kept.items) }
 {
-    let mut kept = Vec::new(alloc);
+    let mut kept = Vec::with_capacity(alloc, frames)?;
     for _frame in 0..frames {
         kept.push(Stretch {
             start: 0,

@@ -67,7 +67,7 @@ pub fn values(
 ) -> Result<Vec<Option<Kind>>, AllocError>
     ensures { IfOk result (λ v. v.items ≡ map (value_at arguments.now.keys) numbers.now) }
 {
-    let mut kinds = Vec::new(alloc);
+    let mut kinds = Vec::with_capacity(alloc, numbers.len())?;
     for n in numbers {
         kinds.push(value(arguments, *n))?;
     }

@@ -78,7 +78,7 @@ pub fn pick(
 ) -> Result<Vec<usize>, AllocError>
     ensures { IfOk result (λ v. v.items ≡ map (number_picked start found.now) nodes.now) }
 {
-    let mut numbers = Vec::new(alloc);
+    let mut numbers = Vec::with_capacity(alloc, nodes.len())?;
     for node in nodes {
         numbers.push(picked(*node, start, found))?;
     }
@@ -89,7 +89,7 @@ pub fn pick(
 pub fn constants(alloc: Global, count: usize) -> Result<Vec<Option<Kind>>, AllocError>
     ensures { IfOk result (λ v. v.items ≡ replicate count (Some Kind.Const)) }
 {
-    let mut kinds = Vec::new(alloc);
+    let mut kinds = Vec::with_capacity(alloc, count)?;
     for _i in 0..count {
         kinds.push(Some(Kind::Const))?;
     }

@@ -42,7 +42,7 @@ fn arguments_of(alloc: Global, frame: &[Meaning]) -> Result<Vec<Argument>, Alloc
     ensures { IfOk result (λ v. (flat : text.FlatModule)
         → map (argument_item flat) v.items ≡ items_of frame.now) }
 {
-    let mut arguments = Vec::new(alloc);
+    let mut arguments = Vec::with_capacity(alloc, frame.len())?;
     for meaning in frame {
         arguments.push(argument_of(meaning))?;
     }

@@ -125,7 +125,7 @@ pub(crate) fn numbers_of(
     ensures added { IfOk result (λ v. AddsArguments (flat_of flat.now) facts.old.arguments.keys
         facts.new.arguments.keys v.items arguments.now) }
 {
-    let mut numbers = Vec::new(alloc);
+    let mut numbers = Vec::with_capacity(alloc, arguments.len())?;
     for argument in arguments {
         let n = number_of(alloc, flat, facts, *argument)?;
         numbers.push(n)?;

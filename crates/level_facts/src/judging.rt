@@ -195,7 +195,7 @@ fn judge_all(
         facts.old.arguments.keys facts.new.arguments.keys (map (λ r. r.root) replacements.now)
         frame.now numbers.items) }
 {
-    let mut numbers = Vec::new(alloc);
+    let mut numbers = Vec::with_capacity(alloc, replacements.len())?;
     for replacement in replacements {
         let n = judge(alloc, flat, facts, replacement.root, frame)?;
         numbers.push(n)?;
@@ -452,7 +452,7 @@ pub(crate) fn judge(
         return Ok(n);
     }
     let start = number_at(&facts.firsts, node);
-    let mut found = Vec::new(alloc);
+    let mut found = Vec::with_capacity(alloc, node.saturating_sub(start))?;
     for i in start..node {
         let n = step(alloc, flat, facts, i, start, &found, frame)?;
         found.push(n)?;

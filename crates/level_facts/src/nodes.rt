@@ -35,8 +35,8 @@ impl KindFacts {
             (map (argument_item (flat_of flat.now)) arguments.now) start end kinds.items) }
     {
         let frame = numbers_of(alloc, flat, self, arguments)?;
-        let mut found = Vec::new(alloc);
-        let mut kinds = Vec::new(alloc);
+        let mut found = Vec::with_capacity(alloc, end - start)?;
+        let mut kinds = Vec::with_capacity(alloc, end - start)?;
         for node in start..end {
             let n = step(alloc, flat, self, node, start, &found, &frame)?;
             found.push(n)?;

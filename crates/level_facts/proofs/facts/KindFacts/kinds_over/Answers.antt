@@ -15,8 +15,8 @@ loop-node-init c =
       facts = c.in_ok-frame.ensures.facts;
       within = added.within;
       meant = added.meant;
-      found = none_found m c.numbers_of.new.facts.arguments.keys c.args.start c.in_ok-frame.frame.items c.new-found.result.items c.new-found.ensures.items;
-      kinds = no_kinds m (map (argument_item m) c.args.arguments.now) c.args.start c.new-kinds.result.items c.new-kinds.ensures.items;
+      found = none_found m c.numbers_of.new.facts.arguments.keys c.args.start c.in_ok-frame.frame.items c.in_ok-found.found.items c.in_ok-found.ensures.items;
+      kinds = no_kinds m (map (argument_item m) c.args.arguments.now) c.args.start c.in_ok-kinds.kinds.items c.in_ok-kinds.ensures.items;
     }
 
 pub step-requires : goal.step-requires
