@@ -1,5 +1,5 @@
 // What was found of kinds, and how callers ask for more.
-ghost use Rattle.std.specs.Prelude.{◌≡◌, ◌<◌, ◌∷◌, [], IfOk, OnErr, OnOk, length, map};
+ghost use Rattle.std.specs.Prelude.{◌≡◌, ◌<◌, ◌∷◌, [], IfOk, OnErr, OnOk, length, map, true};
 ghost use Rattle.kind_text.specs.ExpandedKind.{kind};
 ghost use Rattle.kind_text.specs.Expansion.{text_of};
 ghost use Rattle.kind_text.specs.FlatModule.{Extends, IsOrdered};
@@ -42,6 +42,8 @@ pub struct KindFacts {
     pub(crate) arguments: IndexSet<Arg>,
     // Each frame once, however many definitions stand in it.
     pub(crate) frames: IndexSet<Vec<usize>>,
+    // The number of the frame that was asked for last: mostly it is asked for again.
+    pub(crate) recent: usize,
     pub(crate) kept: IndexMap<Key, Option<Kind>>,
 }
 
@@ -52,6 +54,7 @@ impl Drop for KindFacts {
             firsts: _,
             arguments: _,
             frames: _,
+            recent: _,
             kept: _,
         } = self;
     }
@@ -66,6 +69,7 @@ impl KindFacts {
             firsts: first_nodes(alloc, flat)?,
             arguments: IndexSet::new(alloc),
             frames: IndexSet::new(alloc),
+            recent: 0,
             kept: IndexMap::new(alloc),
         })
     }
@@ -205,19 +209,33 @@ pub(crate) fn keep(
     Ok(())
 }
 
-/// The number of a frame, which is new or stands there already.
+/// The number of a frame, which is new or stands there already. This one is tried first.
 pub(crate) fn frame_number(
     alloc: Global,
     frames: &mut IndexSet<Vec<usize>>,
+    recent: usize,
     frame: &[usize],
 ) -> Result<usize, AllocError>
     ensures adds { AddsFrames frames.old.keys frames.new.keys }
     ensures number { IfOk result (λ n. HasNumber frames.new.keys n frame.now) }
 {
+    if has_number(frames, recent, frame) {
+        return Ok(recent);
+    }
     if let Some(n) = frames.get_index_of(frame) {
         return Ok(n);
     }
     let frame = copied(alloc, frame)?;
     let (n, _) = frames.insert_full(frame)?;
     Ok(n)
+}
+
+// Whether a frame has this number.
+fn has_number(frames: &IndexSet<Vec<usize>>, number: usize, frame: &[usize]) -> bool
+    ensures { result ≡ true → HasNumber frames.now.keys number frame.now }
+{
+    match frames.get_index(number) {
+        Some(known) => frame == known.as_slice(),
+        None => false,
+    }
 }

@@ -37,7 +37,8 @@ pub(crate) fn kind_on(
     ensures kind { IfOk result (λ k. k ≡ kind (text_of (flat_of flat.now) definition
         (meanings (flat_of flat.now) facts.new.arguments.keys frame.now))) }
 {
-    let known = frame_number(alloc, &mut facts.frames, frame)?;
+    let known = frame_number(alloc, &mut facts.frames, facts.recent, frame)?;
+    facts.recent = known;
     let key = Key {
         definition,
         frame: known,
@@ -50,7 +51,7 @@ pub(crate) fn kind_on(
         Some(body) => {
             let n = judge(alloc, flat, facts, body.root, frame)?;
             let kind = value(&facts.arguments, n);
-            let number = frame_number(alloc, &mut facts.frames, frame)?;
+            let number = frame_number(alloc, &mut facts.frames, known, frame)?;
             let key = Key {
                 definition,
                 frame: number,
