@@ -1,7 +1,7 @@
 -- How far a path leads, one instance after another.
 use Rattle.std.proofs.Common.{◌≡◌, ℕ, zero, suc, ◌+◌, ◌*◌, ◌<◌, ◌≤◌, max, Bool, true, false, cond, List, [], ◌∷◌, ◌++◌, Option, Some, None, refl, sym, ap, ◌∙◌, subst, map, take, drop, length, get_or, length-take, arith}
 use Rattle.std.specs.Prelude.{◌&&◌, ◌==◌, slice_get}
-use Rattle.std.specs.List.{AllByRecursion}
+use Rattle.std.specs.List.{AllByRecursion, list_all}
 use Rattle.std.proofs.lemmas.Bool.Decides.{nat_tests}
 use Rattle.std.proofs.lemmas.List.{append-nil, length-map, length_push}
 use Rattle.std.proofs.lemmas.Option.{slice_get_read, slice_get_within}
@@ -10,9 +10,9 @@ use Rattle.kind_text.proofs.Zips.{zip-append, zip-drop, zip-take}
 use Rattle.kind_text.specs.ExpandedKind.{kind}
 use Rattle.kind_text.specs.Substitution.{Alike, Item, Same}
 use Rattle.kind_text.specs.FlatModule.{Definition, FlatModule, UsesDefinition, UsesInstance}
-use Rattle.kind_text.specs.FlatModule as flat
+use Rattle.kind_text.specs.FlatModule as defined
 use Rattle.kind_text.specs.Expansion as expansion
-use Rattle.kind_text.specs.Expansion.{along_path, are_met, body, guards_of, items, start, text, text_of, through}
+use Rattle.kind_text.specs.Expansion.{along_path, applied_to_rest, are_met, body, guards_of, items, start, text, text_of, through}
 use Rattle.kind_text.proofs.Unfolding.{kind-guard}
 use Rattle.kind_table.specs.declared.argument.Arg.{Arg}
 use Rattle.kind_table.specs.declared.flat.Instance.{Instance}
@@ -26,7 +26,7 @@ use Rattle.kind_table.proofs.Growth.{grows_not, grows_on, load_on, meanings_on, 
 use Rattle.kind_table.proofs.TableEntries.{definition-there, instance-there}
 use Rattle.kind_table.proofs.Weighing.{heaviest-lower, load-append, load-drop, load-take, map-append, map-drop, map-take, times-more, times-most, within-append, within-drop, within-take}
 use Rattle.level_facts.specs.declared.steps.Reached.{Reached}
-use Rattle.level_facts.specs.Judged.{EvaluatesAll, IsReached, LeadsThrough, MeetsGuards, Reaches, ReachesPath, UsesPath, around_of, lower_cost_of, use_kind_of}
+use Rattle.level_facts.specs.Judged.{EvaluatesAll, IsReached, LeadsThrough, MeetsGuards, Reaches, ReachesPath, UsesPath, around_of, lower_cost_of, puts_nothing_in, use_kind_of}
 use Rattle.level_facts.proofs.Likes.{alike-items, alike-trans, met-append}
 use Rattle.level_facts.proofs.Finding.{closure_cost}
 use Rattle.level_facts.proofs.Guards.{roots-same, roots_of}
@@ -35,6 +35,25 @@ all-at : (P : ℕ → Type 0) (path : List ℕ) (k j : ℕ) → k < length path 
 all-at P [] k j l e h = absurd (omega arith)
 all-at P (i ∷ path) zero j l e h = subst P (sym e) h.0
 all-at P (i ∷ path) (suc k) j l e h = all-at P path k j (omega arith) e h.1
+
+and-left : (a b : Bool) → (a && b) ≡ true → a ≡ true
+and-left true b h = refl
+and-left false b h = h
+
+and-right : (a b : Bool) → (a && b) ≡ true → b ≡ true
+and-right true b h = h
+and-right false b h = let none : false ≡ true = h in cc
+
+-- whether something is put in for an instance of the tables
+pub nothing_taken : (x : Instance) → (x.parameters == 0) ≡ true → (length x.replacements.items == 0) ≡ puts_nothing_in (Some (instance_of x))
+nothing_taken x e = ap (λ n. n == 0) (sym (length-map x.replacements.items replacement_of)) ∙ sym (ap (λ b. b && (length (map replacement_of x.replacements.items) == 0)) e)
+
+pub something_taken : (x : Instance) → (x.parameters == 0) ≡ false → false ≡ puts_nothing_in (Some (instance_of x))
+something_taken x e = sym (ap (λ b. b && (length (map replacement_of x.replacements.items) == 0)) e)
+
+take-none : (n : ℕ) (ns : List ℕ) → ns ≡ take n [] ++ ns
+take-none zero ns = refl
+take-none (suc n) ns = refl
 
 -- what stands round a body, where nothing is put in for parameters
 pub round_alone : (outer : ℕ) (frame ns round : List ℕ) → round ≡ take outer frame → (length ns == 0) ≡ true → round ≡ take outer frame ++ ns
@@ -55,7 +74,7 @@ items-long : (f : ℕ → List Item → Item) (is : List ℕ) (s : List Item) �
 items-long f [] s = refl
 items-long f (i ∷ is) s = let l = items-long f is s in omega (arith, l)
 
-roots-before : (node : ℕ) (rs : List replacement.Replacement) → AllByRecursion (λ (r : flat.Replacement). r.root < node) (map replacement_of rs) → AllByRecursion (λ root. root < node) (map (λ (r : replacement.Replacement). r.root) rs)
+roots-before : (node : ℕ) (rs : List replacement.Replacement) → AllByRecursion (λ (r : defined.Replacement). r.root < node) (map replacement_of rs) → AllByRecursion (λ root. root < node) (map (λ (r : replacement.Replacement). r.root) rs)
 roots-before node [] h = tt
 roots-before node (r ∷ rs) h = (h.0, roots-before node rs h.1)
 
@@ -78,7 +97,7 @@ reads_instance t node j x l e u =
     let is : u.0 ≡ instance_of x = sym y.2 ∙ ap instance_of same in
     record {
       here = u.1 ∙ ap Some is;
-      before = roots-before node x.replacements.items (subst (λ (z : flat.Instance). AllByRecursion (λ (r : flat.Replacement). r.root < node) z.replacements) is u.2);
+      before = roots-before node x.replacements.items (subst (λ (z : defined.Instance). AllByRecursion (λ (r : defined.Replacement). r.root < node) z.replacements) is u.2);
     }
 
 -- an instance that a node uses is there
@@ -260,3 +279,36 @@ module _ (flat : FlatModule) where
       is ∙ ap (λ s. kind (text_of flat d s)) it
       ∙ ap (λ o. kind (body (text flat) o (λ outer. take x.outer (meanings flat old frame) ++ meanings flat old ns))) at_d
       ∙ sym (ap (λ o. kind (body (text flat) o (λ outer. take outer (meanings flat old frame) ++ meanings flat old ns))) at_d)
+
+  -- ---- a path on which nothing is put in
+
+  free-instance : (outer parameters : ℕ) (guarded : Bool) (rs : List defined.Replacement) (s xs : List Item) → ((parameters == 0) && (length rs == 0)) ≡ true → through flat (text flat) (Some (record { outer = outer; parameters = parameters; guards = guarded; replacements = rs })) (start s xs) ≡ start [] xs
+  free-instance outer zero true [] s xs h = refl
+  free-instance outer zero false [] s xs h = refl
+  free-instance outer zero guarded (r ∷ rs) s xs h = absurd (grind (arith, nat_tests))
+  free-instance outer (suc n) guarded rs s xs h = let left = and-left (suc n == 0) (length rs == 0) h in absurd (grind (arith, nat_tests))
+
+  free-through : (o : Option defined.Instance) (s xs : List Item) → puts_nothing_in o ≡ true → through flat (text flat) o (start s xs) ≡ start [] xs
+  free-through None s xs h = let none : false ≡ true = h in cc
+  free-through (Some j) s xs h = free-instance j.outer j.parameters j.guards j.replacements s xs h
+
+  free-on : (path : List ℕ) (xs : List Item) → list_all (λ j. puts_nothing_in (slice_get flat.instances j)) path ≡ true → along_path flat (text flat) path (start [] xs) ≡ start [] xs
+  free-on [] xs h = refl
+  free-on (j ∷ path) xs h =
+      ap (along_path flat (text flat) path) (free-through (slice_get flat.instances j) [] xs (and-left _ _ h))
+      ∙ free-on path xs (and-right (puts_nothing_in (slice_get flat.instances j)) _ h)
+
+  -- it leads away from what stands round the use
+  free-path : (path : List ℕ) (s xs : List Item) → (length path == 0) ≡ false → list_all (λ j. puts_nothing_in (slice_get flat.instances j)) path ≡ true → along_path flat (text flat) path (start s xs) ≡ start [] xs
+  free-path [] s xs some h = absurd (grind (arith, nat_tests))
+  free-path (j ∷ path) s xs some h =
+      ap (along_path flat (text flat) path) (free-through (slice_get flat.instances j) s xs (and-left _ _ h))
+      ∙ free-on path xs (and-right (puts_nothing_in (slice_get flat.instances j)) _ h)
+
+  pub free_light : (table : List Arg) (node d : ℕ) (frame ns : List ℕ) → UsesDefinition flat node d → load flat table ns ≤ load flat table frame + lower_cost_of flat node → load flat table ns + body_cost flat (slice_get flat.definitions d) ≤ load flat table frame + 2 * lower_cost_of flat node + 4
+  free_light table node d frame ns u light = let c = (closure_cost flat node d u).0 in omega (arith, c, light)
+
+  pub free_met : {old new : List Arg} (path : List ℕ) (d : ℕ) (x : Definition) (frame ns : List ℕ) (k : Option Kind) → slice_get flat.definitions d ≡ Some x → AllWithin old ns → (length path == 0) ≡ false → list_all (λ j. puts_nothing_in (slice_get flat.instances j)) path ≡ true → Grows old new → k ≡ kind (text_of flat d (meanings flat new ns)) → k ≡ use_kind_of flat path d (meanings flat old frame) (meanings flat old ns)
+  free_met {old} {new} path d x frame ns k at_d w some free g is =
+      direct_met d x [] ns ns k at_d tt w (take-none x.outer ns) g is
+      ∙ sym (ap (λ r. kind (applied_to_rest flat (text flat) r d)) (free-path path (meanings flat old frame) (meanings flat old ns) some free))

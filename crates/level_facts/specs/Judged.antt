@@ -1,9 +1,10 @@
 -- What is found of nodes and of paths.
-use Rattle.std.specs.Prelude.{◌≡◌, ℕ, ◌+◌, ◌<◌, ◌≤◌, ◌++◌, List, [], Bool, true, Option, Some, None, if◌then◌else◌, length, map, max, slice_get, slice_index_or, take}
+use Rattle.std.specs.Prelude.{◌≡◌, ℕ, ◌+◌, ◌<◌, ◌≤◌, ◌++◌, ◌==◌, ◌&&◌, List, [], Bool, true, false, Option, Some, None, if◌then◌else◌, length, map, max, slice_get, slice_index_or, take}
 use Rattle.std.specs.List.{AllByRecursion}
 use Rattle.tla_symbols.specs.declared.level.Kind.{Kind}
 use Rattle.kind_text.specs.ExpandedKind.{is_at_most, kind}
 use Rattle.kind_text.specs.Substitution.{Alike, Item, Same, at, expressions, operator}
+use Rattle.kind_text.specs.FlatModule as flat
 use Rattle.kind_text.specs.FlatModule.{FlatModule, UsesInstance}
 use Rattle.kind_text.specs.Expansion as expansion
 use Rattle.kind_text.specs.Expansion.{along_path, applied_to_rest, body, guards_of, items, start, text, through}
@@ -71,6 +72,11 @@ pub record IsClosure (flat : FlatModule) (old new : List Arg) (d : ℕ) (frame :
 -- the instances of a path lie before a node
 abbrev pub UsesPath : FlatModule → ℕ → List ℕ → Type 0
 UsesPath flat node = AllByRecursion (UsesInstance flat node)
+
+-- nothing is put in for an instance: it has no parameters, and its module no symbols
+abbrev pub puts_nothing_in : Option flat.Instance → Bool
+puts_nothing_in None = false
+puts_nothing_in (Some j) = (j.parameters == 0) && (length j.replacements == 0)
 
 -- numbers are what a path has led to
 pub record Reaches (flat : FlatModule) (table : List Arg) (r : Reached) (reached : expansion.Reached) : Type 0 where

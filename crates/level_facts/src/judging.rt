@@ -11,7 +11,9 @@ ghost use Rattle.level_facts.specs.Facts.{IsFacts};
 ghost use Rattle.level_facts.specs.Judged.{Evaluates, EvaluatesAll, Found, IsReached, LeadsThrough, MeetsGuards, ReachesPath, Steps, UsesPath, is_within, lower_cost_of, use_kind_of};
 
 use crate::facts::{Key, KindFacts, frame_number, keep, number};
-use crate::steps::{Reached, add_operands, around, body_of, closure, operand, places, start};
+use crate::steps::{
+    Reached, add_operands, around, body_of, closure, is_free, operand, places, start,
+};
 use kind_table::{
     Arg, FlatModule, Form, Instance, Replacement, after, behind, constants, copied, front,
     is_at_most, number_at, operation_kind, pick, picked, quantifier_kind, ruled_kind, value,
@@ -327,6 +329,10 @@ fn use_kind(
 {
     if flat.path(path).is_empty() {
         let kind = direct_kind(alloc, flat, facts, node, definition, numbers, frame)?;
+        return Ok(kind);
+    }
+    if is_free(flat, path) {
+        let kind = kind_on(alloc, flat, facts, definition, numbers)?;
         return Ok(kind);
     }
     let reached = reach(alloc, flat, facts, node, path, numbers, frame)?;

@@ -1,10 +1,11 @@
 // What of a node needs no other body.
+ghost use Rattle.std.specs.List.{list_all};
 ghost use Rattle.std.specs.Prelude.{◌≡◌, ◌<◌, ◌≤◌, ◌++◌, IfOk, MatchOption, OnOk, true, length, map, slice_get, take};
 ghost use Rattle.kind_text.specs.FlatModule.{places_of};
-ghost use Rattle.kind_table.specs.Flattened.{flat_of};
+ghost use Rattle.kind_table.specs.Flattened.{flat_of, path_at};
 ghost use Rattle.kind_table.specs.Table.{AddsValues, AllWithin};
 ghost use Rattle.level_facts.specs.Facts.{HasNoBody, IsBody, IsFacts};
-ghost use Rattle.level_facts.specs.Judged.{IsClosure, IsOperand, around_of};
+ghost use Rattle.level_facts.specs.Judged.{IsClosure, IsOperand, around_of, puts_nothing_in};
 
 use crate::facts::{KindFacts, number};
 use kind_table::{Arg, Definition, FlatModule, Instance, add_values, behind, copied, first, front};
@@ -75,6 +76,27 @@ pub(crate) fn around(
     let arguments = front(&reached.rest, instance.parameters);
     let round = behind(alloc, &reached.frame, instance.outer, arguments)?;
     Ok(round)
+}
+
+/// Whether a path leads through instances in which nothing is put in.
+pub(crate) fn is_free(flat: &FlatModule, path: usize) -> bool
+    ensures { result ≡ list_all
+        (λ j. puts_nothing_in (slice_get (flat_of flat.now).instances j))
+        (path_at flat.now.paths.items path) }
+{
+    flat.path(path)
+        .iter()
+        .all(|instance| has_nothing_in(flat, *instance))
+}
+
+// Whether nothing is put in for an instance: it has no parameters, and its module no symbols.
+fn has_nothing_in(flat: &FlatModule, instance: usize) -> bool
+    ensures { result ≡ puts_nothing_in (slice_get (flat_of flat.now).instances instance) }
+{
+    match flat.instances.get(instance) {
+        None => false,
+        Some(here) => here.parameters == 0 && here.replacements.is_empty(),
+    }
 }
 
 /// The number of what stands at a place of a frame. Past its end a constant stands.

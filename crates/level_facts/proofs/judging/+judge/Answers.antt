@@ -1,5 +1,5 @@
 use Rattle.std.proofs.Common.{◌≡◌, ◌<◌, ◌≤◌, ◌++◌, [], ◌∷◌, Some, None, arith, refl, sym, ap, ◌∙◌, subst, take, drop, map, length, get_or}
-use Rattle.std.specs.Prelude.{◌&&◌, slice_get}
+use Rattle.std.specs.Prelude.{◌&&◌, ◌==◌, slice_get}
 use Rattle.std.proofs.lemmas.Bool.{not-false, not-true}
 use Rattle.std.proofs.lemmas.List.{map_more, take_all, take_more}
 use Rattle.kind_text.specs.ExpandedKind.{Given, is_at_most, kind, ruled}
@@ -25,7 +25,7 @@ use Rattle.level_facts.proofs.Finding.{call_kind, lambda_found, missing_found, n
 use Rattle.level_facts.proofs.Picking.{begins_at, found_more, left_out, let_body, let_missing}
 use Rattle.level_facts.proofs.Stepping.{step_at, step_here, step_parts, step_reads, uses_light, value_steps}
 use Rattle.level_facts.proofs.Guards.{decide_more, decide_none, judges_at, meets_all, meets_free, meets_not}
-use Rattle.level_facts.proofs.Paths.{around_light, around_within, definition_within, direct_light, direct_met, direct_within, frame_long, guards_light, instance_within, leads_through, path_begins, path_light, path_more, reads_instance, root_light, roots_light, round_alone, used_light, used_met, used_not_met, used_within, uses_at}
+use Rattle.level_facts.proofs.Paths.{around_light, around_within, definition_within, direct_light, direct_met, direct_within, frame_long, free_light, free_met, guards_light, instance_within, leads_through, path_begins, path_light, path_more, reads_instance, root_light, roots_light, round_alone, used_light, used_met, used_not_met, used_within, uses_at}
 use Rattle.level_facts.proofs.judging.+judge.Goals.{lead_through-then-reached, lead_through-else-reached}
 use Rattle.level_facts.proofs.judging.+judge.Goals as goal
 
@@ -310,8 +310,8 @@ pub use_kind-index-body-requires : goal.use_kind-index-body-requires
 use_kind-index-body-requires t c =
     let d = definition_within c.args.flat.now c.args.node c.args.definition c.requires.definition in omega (arith, d, c.args.flat.now.definitions.ok.0)
 
-pub use_kind-kind_on-requires : goal.use_kind-kind_on-requires
-use_kind-kind_on-requires t c =
+pub use_kind-kind_on-requires-2 : goal.use_kind-kind_on-requires-2
+use_kind-kind_on-requires-2 t c =
     let m = flat_of c.args.flat.now in let path = path_at c.args.flat.now.paths.items c.args.path in let x = c.index-body.result.now in let r = c.in_ok-reached.reached in
     let round_is = c.deref.ensures.value ∙ c.in_ok-round.ensures in
     let w = used_light m c.args.node path c.args.definition (definition_of x) c.args.frame.now c.args.numbers.now c.deref.result.now r c.requires.definition c.in_ok-reached.ensures.reaches round_is c.requires.light in
@@ -322,7 +322,20 @@ use_kind-returns-clause-kind t c =
     let m = flat_of c.args.flat.now in let path = path_at c.args.flat.now.paths.items c.args.path in let x = c.index-body.result.now in let r = c.in_ok-reached.reached in
     let round_is = c.deref.ensures.value ∙ c.in_ok-round.ensures in
     let at_d = definition_got c.args.flat.now c.args.flat.now.definitions.items c.args.definition x refl (definition_within c.args.flat.now c.args.node c.args.definition c.requires.definition) c.index-body.ensures in
-    used_met m c.args.node path c.args.definition (definition_of x) c.args.frame.now c.args.numbers.now c.deref.result.now r c.in_ok-kind-2.kind at_d c.in_ok-reached.ensures.reaches (not-false c.in_ok-reached.reached.met c.if-not-reached.false) round_is c.in_ok-kind-2.ensures.grows c.in_ok-kind-2.ensures.kind
+    used_met m c.args.node path c.args.definition (definition_of x) c.args.frame.now c.args.numbers.now c.deref.result.now r c.in_ok-kind-3.kind at_d c.in_ok-reached.ensures.reaches (not-false c.in_ok-reached.reached.met c.if-not-reached.false) round_is c.in_ok-kind-3.ensures.grows c.in_ok-kind-3.ensures.kind
+
+pub use_kind-kind_on-requires : goal.use_kind-kind_on-requires
+use_kind-kind_on-requires t c =
+    let m = flat_of c.args.flat.now in let old = c.args.facts.now.arguments.keys in
+    let w = free_light m old c.args.node c.args.definition c.args.frame.now c.args.numbers.now c.requires.definition c.requires.light in
+    (omega (arith, w), (c.requires.ordered, (c.requires.facts, c.requires.numbers)))
+
+pub use_kind-returns-then-is_free-clause-kind : goal.use_kind-returns-then-is_free-clause-kind
+use_kind-returns-then-is_free-clause-kind t c =
+    let m = flat_of c.args.flat.now in let d = c.args.definition in
+    let u = c.requires.definition in
+    free_met m (path_at c.args.flat.now.paths.items c.args.path) d u.0 c.args.frame.now c.args.numbers.now c.in_ok-kind-2.kind u.1 c.requires.numbers
+    (sym (sym c.if-is_empty.false ∙ c.is_empty.ensures ∙ ap (λ xs. length xs == 0) c.path.ensures)) (sym c.is_free.ensures ∙ c.if-is_free.true) c.in_ok-kind-2.ensures.grows c.in_ok-kind-2.ensures.kind
 
 -- direct_kind
 
