@@ -234,7 +234,6 @@ impl<'a> Scope<'a> {
     // Notes where an instance leads that a text names.
     fn lead_named(
         &self,
-        alloc: Global,
         text: &ModuleText<'a>,
         modules: &Numbers<'a>,
         instance: NamedInstance,
@@ -250,9 +249,8 @@ impl<'a> Scope<'a> {
             (named_modules.known_named text.now (module_in self.now modules.now)
             (named_as instance ∷ []))) }
     {
-        let decl = text.declaration(alloc, instance.name)?;
         let held = self.held_named(text, modules, instance.module);
-        more.put(text.file(), decl.place, held)
+        more.put(text.file(), text.place(instance.name), held)
     }
 
     // Where the instances lead that a text names.
@@ -274,7 +272,7 @@ impl<'a> Scope<'a> {
     {
         let mut more = Leads::new(alloc);
         for instance in instances {
-            self.lead_named(alloc, text, modules, *instance, &mut more)?;
+            self.lead_named(text, modules, *instance, &mut more)?;
         }
         Ok(more)
     }

@@ -162,7 +162,6 @@ fn bind_text<'a>(
 
 // Appends the declaration of a name.
 fn push_declaration(
-    alloc: Global,
     text: &ModuleText<'_>,
     binder: Binder,
     decls: &mut List<Decl>,
@@ -170,7 +169,7 @@ fn push_declaration(
     ensures { OnOk result (decls.new ≡ decls.old ++ bindings.decls text.now (binder ∷ [])) }
 {
     let Binder { name, entity } = binder;
-    let id = text.declaration(alloc, name)?;
+    let id = text.declaration(name)?;
     decls.push(Decl {
         id,
         name: name.span,
@@ -180,7 +179,6 @@ fn push_declaration(
 
 // Appends the declarations of a text, by the names that it declares.
 fn push_declarations(
-    alloc: Global,
     text: &ModuleText<'_>,
     names: List<Binder>,
     decls: &mut List<Decl>,
@@ -188,7 +186,7 @@ fn push_declarations(
     ensures { OnOk result (decls.new ≡ decls.old ++ bindings.decls text.now names) }
 {
     for binder in names.into_vec() {
-        push_declaration(alloc, text, binder, decls)?;
+        push_declaration(text, binder, decls)?;
     }
     Ok(())
 }
@@ -215,7 +213,7 @@ fn bind(
     let binders = declaring(alloc, tree)?;
     let text = text_of(alloc, tree, binders.as_slice())?;
     let (names, face) = bind_text(alloc, &text, tree, imported, bound)?;
-    push_declarations(alloc, &text, binders, &mut bound.decls)?;
+    push_declarations(&text, binders, &mut bound.decls)?;
     Ok((names, face))
 }
 

@@ -411,7 +411,7 @@ fn operator<N: Names>(
     let root = root_of(alloc, state, is.as_slice())?;
     roots.push(root)?;
     let d = define(state, frame, root)?;
-    put_name(alloc, written, state, name, Local::Definition(d))?;
+    put_name(written, state, name, Local::Definition(d))?;
     give_number(state, from, to, d);
     Ok(())
 }
@@ -460,7 +460,7 @@ fn function<N: Names>(
     give_number(state, middle, to, root);
     roots.push(root)?;
     let d = define(state, frame, root)?;
-    put_name(alloc, written, state, name, Local::Definition(d))?;
+    put_name(written, state, name, Local::Definition(d))?;
     give_number(state, from, middle, d);
     Ok(())
 }
@@ -490,7 +490,7 @@ fn module_definition<N: Names>(
     let children = written.tree.children(node);
     match first_instance(written.tree, children) {
         None => {
-            put_name(alloc, written, state, name, Local::Nothing)?;
+            put_name(written, state, name, Local::Nothing)?;
             Ok(())
         }
         Some(placed) => {
@@ -564,7 +564,7 @@ fn instance_definition<N: Names>(
         number: j,
         module: placed.module,
     };
-    put_name(alloc, written, state, name, local)?;
+    put_name(written, state, name, local)?;
     give_number(state, from, to, j);
     Ok(())
 }

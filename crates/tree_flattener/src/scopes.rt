@@ -48,7 +48,6 @@ fn copied_meanings(
 
 // Puts a name into scope, by where the text declares it.
 fn put(
-    alloc: Global,
     text: &ModuleText<'_>,
     locals: &mut Vec<Entry>,
     name: Lexeme,
@@ -59,14 +58,13 @@ fn put(
       local = local;
     } ∷ []) }
 {
-    let place = text.declaration(alloc, name)?.place;
+    let place = text.place(name);
     locals.push(Entry { place, local })?;
     Ok(())
 }
 
 // Puts a parameter into scope, at the next place of a frame.
 fn place_name(
-    alloc: Global,
     text: &ModuleText<'_>,
     locals: &mut Vec<Entry>,
     frame: &mut List<Meaning>,
@@ -77,17 +75,16 @@ fn place_name(
     ensures frame { OnOk result (frame.new ≡ frame.old ++ meant text.now binder ∷ []) }
 {
     let name = binder.name;
-    let meaning = text.meaning(alloc, binder)?;
+    let meaning = text.meaning(binder)?;
     let order = order_of(&meaning)?;
     let place = frame.len();
-    put(alloc, text, locals, name, Local::Place { place, order })?;
+    put(text, locals, name, Local::Place { place, order })?;
     frame.push(meaning)?;
     Ok(())
 }
 
 // Puts names into scope, one after another.
 fn place_all(
-    alloc: Global,
     text: &ModuleText<'_>,
     locals: &mut Vec<Entry>,
     frame: &mut List<Meaning>,
@@ -98,7 +95,7 @@ fn place_all(
     ensures frame { OnOk result (frame.new ≡ frame.old ++ map (meant text.now) names) }
 {
     for binder in names.into_vec() {
-        place_name(alloc, text, locals, frame, binder)?;
+        place_name(text, locals, frame, binder)?;
     }
     Ok(())
 }
@@ -120,7 +117,7 @@ pub(crate) fn enter(
     let count = names.len();
     let frames = state.frames.len();
     let mut meanings = copied_meanings(alloc, state.frames[frame].as_slice(), frames)?;
-    place_all(alloc, written.text, &mut state.locals, &mut meanings, names)?;
+    place_all(written.text, &mut state.locals, &mut meanings, names)?;
     let number = state.frames.len();
     state.frames.push(meanings)?;
     Ok(Entered {
@@ -131,7 +128,6 @@ pub(crate) fn enter(
 
 /// Puts a defined name into scope.
 pub(crate) fn put_name(
-    alloc: Global,
     written: &Written<'_>,
     state: &mut Flattening,
     name: Lexeme,
@@ -142,7 +138,7 @@ pub(crate) fn put_name(
       local = local;
     } ∷ [])) }
 {
-    put(alloc, written.text, &mut state.locals, name, local)
+    put(written.text, &mut state.locals, name, local)
 }
 
 /// Leaves the names in scope that there were at a mark.

@@ -10,7 +10,6 @@ ghost use Rattle.tree_names.specs.BindersInText.{BindersLie};
 
 use crate::text::ModuleText;
 use name_context::Context;
-use std::alloc::Global;
 use tla_model::{Binder, Finding};
 use tla_symbols::Lexeme;
 use tool_list::{List, Memory};
@@ -34,7 +33,6 @@ pub fn refuse<'a>(
 
 /// Puts a declared or bound name into a context, unless it is taken there.
 pub fn bind<'a>(
-    alloc: Global,
     text: &ModuleText<'a>,
     context: &mut Context<'a>,
     binder: Binder,
@@ -44,7 +42,7 @@ pub fn bind<'a>(
         ≡ contexts.bind text.now (context_of context.old) binder) }
 {
     let name = text.name_of(binder.name);
-    let meaning = text.meaning(alloc, binder)?;
+    let meaning = text.meaning(binder)?;
     context.put(name, Some(meaning))
 }
 
@@ -63,7 +61,6 @@ pub fn reserve<'a>(
 
 /// Puts names into a context one after another, and finds fault with those that are taken.
 pub fn bind_all<'a>(
-    alloc: Global,
     text: &ModuleText<'a>,
     context: &mut Context<'a>,
     binders: List<Binder>,
@@ -77,7 +74,7 @@ pub fn bind_all<'a>(
 {
     for binder in binders.into_vec() {
         refuse(text, context, binder.name, findings)?;
-        bind(alloc, text, context, binder)?;
+        bind(text, context, binder)?;
     }
     Ok(())
 }

@@ -15,6 +15,8 @@ use tool_list::{Chars, Memory, SharedList};
 /// the text of the definitions.
 pub struct ModuleText<'a> {
     file: &'a str,
+    // The same name, for declarations to share.
+    name: Chars,
     source: &'a str,
     // Where the declaring names begin.
     starts: Starts,
@@ -25,6 +27,7 @@ impl<'a> Drop for ModuleText<'a> {
     fn drop(self) {
         let ModuleText {
             file: _,
+            name: _,
             source: _,
             starts: _,
         } = self;
@@ -32,11 +35,14 @@ impl<'a> Drop for ModuleText<'a> {
 }
 
 impl<'a> Model for ModuleText<'a> {
+    ghost use Rattle.std.specs.Prelude.{◌≡◌};
     ghost use Rattle.tla_model.specs.Entities.{Text};
 
     ghost Value = { Text };
 
     ghost view = { λ t. record { file = t.file.now; source = t.source.now; starts = t.starts } };
+
+    ghost invariant = { λ t. t.name ≡ t.file.now };
 }
 
 impl<'a> ModuleText<'a> {
@@ -61,6 +67,7 @@ impl<'a> ModuleText<'a> {
         }
         Ok(ModuleText {
             file,
+            name: Chars::from_str(alloc, file)?,
             source,
             starts: Starts::new(alloc, starts.as_slice())?,
         })
@@ -93,10 +100,10 @@ impl<'a> ModuleText<'a> {
     }
 
     /// What a declared name calls.
-    pub fn own(&self, alloc: Global, name: Lexeme) -> Result<Callee, Memory>
+    pub fn own(&self, name: Lexeme) -> Result<Callee, Memory>
         ensures { IfOk result (λ callee. callee ≡ entities.own self.now name) }
     {
-        let decl = self.declaration(alloc, name)?;
+        let decl = self.declaration(name)?;
         Ok(Callee {
             instance: 0,
             decl,
@@ -104,22 +111,29 @@ impl<'a> ModuleText<'a> {
         })
     }
 
+    /// The place of a name's declaration: how many names the text declares before it.
+    pub fn place(&self, name: Lexeme) -> u32
+        ensures { result ≡ (entities.declaration self.now name).place }
+    {
+        self.starts.place_of(name.span.start)
+    }
+
     /// The declaration of a name.
-    pub fn declaration(&self, alloc: Global, name: Lexeme) -> Result<DeclId, Memory>
+    pub fn declaration(&self, name: Lexeme) -> Result<DeclId, Memory>
         ensures { IfOk result (λ decl. decl ≡ entities.declaration self.now name) }
     {
         Ok(DeclId {
-            module: Chars::from_str(alloc, self.file)?,
-            place: self.starts.place_of(name.span.start),
+            module: self.name.copied()?,
+            place: self.place(name),
         })
     }
 
     /// What a declared name means.
-    pub fn meaning(&self, alloc: Global, binder: Binder) -> Result<Meaning, Memory>
+    pub fn meaning(&self, binder: Binder) -> Result<Meaning, Memory>
         ensures { IfOk result (λ meaning. meaning ≡ entities.meant self.now binder) }
     {
         let Binder { name, entity } = binder;
-        let callee = self.own(alloc, name)?;
+        let callee = self.own(name)?;
         Ok(Meaning::Declared { entity, callee })
     }
 }

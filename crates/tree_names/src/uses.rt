@@ -11,7 +11,6 @@ ghost use Rattle.tree_names.specs.FunctionNames.{function_name};
 use crate::scopes::bind;
 use crate::text::ModuleText;
 use name_context::{Context, Named};
-use std::alloc::Global;
 use tla_model::{Binder, Entity, Finding, Meaning};
 use tla_symbols::{Fix, LexKind, Lexeme, Op, definable};
 use tool_list::{List, Memory};
@@ -126,7 +125,6 @@ pub fn use_prefix<'a>(
 
 /// Puts the name of a function into the context of its body, as a bound name.
 pub fn bind_function<'a>(
-    alloc: Global,
     text: &ModuleText<'a>,
     context: &mut Context<'a>,
     name: Lexeme,
@@ -136,5 +134,5 @@ pub fn bind_function<'a>(
         ≡ contexts.bind text.now (context_of context.old) (function_name name)) }
 {
     let entity = Entity::Bound { state: false };
-    bind(alloc, text, context, Binder { name, entity })
+    bind(text, context, Binder { name, entity })
 }

@@ -41,7 +41,7 @@ fn bind_names<'a>(
         (binders_at tree.now node)) }
 {
     let names = binders(alloc, tree, node, tree.children(node))?;
-    bind_all(alloc, text, context, names, findings)
+    bind_all(text, context, names, findings)
 }
 
 // Puts the name into the context that a node defines.
@@ -58,7 +58,7 @@ fn define<'a>(
         (scopes.definition (tree_at tree.now node))) }
 {
     if let Some(binder) = defined(alloc, tree, node, tree.children(node))? {
-        bind(alloc, text, context, binder)?;
+        bind(text, context, binder)?;
     }
     Ok(())
 }
@@ -105,7 +105,7 @@ fn perform<'a, S: Surround<'a>>(
             Ok(())
         }
         Task::Define { node } => define(alloc, text, tree, node, context),
-        Task::Function { name } => bind_function(alloc, text, context, name),
+        Task::Function { name } => bind_function(text, context, name),
         Task::Leave { mark } => {
             context.cut(mark);
             Ok(())

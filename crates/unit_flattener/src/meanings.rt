@@ -58,7 +58,7 @@ fn found_meanings(
     match found {
         None => Ok(meanings),
         Some(binder) => {
-            let meaning = text.meaning(alloc, binder)?;
+            let meaning = text.meaning(binder)?;
             meanings.push(meaning)?;
             Ok(meanings)
         }

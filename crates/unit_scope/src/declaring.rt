@@ -65,7 +65,7 @@ fn declare<'a>(
     if names.context.get(name).is_some() {
         return Ok(());
     }
-    let meaning = text.meaning(alloc, binder)?;
+    let meaning = text.meaning(binder)?;
     names.put(alloc, local, name, meaning)?;
     Ok(())
 }
