@@ -1,12 +1,14 @@
 // A module that was checked.
 ghost use Rattle.std.specs.Prelude.{◌≡◌, ◌++◌, ◌+◌, ◌-◌, ◌^◌, [], min, IfOk};
 ghost use Rattle.unit_grammar.specs.UnitNodes.{module_of};
+ghost use Rattle.tla_model.specs.Entities.{declaring};
 ghost use Rattle.tla_model.specs.Lexemes.{spelled};
 ghost use Rattle.module_model.specs.Given.{AreFaces, IsFaceOver, IsReadable};
 ghost use Rattle.module_facts.specs.Checks.{facts_of, facts_told, given_in};
 ghost use Rattle.module_faces.specs.Faces.{IsRefusedFace};
 ghost use Rattle.module_model.specs.Bindings.{AreInOrder};
 ghost use Rattle.module_model.specs.Exports.{files_of};
+ghost use Rattle.module_model.specs.Modules.{text_of};
 ghost use Rattle.module_model.specs.Resolution.{findings};
 ghost use Rattle.written_names.specs.Names.{AreNamesOf};
 ghost use Rattle.check_core.specs.Outcomes as outcomes;
@@ -23,9 +25,10 @@ use std::mem;
 use std::sync::Arc;
 use step_count::Steps;
 use symbol_scope::{Resolved, resolve};
-use tla_model::{Decl, Diagnostic, Use};
+use tla_model::{Binder, Decl, Diagnostic, Use};
 use tla_tree::ModuleTree;
 use tool_list::{List, Memory};
+use tree_names::ModuleText;
 use written_names::WrittenNames;
 
 /// What a check of a module found. Only `check_module` makes one. Contracts see its faults, uses and
@@ -192,15 +195,23 @@ fn with_arities(
 
 // What the names of a module stand for whose imports are accepted, and what is at fault with names and
 // arities.
-fn judged(alloc: Global, tree: &ModuleTree, imported: &Imported) -> Result<Resolved, Memory>
+fn judged(
+    alloc: Global,
+    text: &ModuleText<'_>,
+    names: List<Binder>,
+    tree: &ModuleTree,
+    imported: &Imported,
+) -> Result<Resolved, Memory>
     requires readable { IsReadable tree.now }
+    requires text { text.now ≡ text_of tree.now.source (module_of tree.now) }
+    requires names { names ≡ declaring (module_of tree.now).units }
     requires faces { AreFaces imported.now (spelled tree.now.source tree.now.name) }
     ensures judged { IfOk result (λ judged. IsJudged imported.now tree.now.source
         (module_of tree.now) judged.bound judged.face) }
     ensures names { IfOk result (λ judged. AreNamesOf
         (findings (files_of imported.now) tree.now.source (module_of tree.now)) judged.names) }
 {
-    let found = resolve(alloc, tree, imported)?;
+    let found = resolve(alloc, text, names, tree, imported)?;
     let arities = check_arity(alloc, tree, &found.bound)?;
     with_arities(alloc, found, arities)
 }
@@ -209,10 +220,14 @@ fn judged(alloc: Global, tree: &ModuleTree, imported: &Imported) -> Result<Resol
 fn resolved(
     alloc: Global,
     name: &str,
+    text: &ModuleText<'_>,
+    names: List<Binder>,
     tree: &ModuleTree,
     imported: &Imported,
 ) -> Result<(Checked, WrittenNames), Memory>
     requires readable { IsReadable tree.now }
+    requires text { text.now ≡ text_of tree.now.source (module_of tree.now) }
+    requires names { names ≡ declaring (module_of tree.now).units }
     requires faces { AreFaces imported.now name.now }
     requires name { spelled tree.now.source tree.now.name ≡ name.now }
     ensures found { IfOk result
@@ -222,23 +237,32 @@ fn resolved(
     ensures names { IfOk result (λ made. AreNamesOf
         (findings (files_of imported.now) tree.now.source (module_of tree.now)) made.1) }
 {
-    let found = judged(alloc, tree, imported)?;
-    let Resolved { bound, names, face } = found;
+    let found = judged(alloc, text, names, tree, imported)?;
+    let Resolved {
+        bound,
+        names: means,
+        face,
+    } = found;
     let face = shared_face(alloc, name, face)?;
-    Ok((with_names(alloc, bound, face), names))
+    Ok((with_names(alloc, bound, face), means))
 }
 
-/// Checks a module over the modules that it names, which is one step. Its face holds what its exports
-/// reach; one that is not accepted exports nothing. Beside it stands what each of its names means
-/// where it is accepted. `Memory` comes where there was no room.
+/// Checks a module over the modules that it names, which is one step, by its text and the names that
+/// this declares. Its face holds what its exports reach; one that is not accepted exports nothing.
+/// Beside it stands what each of its names means where it is accepted. `Memory` comes where there was
+/// no room.
 pub fn check_module<L>(
     alloc: Global,
     name: &str,
+    text: &ModuleText<'_>,
+    names: List<Binder>,
     tree: &ModuleTree,
     imported: &Imported,
     steps: &mut Steps<L>,
 ) -> Result<(Checked, WrittenNames), Memory>
     requires readable { IsReadable tree.now }
+    requires text { text.now ≡ text_of tree.now.source (module_of tree.now) }
+    requires names { names ≡ declaring (module_of tree.now).units }
     requires faces { AreFaces imported.now name.now }
     requires name { spelled tree.now.source tree.now.name ≡ name.now }
     ensures facts { IfOk result (λ made. facts_told made.0
@@ -255,5 +279,5 @@ pub fn check_module<L>(
     if !faults.is_empty() {
         return refused(alloc, name, faults);
     }
-    resolved(alloc, name, tree, imported)
+    resolved(alloc, name, text, names, tree, imported)
 }

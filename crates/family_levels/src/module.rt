@@ -30,6 +30,7 @@ use module_facts::{in_order as in_order_is_one, none_in_order};
 use module_model::{Imported, in_order};
 use std::alloc::Global;
 use step_count::Steps;
+use symbol_scope::{DeclaredText, declared_text};
 use tla_model::Diagnostic;
 use tla_tree::ModuleTree;
 use tool_list::{Chars, List, Memory, copied};
@@ -96,14 +97,18 @@ fn judge<L>(
         (get_by_text files.now) known made.0 made.1) }
     ensures steps { IfOk result (λ _. steps.new ≡ after_checks 1 steps.old) }
 {
-    let (checked, names) = check_module(alloc, name, tree, imports, steps)?;
+    let DeclaredText {
+        text,
+        names: declared,
+    } = declared_text(alloc, tree)?;
+    let (checked, names) = check_module(alloc, name, &text, declared, tree, imports, steps)?;
     let faults = checked.faults();
     if !faults.is_empty() {
         let faults = copied(alloc, faults.as_slice())?;
         return Ok((known, refused(faults, Names::of(checked))));
     }
     let face = checked.face();
-    let (known, levels) = level_module(alloc, tree, imports, face, &names, known, files)?;
+    let (known, levels) = level_module(alloc, &text, tree, imports, face, &names, known, files)?;
     let found = found_by(checked, levels)?;
     Ok((known, found))
 }

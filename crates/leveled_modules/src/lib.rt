@@ -7,7 +7,6 @@
 mod answers;
 mod constancy;
 mod levels;
-mod names;
 mod start;
 
 pub use answers::answers_are_levels;

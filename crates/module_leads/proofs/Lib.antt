@@ -8,4 +8,5 @@ mod Numbered
 mod Placed
 mod Putting
 mod Said
+mod Tabled
 mod Within

@@ -1,5 +1,6 @@
 // What is known at a place of a module of where names lead.
 ghost use Rattle.std.specs.Prelude.{◌≡◌, ◌∷◌, IfOk, OnOk, Some, length, map};
+ghost use Rattle.module_model.specs.Exports.{exports_of, of_symbols, of_words};
 ghost use Rattle.name_context.specs.AsTables.{meant_by};
 ghost use Rattle.tree_names.specs.Parameters.{entries_in};
 ghost use Rattle.flattened_trees.specs.Leads.{behind_instance, only, with_leads};
@@ -19,7 +20,8 @@ use flattened_trees::End;
 use name_context::Named;
 use std::alloc::Global;
 use std::mem;
-use tla_model::Meaning;
+use tla_model::{Meaning, NameTable};
+use tla_symbols::Op;
 use tool_list::{List, Memory};
 use tree_flattener::Lead;
 use tree_names::Parameter;
@@ -119,6 +121,64 @@ fn put_entries(
         let way = way_by(round, here, &entry.meaning)?;
         face.put(alloc, entry.name.named(), way)?;
     }
+    Ok(())
+}
+
+// Puts the words of a table with where their meanings lead.
+fn put_words(
+    alloc: Global,
+    round: &[Layer],
+    here: &Layer,
+    face: &mut ModuleFace,
+    table: &NameTable,
+) -> Result<(), Memory>
+    ensures ways { OnOk result (HasWays face.old face.new (way_by round.now here.now)
+        (of_words table.now.words)) }
+    ensures others { OnOk result (IsNamedAs face.old face.new) }
+{
+    for index in 0..table.len() {
+        let Some((word, meaning)) = table.word_at(index) else {
+            unreachable!();
+        };
+        let way = way_by(round, here, meaning)?;
+        face.put(alloc, Named::Word(word), way)?;
+    }
+    Ok(())
+}
+
+// Puts symbols with where their meanings lead.
+fn put_symbols(
+    alloc: Global,
+    round: &[Layer],
+    here: &Layer,
+    face: &mut ModuleFace,
+    symbols: &[(Op, Meaning)],
+) -> Result<(), Memory>
+    ensures ways { OnOk result (HasWays face.old face.new (way_by round.now here.now)
+        (of_symbols symbols.now)) }
+    ensures others { OnOk result (IsNamedAs face.old face.new) }
+{
+    for (op, meaning) in symbols {
+        let way = way_by(round, here, meaning)?;
+        face.put(alloc, Named::Symbol(*op), way)?;
+    }
+    Ok(())
+}
+
+// Puts the names of a table with where their meanings lead.
+fn put_table(
+    alloc: Global,
+    round: &[Layer],
+    here: &Layer,
+    face: &mut ModuleFace,
+    table: &NameTable,
+) -> Result<(), Memory>
+    ensures ways { OnOk result (HasWays face.old face.new (way_by round.now here.now)
+        (exports_of table.now)) }
+    ensures others { OnOk result (IsNamedAs face.old face.new) }
+{
+    put_words(alloc, round, here, face, table)?;
+    put_symbols(alloc, round, here, face, table.symbols())?;
     Ok(())
 }
 
@@ -235,6 +295,29 @@ impl ModuleLeads {
     {
         let mut face = ModuleFace::new(alloc, parameters, outer, is_constant);
         put_entries(alloc, &self.round, &self.here, &mut face, entries)?;
+        let number = self.faces.len();
+        self.faces.push(face)?;
+        Ok(number)
+    }
+
+    /// The same by a table of what the module exports.
+    pub fn add_table(
+        &mut self,
+        alloc: Global,
+        parameters: List<Parameter>,
+        outer: usize,
+        is_constant: bool,
+        exports: &NameTable,
+    ) -> Result<usize, Memory>
+        requires { IsSound self.old }
+        ensures number { IfOk result (λ number. number ≡ (leading_in self.old).count) }
+        ensures known { OnOk result (leading_in self.new ≡ known.with_face (leading_in self.old)
+            (face_over (entries_in parameters) outer is_constant (exports_of exports.now)
+            (leading_in self.old).leads)) }
+        ensures sound { OnOk result (IsSound self.new) }
+    {
+        let mut face = ModuleFace::new(alloc, parameters, outer, is_constant);
+        put_table(alloc, &self.round, &self.here, &mut face, exports)?;
         let number = self.faces.len();
         self.faces.push(face)?;
         Ok(number)

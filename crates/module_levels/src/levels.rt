@@ -1,11 +1,12 @@
 // What is found of levels and depths in a module.
-ghost use Rattle.std.specs.Prelude.{◌≡◌, ◌<◌, ℕ, List as ListOf, IfOk, IfSome, OnOk};
+ghost use Rattle.std.specs.Prelude.{◌≡◌, ◌<◌, ℕ, List as ListOf, IfOk, IfSome, OnOk, reverse};
 ghost use Rattle.indexmap.specs.IndexMap.{get_by_text};
 ghost use Rattle.tla_model.specs.Lexemes.{LexemesLie};
 ghost use Rattle.unit_grammar.specs.UnitNodes.{HasNodes, module_of};
 ghost use Rattle.front_laws.specs.Fronts.{IsFront, Tree};
-ghost use Rattle.module_model.specs.Exports.{files_of};
+ghost use Rattle.module_model.specs.Exports.{exports_of, files_of};
 ghost use Rattle.module_model.specs.Modules.{text_of};
+ghost use Rattle.module_model.specs.Resolution.{exports_in};
 ghost use Rattle.tree_kinds.specs.Standing.{Outside};
 ghost use Rattle.flattened_trees.specs.Questions.{Question};
 ghost use Rattle.tree_flattener.specs.Steps.{AreAsked};
@@ -15,6 +16,7 @@ ghost use Rattle.node_depths.specs.Capped.{IsDepths};
 ghost use Rattle.tree_names.specs.Parameters.{entries_in};
 ghost use Rattle.module_leads.specs.Leading.{leading_in};
 ghost use Rattle.unit_scope.specs.Steps.{IsUnread};
+ghost use Rattle.unit_flattener.specs.Modules.{AreOwnOf};
 ghost use Rattle.unit_flattener.specs.Numbers.{file_faces};
 ghost use Rattle.module_levels.specs.Kept.{AreBehind, AreKept, IsAnswered, IsLeveled};
 
@@ -23,7 +25,7 @@ use crate::tables::LevelTables;
 use found_levels::{deep_answers, depth_faults, level_answers, level_faults, levels_of_uses};
 use indexmap::IndexMap;
 use std::alloc::Global;
-use tla_model::{Diagnostic, Level};
+use tla_model::{Diagnostic, Level, Meaning, NameTable};
 use tla_tree::ModuleTree;
 use tool_list::{List, Memory};
 use tree_flattener::Written;
@@ -81,18 +83,21 @@ fn judge(alloc: Global, known: &mut LevelTables, face: usize) -> Result<ModuleLe
     })
 }
 
-/// Finds the levels of a module whose symbols are given with their names, over modules before it.
-/// The numbers of what its imports are to their instances are given by name. Two readers stand
-/// before what the module extends: one goes ahead for the symbols of nested modules.
+/// Finds the levels of a module whose symbols are given with their names, and what it exports, over
+/// modules before it. The numbers of what its imports are to their instances are given by name, and
+/// the own symbols of its nested modules, those of the first one last. The reader stands before what
+/// the module extends.
 pub fn find_levels<'a>(
     alloc: Global,
     written: &Written<'a>,
     tree: &ModuleTree,
-    readers: (ModuleReader<'a>, ModuleReader<'a>),
+    reader: ModuleReader<'a>,
+    own: Vec<List<Meaning>>,
     known: LevelTables,
     files: &'a IndexMap<String, usize>,
     symbols: List<Parameter>,
     is_constant: bool,
+    exports: &NameTable,
 ) -> Result<(LevelTables, ModuleLevels), Memory>
     requires front { (name : ListOf ℕ)
         × IsFront name tree.now.source (Tree (module_of tree.now)) }
@@ -100,16 +105,18 @@ pub fn find_levels<'a>(
     requires tree { written.now.tree.now ≡ tree.now.tree }
     requires lie { LexemesLie written.now.text.now.source (module_of tree.now) }
     requires text { written.now.text.now ≡ text_of tree.now.source (module_of tree.now) }
-    requires unread { IsUnread written.now.text.now readers.0.scope.imported.now
-        (module_of tree.now) readers.0 }
-    requires ahead { IsUnread written.now.text.now readers.0.scope.imported.now
-        (module_of tree.now) readers.1 }
+    requires unread { IsUnread written.now.text.now reader.scope.imported.now
+        (module_of tree.now) reader }
+    requires own { AreOwnOf written.now.text.now reader.scope.imported.now tree.now.source
+        (module_of tree.now) (reverse own.items) }
     requires kept { AreKept known }
+    requires exports { exports_of exports.now
+        ≡ exports_in (files_of reader.scope.imported.now) tree.now.source (module_of tree.now) }
     requires files { (name : ListOf ℕ) → IfSome (get_by_text files.now name)
         (λ number. number < (leading_in known.tables.leads).count) }
     ensures kept { IfOk result (λ made. AreKept made.0) }
     ensures leveled { IfOk result (λ made. (outsides : ListOf ℕ → Outside)
-        → (λ name. (outsides name).view) ≡ files_of readers.entry.0.scope.imported.now
+        → (λ name. (outsides name).view) ≡ files_of reader.entry.scope.imported.now
         → IsLeveled written.now tree.now.source (module_of tree.now)
         (file_faces (leading_in known.tables.leads).faces (get_by_text files.now)) outsides
         known made.0 (entries_in symbols) is_constant made.1) }
@@ -124,11 +131,13 @@ pub fn find_levels<'a>(
         alloc,
         written,
         tree,
-        readers,
+        reader,
+        own,
         tables,
         files,
         symbols,
         is_constant,
+        exports,
     )?;
     let mut known = LevelTables {
         tables,

@@ -12,3 +12,4 @@ mod tables;
 pub use levels::{ModuleLevels, find_levels};
 pub use nested::nested_modules_close;
 pub use tables::LevelTables;
+pub use unit_flattener::{has_no_nested, symbols_ahead};

@@ -7,5 +7,5 @@
 mod reading;
 mod resolution;
 
-pub use reading::{text_of, unread};
+pub use reading::{DeclaredText, declared_text, unread};
 pub use resolution::{Resolved, resolve};

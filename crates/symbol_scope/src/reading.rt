@@ -11,6 +11,7 @@ ghost use Rattle.tla_model.specs.Entities as entities;
 ghost use Rattle.tla_model.specs.Lexemes.{LexemesLie};
 ghost use Rattle.unit_grammar.specs.UnitNodes.{HasNodes, module_of};
 
+use declared_names::declaring;
 use instance_names::{instance_words, path_starts};
 use instance_scope::Scope;
 use module_model::Imported;
@@ -21,8 +22,15 @@ use tool_list::{List, Memory};
 use tree_names::ModuleText;
 use unit_scope::ModuleReader;
 
-/// The text of a module, by the names that it declares.
-pub fn text_of<'a>(
+/// The text of a module, and the names that it declares, in their order.
+#[derive(Drop)]
+pub struct DeclaredText<'a> {
+    pub text: ModuleText<'a>,
+    pub names: List<Binder>,
+}
+
+// The text of a module, by the names that it declares.
+fn text_of<'a>(
     alloc: Global,
     tree: &'a ModuleTree,
     names: &[Binder],
@@ -34,6 +42,20 @@ pub fn text_of<'a>(
     let source = tree.source.as_str();
     let file = spelled(source, &tree.name);
     ModuleText::new(alloc, file, source, names)
+}
+
+/// The text of a module, and the names that it declares: what `resolve` and the search for levels are
+/// given. `Memory` comes where there was no room.
+pub fn declared_text<'a>(alloc: Global, tree: &'a ModuleTree) -> Result<DeclaredText<'a>, Memory>
+    requires { IsReadable tree.now }
+    ensures text { IfOk result (λ declared. declared.text
+        ≡ in_modules.text_of tree.now.source (module_of tree.now)) }
+    ensures names { IfOk result (λ declared. declared.names
+        ≡ entities.declaring (module_of tree.now).units) }
+{
+    let names = declaring(alloc, tree)?;
+    let text = text_of(alloc, tree, names.as_slice())?;
+    Ok(DeclaredText { text, names })
 }
 
 // What is known of modules and instances before a text is read.

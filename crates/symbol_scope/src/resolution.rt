@@ -12,12 +12,12 @@ ghost use Rattle.unit_scope.specs.EnclosingReadings.{IsAt, IsSomewhere};
 ghost use Rattle.symbol_scope.specs.Exporting.{IsFaceOf, IsFaceUnless, IsShown};
 ghost use Rattle.unit_scope.specs.Readings.{Over};
 ghost use Rattle.unit_scope.specs.Steps.{IsLast, IsUnread, outside_at};
+ghost use Rattle.tla_model.specs.Entities.{declaring};
 ghost use Rattle.tla_model.specs.Lexemes.{LexemesLie, spelled as spelled_in};
 ghost use Rattle.unit_grammar.specs.UnitNodes.{HasNodes, module_of};
 ghost use Rattle.written_names.specs.Names.{AreNamesOf};
 
-use crate::reading::{found_in, text_of, unread};
-use declared_names::declaring;
+use crate::reading::{found_in, unread};
 use instance_parts::reached_from;
 use module_model::{Bound, Face, Imported};
 use sorted_findings::{nothing, order, sort_out};
@@ -195,11 +195,15 @@ fn push_declarations(
 // it has faults.
 fn bind(
     alloc: Global,
+    text: &ModuleText<'_>,
+    names: List<Binder>,
     tree: &ModuleTree,
     imported: &Imported,
     bound: &mut Bound,
 ) -> Result<(WrittenNames, Option<Face>), Memory>
     requires readable { IsReadable tree.now }
+    requires text { text.now ≡ in_modules.text_of tree.now.source (module_of tree.now) }
+    requires names { names ≡ declaring (module_of tree.now).units }
     requires faces { AreFaces imported.now (spelled_in tree.now.source tree.now.name) }
     requires nothing { IsNothing bound.old }
     ensures bound { OnOk result
@@ -210,11 +214,9 @@ fn bind(
     ensures face { IfOk result (λ made. IsShown imported.now tree.now.source (module_of tree.now)
         bound.new.faults made.1) }
 {
-    let binders = declaring(alloc, tree)?;
-    let text = text_of(alloc, tree, binders.as_slice())?;
-    let (names, face) = bind_text(alloc, &text, tree, imported, bound)?;
-    push_declarations(&text, binders, &mut bound.decls)?;
-    Ok((names, face))
+    let (means, face) = bind_text(alloc, text, tree, imported, bound)?;
+    push_declarations(text, names, &mut bound.decls)?;
+    Ok((means, face))
 }
 
 /// What the names of a module stand for, and what it is to those that name it.
@@ -228,10 +230,19 @@ pub struct Resolved {
 }
 
 /// What the names of a module stand for, over the modules that it names, and what it is to those that
-/// name it. A module that is not accepted is nothing to these. The face shares what it can with those
-/// of the modules that are named. `Memory` comes where there was no room.
-pub fn resolve(alloc: Global, tree: &ModuleTree, imported: &Imported) -> Result<Resolved, Memory>
+/// name it, by its text and the names that this declares (`declared_text`). A module that is not
+/// accepted is nothing to these. The face shares what it can with those of the modules that are named.
+/// `Memory` comes where there was no room.
+pub fn resolve(
+    alloc: Global,
+    text: &ModuleText<'_>,
+    names: List<Binder>,
+    tree: &ModuleTree,
+    imported: &Imported,
+) -> Result<Resolved, Memory>
     requires readable { IsReadable tree.now }
+    requires text { text.now ≡ in_modules.text_of tree.now.source (module_of tree.now) }
+    requires names { names ≡ declaring (module_of tree.now).units }
     requires faces { AreFaces imported.now (spelled_in tree.now.source tree.now.name) }
     ensures bound { IfOk result (λ resolved. IsBound (files_of imported.now) tree.now.source
         (module_of tree.now) resolved.bound) }
@@ -243,6 +254,6 @@ pub fn resolve(alloc: Global, tree: &ModuleTree, imported: &Imported) -> Result<
         resolved.bound.faults resolved.face) }
 {
     let mut bound = nothing(alloc);
-    let (names, face) = bind(alloc, tree, imported, &mut bound)?;
+    let (names, face) = bind(alloc, text, names, tree, imported, &mut bound)?;
     Ok(Resolved { bound, names, face })
 }

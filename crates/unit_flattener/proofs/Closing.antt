@@ -3,6 +3,7 @@ use Rattle.std.proofs.Common.{◌≡◌, ℕ, ◌<◌, Bool, List, [], ◌∷◌
 use Rattle.std.proofs.lemmas.List.{append-nil}
 use Rattle.unit_grammar.specs.Units.{ModuleUnits}
 use Rattle.tla_model.specs.Entities.{Meaning, Text}
+use Rattle.tla_model.specs.Tables.{Table}
 use Rattle.module_model.specs.Exports.{Exports, exports_of, files_of}
 use Rattle.module_model.specs.Imports.{Imports}
 use Rattle.module_model.specs.Modules.{text_of}
@@ -152,6 +153,13 @@ module _ (written : Written) (imports : Imports) (source : List ℕ) (units : Mo
         let reader : Reader = leading_with began (brought-over outsides views).leads in
         walks walk [] [] reader (subst (λ us. IsWalking written.text.now walk [] us extended reader) (sym (append-nil units.units)) (brought-over outsides views).at)
 
+    -- what the module exports behind them
+    exports-read : (outsides : List ℕ → Outside) (views : (λ name. (outsides name).view) ≡ files_of imports)
+        → (state_at (walk_over imports source units tables numbers outsides) units.units).read.place.here.exports ≡ (last_read (files_of imports) source units).place.here.exports
+    exports-read outsides views =
+        ap (λ (read : ReadState). read.place.here.exports) (read-same (text_of source units) outsides (words_of units) (first_state outsides source units) units.units)
+        ∙ (λ i. (last_read (views i) source units).place.here.exports)
+
     -- what is known behind them is sound
     pub last-sound : IsSound last.leads
     last-sound = (walked-over (known_files imports) refl).at.sound
@@ -159,11 +167,11 @@ module _ (written : Written) (imports : Imports) (source : List ℕ) (units : Mo
     -- the module is walked
     pub module-walks : (made : Tables) (constant : Bool) (face : ℕ) → BeginsAreEnded imports source units
         → made.state ≡ last.state → face ≡ (leading_in last.leads).count → IsSound made.leads
-        → ((text : Text) (over : Over) (state : ReadState) → IsAt text over last.reader state
-        → leading_in made.leads ≡ left (with_face (leading_in last.leads) (face_over symbols 0 constant (exports_of state.place.here.exports) (leading_in last.leads).leads)))
+        → leading_in made.leads
+        ≡ left (with_face (leading_in last.leads) (face_over symbols 0 constant (exports_of (last_read (files_of imports) source units).place.here.exports) (leading_in last.leads).leads))
         → (outsides : List ℕ → Outside) → (λ name. (outsides name).view) ≡ files_of imports
         → IsModuleWalked written source units (file_faces (leading_in tables.leads).faces numbers) outsides tables made symbols constant face
     module-walks made constant face closed state-is number sound known outsides views =
         let walked = walked-over outsides views in
         module-walked written imports source units tables made numbers outsides symbols constant face first extended last views closed opened (brought-over outsides views) walked state-is number sound
-        (known written.text.now (over_for imports units) (state_at (walk_over imports source units tables numbers outsides) units.units).read walked.at.reads)
+        (known ∙ ap (λ (table : Table Meaning). left (with_face (leading_in last.leads) (face_over symbols 0 constant (exports_of table) (leading_in last.leads).leads))) (sym (exports-read outsides views)))

@@ -20,5 +20,5 @@ mod units;
 
 pub use flattener::UnitFlattener;
 pub use modules::{Flattened, Tables, flatten_module};
-pub use own::symbols_ahead;
+pub use own::{has_no_nested, symbols_ahead};
 pub use scope::{Before, ModuleNumbers};

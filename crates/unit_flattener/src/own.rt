@@ -5,7 +5,9 @@ ghost use Rattle.std.specs.List.{All, AllByRecursion};
 ghost use Rattle.tla_symbols.specs.declared.lexeme.Lexeme.{Lexeme};
 ghost use Rattle.tla_tree.specs.Arena.{AreThere, Node};
 ghost use Rattle.tla_model.specs.Lexemes.{LexemesLie, LiesIn, unit_lexemes};
+ghost use Rattle.module_model.specs.Imports.{Imports};
 ghost use Rattle.module_model.specs.Modules.{text_of};
+ghost use Rattle.tla_model.specs.Entities.{Text};
 ghost use Rattle.unit_grammar.specs.UnitNodes.{HasNodes, module_of, nodes_in, unit_at};
 ghost use Rattle.unit_grammar.specs.Units.{ModuleEnd};
 ghost use Rattle.unit_scope.specs.EnclosingReadings.{IsSomewhere};
@@ -162,7 +164,7 @@ fn begins(unit: &Unit) -> bool
 }
 
 // Whether no nested module begins in units.
-fn has_no_nested(units: &[Unit]) -> bool
+fn begins_none(units: &[Unit]) -> bool
     ensures { OnTrue result (All (λ unit. in_ahead.begins unit ≡ false) units.now) }
 {
     for unit in units {
@@ -171,6 +173,14 @@ fn has_no_nested(units: &[Unit]) -> bool
         }
     }
     true
+}
+
+/// Whether no nested module begins in a module: then there are no own symbols of such modules.
+pub fn has_no_nested(tree: &ModuleTree) -> bool
+    ensures { OnTrue result ((text : Text) (imports : Imports)
+        → AreOwnOf text imports tree.now.source (module_of tree.now) []) }
+{
+    begins_none(tree.units.as_slice())
 }
 
 // The own symbols of the nested modules that begin in units, those of the first one last: what each
@@ -196,7 +206,7 @@ fn own_symbols<'a>(
 }
 
 /// The own symbols of the nested modules that begin in a module, those of the first one last, by a
-/// reader that stands before what the module extends. It goes ahead where there are such modules.
+/// reader that stands before what the module extends and goes ahead.
 pub fn symbols_ahead<'a>(
     alloc: Global,
     text: &ModuleText<'a>,
@@ -211,11 +221,8 @@ pub fn symbols_ahead<'a>(
         tree.now.source (module_of tree.now) (reverse own.items)) }
 {
     let mut reader = reader;
-    let units = tree.units.as_slice();
-    if has_no_nested(units) {
-        return Ok(Vec::new(alloc));
-    }
     reader.pass_extended(alloc, text, tree)?;
+    let units = tree.units.as_slice();
     let own = own_symbols(alloc, text, &mut reader, &tree.tree, units)?;
     Ok(own)
 }

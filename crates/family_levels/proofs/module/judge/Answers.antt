@@ -33,6 +33,10 @@ level_module-requires-clause-face g c =
     let none = sym c.faults-faults.ensures ∙ nil_from_length c.faults-faults.result.now (c.if-not-is_empty.ensures.0 refl) in
     ap face_outside (c.deref.ensures ∙ c.face-face.ensures) ∙ face-outside c.args.imports.now c.args.tree.now.source (module_of c.args.tree.now) c.in_ok-checked.checked c.in_ok-checked.ensures.facts none
 
+pub level_module-requires-clause-names : goal.level_module-requires-clause-names
+level_module-requires-clause-names g c =
+    c.in_ok-checked.ensures.names (sym c.faults-faults.ensures ∙ nil_from_length c.faults-faults.result.now (c.if-not-is_empty.ensures.0 refl))
+
 pub returns-clause-judged : goal.returns-clause-judged
 returns-clause-judged g c =
     let none = sym c.faults-faults.ensures ∙ nil_from_length c.faults-faults.result.now (c.if-not-is_empty.ensures.0 refl) in

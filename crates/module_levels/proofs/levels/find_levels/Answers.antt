@@ -9,15 +9,15 @@ use Rattle.module_levels.proofs.levels.find_levels.Goals as goal
 
 pub flatten_module-requires-clause-ends : goal.flatten_module-requires-clause-ends
 flatten_module-requires-clause-ends c =
-    c.nested_modules_close.ensures.ends c.requires.front.0 c.args.tree.now.source (module_of c.args.tree.now) c.args.readers.0.scope.imported.now c.requires.front.1
+    c.nested_modules_close.ensures.ends c.requires.front.0 c.args.tree.now.source (module_of c.args.tree.now) c.args.reader.scope.imported.now c.requires.front.1
 
 pub flatten_module-requires-clause-begins : goal.flatten_module-requires-clause-begins
 flatten_module-requires-clause-begins c =
-    c.nested_modules_close.ensures.begins c.requires.front.0 c.args.tree.now.source (module_of c.args.tree.now) c.args.readers.0.scope.imported.now c.requires.front.1
+    c.nested_modules_close.ensures.begins c.requires.front.0 c.args.tree.now.source (module_of c.args.tree.now) c.args.reader.scope.imported.now c.requires.front.1
 
 pub judge-requires : goal.judge-requires
 judge-requires c =
-    let imports = c.args.readers.0.scope.imported.now in
+    let imports = c.args.reader.scope.imported.now in
     let made = c.in_ok-tables.field-0.tables in
     record {
       behind = behind-walked c.args.written.now c.args.tree.now.source (module_of c.args.tree.now) (file_faces (leading_in c.args.known.tables.leads).faces (get_by_text c.args.files.now)) (known_files imports) c.args.known made (entries_in c.args.symbols)
@@ -26,7 +26,7 @@ judge-requires c =
 
 pub returns-clause-kept : goal.returns-clause-kept
 returns-clause-kept c =
-    let imports = c.args.readers.0.scope.imported.now in
+    let imports = c.args.reader.scope.imported.now in
     let same = c.judge.ensures.tables in
     kept-between c.in_ok-tables.field-0.tables _ (ap (λ t. t.leads) same) (ap (λ t. t.state.flat) same) (ap (λ t. t.state.locals) same) (c.in_ok-tables.ensures (known_files imports) refl).between
     c.in_ok-found.ensures.ordered c.in_ok-found.ensures.facts c.in_ok-found.ensures.depths c.clear-2.ensures.items c.clear.ensures.items

@@ -7,5 +7,5 @@ use Rattle.symbol_scope.proofs.resolution.bind.Goals as goal
 pub returns-clause-bound : goal.returns-clause-bound
 returns-clause-bound c =
     let new = c.bind_text.new.bound in
-    bound-by _ c.args.tree.now.source (module_of c.args.tree.now) new c.push_declarations.new.decls c.in_ok-names.ensures.sorted
-    (c.in_ok-push_declarations.ensures ∙ (λ i. new.decls ++ decls (c.in_ok-text.ensures i) (c.in_ok-binders.ensures i)))
+    bound-by _ c.args.tree.now.source (module_of c.args.tree.now) new c.push_declarations.new.decls c.in_ok-means.ensures.sorted
+    (c.in_ok-push_declarations.ensures ∙ (λ i. new.decls ++ decls (c.requires.text i) (c.requires.names i)))

@@ -11,14 +11,6 @@ use Rattle.unit_flattener.specs.Ahead.{begins, own_ahead}
 use Rattle.unit_flattener.proofs.Ahead.{none-begun}
 use Rattle.unit_flattener.proofs.own.symbols_ahead.Goals as goal
 
-pub returns-then-has_no_nested : goal.returns-then-has_no_nested
-returns-then-has_no_nested c =
-    let files = files_of c.args.reader.scope.imported.now in
-    let units = module_of c.args.tree.now in
-    let none = subst (All (λ x. begins x ≡ false)) c.as_slice-units.ensures (OnTrue_at c.if-has_no_nested.true c.has_no_nested.ensures) in
-    ap reverse c.new.ensures.items
-    ∙ sym (none-begun c.args.text.now files (words_of units) c.args.tree.now.tree (first_read files c.args.tree.now.source units) c.args.tree.now.units none)
-
 pub own_symbols-requires-clause-lie : goal.own_symbols-requires-clause-lie
 own_symbols-requires-clause-lie c = units-lie (LiesIn c.args.text.now.source) c.args.tree.now c.as_slice-units.result.now c.as_slice-units.ensures c.requires.lie
 
