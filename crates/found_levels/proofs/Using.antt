@@ -1,6 +1,7 @@
 -- Levels of uses, one after another.
-use Rattle.std.proofs.Common.{◌≡◌, ℕ, Bool, true, false, cond, List, [], ◌∷◌, ◌++◌, Option, Some, None, refl, sym, ap, ◌∙◌, ◌+◌, ◌<◌, get_or, length, take}
+use Rattle.std.proofs.Common.{◌≡◌, ℕ, Bool, true, false, cond, List, [], ◌∷◌, ◌++◌, Option, Some, refl, sym, ap, ◌∙◌, ◌+◌, ◌<◌, get_or, drop, length, take}
 use Rattle.std.proofs.lemmas.List.{append-nil, append_assoc, map-append, take_more}
+use Rattle.list_laws.proofs.Lists.{rest-at}
 use Rattle.tla_symbols.specs.declared.lexeme.Lexeme.{Lexeme}
 use Rattle.tla_model.specs.declared.Diagnostic.{Diagnostic}
 use Rattle.std.specs.Prelude.{nat_eq}
@@ -8,43 +9,28 @@ use Rattle.tla_model.specs.declared.entity.Level.{Level}
 use Rattle.tree_kinds.specs.TreeLevels.{LevelFinding, Leveled, NotConstant, Refused, TooHigh}
 use Rattle.module_kinds.specs.ModuleKinds.{depth_faults, level_fault, level_faults, level_of}
 use Rattle.found_levels.specs.declared.findings.LevelFinding.TheVariants as code
-use Rattle.found_levels.specs.Findings.{finding_of, findings_of, level_there, or_constant}
+use Rattle.found_levels.specs.Findings.{finding_of, findings_of, level_before, or_constant}
 
--- what was found of the use that begins here
-abbrev pub level-found : Option Level → List LevelFinding → ℕ → Option Level
-level-found so_far [] start = so_far
-level-found so_far (finding ∷ rest) start = level-found (level_there so_far finding start) rest start
-
--- the first counts
-known-stays : (level : Level) (found : List LevelFinding) (start : ℕ) → level-found (Some level) found start ≡ Some level
-known-stays level [] start = refl
-known-stays level (finding ∷ rest) start = known-stays level rest start
-
-pub found-is : (found : List LevelFinding) (start : ℕ) → or_constant (level-found None found start) ≡ level_of found start
-found-is [] start = refl
-found-is (Refused at ∷ rest) start = found-is rest start
-found-is (NotConstant at ∷ rest) start = found-is rest start
-found-is (TooHigh at ∷ rest) start = found-is rest start
-found-is (Leveled l level ∷ rest) start = here (nat_eq l.span.start start) (found-is rest start)
+-- one finding before those behind it
+level-found : (finding : LevelFinding) (rest : List LevelFinding) (behind : Option Level) (start : ℕ) → or_constant behind ≡ level_of rest start → or_constant (level_before finding behind start) ≡ level_of (finding ∷ rest) start
+level-found (Refused at) rest behind start h = h
+level-found (NotConstant at) rest behind start h = h
+level-found (TooHigh at) rest behind start h = h
+level-found (Leveled l level) rest behind start h = here (nat_eq l.span.start start)
   where
-    here : (b : Bool) → or_constant (level-found None rest start) ≡ level_of rest start → or_constant (level-found (cond b (Some level) None) rest start) ≡ cond b level (level_of rest start)
-    here true h = ap or_constant (known-stays level rest start)
-    here false h = h
+    here : (b : Bool) → or_constant (cond b (Some level) behind) ≡ cond b level (level_of rest start)
+    here true = refl
+    here false = h
 
-pub found-more : (so_far : Option Level) (found : List LevelFinding) (finding : LevelFinding) (start : ℕ) → level-found so_far (found ++ finding ∷ []) start ≡ level_there (level-found so_far found start) finding start
-found-more so_far [] finding start = refl
-found-more so_far (first ∷ found) finding start = found-more (level_there so_far first start) found finding start
+pub uses_before : (behind levels : ℕ → Option Level) (found : List code.the_data) (k : ℕ) (d : code.the_data) → k < length found → ((start : ℕ) → or_constant (behind start) ≡ level_of (findings_of (drop (k + 1) found)) start)
+    → ((start : ℕ) → levels start ≡ level_before (finding_of (get_or found k d)) (behind start) start) → (start : ℕ) → or_constant (levels start) ≡ level_of (findings_of (drop k found)) start
+uses_before behind levels found k d within h e start =
+    ap or_constant (e start) ∙ level-found (finding_of (get_or found k d)) (findings_of (drop (k + 1) found)) (behind start) start (h start)
+    ∙ ap (λ fs. level_of (findings_of fs) start) (sym (rest-at found k d within))
 
 -- one finding more
 findings-more : (found : List code.the_data) (k : ℕ) (d : code.the_data) → k < length found → findings_of (take (k + 1) found) ≡ findings_of (take k found) ++ finding_of (get_or found k d) ∷ []
 findings-more found k d l = ap findings_of (take_more found k d l) ∙ map-append finding_of (take k found) (get_or found k d ∷ [])
-
-pub uses_more : (levels next : ℕ → Option Level) (found : List code.the_data) (k : ℕ) (d : code.the_data) → k < length found → ((start : ℕ) → levels start ≡ level-found None (findings_of (take k found)) start)
-    → ((start : ℕ) → next start ≡ level_there (levels start) (finding_of (get_or found k d)) start) → (start : ℕ) → next start ≡ level-found None (findings_of (take (k + 1) found)) start
-uses_more levels next found k d l h e start =
-    e start ∙ ap (λ o. level_there o (finding_of (get_or found k d)) start) (h start)
-    ∙ sym (found-more None (findings_of (take k found)) (finding_of (get_or found k d)) start)
-    ∙ ap (λ fs. level-found None fs start) (sym (findings-more found k d l))
 
 -- ---- faults
 

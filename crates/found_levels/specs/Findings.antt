@@ -31,8 +31,7 @@ abbrev pub or_constant : Option Level → Level
 or_constant None = Level.Constant
 or_constant (Some level) = level
 
--- the level of the use that begins here: that which was found before, or else that of one use more
-abbrev pub level_there : Option Level → LevelFinding → ℕ → Option Level
-level_there (Some level) finding start = Some level
-level_there None (Leveled l level) start = if nat_eq l.span.start start then Some level else None
-level_there None finding start = None
+-- the level of the use that begins here: that of a finding, or else what is found behind it
+abbrev pub level_before : LevelFinding → Option Level → ℕ → Option Level
+level_before (Leveled l level) behind start = if nat_eq l.span.start start then Some level else behind
+level_before finding behind start = behind

@@ -3,7 +3,7 @@ ghost use Rattle.std.specs.Prelude.{◌≡◌, ◌++◌, ℕ, IfOk, OnOk, nat_eq
 ghost use Rattle.indexmap.specs.IndexMap.{get};
 ghost use Rattle.module_kinds.specs.ModuleKinds.{depth_faults as deep_faults, level_fault, level_faults as high_faults};
 ghost use Rattle.module_kinds.specs.ModuleKinds.{level_of};
-ghost use Rattle.found_levels.specs.Findings.{finding_of, findings_of, level_there, or_constant};
+ghost use Rattle.found_levels.specs.Findings.{finding_of, findings_of, level_before, or_constant};
 
 use crate::findings::LevelFinding;
 use indexmap::IndexMap;
@@ -68,23 +68,22 @@ pub fn levels_of_uses(alloc: Global, found: &[LevelFinding]) -> Result<IndexMap<
     ensures { IfOk result (λ levels. (start : ℕ)
         → or_constant (get nat_eq levels start) ≡ level_of (findings_of found.now) start) }
 {
-    let mut levels = IndexMap::new(alloc);
-    for finding in found {
-        put_level(&mut levels, *finding)?;
+    let mut levels = IndexMap::with_capacity(alloc, found.len())?;
+    let mut index = found.len();
+    while index > 0 {
+        index -= 1;
+        put_level(&mut levels, found[index])?;
     }
     Ok(levels)
 }
 
-// Keeps the level of a use, unless there is one where it begins.
+// Keeps the level of a use, in the place of one behind it that begins where it does.
 fn put_level(levels: &mut IndexMap<u32, Level>, finding: LevelFinding) -> Result<(), Memory>
     ensures { OnOk result ((start : ℕ) → get nat_eq levels.new start
-        ≡ level_there (get nat_eq levels.old start) (finding_of finding) start) }
+        ≡ level_before (finding_of finding) (get nat_eq levels.old start) start) }
 {
     if let LevelFinding::Leveled { name, level } = finding {
-        let start = name.span.start;
-        if levels.get(&start).is_none() {
-            levels.insert(start, level)?;
-        }
+        levels.insert(name.span.start, level)?;
     }
     Ok(())
 }

@@ -1,15 +1,17 @@
-use Rattle.std.proofs.Common.{None, ap, ◌∙◌}
+use Rattle.std.proofs.Common.{◌≡◌, ℕ, ◌+◌, ◌-◌, arith, drop, subst}
 use Rattle.std.specs.Prelude.{nat_eq}
-use Rattle.std.proofs.lemmas.List.{take_all}
 use Rattle.indexmap.specs.IndexMap.{get}
+use Rattle.module_kinds.specs.ModuleKinds.{level_of}
 use Rattle.found_levels.specs.Findings.{findings_of, or_constant}
-use Rattle.found_levels.proofs.Using.{found-is, level-found, uses_more}
+use Rattle.found_levels.proofs.Using.{uses_before}
 use Rattle.found_levels.proofs.faults.levels_of_uses.Goals as goal
 
-pub loop-finding-preserved : goal.loop-finding-preserved
-loop-finding-preserved c = uses_more (get nat_eq c.loop-finding.levels) (get nat_eq c.put_level.new.levels) c.args.found.now c.loop-finding.finding-index _ c.loop-finding-test.true c.loop-finding.invariant c.in_ok-put_level.ensures
-
-pub returns : goal.returns
-returns c = λ start.
-    ap or_constant (c.loop-finding.invariant start ∙ ap (λ fs. level-found None (findings_of fs) start) (take_all c.loop-finding.finding-index c.args.found.now c.loop-finding-test.false))
-    ∙ found-is (findings_of c.args.found.now) start
+pub loop-index-preserved : goal.loop-index-preserved
+loop-index-preserved c =
+    let next : c.loop-index.index ≡ (c.loop-index.index - 1) + 1 = omega arith in
+    record {
+      within = omega arith;
+      behind = uses_before (get nat_eq c.loop-index.levels) (get nat_eq c.put_level.new.levels) c.args.found.now (c.loop-index.index - 1) _ (omega arith)
+          (subst (λ (n : ℕ). (start : ℕ) → or_constant (get nat_eq c.loop-index.levels start) ≡ level_of (findings_of (drop n c.args.found.now)) start) next c.loop-index.invariant.behind)
+          c.in_ok-put_level.ensures;
+    }
