@@ -17,7 +17,7 @@ use Rattle.tla_model.specs.Tables.{Named}
 use Rattle.tla_model.specs.Entities.{Meaning, Text, declaration, same_decl, variables}
 use Rattle.tla_model.specs.Scopes.{definition}
 use Rattle.tla_model.specs.Lexemes.{spelled}
-use Rattle.tla_model.proofs.Same.{decl-equal}
+use Rattle.tla_model.specs.Same.{decl-equal}
 use Rattle.module_model.specs.Exports.{Behind, Exports, Known, ModuleView, and_known, at_path, behind_meaning, entries_from, entry_of, exported, exports_of, is_instance, known_among, known_as, known_by, none_known, onward}
 use Rattle.module_model.specs.Given.{AreReached}
 use Rattle.module_model.specs.Instances.{all_named_instances, nested_view, through, unit_trees}

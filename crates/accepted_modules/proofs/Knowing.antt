@@ -18,7 +18,7 @@ use Rattle.tla_model.specs.declared.names.Meaning.TheVariants.{BuiltIn, Declared
 use Rattle.tla_model.specs.Tables.{Named}
 use Rattle.tla_model.specs.Entities.{Meaning, Text, declaration, declared_by, declaring, place_in, same_decl}
 use Rattle.tla_model.specs.Lexemes.{spelled}
-use Rattle.tla_model.proofs.Same.{decl-equal, decl-itself}
+use Rattle.tla_model.specs.Same.{decl-equal, decl-itself}
 use Rattle.module_model.specs.Exports.{Behind, Exports, Known, ModuleView, and_known, behind_instance, exported, is_instance, known_among, known_as, known_by, none_known, onward}
 use Rattle.module_model.specs.Instances.{all_named_instances, instance_among, named_instance, named_instances, through, unit_trees}
 use Rattle.module_model.specs.Modules.{text_of}

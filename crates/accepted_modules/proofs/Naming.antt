@@ -6,7 +6,7 @@ use Rattle.tla_model.specs.declared.ids.Callee.{Callee}
 use Rattle.tla_model.specs.declared.names.Meaning.TheVariants.{Declared}
 use Rattle.tla_model.specs.Tables.{Named}
 use Rattle.tla_model.specs.Entities.{Entity, Meaning, same_decl, same_meaning, same_units}
-use Rattle.tla_model.proofs.Same.{decl-equal}
+use Rattle.tla_model.specs.Same.{decl-equal}
 use Rattle.module_model.specs.Exports.{Exports}
 use Rattle.tree_kinds.specs.Standing.{name_among, same_standing}
 use Rattle.tree_kinds.proofs.Standings.{standing-itself, standing-means}

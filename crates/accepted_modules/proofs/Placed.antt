@@ -13,7 +13,7 @@ use Rattle.tla_model.specs.Tables.{Named}
 use Rattle.tla_model.specs.Entities.{Entity, Meaning, Text, same_meaning}
 use Rattle.tla_model.specs.Contexts.{built_in, meaning_of}
 use Rattle.tla_model.specs.Lexemes.{spelled}
-use Rattle.tla_model.proofs.Same.{meaning-itself}
+use Rattle.tla_model.specs.Same.{meaning-itself}
 use Rattle.module_scope.specs.Environments.{Environment, first as first_scope}
 use Rattle.module_model.specs.Exports.{Exports, ModuleView, exported, exports_by, instantiable, is_meant, stands_behind, stands_for_parameter}
 use Rattle.module_model.specs.Modules.{text_of, unread}

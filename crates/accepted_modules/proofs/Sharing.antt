@@ -16,7 +16,7 @@ use Rattle.tla_model.specs.Entities.{Entity, Meaning, Text, same_decl, same_mean
 use Rattle.tla_model.specs.Contexts.{Context, meaning_of, usable}
 use Rattle.tla_model.specs.Lexemes.{spelled}
 use Rattle.tla_model.specs.Scopes.{Finding}
-use Rattle.tla_model.proofs.Same.{decl-equal, decl-itself, meaning-itself, units-equal, units-itself}
+use Rattle.tla_model.specs.Same.{decl-equal, decl-itself, meaning-itself, units-equal, units-itself}
 use Rattle.module_scope.specs.Environments.{Environment, first as first_scope, meaning}
 use Rattle.module_model.specs.Bindings.{faults}
 use Rattle.module_model.specs.Exports.{Exports, ModuleView, entry_of, exported, exports_by, is_meant, parameters_in, stands_for_parameter}

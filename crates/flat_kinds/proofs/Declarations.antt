@@ -18,7 +18,7 @@ use Rattle.tla_model.specs.EntityKinds.{is_meant, stands_behind}
 use Rattle.tla_model.specs.Lexemes.{spelled}
 use Rattle.tla_model.specs.Scopes.{definition}
 use Rattle.tla_model.specs.Tables.{Table, Named, Word, Symbol, added, has, lookup, put, same_symbol}
-use Rattle.tla_model.proofs.Same.{decl-equal}
+use Rattle.tla_model.specs.Same.{decl-equal}
 use Rattle.module_scope.specs.Environments.{Environment, Scope, begun, ended, meaning as module_meaning, first as first_scope}
 use Rattle.module_model.specs.Exports.{Exports, Known, ModuleView, exported, exports_by, exports_of, instantiable, of_symbols, of_words}
 use Rattle.module_model.specs.Instances.{brought_by, brought_entries, nested_view, through}

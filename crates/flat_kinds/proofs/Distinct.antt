@@ -15,7 +15,7 @@ use Rattle.tla_model.specs.Contexts.{Context}
 use Rattle.tla_model.specs.Entities.{Entity, Meaning, Text, same_decl, same_meaning, same_units}
 use Rattle.tla_model.specs.EntityKinds.{is_meant, stands_behind, stands_for_parameter}
 use Rattle.tla_model.specs.Tables.{Table, Named, Word, Symbol, has, same_symbol}
-use Rattle.tla_model.proofs.Same.{decl-equal}
+use Rattle.tla_model.specs.Same.{decl-equal}
 use Rattle.module_model.specs.Exports.{Exports, exports_of, of_symbols, of_words, parameters_in}
 use Rattle.module_model.specs.Instances.{own_parameters}
 use Rattle.module_model.specs.Modules.{Reading, text_of}

@@ -9,7 +9,7 @@ use Rattle.tla_model.specs.Entities.{Meaning, Text, same_decl, same_meaning, sam
 use Rattle.tla_model.specs.EntityKinds.{is_meant, stands_behind}
 use Rattle.tla_model.specs.Lexemes.{spelled}
 use Rattle.tla_model.specs.Tables.{Named, same_named}
-use Rattle.tla_model.proofs.Same.{decl-equal, units-equal}
+use Rattle.tla_model.specs.Same.{decl-equal, units-equal}
 use Rattle.module_scope.specs.Environments.{Environment as Modules, Scope, begun, ended, first as first_scope, meaning as module_meaning}
 use Rattle.module_model.specs.Exports.{Exports, entry_of, exported, exports_of, instantiable}
 use Rattle.module_model.specs.Modules.{Reading, text_of}

@@ -14,7 +14,8 @@ use Rattle.tla_model.specs.Entities.{Binding, Entity, Meaning, Text, all_placed,
 use Rattle.tla_model.specs.Scopes.{all_grouped, binders, names_in}
 use Rattle.tree_kinds.specs.Expanding.{Part, Outer, Helper, Whole, part_of, stands_outside}
 use Rattle.tree_kinds.specs.Standing.{same_standing}
-use Rattle.tree_kinds.proofs.Standings.{same-alike, standing-unlike}
+use Rattle.tla_model.specs.Same.{same-alike}
+use Rattle.tree_kinds.proofs.Standings.{standing-unlike}
 use Rattle.flat_depths.proofs.Joining.{no-group, no-name}
 use Rattle.flattened_trees.specs.Agreeing.{AreNew, is_seen}
 

@@ -14,7 +14,7 @@ use Rattle.tla_model.specs.Entities.{Meaning, Text, all_placed, binding_of, boun
 use Rattle.tla_model.specs.Contexts.{Context, bind, bind_all, meaning_of, reserve_all}
 use Rattle.tla_model.specs.Contexts as contexts
 use Rattle.tla_model.specs.Scopes.{all_grouped, behind, binders, inside, reserved, scope}
-use Rattle.tla_model.proofs.Same.{meaning-itself}
+use Rattle.tla_model.specs.Same.{meaning-itself}
 use Rattle.module_model.specs.Exports.{Behind, Known, behind_meaning}
 use Rattle.model_laws.proofs.Settling.{put-gives}
 use Rattle.kind_text.specs.FlatModule.{FlatModule}

@@ -12,10 +12,10 @@ use Rattle.tla_model.specs.declared.ids.Callee.{Callee}
 use Rattle.tla_model.specs.declared.names.Meaning.TheVariants.{BuiltIn, Declared}
 use Rattle.tla_model.specs.Entities.{Binding, Entity, Meaning, Text, all_placed, bound_as, declared_among, declared_in, declared_round, defined, entity_of, follows_first, is_group, binding_in, binding_of, meant, own, placed, same_meaning, within}
 use Rattle.tla_model.specs.Scopes.{all_grouped, binders, names_in}
-use Rattle.tla_model.proofs.Same.{meaning-itself}
+use Rattle.tla_model.specs.Same.{meaning-itself, same-alike}
 use Rattle.tree_kinds.specs.Expanding.{Outer, Helper, Whole, Part, part_of}
 use Rattle.tree_kinds.specs.Standing.{same_standing}
-use Rattle.tree_kinds.proofs.Standings.{same-alike, standing-unlike}
+use Rattle.tree_kinds.proofs.Standings.{standing-unlike}
 use Rattle.flattened_trees.specs.Agreeing.{AreNew, is_seen}
 
 -- ---- marks

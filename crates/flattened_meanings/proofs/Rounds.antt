@@ -15,7 +15,7 @@ use Rattle.tla_model.specs.Tables.{Named, find, put}
 use Rattle.tla_model.specs.Entities.{Binding, Meaning, Text, binding_of, bound_as, defined, entity_of, is_group, meant, name_of, own, same_meaning, all_placed}
 use Rattle.tla_model.specs.Contexts.{Context, bind, bind_all, meaning_of, reserve_all, usable}
 use Rattle.tla_model.specs.Scopes.{all_grouped, binders, inside}
-use Rattle.tla_model.proofs.Same.{meaning-itself}
+use Rattle.tla_model.specs.Same.{meaning-itself}
 use Rattle.model_laws.proofs.Settling.{put-gives}
 use Rattle.module_model.specs.Exports.{Known, behind_meaning}
 use Rattle.kind_text.specs.FlatModule.{FlatModule}

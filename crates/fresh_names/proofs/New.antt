@@ -13,7 +13,7 @@ use Rattle.tla_model.specs.declared.ids.DeclId.{DeclId}
 use Rattle.tla_model.specs.declared.names.Binder.{Binder}
 use Rattle.tla_model.specs.declared.names.Meaning.TheVariants.{BuiltIn, Declared}
 use Rattle.tla_model.specs.Entities.{Meaning, Text, declaration, meant, place_in, same_decl, same_meaning, same_units}
-use Rattle.tla_model.proofs.Same.{decl-equal}
+use Rattle.tla_model.specs.Same.{decl-equal}
 use Rattle.lexeme_laws.specs.Apart.{begins_at, counted, weight}
 use Rattle.flattened_trees.specs.Agreeing.{AreNew, is_seen}
 use Rattle.fresh_names.specs.Seen.{IsDeclaredBy, IsElsewhere}

@@ -22,7 +22,7 @@ use Rattle.tla_model.specs.Lexemes.{all_lexemes, lexemes, module_lexemes, unit_l
 use Rattle.tla_model.specs.ModuleNames.{instance_names, instances_from}
 use Rattle.tla_model.specs.Scopes.{definition}
 use Rattle.tla_model.specs.Tables.{Named}
-use Rattle.tla_model.proofs.Same.{decl-equal, units-equal}
+use Rattle.tla_model.specs.Same.{decl-equal, units-equal}
 use Rattle.module_model.specs.Exports.{Exports, exported, instantiable}
 use Rattle.module_model.specs.Instances.{brought_entries, through}
 use Rattle.module_model.specs.Modules.{text_of}

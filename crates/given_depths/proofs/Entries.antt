@@ -6,7 +6,7 @@ use Rattle.tla_model.specs.declared.names.Meaning.TheVariants.{BuiltIn, Declared
 use Rattle.tla_model.specs.Entities.{Meaning, same_decl, same_meaning, same_units}
 use Rattle.tla_model.specs.EntityKinds.{is_meant, stands_behind}
 use Rattle.tla_model.specs.Tables.{Named, same_named}
-use Rattle.tla_model.proofs.Same.{decl-equal, units-equal}
+use Rattle.tla_model.specs.Same.{decl-equal, units-equal}
 use Rattle.module_model.specs.Exports.{Exports, entry_of, instantiable}
 use Rattle.tree_kinds.specs.Standing.{is_bound, name_among, same_standing}
 use Rattle.tree_kinds.proofs.Standings.{standing-bound, standing-means}

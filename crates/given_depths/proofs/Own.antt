@@ -11,7 +11,7 @@ use Rattle.tla_model.specs.Entities.{Entity, Meaning, Text, meant}
 use Rattle.tla_model.specs.Lexemes.{spelled}
 use Rattle.tla_model.specs.Scopes.{definition}
 use Rattle.tla_model.specs.Tables.{Named}
-use Rattle.tla_model.proofs.Same.{meaning-itself}
+use Rattle.tla_model.specs.Same.{meaning-itself}
 use Rattle.module_model.specs.Exports.{Exports, exported, instantiable}
 use Rattle.module_model.specs.Modules.{text_of}
 use Rattle.module_model.specs.NamedModules.{view_of}

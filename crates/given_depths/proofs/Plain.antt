@@ -10,14 +10,14 @@ use Rattle.tla_model.specs.Entities.{Entity, Meaning, Text, same_decl, same_mean
 use Rattle.tla_model.specs.EntityKinds.{is_meant, stands_behind}
 use Rattle.tla_model.specs.Lexemes.{spelled}
 use Rattle.tla_model.specs.Tables.{Named}
-use Rattle.tla_model.proofs.Same.{decl-equal}
+use Rattle.tla_model.specs.Same.{decl-equal, same-turned}
 use Rattle.module_scope.specs.Environments.{Scope, first as first_scope}
 use Rattle.module_model.specs.Exports.{Exports, exported, instantiable}
 use Rattle.module_model.specs.Modules.{text_of}
 use Rattle.module_model.specs.Resolution.{words_of}
 use Rattle.tree_kinds.specs.Standing.{Outside, name_among, same_standing}
 use Rattle.tree_kinds.specs.TreeDepths.{Depths, coming_depth, no_depths, with_entry_depths}
-use Rattle.tree_kinds.proofs.Standings.{same-turned, standing-means}
+use Rattle.tree_kinds.proofs.Standings.{standing-means}
 use Rattle.module_kinds.specs.ModuleKinds.{KindState, after, depths_behind, extended_depths, first, module_under, named_in, read_all}
 use Rattle.flat_kinds.specs.Declarations.{AreDeclared, AreNamesDeclared, AreUnitsDeclared, Declarations, IsDeclared, IsNoDefinition, IsOutsideDeclared, IsStateDeclared, KeepsDeclarations, declared_names}
 use Rattle.flat_kinds.specs.Readings.{BringNone, Leaves, extended_entries}

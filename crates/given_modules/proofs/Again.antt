@@ -26,7 +26,8 @@ use Rattle.kind_text.specs.FlatModule.{FlatModule}
 use Rattle.kind_text.specs.Substitution.{Item}
 use Rattle.tree_kinds.specs.Expanding.{unguarded}
 use Rattle.tree_kinds.specs.Standing.{Environment, Outside, Steps, coming, is_bound, name_among, same_standing, with_entries}
-use Rattle.tree_kinds.proofs.Standings.{same-turned, standing-bound, standing-from, standing-itself, standing-means, standing-unlike}
+use Rattle.tla_model.specs.Same.{same-turned}
+use Rattle.tree_kinds.proofs.Standings.{standing-bound, standing-from, standing-itself, standing-means, standing-unlike}
 use Rattle.module_kinds.specs.ModuleKinds.{KindState, after, around, extended, first, known_at, module_under, named, named_in, outside, standing_behind, views}
 use Rattle.flat_kinds.specs.Declarations.{AreNamesDeclared, AreUnitsDeclared, Declarations, IsDeclared, IsNoDefinition, IsSymbol, OfAllKnown, OfKnown, declared_names}
 use Rattle.flat_trees.specs.Instances.{symbols_of}

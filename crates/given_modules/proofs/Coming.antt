@@ -13,7 +13,7 @@ use Rattle.tla_model.specs.Contexts.{Context, meaning_of, usable}
 use Rattle.tla_model.specs.Entities.{Meaning, Text, declaration, meant, name_of, same_decl, same_meaning, same_units, variables}
 use Rattle.tla_model.specs.Scopes.{definition}
 use Rattle.tla_model.specs.Tables.{Named, Word, find, has}
-use Rattle.tla_model.proofs.Same.{decl-equal, units-equal}
+use Rattle.tla_model.specs.Same.{decl-equal, units-equal}
 use Rattle.module_model.specs.Exports.{exports_of, is_meant, stands_behind}
 use Rattle.module_model.specs.Instances.{own_parameters}
 use Rattle.module_model.specs.Modules.{Reading, constants, declare_all, joined, left, with_entry}

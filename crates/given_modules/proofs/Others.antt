@@ -9,7 +9,7 @@ use Rattle.tla_model.specs.declared.names.Meaning.TheVariants.{BuiltIn, Declared
 use Rattle.tla_model.specs.Entities.{Entity, Meaning, same_decl, same_meaning, same_units}
 use Rattle.tla_model.specs.EntityKinds.{is_meant, stands_behind}
 use Rattle.tla_model.specs.Tables.{Named}
-use Rattle.tla_model.proofs.Same.{callee-equal}
+use Rattle.tla_model.specs.Same.{callee-equal}
 use Rattle.module_model.specs.Exports.{Exports, ModuleView, exported, instantiable}
 use Rattle.module_model.specs.Instances.{through}
 use Rattle.tree_kinds.specs.Standing.{name_among, same_standing}

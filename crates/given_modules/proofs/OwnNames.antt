@@ -14,7 +14,8 @@ use Rattle.module_model.specs.Exports.{Exports}
 use Rattle.module_model.specs.Modules.{text_of}
 use Rattle.module_model.specs.Resolution.{instance_brings, words_of}
 use Rattle.tree_kinds.specs.Standing.{Outside, is_bound, name_among, same_standing}
-use Rattle.tree_kinds.proofs.Standings.{same-alike, standing-from, standing-means}
+use Rattle.tla_model.specs.Same.{same-alike}
+use Rattle.tree_kinds.proofs.Standings.{standing-from, standing-means}
 use Rattle.module_kinds.specs.ModuleKinds.{KindState, after, first, views}
 use Rattle.flat_kinds.specs.Declarations.{AreNamesDeclared, AreUnitsDeclared, Declarations, IsDeclared, IsNoDefinition, IsOutsideDeclared}
 use Rattle.flat_kinds.specs.Readings.{is_among}

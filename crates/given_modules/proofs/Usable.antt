@@ -14,7 +14,7 @@ use Rattle.tla_model.specs.Entities.{Entity, Meaning, Text, meant, name_of, same
 use Rattle.tla_model.specs.Lexemes.{spelled}
 use Rattle.tla_model.specs.Scopes.{definition}
 use Rattle.tla_model.specs.Tables.{Named, Symbol, Word, empty, find, has, put}
-use Rattle.tla_model.proofs.Same.{decl-equal, units-equal}
+use Rattle.tla_model.specs.Same.{decl-equal, units-equal}
 use Rattle.module_scope.specs.Environments.{Environment, meaning}
 use Rattle.module_model.specs.Exports.{Exports, Known, ModuleView, entry_of, exported, exports_by, exports_of}
 use Rattle.module_model.specs.Instances.{through}

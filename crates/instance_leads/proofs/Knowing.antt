@@ -6,7 +6,7 @@ use Rattle.tla_model.specs.declared.ids.DeclId.{DeclId}
 use Rattle.tla_model.specs.Entities.{same_decl}
 use Rattle.tla_model.specs.Tables.{added, lookup}
 use Rattle.tla_model.proofs.Stretching.{found-first, found-next}
-use Rattle.tla_model.proofs.Same.{decl-equal, decl-itself}
+use Rattle.tla_model.specs.Same.{decl-equal, decl-itself}
 use Rattle.module_model.specs.Exports.{Known, and_known, known_as, none_known}
 use Rattle.module_model.proofs.PartTables.{first-assoc, first-none}
 use Rattle.tree_tasks.specs.declared.held.Held.{Held}

@@ -13,7 +13,7 @@ use Rattle.indexmap.proofs.CallerLemmas.{insert_entry-new}
 use Rattle.tla_model.specs.declared.ids.DeclId.{DeclId}
 use Rattle.tla_model.specs.Entities.{same_decl}
 use Rattle.tla_model.specs.Tables.{added, lookup}
-use Rattle.tla_model.proofs.Same.{decl-equal}
+use Rattle.tla_model.specs.Same.{decl-equal}
 use Rattle.tree_tasks.specs.declared.held.Held.{Held}
 use Rattle.name_context.proofs.Words.{added-new, added-there}
 use Rattle.instance_leads.specs.Keys.{decl_of, joined_leads, leads_of}

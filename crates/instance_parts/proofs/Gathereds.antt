@@ -10,7 +10,7 @@ use Rattle.tla_model.specs.declared.names.Meaning.TheVariants.{Declared}
 use Rattle.tla_model.specs.Entities.{Entity, Meaning, same_decl}
 use Rattle.tla_model.specs.EntityKinds.{is_instance, is_meant, words_meant}
 use Rattle.tla_model.specs.Tables.{Named, Symbol, Table, Word, lookup, same_named}
-use Rattle.tla_model.proofs.Same.{decl-equal}
+use Rattle.tla_model.specs.Same.{decl-equal}
 use Rattle.module_model.specs.Exports.{Exports, entry_of, exports_of, of_symbols, of_words}
 use Rattle.module_model.specs.Given.{AreReached}
 use Rattle.tree_tasks.specs.declared.held.Held.{Held}

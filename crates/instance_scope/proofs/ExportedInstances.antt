@@ -8,7 +8,7 @@ use Rattle.tla_model.specs.declared.names.Meaning.TheVariants.{BuiltIn, Declared
 use Rattle.tla_model.specs.Entities.{Meaning, same_decl}
 use Rattle.tla_model.specs.EntityKinds.{is_instance}
 use Rattle.tla_model.specs.Tables.{lookup}
-use Rattle.tla_model.proofs.Same.{decl-equal}
+use Rattle.tla_model.specs.Same.{decl-equal}
 use Rattle.module_model.specs.declared.face.Face.{Face}
 use Rattle.module_model.specs.Exports.{Behind, Exports, Known, ModuleView, and_known, exports_of, face_instances, known_among, known_as, known_by, none_known, onward, standing}
 use Rattle.module_model.specs.Given.{imported}

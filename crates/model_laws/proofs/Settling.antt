@@ -18,7 +18,7 @@ use Rattle.tla_model.specs.EntityKinds.{is_instance}
 use Rattle.tla_model.specs.Lexemes.{spelled}
 use Rattle.tla_model.specs.Scopes.{definition}
 use Rattle.tla_model.specs.Tables.{Table, Named, Word, Symbol, added, empty, find, has, lookup, put, same_symbol}
-use Rattle.tla_model.proofs.Same.{decl-itself}
+use Rattle.tla_model.specs.Same.{decl-itself}
 use Rattle.module_scope.specs.Environments.{Environment, meaning}
 use Rattle.module_model.specs.Exports.{Behind, Exports, Known, ModuleView, and_known, exported, exports_by, exports_of, instantiable, is_meant, known_among, known_as, known_by, none_known, onward, stands_behind}
 use Rattle.module_model.specs.Given.{AreReached}

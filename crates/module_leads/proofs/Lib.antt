@@ -1,4 +1,3 @@
-mod Feeding
 mod Following
 mod Keyed
 mod Leaded

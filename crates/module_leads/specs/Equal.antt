@@ -6,25 +6,15 @@ use Rattle.std.proofs.lemmas.Bool.{and_from, and_parts, eq-eqb}
 use Rattle.std.proofs.lemmas.Bool.Decides.{Decides-eqb}
 use Rattle.tla_model.specs.declared.ids.Callee.{Callee}
 use Rattle.tla_model.specs.declared.names.Meaning.TheVariants.{BuiltIn, Declared}
+use Rattle.tla_model.specs.Equal.{meaning-fed}
+use Rattle.tla_model.specs.Keys.{meaning_input}
 use Rattle.tla_model.specs.Entities.{Meaning, same_decl, same_meaning, same_units}
-use Rattle.tla_model.proofs.Same.{decl-equal, meaning-itself, units-equal}
+use Rattle.tla_model.specs.Same.{decl-equal, meaning-itself, same-alike, same-turned, units-equal}
 use Rattle.tree_kinds.specs.Standing.{same_standing}
-use Rattle.tree_kinds.proofs.Standings.{same-alike, same-turned, standing-alike, standing-itself, standing-means, standing-turned}
+use Rattle.tree_kinds.proofs.Standings.{standing-alike, standing-itself, standing-means, standing-turned}
 use Rattle.module_leads.specs.declared.keys.MeaningKey.{MeaningKey}
 use Rattle.module_leads.specs.declared.keys.SymbolKey.{SymbolKey}
-use Rattle.module_leads.specs.Keys.{meaning_input, same_arity, same_key}
-
--- callees that are the same have one declaration, and came through the same units
-callees-equal : (a b : Callee) → (same_decl a.decl b.decl && same_units a.via b.via) ≡ true → (a.decl ≡ b.decl) × (a.via ≡ b.via)
-callees-equal a b same =
-    let parts = and_parts (same_decl a.decl b.decl) (same_units a.via b.via) same in (decl-equal a.decl b.decl parts.0, units-equal a.via b.via parts.1)
-
-pub meaning-fed : (x y : Meaning) → same_meaning x y ≡ true → meaning_input x ≡ meaning_input y
-meaning-fed BuiltIn BuiltIn same = refl
-meaning-fed BuiltIn (Declared f b) same = absurd (true≢false (sym same))
-meaning-fed (Declared e a) BuiltIn same = absurd (true≢false (sym same))
-meaning-fed (Declared e a) (Declared f b) same =
-    let equal = callees-equal a b same in λ i. meaning_input (Declared f (record { instance = 0; decl = equal.0 i; via = equal.1 i }))
+use Rattle.module_leads.specs.Keys.{same_arity, same_key}
 
 -- ---- meanings that stand as the same
 

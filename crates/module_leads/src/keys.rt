@@ -1,54 +1,14 @@
 // What meanings are looked up by.
-ghost use Rattle.std.specs.Prelude.{◌≡◌, IfOk, fold};
+ghost use Rattle.std.specs.Prelude.{◌≡◌, IfOk};
 ghost use Rattle.std.specs.Cmp.{partial_equiv_from_equiv};
-ghost use Rattle.tla_model.specs.Entities as entities;
+ghost use Rattle.tla_model.specs.Keys.{meaning_input};
 ghost use Rattle.tree_kinds.specs.Standing as standing;
-ghost use Rattle.module_leads.specs.Keys.{callee_input, meaning_input, meant_arity, same_arity, same_key, same_unit, symbol_arity, symbol_key, units_input};
+ghost use Rattle.module_leads.specs.Keys.{meant_arity, same_arity, same_key, symbol_arity, symbol_key};
 ghost use Rattle.module_leads.specs.Equal.{key-equivalence, key-fed, meaning-equivalence, standing-fed};
 
 use std::hash::{Hash, Hasher};
-use tla_model::{Callee, DeclId, Entity, Meaning, UnitId};
+use tla_model::{Entity, Meaning};
 use tool_list::Memory;
-
-fn same_decl(left: &DeclId, right: &DeclId) -> bool
-    ensures { result ≡ entities.same_decl left.now right.now }
-{
-    left.module.as_str() == right.module.as_str() && left.place == right.place
-}
-
-fn same_unit(left: &UnitId, right: &UnitId) -> bool
-    ensures { result ≡ same_unit left.now right.now }
-{
-    left.module.as_str() == right.module.as_str() && left.place == right.place
-}
-
-fn same_units(left: &[UnitId], right: &[UnitId]) -> bool
-    ensures { result ≡ entities.same_units left.now right.now }
-{
-    if left.len() != right.len() {
-        return false;
-    }
-    for index in 0..left.len() {
-        if !same_unit(&left[index], &right[index]) {
-            return false;
-        }
-    }
-    true
-}
-
-// Whether meanings are the same.
-fn same_meaning(left: &Meaning, right: &Meaning) -> bool
-    ensures { result ≡ entities.same_meaning left.now right.now }
-{
-    match (left, right) {
-        (Meaning::BuiltIn, Meaning::BuiltIn) => true,
-        (Meaning::Declared { callee, .. }, Meaning::Declared { callee: other, .. }) => {
-            same_decl(&callee.decl, &other.decl)
-                && same_units(callee.via.as_slice(), other.via.as_slice())
-        }
-        _ => false,
-    }
-}
 
 // Whether it is a name that a quantifier, a function or a set binds.
 fn is_bound(meaning: &Meaning) -> bool
@@ -69,35 +29,7 @@ fn same_standing(left: &Meaning, right: &Meaning) -> bool
     ensures { result ≡ standing.same_standing left.now right.now }
 {
     let bound = is_bound(right);
-    same_meaning(left, right) && (if is_bound(left) { bound } else { !bound })
-}
-
-// Feeds units to a hasher, one after another.
-fn hash_units<H: Hasher>(units: &[UnitId], state: &mut H)
-    ensures { state.new ≡ fold H.write state.old (units_input units.now) }
-{
-    for unit in units {
-        unit.module.as_str().hash(state);
-        unit.place.hash(state);
-    }
-}
-
-// Feeds a callee to a hasher.
-fn hash_callee<H: Hasher>(callee: &Callee, state: &mut H)
-    ensures { state.new ≡ fold H.write state.old (callee_input callee.now) }
-{
-    callee.decl.module.as_str().hash(state);
-    callee.decl.place.hash(state);
-    hash_units(callee.via.as_slice(), state);
-}
-
-// Feeds a meaning to a hasher.
-fn hash_meaning<H: Hasher>(meaning: &Meaning, state: &mut H)
-    ensures { state.new ≡ fold H.write state.old (meaning_input meaning.now) }
-{
-    if let Meaning::Declared { callee, .. } = meaning {
-        hash_callee(callee, state);
-    }
+    left == right && (if is_bound(left) { bound } else { !bound })
 }
 
 /// A meaning as a key: those are equal for which the same stands.
@@ -132,7 +64,7 @@ impl Hash for MeaningKey {
     ghost respects_eq = { λ x y. standing-fed x.meaning y.meaning };
 
     fn hash<H: Hasher>(&self, state: &mut H) {
-        hash_meaning(&self.meaning, state);
+        self.meaning.hash(state);
     }
 }
 
@@ -181,7 +113,7 @@ impl PartialEq for SymbolKey {
     ghost laws = { partial_equiv_from_equiv key-equivalence };
 
     fn eq(&self, other: &SymbolKey) -> bool {
-        same_arity(self.arity, other.arity) && same_meaning(&self.meaning, &other.meaning)
+        same_arity(self.arity, other.arity) && self.meaning == other.meaning
     }
 }
 
@@ -195,7 +127,7 @@ impl Hash for SymbolKey {
     ghost respects_eq = { key-fed };
 
     fn hash<H: Hasher>(&self, state: &mut H) {
-        hash_meaning(&self.meaning, state);
+        self.meaning.hash(state);
     }
 }
 

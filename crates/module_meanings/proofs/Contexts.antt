@@ -8,7 +8,7 @@ use Rattle.tla_model.specs.Contexts.{Context, meaning_of, usable}
 use Rattle.tla_model.specs.Entities.{Meaning, Text, meant, name_of, same_meaning}
 use Rattle.tla_model.specs.EntityKinds.{is_instance}
 use Rattle.tla_model.specs.Tables.{Named, find, has, put}
-use Rattle.tla_model.proofs.Same.{meaning-itself}
+use Rattle.tla_model.specs.Same.{meaning-itself}
 use Rattle.model_laws.proofs.Settling.{put-gives}
 use Rattle.module_model.specs.Exports.{Behind, Exports, Known, and_known, at_path, behind_meaning}
 use Rattle.module_model.specs.Modules.{Reading, clashes, declare_all, joined, with_entry}

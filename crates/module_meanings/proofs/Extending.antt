@@ -24,7 +24,8 @@ use Rattle.flat_trees.specs.Stands.{Stand, Unsaid, Leaf, Place, Defined, Through
 use Rattle.flat_trees.specs.Layouts.{Layout, coming_stand, order_of, with_brought}
 use Rattle.flat_trees.specs.Instances.{StaysIn, symbols_of}
 use Rattle.flat_trees.proofs.Instances.{parameter-stays}
-use Rattle.tree_kinds.proofs.Standings.{same-alike, standing-unlike}
+use Rattle.tla_model.specs.Same.{same-alike}
+use Rattle.tree_kinds.proofs.Standings.{standing-unlike}
 use Rattle.flat_kinds.specs.Readings.{Extension, IsExtension, extended_entries}
 use Rattle.flat_kinds.specs.Symbols.{same_declared, same_symbol, symbols_at}
 use Rattle.flattened_trees.specs.Agreeing.{TakesAs, TakesBehind, is_seen, unsaid_stand}

@@ -1,5 +1,4 @@
 pub mod Bringing
-mod Exporting
 mod Firsts
 mod Keeping
 mod Over

@@ -9,7 +9,7 @@ use Rattle.module_model.specs.Exports.{of_words}
 use Rattle.module_model.specs.Modules.{Reading, brings_clash, clashes, differs, extended, with_entry}
 use Rattle.tla_model.specs.Tables.{AreNew, Named, Word, lookup}
 use Rattle.tla_model.proofs.Stretching.{found-next, new-first, new-next, none-among, none-next}
-use Rattle.tla_model.proofs.Same.{meaning-itself}
+use Rattle.tla_model.specs.Same.{meaning-itself}
 use Rattle.list_laws.proofs.Texts.{text-itself}
 use Rattle.name_exports.specs.declared.names.Names.{Names}
 use Rattle.name_context.specs.AsTables.{AreApart, behind, context_of, first_words, usable_words}

@@ -13,10 +13,6 @@ use Rattle.module_model.specs.Instances.{through}
 use Rattle.name_exports.specs.declared.names.Names.{Names}
 use Rattle.name_context.specs.AsTables.{AreApart, behind, context_of, first_words, usable_words}
 
--- both are the same INSTANCE in the same module's text
-abbrev pub same_unit : UnitId → UnitId → Bool
-same_unit a b = bytes_eq a.«module» b.«module» && nat_eq a.place b.place
-
 -- what a table exports, if there is one
 abbrev pub shown_by : Option (Bor (Table Meaning)) → Exports
 shown_by None = []

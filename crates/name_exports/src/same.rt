@@ -1,52 +1,10 @@
 // Whether names mean the same.
 ghost use Rattle.std.specs.Prelude.{◌≡◌, IsTrue, option_map};
 ghost use Rattle.std.specs.Option.{option_copied};
-ghost use Rattle.tla_model.specs.Entities as entities;
 ghost use Rattle.module_model.specs.Modules as in_modules;
 ghost use Rattle.tla_model.specs.Stretches.{shown};
-ghost use Rattle.name_exports.specs.Brought as in_brought;
 
-use tla_model::{Callee, DeclId, Entity, Meaning, UnitId};
-
-fn same_decl(left: &DeclId, right: &DeclId) -> bool
-    ensures { result ≡ entities.same_decl left.now right.now }
-{
-    left.module.as_str() == right.module.as_str() && left.place == right.place
-}
-
-fn same_unit(left: &UnitId, right: &UnitId) -> bool
-    ensures { result ≡ in_brought.same_unit left.now right.now }
-{
-    left.module.as_str() == right.module.as_str() && left.place == right.place
-}
-
-fn same_units(left: &[UnitId], right: &[UnitId]) -> bool
-    ensures { result ≡ entities.same_units left.now right.now }
-{
-    if left.len() != right.len() {
-        return false;
-    }
-    for index in 0..left.len() {
-        if !same_unit(&left[index], &right[index]) {
-            return false;
-        }
-    }
-    true
-}
-
-// Whether meanings are the same.
-fn same_meaning(left: &Meaning, right: &Meaning) -> bool
-    ensures { result ≡ entities.same_meaning left.now right.now }
-{
-    match (left, right) {
-        (Meaning::BuiltIn, Meaning::BuiltIn) => true,
-        (Meaning::Declared { callee, .. }, Meaning::Declared { callee: other, .. }) => {
-            same_decl(&callee.decl, &other.decl)
-                && same_units(callee.via.as_slice(), other.via.as_slice())
-        }
-        _ => false,
-    }
-}
+use tla_model::{Callee, Entity, Meaning, same_decl, same_units};
 
 // Whether callees are equal.
 fn equal_callees(left: &Callee, right: &Callee) -> bool
@@ -92,11 +50,12 @@ fn equal_meanings(left: &Meaning, right: &Meaning) -> bool
     }
 }
 
-/// Whether words are equal, and what they mean.
+/// Whether words are equal, and what they mean. Words are short, so that to compare their bytes one by one is
+/// the least work.
 pub fn equal_entries(left: (&str, &Meaning), right: (&str, &Meaning)) -> bool
     ensures { IsTrue result → shown left.entry ≡ shown right.entry }
 {
-    left.0 == right.0 && equal_meanings(left.1, right.1)
+    left.0.as_bytes() == right.0.as_bytes() && equal_meanings(left.1, right.1)
 }
 
 /// Whether a name is there with another meaning.
@@ -106,6 +65,6 @@ pub fn differs(found: Option<Option<&Meaning>>, meaning: &Meaning) -> bool
     match found {
         None => false,
         Some(None) => true,
-        Some(Some(other)) => !same_meaning(other, meaning),
+        Some(Some(other)) => other != meaning,
     }
 }

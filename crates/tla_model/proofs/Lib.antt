@@ -1,5 +1,6 @@
+mod Feeding
+mod Meanings
 mod Noting
-pub mod Same
 pub mod Stretching
 mod Placing
 pub mod Holding

@@ -3,6 +3,10 @@ pub mod Stretches
 pub mod Lexemes
 pub mod ModuleNames
 pub mod Entities
+pub mod Keys
+pub mod Same
+pub mod Equal
+pub mod Meant
 pub mod EntityKinds
 pub mod Starting
 pub mod Contexts

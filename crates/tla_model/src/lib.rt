@@ -6,6 +6,7 @@
 use tla_symbols::Span;
 
 mod entity;
+mod equal;
 mod ids;
 mod names;
 mod spelling;
@@ -14,6 +15,7 @@ mod stretch;
 mod table;
 
 pub use entity::{Decl, Entity, Level, Use};
+pub use equal::{same_decl, same_units};
 pub use ids::{Callee, DeclId, ModuleId, UnitId};
 pub use names::{Binder, Binding, Finding, Meaning};
 pub use spelling::spelled;

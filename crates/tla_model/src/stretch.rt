@@ -1,6 +1,7 @@
 // Words that tables share.
 ghost use Rattle.std.specs.Prelude.{◌≡◌, ◌++◌, ◌∷◌, [], IfOk, OnOk, if◌then◌else◌, length, map, option_map, slice_get};
 ghost use Rattle.tla_model.specs.EntityKinds.{is_instance, stands_for_parameter, words_meant};
+ghost use Rattle.tla_model.specs.Meant.{AreMeant, NotesMeaning, word_meaning};
 ghost use Rattle.tla_model.specs.Stretches.{AreAt, one_of, shown, words_at, words_of};
 
 use crate::names::Meaning;
@@ -13,12 +14,15 @@ use tool_list::Memory;
 pub type Words = IndexMap<String, Meaning>;
 
 /// Words that tables share. Contracts see them in order, with what they mean. Where parameters and where
-/// instances stand among them is noted once.
+/// instances stand among them is noted once, and where each thing stands that can be named behind an
+/// instance.
 pub struct Stretch {
     words: Words,
     // The places of the constants and variables, and those of the instances.
     parameters: Vec<usize>,
     instances: Vec<usize>,
+    // The first place of each definition and each instance.
+    meant: IndexMap<Meaning, usize>,
 }
 
 // By hand, so that a proof meets one call wherever a value ends.
@@ -28,6 +32,7 @@ impl Drop for Stretch {
             words: _,
             parameters: _,
             instances: _,
+            meant: _,
         } = self;
     }
 }
@@ -36,6 +41,7 @@ impl Model for Stretch {
     ghost use Rattle.std.specs.Prelude.{ℕ, List};
     ghost use Rattle.tla_model.specs.Entities.{Meaning};
     ghost use Rattle.tla_model.specs.EntityKinds.{is_instance, stands_for_parameter};
+    ghost use Rattle.tla_model.specs.Meant.{AreMeant};
     ghost use Rattle.tla_model.specs.Stretches.{AreAt, words_of};
 
     ghost Value = { List (List ℕ × Meaning) };
@@ -43,7 +49,8 @@ impl Model for Stretch {
     ghost view = { λ s. words_of s.words.entries };
 
     ghost invariant = { λ s. AreAt stands_for_parameter (words_of s.words.entries) s.parameters.items
-        × AreAt is_instance (words_of s.words.entries) s.instances.items };
+        × AreAt is_instance (words_of s.words.entries) s.instances.items
+        × AreMeant (words_of s.words.entries) (words_of s.words.entries) s.meant };
 }
 
 // Notes a place, if it is one of those.
@@ -84,6 +91,39 @@ fn instance_places(alloc: Global, words: &Words) -> Result<Vec<usize>, Memory>
             unreachable!();
         };
         note(&mut places, meaning.is_instance(), index)?;
+    }
+    Ok(places)
+}
+
+// Notes where something stands that can be named behind an instance.
+fn note_meaning(
+    places: &mut IndexMap<Meaning, usize>,
+    meaning: &Meaning,
+    place: usize,
+) -> Result<(), Memory>
+    ensures { OnOk result (NotesMeaning places.old places.new meaning.now place) }
+{
+    if !meaning.stands_behind() {
+        return Ok(());
+    }
+    let key = meaning.copied()?;
+    places.insert(key, place)?;
+    Ok(())
+}
+
+// Where each definition and each instance first stands among words.
+fn meant_places(alloc: Global, words: &Words) -> Result<IndexMap<Meaning, usize>, Memory>
+    ensures { IfOk result (λ places. AreMeant (words_of words.now.entries)
+        (words_of words.now.entries) places) }
+{
+    let mut places = IndexMap::new(alloc);
+    let mut index = words.len();
+    while index > 0 {
+        index -= 1;
+        let Some((_, meaning)) = words.get_index(index) else {
+            unreachable!();
+        };
+        note_meaning(&mut places, meaning, index)?;
     }
     Ok(places)
 }
@@ -136,10 +176,12 @@ impl Stretch {
     {
         let parameters = parameter_places(alloc, &words)?;
         let instances = instance_places(alloc, &words)?;
+        let meant = meant_places(alloc, &words)?;
         Ok(Stretch {
             words,
             parameters,
             instances,
+            meant,
         })
     }
 
@@ -155,6 +197,14 @@ impl Stretch {
         ensures { result ≡ length self.now }
     {
         self.words.len()
+    }
+
+    /// The first word that means this and can be named behind an instance, with what it means.
+    pub fn word_meaning(&self, meaning: &Meaning) -> Option<(&str, &Meaning)>
+        ensures { option_map shown result ≡ word_meaning self.now meaning.now }
+    {
+        let place = self.meant.get(meaning)?;
+        entry_at(&self.words, *place)
     }
 
     /// Appends the words that stand for parameters, in order.

@@ -5,6 +5,7 @@ ghost use Rattle.tla_model.specs.Tables as tables;
 ghost use Rattle.tla_model.specs.Tables.{AreNew, same_symbol};
 ghost use Rattle.tla_model.specs.Stretches.{all_words, shown, words_of};
 ghost use Rattle.tla_model.specs.EntityKinds.{is_instance, stands_for_parameter, words_meant};
+ghost use Rattle.tla_model.specs.Meant.{word_meaning};
 
 use crate::names::Meaning;
 use crate::stretch::{Stretch, Words, entry_at};
@@ -205,6 +206,19 @@ impl NameTable {
                 return Some(entry);
             }
             left = left.saturating_sub(stretch.len());
+        }
+        None
+    }
+
+    /// The first word that means this and can be named behind an instance, with what it means. It is looked up
+    /// in few stretches.
+    pub fn word_meaning(&self, meaning: &Meaning) -> Option<(&str, &Meaning)>
+        ensures { option_map shown result ≡ word_meaning self.now.words meaning.now }
+    {
+        for stretch in self.stretches.as_slice() {
+            if let Some(entry) = stretch.word_meaning(meaning) {
+                return Some(entry);
+            }
         }
         None
     }

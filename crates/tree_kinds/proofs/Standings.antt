@@ -2,24 +2,9 @@
 use Rattle.std.proofs.Common.{◌≡◌, Bool, true, false, cond, refl, sym, ap, ◌∙◌}
 use Rattle.std.specs.Prelude.{not, ◌&&◌}
 use Rattle.std.proofs.lemmas.Bool.{and_from, and_parts}
-use Rattle.tla_model.specs.declared.names.Meaning.TheVariants.{BuiltIn, Declared}
-use Rattle.tla_model.specs.Entities.{Meaning, same_decl, same_meaning, same_units}
-use Rattle.tla_model.proofs.Same.{decl-equal, meaning-itself, units-equal}
+use Rattle.tla_model.specs.Entities.{Meaning, same_meaning}
+use Rattle.tla_model.specs.Same.{meaning-itself, same-alike}
 use Rattle.tree_kinds.specs.Standing.{is_bound, same_standing}
-
--- what is the same is the same as the same others
-pub same-alike : (a b c : Meaning) → same_meaning a b ≡ true → same_meaning a c ≡ same_meaning b c
-same-alike BuiltIn BuiltIn c same = refl
-same-alike BuiltIn (Declared f y) c same = cc
-same-alike (Declared e x) BuiltIn c same = cc
-same-alike (Declared e x) (Declared f y) BuiltIn same = refl
-same-alike (Declared e x) (Declared f y) (Declared g z) same =
-    let parts = and_parts (same_decl x.decl y.decl) (same_units x.via y.via) same in
-    ap (λ d. same_decl d z.decl && same_units x.via z.via) (decl-equal x.decl y.decl parts.0)
-    ∙ ap (λ via. same_decl y.decl z.decl && same_units via z.via) (units-equal x.via y.via parts.1)
-
-pub same-turned : (a b : Meaning) → same_meaning a b ≡ true → same_meaning b a ≡ true
-same-turned a b same = sym (same-alike a b a same) ∙ meaning-itself a
 
 -- ---- both bound, or neither
 

@@ -1,6 +1,6 @@
 use Rattle.std.proofs.Common.{◌∙◌, sym}
 use Rattle.tla_model.specs.Entities.{same_units}
-use Rattle.tla_model.proofs.Same.{callee-equal}
+use Rattle.tla_model.specs.Same.{callee-equal}
 use Rattle.name_exports.proofs.same.equal_callees.Goals as goal
 
 pub returns-then-same_decl : goal.returns-then-same_decl

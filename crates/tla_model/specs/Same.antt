@@ -1,5 +1,5 @@
 -- Declarations, units and meanings that are the same are equal, and each is the same as itself.
-use Rattle.std.proofs.Common.{◌≡◌, true, List, [], ◌∷◌, refl}
+use Rattle.std.proofs.Common.{◌≡◌, true, List, [], ◌∷◌, refl, sym, ap, ◌∙◌}
 use Rattle.std.specs.Prelude.{◌&&◌, nat_eq}
 use Rattle.std.specs.Str.{bytes_eq}
 use Rattle.std.proofs.lemmas.Bool.{and_from, and_parts, eq-eqb}
@@ -57,3 +57,18 @@ units-itself (x ∷ a) =
 pub meaning-itself : (meaning : Meaning) → same_meaning meaning meaning ≡ true
 meaning-itself BuiltIn = refl
 meaning-itself (Declared entity callee) = and_from (same_decl callee.decl callee.decl) (same_units callee.via callee.via) (decl-itself callee.decl) (units-itself callee.via)
+
+-- ---- what is the same as one is the same as the other
+
+pub same-alike : (a b c : Meaning) → same_meaning a b ≡ true → same_meaning a c ≡ same_meaning b c
+same-alike BuiltIn BuiltIn c same = refl
+same-alike BuiltIn (Declared f y) c same = cc
+same-alike (Declared e x) BuiltIn c same = cc
+same-alike (Declared e x) (Declared f y) BuiltIn same = refl
+same-alike (Declared e x) (Declared f y) (Declared g z) same =
+    let parts = and_parts (same_decl x.decl y.decl) (same_units x.via y.via) same in
+    ap (λ d. same_decl d z.decl && same_units x.via z.via) (decl-equal x.decl y.decl parts.0)
+    ∙ ap (λ via. same_decl y.decl z.decl && same_units via z.via) (units-equal x.via y.via parts.1)
+
+pub same-turned : (a b : Meaning) → same_meaning a b ≡ true → same_meaning b a ≡ true
+same-turned a b same = sym (same-alike a b a same) ∙ meaning-itself a

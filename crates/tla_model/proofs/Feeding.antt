@@ -5,7 +5,7 @@ use Rattle.std.specs.Hash as fed
 use Rattle.tla_model.specs.declared.ids.UnitId.{UnitId}
 use Rattle.tla_model.specs.Entities.{same_units}
 use Rattle.tla_model.proofs.Stretching.{stretch-next}
-use Rattle.module_leads.specs.Keys.{same_unit, units_input}
+use Rattle.tla_model.specs.Keys.{same_unit, units_input}
 
 pub units-apart : (a b : List UnitId) → (length a ≡ length b → ⊥) → false ≡ same_units a b
 units-apart [] [] apart = absurd (apart refl)

@@ -1,5 +1,0 @@
-use Rattle.name_exports.proofs.Exporting.{units-apart}
-use Rattle.name_exports.proofs.same.same_units.Goals as goal
-
-pub returns-then-left-right : goal.returns-then-left-right
-returns-then-left-right c = units-apart c.args.left.now c.args.right.now c.if-left-right.true
