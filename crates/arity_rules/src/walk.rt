@@ -1,5 +1,5 @@
 // The faults of trees.
-ghost use Rattle.std.specs.Prelude.{◌≡◌, ◌++◌, ◌<◌, None, Some, IfOk, OnOk, false, if◌then◌else◌, length, map, option_copied};
+ghost use Rattle.std.specs.Prelude.{◌≡◌, ◌++◌, ◌<◌, [], None, Some, IfOk, OnOk, false, if◌then◌else◌, length, map, option_copied};
 ghost use Rattle.tla_tree.specs.Arena.{AreThere, tree_at};
 ghost use Rattle.tla_tree.specs.Syntax.{trees};
 ghost use Rattle.tla_model.specs.Scopes as scopes;
@@ -211,58 +211,57 @@ fn open_parts(
     Ok(())
 }
 
-// Puts tasks on top, the first one uppermost.
-fn put_on_top(tasks: &mut Vec<Task>, opened: Vec<Task>) -> Result<(), Memory>
-    ensures { OnOk result (walking.stack tasks.new.items
-        ≡ opened.items ++ walking.stack tasks.old.items) }
+// Puts tasks on top, the first one uppermost, and leaves none opened.
+fn put_on_top(tasks: &mut Vec<Task>, opened: &mut Vec<Task>) -> Result<(), Memory>
+    ensures put { OnOk result (walking.stack tasks.new.items
+        ≡ opened.old.items ++ walking.stack tasks.old.items) }
+    ensures none { OnOk result (opened.new.items ≡ []) }
 {
-    let mut opened = opened;
     while let Some(task) = opened.pop() {
         tasks.push(task)?;
     }
     Ok(())
 }
 
-// The parts of a form, as it has them looked at.
+// Appends the parts of a form, as it has them looked at.
 fn open_below(
-    alloc: Global,
+    opened: &mut Vec<Task>,
     meanings: &Meanings,
     tree: &Tree,
     task: Task,
     role: Role,
     parts: &[u32],
-) -> Result<Vec<Task>, Memory>
+) -> Result<(), Memory>
     requires { AreThere tree.now parts.now }
-    ensures { IfOk result (λ opened. opened.items
-        ≡ walking.below (told meanings.now) tree.now task.due task.inside role parts.now) }
+    ensures { OnOk result (opened.new.items ≡ opened.old.items
+        ++ walking.below (told meanings.now) tree.now task.due task.inside role parts.now) }
 {
-    let mut opened = Vec::new(alloc);
     if is_path(role) {
-        open_path(&mut opened, meanings, tree, task.due, task.inside, parts)?;
-        return Ok(opened);
+        return open_path(opened, meanings, tree, task.due, task.inside, parts);
     }
-    open_parts(&mut opened, meanings, tree, role, task.inside, parts)?;
-    Ok(opened)
+    open_parts(opened, meanings, tree, role, task.inside, parts)
 }
 
-// Looks at what is next, but for its parts.
+// Looks at what is next, but for its parts. None are opened before and behind that; room for them is kept.
 fn take(
-    alloc: Global,
     faults: &mut List<Diagnostic>,
     tasks: &mut Vec<Task>,
+    opened: &mut Vec<Task>,
     meanings: &Meanings,
     tree: &Tree,
     next: Task,
 ) -> Result<(), Memory>
     requires there { next.node < length tree.now }
     requires due { walking.AreDue tree.now (walking.stack tasks.old.items) }
-    ensures { OnOk result (walking.IsTaken (told meanings.now) tree.now next faults.old faults.new
-        (walking.stack tasks.old.items) (walking.stack tasks.new.items)) }
+    requires none { opened.old.items ≡ [] }
+    ensures taken { OnOk result (walking.IsTaken (told meanings.now) tree.now next faults.old
+        faults.new (walking.stack tasks.old.items) (walking.stack tasks.new.items)) }
+    ensures none { OnOk result (opened.new.items ≡ []) }
 {
     let role = role_of(tree.form(next.node));
     let parts = tree.children(next.node);
     push_own(faults, meanings, next.due, next.inside, role, parts.len())?;
-    let opened = open_below(alloc, meanings, tree, next, role, parts)?;
+    open_below(opened, meanings, tree, next, role, parts)?;
     put_on_top(tasks, opened)?;
     Ok(())
 }
@@ -282,9 +281,9 @@ pub fn push_trees(
     let mut opened = Vec::new(alloc);
     open_parts(&mut opened, meanings, tree, Role::Other, false, nodes)?;
     let mut tasks = Vec::new(alloc);
-    put_on_top(&mut tasks, opened)?;
+    put_on_top(&mut tasks, &mut opened)?;
     while let Some(next) = tasks.pop() {
-        take(alloc, faults, &mut tasks, meanings, tree, next)?;
+        take(faults, &mut tasks, &mut opened, meanings, tree, next)?;
     }
     Ok(())
 }

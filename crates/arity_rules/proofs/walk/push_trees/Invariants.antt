@@ -1,4 +1,4 @@
-use Rattle.std.proofs.Common.{◌≡◌, ◌++◌, false}
+use Rattle.std.proofs.Common.{◌≡◌, ◌++◌, [], false}
 use Rattle.std.specs.Prelude.{map}
 use Rattle.tla_tree.specs.Arena.{tree_at}
 use Rattle.tla_tree.specs.Syntax.{trees}
@@ -12,6 +12,7 @@ abbrev pub invariant-loop-next : goal.invariant-loop-next
 invariant-loop-next l = record {
   due : AreDue l.tree (stack l.tasks.items);
   faults : l.faults ++ all_faults (told l.meanings) l.tree (stack l.tasks.items) ≡ l.initial.faults ++ part_faults (told l.meanings) Other false 0 (trees (map (tree_at l.tree) l.nodes));
+  none : l.opened.items ≡ [];
 }
 
 abbrev pub decreases-loop-next : goal.decreases-loop-next
