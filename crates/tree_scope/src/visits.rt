@@ -78,10 +78,10 @@ pub fn visit<'a, S: Surround<'a>>(
         Naming::Infix(at) => push_between(tasks, children, at),
         Naming::Postfix(at) => push_behind(tasks, children, at),
         Naming::InOrder => push_definitions(tasks, children, mark),
-        Naming::BoundsLast => push_image(alloc, tasks, tree, node, children, mark),
+        Naming::BoundsLast => push_image(tasks, tree, node, children, mark),
         Naming::Function(name) => {
             begin(alloc, text, tree, node, children, context, findings)?;
-            push_function(alloc, tasks, tree, node, name, children, mark)
+            push_function(tasks, tree, node, name, children, mark)
         }
         Naming::Instance(module) => {
             push_instance(alloc, text, tasks, tree, node, module)?;
@@ -89,7 +89,7 @@ pub fn visit<'a, S: Surround<'a>>(
         }
         Naming::BoundsFirst => {
             begin(alloc, text, tree, node, children, context, findings)?;
-            push_scope(alloc, tasks, tree, node, children, mark)
+            push_scope(tasks, tree, node, children, mark)
         }
     }
 }

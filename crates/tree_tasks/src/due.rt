@@ -7,14 +7,12 @@ ghost use Rattle.tree_tasks.specs.WalkTasks.{stack};
 use crate::held::Held;
 use crate::tasks::{Task, push_chain, push_chosen, push_each, push_task};
 use name_context::Mark;
-use std::alloc::Global;
 use tla_symbols::Lexeme;
 use tla_tree::Tree;
 use tool_list::Memory;
 
 // What is in the scope of the names that a node binds, and the end of the scope.
 fn push_inside(
-    alloc: Global,
     tasks: &mut Vec<Task<'_>>,
     tree: &Tree,
     node: u32,
@@ -26,14 +24,13 @@ fn push_inside(
         ≡ walking.in_scope tree.now node children.now mark (stack tasks.old.items)) }
 {
     push_task(tasks, Task::Leave { mark })?;
-    push_chosen(alloc, tasks, tree, children, false)?;
+    push_chosen(tasks, tree, children, false)?;
     push_task(tasks, Task::Bind { node })?;
     Ok(())
 }
 
 /// Sets of bounds, and then what is in the scope of the names.
 pub fn push_scope(
-    alloc: Global,
     tasks: &mut Vec<Task<'_>>,
     tree: &Tree,
     node: u32,
@@ -44,13 +41,12 @@ pub fn push_scope(
     ensures { OnOk result (stack tasks.new.items
         ≡ walking.scope_tasks tree.now node children.now mark (stack tasks.old.items)) }
 {
-    push_inside(alloc, tasks, tree, node, children, mark)?;
-    push_chosen(alloc, tasks, tree, children, true)
+    push_inside(tasks, tree, node, children, mark)?;
+    push_chosen(tasks, tree, children, true)
 }
 
 /// The same of a function, whose name is a bound name in its body.
 pub fn push_function(
-    alloc: Global,
     tasks: &mut Vec<Task<'_>>,
     tree: &Tree,
     node: u32,
@@ -62,15 +58,14 @@ pub fn push_function(
     ensures { OnOk result (stack tasks.new.items
         ≡ walking.function_tasks tree.now node name children.now mark (stack tasks.old.items)) }
 {
-    push_inside(alloc, tasks, tree, node, children, mark)?;
+    push_inside(tasks, tree, node, children, mark)?;
     push_task(tasks, Task::Function { name })?;
     push_task(tasks, Task::Leave { mark })?;
-    push_chosen(alloc, tasks, tree, children, true)
+    push_chosen(tasks, tree, children, true)
 }
 
 /// What is in the scope of the names, and then the sets of their bounds.
 pub fn push_image(
-    alloc: Global,
     tasks: &mut Vec<Task<'_>>,
     tree: &Tree,
     node: u32,
@@ -81,8 +76,8 @@ pub fn push_image(
     ensures { OnOk result (stack tasks.new.items
         ≡ walking.image_tasks tree.now node children.now mark (stack tasks.old.items)) }
 {
-    push_chosen(alloc, tasks, tree, children, true)?;
-    push_inside(alloc, tasks, tree, node, children, mark)
+    push_chosen(tasks, tree, children, true)?;
+    push_inside(tasks, tree, node, children, mark)
 }
 
 /// Definitions one after another, with what is in their scope, and the end of the scope.

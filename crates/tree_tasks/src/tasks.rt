@@ -6,10 +6,9 @@ ghost use Rattle.tree_tasks.specs.WalkTasks as walking;
 
 use crate::held::Held;
 use name_context::Mark;
-use std::alloc::Global;
 use tla_symbols::Lexeme;
 use tla_tree::{Form, Tree};
-use tool_list::{List, Memory};
+use tool_list::Memory;
 
 /// What is to be done next.
 #[derive(Clone, Copy)]
@@ -168,18 +167,26 @@ pub fn push_tasks<'a>(tasks: &mut Vec<Task<'a>>, more: &[Task<'a>]) -> Result<()
     Ok(())
 }
 
-// The nodes that have a set, or those that have none.
-fn chosen(alloc: Global, tree: &Tree, nodes: &[u32], sets: bool) -> Result<List<u32>, Memory>
+// Appends visits of the nodes that have a set, or of those that have none, the last one first.
+fn append_chosen(
+    tasks: &mut Vec<Task<'_>>,
+    tree: &Tree,
+    nodes: &[u32],
+    sets: bool,
+) -> Result<(), Memory>
     requires { AreThere tree.now nodes.now }
-    ensures { IfOk result (λ chosen. chosen ≡ filter (walking.is_chosen tree.now sets) nodes.now) }
+    ensures { OnOk result (tasks.new.items ≡ tasks.old.items
+        ++ walking.visits (reverse (filter (walking.is_chosen tree.now sets) nodes.now))) }
 {
-    let mut chosen = List::new(alloc);
-    for node in nodes {
-        if is_same(has_set(tree.form(*node)), sets) {
-            chosen.push(*node)?;
+    let mut index = nodes.len();
+    while index > 0 {
+        index -= 1;
+        let node = nodes[index];
+        if is_same(has_set(tree.form(node)), sets) {
+            tasks.push(Task::Visit { node })?;
         }
     }
-    Ok(chosen)
+    Ok(())
 }
 
 fn is_same(one: bool, other: bool) -> bool
@@ -191,7 +198,6 @@ fn is_same(one: bool, other: bool) -> bool
 /// Puts visits of the nodes on top that have a set, or of those that have none, the first one
 /// uppermost.
 pub fn push_chosen(
-    alloc: Global,
     tasks: &mut Vec<Task<'_>>,
     tree: &Tree,
     nodes: &[u32],
@@ -201,8 +207,8 @@ pub fn push_chosen(
     ensures { OnOk result (walking.stack tasks.new.items ≡ walking.with_sets tree.now sets nodes.now
         ++ walking.stack tasks.old.items) }
 {
-    let chosen = chosen(alloc, tree, nodes, sets)?;
-    push_each(tasks, chosen.as_slice())
+    append_chosen(tasks, tree, nodes, sets)?;
+    Ok(())
 }
 
 // Appends visits, each behind the definition of its name, the last one first.
