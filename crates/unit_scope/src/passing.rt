@@ -38,7 +38,7 @@ impl<'a> ModuleReader<'a> {
         ensures { OnOk result (Leads text.now (steps.declared text.now (unit_at tree.now unit.now)
             local (scopes.definition (tree_at tree.now node))) self.old self.new) }
     {
-        self.note_named(alloc, text, tree, unit)?;
+        self.note_named(alloc, text, tree, unit, true)?;
         define(alloc, &mut self.here.names, text, local, tree, node)?;
         Ok(())
     }
@@ -80,7 +80,7 @@ impl<'a> ModuleReader<'a> {
         ensures { OnOk result (Leads text.now (steps.instanced text.now (unit_at tree.now unit.now)
             local (tree_at tree.now node)) self.old self.new) }
     {
-        self.note_named(alloc, text, tree, unit)?;
+        self.note_named(alloc, text, tree, unit, true)?;
         match tree.form(node) {
             Form::Instance(module) => {
                 self.pass_brought(alloc, text, local, module)?;
@@ -106,7 +106,7 @@ impl<'a> ModuleReader<'a> {
             (unit_at tree.now unit.now)) self.old self.new) }
     {
         let mut findings = List::new(alloc);
-        self.read(alloc, text, tree, unit, &mut findings)?;
+        self.read(alloc, text, tree, unit, true, &mut findings)?;
         Ok(())
     }
 
@@ -138,8 +138,8 @@ impl<'a> ModuleReader<'a> {
             Unit::Instance { local, node } => {
                 self.pass_instance(alloc, text, tree, unit, local.is_some(), *node)
             }
-            Unit::Assumption { .. } => self.note_named(alloc, text, tree, unit),
-            Unit::Theorem { .. } => self.note_named(alloc, text, tree, unit),
+            Unit::Assumption { .. } => self.note_named(alloc, text, tree, unit, true),
+            Unit::Theorem { .. } => self.note_named(alloc, text, tree, unit, true),
             _ => self.pass_other(alloc, text, tree, unit),
         }
     }

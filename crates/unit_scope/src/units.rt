@@ -1,9 +1,11 @@
 // The units of a module, one after another.
-ghost use Rattle.std.specs.Prelude.{◌≡◌, ◌++◌, ◌<◌, OnOk, length, map};
+ghost use Rattle.std.specs.Prelude.{◌≡◌, ◌++◌, ◌<◌, IfOk, OnOk, false, length, map};
 ghost use Rattle.std.specs.List.{AllByRecursion};
 ghost use Rattle.tla_tree.specs.Arena.{AreThere, tree_at};
 ghost use Rattle.tla_tree.specs.Syntax.{trees};
+ghost use Rattle.instance_names.specs.Named.{NamesNone, named_as};
 ghost use Rattle.module_model.specs.Exports.{files_of};
+ghost use Rattle.module_model.specs.Instances.{all_named_instances, unit_trees};
 ghost use Rattle.module_model.specs.Modules.{text_of};
 ghost use Rattle.module_model.specs.Resolution as in_resolution;
 ghost use Rattle.unit_scope.specs.EnclosingReadings.{IsPlaced, IsSomewhere};
@@ -18,7 +20,7 @@ ghost use Rattle.unit_grammar.specs.UnitNodes.{HasNodes, module_of, nodes_in, un
 use crate::declaring::{declare_all, declared_constants, declared_variables, define};
 use crate::reader::ModuleReader;
 use crate::reading::note_all;
-use instance_names::named_instances;
+use instance_names::{NamedInstance, may_name_instance, named_instances};
 use std::alloc::Global;
 use tla_model::{Binder, Finding};
 use tla_symbols::Lexeme;
@@ -26,15 +28,35 @@ use tla_tree::{Form, ModuleTree, Tree, Unit};
 use tool_list::{List, Memory};
 use tree_names::ModuleText;
 
+// The instances that a unit names, in the order of the text. No tree is walked where none may be named.
+fn named_in(
+    alloc: Global,
+    tree: &Tree,
+    unit: &Unit,
+    may_name: bool,
+) -> Result<List<NamedInstance>, Memory>
+    requires there { AreThere tree.now (nodes_in unit.now) }
+    requires may { may_name ≡ false → NamesNone tree.now }
+    ensures { IfOk result (λ found. map named_as found
+        ≡ all_named_instances (unit_trees (unit_at tree.now unit.now))) }
+{
+    if !may_name {
+        return Ok(List::new(alloc));
+    }
+    named_instances(alloc, tree, unit)
+}
+
 impl<'a> ModuleReader<'a> {
-    /// Notes where the instances lead that a unit names.
+    /// Notes where the instances lead that a unit names, by whether a unit of the tree may name one.
     pub(crate) fn note_named(
         &mut self,
         alloc: Global,
         text: &ModuleText<'a>,
         tree: &Tree,
         unit: &Unit,
+        may_name: bool,
     ) -> Result<(), Memory>
+        requires may { may_name ≡ false → NamesNone tree.now }
         requires there { AreThere tree.now (nodes_in unit.now) }
         requires lie { AllByRecursion (LiesIn text.now.source)
             (unit_lexemes (unit_at tree.now unit.now)) }
@@ -42,7 +64,7 @@ impl<'a> ModuleReader<'a> {
         ensures { OnOk result (Leads text.now (steps.noted text.now (unit_at tree.now unit.now))
             self.old self.new) }
     {
-        let instances = named_instances(alloc, tree, unit)?;
+        let instances = named_in(alloc, tree, unit, may_name)?;
         self.scope
             .note_named(alloc, text, &self.here.modules, instances.as_slice())?;
         Ok(())
@@ -55,9 +77,11 @@ impl<'a> ModuleReader<'a> {
         text: &ModuleText<'a>,
         tree: &Tree,
         unit: &Unit,
+        may_name: bool,
         node: u32,
         findings: &mut List<Finding>,
     ) -> Result<(), Memory>
+        requires may { may_name ≡ false → NamesNone tree.now }
         requires there { AreThere tree.now (nodes_in unit.now) }
         requires lie { AllByRecursion (LiesIn text.now.source)
             (unit_lexemes (unit_at tree.now unit.now)) }
@@ -71,7 +95,7 @@ impl<'a> ModuleReader<'a> {
             (steps.found_below text.now (unit_at tree.now unit.now) (tree_at tree.now node))
             self.old findings.old findings.new) }
     {
-        self.note_named(alloc, text, tree, unit)?;
+        self.note_named(alloc, text, tree, unit, may_name)?;
         self.here
             .walk(alloc, &self.scope, text, tree, node, findings)?;
         Ok(())
@@ -84,10 +108,12 @@ impl<'a> ModuleReader<'a> {
         text: &ModuleText<'a>,
         tree: &Tree,
         unit: &Unit,
+        may_name: bool,
         local: bool,
         node: u32,
         findings: &mut List<Finding>,
     ) -> Result<(), Memory>
+        requires may { may_name ≡ false → NamesNone tree.now }
         requires there { AreThere tree.now (nodes_in unit.now) }
         requires lie { AllByRecursion (LiesIn text.now.source)
             (unit_lexemes (unit_at tree.now unit.now)) }
@@ -103,7 +129,7 @@ impl<'a> ModuleReader<'a> {
             (steps.found_below text.now (unit_at tree.now unit.now) (tree_at tree.now node))
             self.old findings.old findings.new) }
     {
-        self.read_tree(alloc, text, tree, unit, node, findings)?;
+        self.read_tree(alloc, text, tree, unit, may_name, node, findings)?;
         define(alloc, &mut self.here.names, text, local, tree, node)?;
         Ok(())
     }
@@ -156,10 +182,12 @@ impl<'a> ModuleReader<'a> {
         text: &ModuleText<'a>,
         tree: &Tree,
         unit: &Unit,
+        may_name: bool,
         local: bool,
         node: u32,
         findings: &mut List<Finding>,
     ) -> Result<(), Memory>
+        requires may { may_name ≡ false → NamesNone tree.now }
         requires there { AreThere tree.now (nodes_in unit.now) }
         requires lie { AllByRecursion (LiesIn text.now.source)
             (unit_lexemes (unit_at tree.now unit.now)) }
@@ -175,7 +203,7 @@ impl<'a> ModuleReader<'a> {
             (steps.found_instanced text.now (unit_at tree.now unit.now) (tree_at tree.now node))
             self.old findings.old findings.new) }
     {
-        self.read_tree(alloc, text, tree, unit, node, findings)?;
+        self.read_tree(alloc, text, tree, unit, may_name, node, findings)?;
         match tree.form(node) {
             Form::Instance(module) => {
                 self.bring(alloc, text, local, module, findings)?;
@@ -271,15 +299,17 @@ impl<'a> ModuleReader<'a> {
         Ok(())
     }
 
-    /// Reads a unit.
+    /// Reads a unit, by whether a unit of the tree may name an instance.
     pub(crate) fn read(
         &mut self,
         alloc: Global,
         text: &ModuleText<'a>,
         tree: &Tree,
         unit: &Unit,
+        may_name: bool,
         findings: &mut List<Finding>,
     ) -> Result<(), Memory>
+        requires may { may_name ≡ false → NamesNone tree.now }
         requires there { AreThere tree.now (nodes_in unit.now) }
         requires lie { AllByRecursion (LiesIn text.now.source)
             (unit_lexemes (unit_at tree.now unit.now)) }
@@ -296,21 +326,59 @@ impl<'a> ModuleReader<'a> {
                 self.read_constants(alloc, text, tree, declarations.as_slice(), findings)
             }
             Unit::OperatorDefinition { local, node } => {
-                self.read_definition(alloc, text, tree, unit, local.is_some(), *node, findings)
+                self.read_definition(
+                    alloc,
+                    text,
+                    tree,
+                    unit,
+                    may_name,
+                    local.is_some(),
+                    *node,
+                    findings,
+                )
             }
             Unit::FunctionDefinition { local, node } => {
-                self.read_definition(alloc, text, tree, unit, local.is_some(), *node, findings)
+                self.read_definition(
+                    alloc,
+                    text,
+                    tree,
+                    unit,
+                    may_name,
+                    local.is_some(),
+                    *node,
+                    findings,
+                )
             }
             Unit::ModuleDefinition { local, node } => {
-                self.read_definition(alloc, text, tree, unit, local.is_some(), *node, findings)
+                self.read_definition(
+                    alloc,
+                    text,
+                    tree,
+                    unit,
+                    may_name,
+                    local.is_some(),
+                    *node,
+                    findings,
+                )
             }
             Unit::Instance { local, node } => {
-                self.read_instance(alloc, text, tree, unit, local.is_some(), *node, findings)
+                self.read_instance(
+                    alloc,
+                    text,
+                    tree,
+                    unit,
+                    may_name,
+                    local.is_some(),
+                    *node,
+                    findings,
+                )
             }
             Unit::Assumption { node, .. } => {
-                self.read_tree(alloc, text, tree, unit, *node, findings)
+                self.read_tree(alloc, text, tree, unit, may_name, *node, findings)
             }
-            Unit::Theorem { node, .. } => self.read_tree(alloc, text, tree, unit, *node, findings),
+            Unit::Theorem { node, .. } => self.read_tree(
+                alloc, text, tree, unit, may_name, *node, findings,
+            ),
             Unit::ModuleBegin { name, extends, .. } => {
                 self.read_begin(alloc, text, *name, extends.as_slice(), findings)
             }
@@ -326,8 +394,10 @@ impl<'a> ModuleReader<'a> {
         text: &ModuleText<'a>,
         tree: &Tree,
         units: &[Unit],
+        may_name: bool,
         findings: &mut List<Finding>,
     ) -> Result<(), Memory>
+        requires may { may_name ≡ false → NamesNone tree.now }
         requires there { AllByRecursion (λ unit. AreThere tree.now (nodes_in unit)) units.now }
         requires lie { AllByRecursion
             (λ unit. AllByRecursion (LiesIn text.now.source) (unit_lexemes (unit_at tree.now unit)))
@@ -341,7 +411,7 @@ impl<'a> ModuleReader<'a> {
             self.old findings.old findings.new) }
     {
         for unit in units {
-            self.read(alloc, text, tree, unit, findings)?;
+            self.read(alloc, text, tree, unit, may_name, findings)?;
         }
         Ok(())
     }
@@ -367,7 +437,9 @@ impl<'a> ModuleReader<'a> {
             (module_of tree.now)) }
     {
         self.extend(alloc, text, tree.extends.as_slice(), findings)?;
-        self.read_all(alloc, text, &tree.tree, tree.units.as_slice(), findings)?;
+        let may_name = may_name_instance(&tree.tree);
+        let units = tree.units.as_slice();
+        self.read_all(alloc, text, &tree.tree, units, may_name, findings)?;
         Ok(())
     }
 }

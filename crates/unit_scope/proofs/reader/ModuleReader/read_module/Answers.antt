@@ -25,10 +25,10 @@ pub extend-requires-clause-placed : goal.extend-requires-clause-placed
 extend-requires-clause-placed c = record { over = over_for c.args.self.now.scope.imported.now (module_of c.args.tree.now); state = unread_state c.args.text.now; at = c.requires.unread }
 
 pub read_all-requires-clause-there : goal.read_all-requires-clause-there
-read_all-requires-clause-there c = subst (AllByRecursion _) (sym c.as_slice-2.ensures) c.requires.nodes
+read_all-requires-clause-there c = subst (AllByRecursion _) (sym c.as_slice-units.ensures) c.requires.nodes
 
 pub read_all-requires-clause-lie : goal.read_all-requires-clause-lie
-read_all-requires-clause-lie c = units-lie (LiesIn c.args.text.now.source) c.args.tree.now c.as_slice-2.result.now c.as_slice-2.ensures c.requires.lie
+read_all-requires-clause-lie c = units-lie (LiesIn c.args.text.now.source) c.args.tree.now c.as_slice-units.result.now c.as_slice-units.ensures c.requires.lie
 
 pub read_all-requires-clause-somewhere : goal.read_all-requires-clause-somewhere
 read_all-requires-clause-somewhere c =
@@ -55,7 +55,7 @@ returns-clause-state c =
     let began = first (files_of imports) source units in
     let at = subst (IsAt text over c.extend.new.self) (ap (λ names. extended_with text names over (unread_state text)) c.as_slice.ensures ∙ at-first text imports source units c.requires.text)
     (c.in_ok-extend.ensures.state over (unread_state text) c.requires.unread) in
-    subst (IsAt text over c.read_all.new.self) (ap (λ us. behind_units text (map (unit_at c.args.tree.now.tree) us) over began) c.as_slice-2.ensures ∙ at-last text imports source units c.requires.text)
+    subst (IsAt text over c.read_all.new.self) (ap (λ us. behind_units text (map (unit_at c.args.tree.now.tree) us) over began) c.as_slice-units.ensures ∙ at-last text imports source units c.requires.text)
     (c.in_ok-read_all.ensures.state over began at)
 
 pub returns-clause-findings : goal.returns-clause-findings
@@ -73,6 +73,6 @@ returns-clause-findings c =
     (c.in_ok-extend.ensures.state over (unread_state text) c.requires.unread) in
     let clashes = c.in_ok-extend.ensures.findings over (unread_state text) c.requires.unread ∙ ap (λ names. old ++ clashing text names over (unread_state text)) c.as_slice.ensures in
     c.in_ok-read_all.ensures.findings over began at
-    ∙ (λ i. clashes i ++ found_along text (map (unit_at c.args.tree.now.tree) (c.as_slice-2.ensures i)) over began)
+    ∙ (λ i. clashes i ++ found_along text (map (unit_at c.args.tree.now.tree) (c.as_slice-units.ensures i)) over began)
     ∙ append_assoc old (clashing text units.extends over (unread_state text)) (found_along text units.units over began)
     ∙ (λ i. old ++ (all_clashing (is i) (exports_by files) (unread (is i)) units.extends ++ found_from (is i) files (words_of units) (paths_in units.units) began units.units))
