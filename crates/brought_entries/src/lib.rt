@@ -6,4 +6,6 @@
 
 mod modules;
 
-pub use modules::{end_nested, exports, extended_entries, instance_entries, parameters};
+pub use modules::{
+    end_nested, exports, extended_entries, extended_table, instance_entries, parameters,
+};

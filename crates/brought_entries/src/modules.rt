@@ -1,9 +1,9 @@
 // What modules bring where a reader stands.
-ghost use Rattle.std.specs.Prelude.{◌≡◌, IfOk, OnOk, slice_get};
+ghost use Rattle.std.specs.Prelude.{◌≡◌, IfOk, IfSome, OnOk, slice_get};
 ghost use Rattle.std.specs.Option.{option_copied};
 ghost use Rattle.tla_model.specs.Entities.{Text};
 ghost use Rattle.tla_model.specs.Lexemes.{LiesIn};
-ghost use Rattle.module_model.specs.Exports.{exported, face_exports};
+ghost use Rattle.module_model.specs.Exports.{exported, exports_of, face_exports, instantiable};
 ghost use Rattle.module_model.specs.NamedModules.{unit_of};
 ghost use Rattle.instance_leads.specs.Found.{module_shown, unit_if};
 ghost use Rattle.instance_leads.specs.Leading.{exports_shown, parameters_shown};
@@ -164,6 +164,17 @@ pub fn extended_entries(
     let named = named_module(reader.scope.imported, &reader.here.modules, name);
     let found = module_entries(alloc, reader, None, named)?;
     Ok(found)
+}
+
+/// The table of what the module of a name exports, if it is imported.
+pub fn extended_table<'b>(reader: &'b ModuleReader<'_>, name: &str) -> Option<&'b NameTable>
+    ensures { IfSome result (λ table. (text : Text)
+        → IsExtended text reader.now name.now (instantiable (exports_of table.now))) }
+{
+    match named_module(reader.scope.imported, &reader.here.modules, name) {
+        NamedModule::Imported { face } => Some(exports_in(face)),
+        _ => None,
+    }
 }
 
 /// What an INSTANCE without a name brings where a reader stands, by the name of its module.

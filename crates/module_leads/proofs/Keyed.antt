@@ -1,6 +1,7 @@
 -- Symbols and other meanings by their keys.
-use Rattle.std.proofs.Common.{◌≡◌, ℕ, suc, ◌+◌, ◌<◌, Bool, true, false, List, [], Option, Some, None, refl, sym, ap, ◌∙◌, cond, if◌then◌else◌, length, get_or, drop, arith, true≢false}
+use Rattle.std.proofs.Common.{◌≡◌, ℕ, suc, ◌+◌, ◌<◌, Bool, true, false, List, [], ◌∷◌, ◌++◌, Option, Some, None, refl, sym, ap, ◌∙◌, cond, if◌then◌else◌, length, get_or, drop, arith, true≢false}
 use Rattle.std.specs.Prelude.{◌&&◌}
+use Rattle.std.specs.Option.{option_or}
 use Rattle.std.specs.Map.{lookup}
 use Rattle.indexmap.specs.IndexMap.{IndexMap, UpdatesBy, get}
 use Rattle.list_laws.proofs.Lists.{drop-from}
@@ -8,32 +9,73 @@ use Rattle.tla_model.specs.declared.entity.Entity.TheVariants as entity
 use Rattle.tla_model.specs.declared.ids.Callee.{Callee}
 use Rattle.tla_model.specs.declared.names.Meaning.TheVariants.{BuiltIn, Declared}
 use Rattle.tla_model.specs.Entities.{Entity, Meaning, same_meaning}
+use Rattle.module_model.specs.Exports.{exports_of, instantiable}
 use Rattle.tree_kinds.specs.Standing.{same_standing}
 use Rattle.flat_trees.specs.Layouts.{order_of}
 use Rattle.flat_kinds.specs.Symbols.{same_declared, same_symbol}
 use Rattle.flattened_trees.specs.declared.End.TheVariants as end
 use Rattle.module_leads.specs.declared.keys.MeaningKey.{MeaningKey}
 use Rattle.module_leads.specs.declared.keys.SymbolKey.{SymbolKey}
+use Rattle.module_leads.specs.declared.layer.Brought.{Brought}
 use Rattle.module_leads.specs.declared.layer.Layer.{Layer}
 use Rattle.module_leads.specs.declared.ways.Way.TheVariants as way
 use Rattle.module_leads.specs.Equal.{key-equivalence, standing-back}
 use Rattle.module_leads.specs.Keys.{key_by, same_arity, same_key, symbol_arity, symbol_key}
-use Rattle.module_leads.specs.Layers.{AddsSymbol, IsPut, keyed_end, own_way, place_end, symbol_among, symbol_end}
+use Rattle.module_leads.specs.Layers.{AddsSymbol, IsBrought, IsPut, brought_by, keyed_end, last_brought, own_way, place_end, put_way, symbol_among, symbol_end}
 
 -- ---- other meanings
 
-pub way-put : (old new : Layer) (key : MeaningKey) (meaning : Meaning) (way : way.the_data) → key ≡ record { meaning = meaning } → new.symbols ≡ old.symbols
+before : {A : Type 0} (b : Bool) (x : A) (o p : Option A) → option_or (cond b (Some x) o) p ≡ (if b then Some x else option_or o p)
+before true x o p = refl
+before false x o p = refl
+
+pub way-put : (old new : Layer) (key : MeaningKey) (meaning : Meaning) (way : way.the_data) → key ≡ record { meaning = meaning } → new.symbols ≡ old.symbols → new.brought ≡ old.brought
     → UpdatesBy (λ (a b : MeaningKey). same_standing a.meaning b.meaning) (λ (k : MeaningKey). same_standing key.meaning k.meaning) old.others new.others (Some way) → IsPut old new meaning way
-way-put old new key meaning way is symbols updates = record {
+way-put old new key meaning way is symbols brought updates = record {
   symbols = symbols;
   ways = λ other.
-      updates.0 (record { meaning = other })
-      ∙ ap (λ (b : Bool). cond b (Some way) (own_way old other)) (ap (λ (k : MeaningKey). same_standing k.meaning other) is ∙ standing-back meaning other);
+      (λ i. option_or (put other i) (last_brought (brought i).items other))
+      ∙ before (same_standing other meaning) way (put_way old.others other) (last_brought old.brought.items other);
 }
+  where
+    put : (other : Meaning) → put_way new.others other ≡ cond (same_standing other meaning) (Some way) (put_way old.others other)
+    put other =
+        updates.0 (record { meaning = other })
+        ∙ ap (λ (b : Bool). cond b (Some way) (put_way old.others other)) (ap (λ (k : MeaningKey). same_standing k.meaning other) is ∙ standing-back meaning other)
 
 -- nothing is found where nothing was put
-pub own-none : (layer : Layer) → layer.others.entries ≡ [] → (meaning : Meaning) → own_way layer meaning ≡ None
-own-none layer none meaning = ap (lookup (λ (key : MeaningKey). same_standing meaning key.meaning)) none
+none-put : {S : Type 0} (others : IndexMap MeaningKey way.the_data S) → others.entries ≡ [] → (meaning : Meaning) → put_way others meaning ≡ None
+none-put others none meaning = ap (lookup (λ (key : MeaningKey). same_standing meaning key.meaning)) none
+
+pub own-none : (layer : Layer) → layer.others.entries ≡ [] → layer.brought.items ≡ [] → (meaning : Meaning) → own_way layer meaning ≡ None
+own-none layer none nothing meaning = let put = none-put layer.others none meaning in λ i. option_or (put i) (last_brought (nothing i) meaning)
+
+or-after : {A : Type 0} (a b c : Option A) → option_or (option_or a b) c ≡ option_or a (option_or b c)
+or-after None b c = refl
+or-after (Some x) b c = refl
+
+or-nothing : {A : Type 0} (a : Option A) → a ≡ option_or a None
+or-nothing None = refl
+or-nothing (Some x) = refl
+
+-- the last that is brought comes first
+pub last-more : (brought : List Brought) (more : Brought) (meaning : Meaning) → last_brought (brought ++ more ∷ []) meaning ≡ option_or (brought_by more meaning) (last_brought brought meaning)
+last-more [] more meaning = or-nothing (brought_by more meaning)
+last-more (first ∷ rest) more meaning =
+    ap (λ o. option_or o (brought_by first meaning)) (last-more rest more meaning)
+    ∙ or-after (brought_by more meaning) (last_brought rest meaning) (brought_by first meaning)
+
+-- a table is brought where nothing was put
+pub table-brought : (old new : Layer) (brought : Brought) → old.others.entries ≡ [] → new.symbols ≡ old.symbols → new.others ≡ old.others → new.brought.items ≡ old.brought.items ++ brought ∷ []
+    → IsBrought old new (instantiable (exports_of brought.exports)) brought.instance brought.face
+table-brought old new brought none symbols others more = record {
+  symbols = symbols;
+  ways = λ other.
+      let nothing = none-put old.others none other in
+      (λ i. option_or (put_way (others i) other) (last_brought (more i) other))
+      ∙ (λ i. option_or (nothing i) (last-more old.brought.items brought other i))
+      ∙ (λ i. option_or (brought_by brought other) (option_or (sym nothing i) (last_brought old.brought.items other)));
+}
 
 -- ---- symbols
 

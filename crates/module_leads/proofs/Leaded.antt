@@ -5,18 +5,19 @@ use Rattle.std.specs.Option.{option_or}
 use Rattle.tla_model.specs.declared.entity.Entity.TheVariants as entity
 use Rattle.tla_model.specs.declared.names.Meaning.TheVariants.{BuiltIn, Declared}
 use Rattle.tla_model.specs.Entities.{Meaning}
-use Rattle.tla_model.specs.Tables.{Named}
-use Rattle.tree_names.specs.declared.parameter.Parameter.{Parameter}
-use Rattle.tree_names.specs.Parameters.{entries_in, named_in}
+use Rattle.tla_model.specs.Tables.{Named, Word, Symbol}
+use Rattle.module_model.specs.Exports.{Exports}
+use Rattle.tree_names.specs.declared.parameter.Name.TheVariants as name
+use Rattle.tree_names.specs.Parameters.{named_in}
 use Rattle.tree_kinds.specs.Standing.{name_among, same_standing}
 use Rattle.flat_trees.specs.Layouts.{order_of}
 use Rattle.flat_kinds.specs.Symbols.{same_symbol}
 use Rattle.flattened_trees.specs.declared.End.TheVariants as end
-use Rattle.flattened_trees.specs.Leads.{FlatFace, Lead, Leads, nowhere, only, with_lead, with_leads}
+use Rattle.flattened_trees.specs.Leads.{FlatFace, Lead, Leads, nowhere, only, through, with_lead, with_leads}
 use Rattle.flattened_units.specs.Units.{coming_lead, no_leads, with_brought, with_symbols}
 use Rattle.module_leads.specs.declared.ways.Way.TheVariants as way
 use Rattle.module_leads.specs.Layers.{brought_way, leads_by, put_ways, symbol_among}
-use Rattle.module_leads.specs.Ways.{face_at, unsaid_way, way_lead}
+use Rattle.module_leads.specs.Ways.{face_at, name_as, unsaid_way, way_lead}
 
 -- ---- nothing
 
@@ -31,6 +32,15 @@ unsaid-lead faces (Declared e callee) names = nowhere-only names
 
 pub unsaid-leads : (faces : ℕ → FlatFace) → leads_by faces unsaid_way ≡ no_leads
 unsaid-leads faces = λ i meaning names. unsaid-lead faces meaning names i
+
+-- a name is held as it is
+pub name-held : (name : Named) → named_in (name_as name) ≡ name
+name-held (Word bytes) = refl
+name-held (Symbol op) = refl
+
+pub held-name : (word : name.the_data) → name_as (named_in word) ≡ word
+held-name (name.Word bytes) = refl
+held-name (name.Symbol op) = refl
 
 -- ---- ways over others
 
@@ -58,19 +68,19 @@ module _ (faces : ℕ → FlatFace) (below : Meaning → way.the_data) where
       ∙ ap (λ (l : Leads). with_leads l rest lead) (over-more ways meaning way lead leads)
 
   -- with entries of a module
-  brought-lead : (entries : List Parameter) (j : ℕ) (face : Option ℕ) (ways : Meaning → Option way.the_data) (meaning : Meaning) (names : List Named)
-      → over (λ other. option_or (brought_way entries j face other) (ways other)) meaning names ≡ with_brought (over ways) (entries_in entries) j (face_at faces face) meaning names
+  brought-lead : (entries : Exports) (j : ℕ) (face : Option ℕ) (ways : Meaning → Option way.the_data) (meaning : Meaning) (names : List Named)
+      → over (λ other. option_or (brought_way entries j face other) (ways other)) meaning names ≡ with_brought (over ways) entries j (face_at faces face) meaning names
   brought-lead [] j face ways meaning names = refl
-  brought-lead (entry ∷ rest) j face ways meaning names = by (same_standing meaning entry.meaning) (brought-lead rest j face ways meaning names)
+  brought-lead (entry ∷ rest) j face ways meaning names = by (same_standing meaning entry.1) (brought-lead rest j face ways meaning names)
     where
-      by : (b : Bool) → over (λ other. option_or (brought_way rest j face other) (ways other)) meaning names ≡ coming_lead j (face_at faces face) (over ways meaning names) names (name_among (entries_in rest) meaning) →
-          way_lead faces (unwrap_or (option_or (if b then Some (way.Through j face entry.name) else brought_way rest j face meaning) (ways meaning)) (below meaning)) names
-          ≡ coming_lead j (face_at faces face) (over ways meaning names) names (if b then Some (named_in entry.name) else name_among (entries_in rest) meaning)
-      by true known = refl
+      by : (b : Bool) → over (λ other. option_or (brought_way rest j face other) (ways other)) meaning names ≡ coming_lead j (face_at faces face) (over ways meaning names) names (name_among rest meaning) →
+          way_lead faces (unwrap_or (option_or (if b then Some (way.Through j face (name_as entry.0)) else brought_way rest j face meaning) (ways meaning)) (below meaning)) names
+          ≡ coming_lead j (face_at faces face) (over ways meaning names) names (if b then Some entry.0 else name_among rest meaning)
+      by true known = ap (λ name. through j ((face_at faces face).leads (name ∷ names))) (name-held entry.0)
       by false known = known
 
-  pub over-brought : (entries : List Parameter) (j : ℕ) (face : Option ℕ) (ways : Meaning → Option way.the_data)
-      → over (λ other. option_or (brought_way entries j face other) (ways other)) ≡ with_brought (over ways) (entries_in entries) j (face_at faces face)
+  pub over-brought : (entries : Exports) (j : ℕ) (face : Option ℕ) (ways : Meaning → Option way.the_data)
+      → over (λ other. option_or (brought_way entries j face other) (ways other)) ≡ with_brought (over ways) entries j (face_at faces face)
   over-brought entries j face ways = λ i meaning names. brought-lead entries j face ways meaning names i
 
   -- with symbols

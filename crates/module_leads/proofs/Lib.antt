@@ -1,3 +1,5 @@
+mod Coming
+mod Ended
 mod Following
 mod Keyed
 mod Leaded

@@ -5,23 +5,25 @@ use Rattle.std.specs.Option.{option_or}
 use Rattle.std.proofs.lemmas.List.{map-append, take_more}
 use Rattle.list_laws.proofs.Lists.{at-end, drop-from}
 use Rattle.tla_model.specs.Entities.{Meaning}
-use Rattle.tla_model.specs.Tables.{Named, same_named}
-use Rattle.module_model.specs.Exports.{Exports, entry_of}
+use Rattle.tla_model.specs.Tables.{Named, Table, find, same_named}
+use Rattle.module_model.specs.Exports.{Exports, entry_of, exports_of}
+use Rattle.module_model.proofs.Entries.{entry-of-table}
 use Rattle.tree_kinds.specs.Standing.{same_standing}
 use Rattle.tree_names.specs.declared.parameter.Parameter.{Parameter}
 use Rattle.tree_names.specs.Parameters.{entries_in, named_in}
 use Rattle.flattened_trees.specs.NodeForms.{lead_of}
 use Rattle.flattened_trees.specs.Leads.{FlatFace, Lead, Leads, with_leads}
 use Rattle.flattened_units.specs.Units.{exported_leads, with_brought, with_symbols}
+use Rattle.module_leads.specs.declared.faces.ListedNames.{ListedNames}
 use Rattle.module_leads.specs.declared.faces.ModuleFace.{ModuleFace}
 use Rattle.module_leads.specs.declared.layer.Layer.{Layer}
 use Rattle.module_leads.specs.declared.ways.Way.TheVariants as way
-use Rattle.module_leads.specs.Faces.{HasWays, IsNamedAs, IsNamelessFace, face_leads, faces_of, flat_face, found_lead, way_of}
-use Rattle.module_leads.specs.Layers.{ArePut, HasSymbols, IsBrought, IsPut, IsSilent, brought_way, first_ways, leads_by, listed_way, own_way, put_ways, round_by, said_way, symbol_among, symbol_end, way_by}
+use Rattle.module_leads.specs.Faces.{HasWays, face_leads, faces_of, flat_face, found_lead, table_way, way_among, way_of}
+use Rattle.module_leads.specs.Layers.{ArePut, HasSymbols, IsBrought, IsPut, IsSilent, brought_way, first_ways, layer_way, leads_by, listed_way, own_way, put_ways, round_by, said_way, symbol_among, symbol_end, way_by}
 use Rattle.module_leads.specs.Leading.{AreWithin, entered, face_over, leading, leading_of, left, left_by, nothing_led, with_face}
-use Rattle.module_leads.specs.Ways.{face_at, unsaid_way, way_lead}
+use Rattle.module_leads.specs.Ways.{face_at, name_as, unsaid_way, way_lead}
 use Rattle.module_leads.proofs.Keyed.{ends-none, own-none}
-use Rattle.module_leads.proofs.Leaded.{over, over-all, over-brought, over-symbols, unsaid-leads}
+use Rattle.module_leads.proofs.Leaded.{held-name, over, over-all, over-brought, over-symbols, unsaid-leads}
 use Rattle.module_leads.proofs.Numbered.{at-within, faces-more, length-more}
 use Rattle.module_leads.proofs.Putting.{lookup-more}
 use Rattle.module_leads.proofs.Within.{leads-stay, round-stays}
@@ -85,12 +87,12 @@ defined-leads faces round old new meanings way lead put leads =
     ∙ over-all faces (under round old) meanings (own_way old) way lead leads
     ∙ ap (λ (l : Leads). with_leads l meanings lead) (sym (over-own faces round old))
 
-pub brought-leads : (faces : ℕ → FlatFace) (round : List Layer) (old new : Layer) (entries : List Parameter) (j : ℕ) (face : Option ℕ) → IsBrought old new entries j face
-    → leads_by faces (way_by round new) ≡ with_brought (leads_by faces (way_by round old)) (entries_in entries) j (face_at faces face)
+pub brought-leads : (faces : ℕ → FlatFace) (round : List Layer) (old new : Layer) (entries : Exports) (j : ℕ) (face : Option ℕ) → IsBrought old new entries j face
+    → leads_by faces (way_by round new) ≡ with_brought (leads_by faces (way_by round old)) entries j (face_at faces face)
 brought-leads faces round old new entries j face brought =
     over-put faces round old new (λ other. option_or (brought_way entries j face other) (own_way old other)) brought.symbols brought.ways
     ∙ over-brought faces (under round old) entries j face (own_way old)
-    ∙ ap (λ (l : Leads). with_brought l (entries_in entries) j (face_at faces face)) (sym (over-own faces round old))
+    ∙ ap (λ (l : Leads). with_brought l entries j (face_at faces face)) (sym (over-own faces round old))
 
 -- other leads at a place
 pub led : (faces : List ModuleFace) (round : List Layer) (old new : Layer) (leads : Leads) → leads_by (faces_of faces) (way_by round new) ≡ leads → leading_of faces round new ≡ leading (leading_of faces round old) leads
@@ -99,7 +101,7 @@ led faces round old new leads is = λ i. record { count = length faces; faces = 
 -- ---- nothing is known
 
 pub silent-says : (here : Layer) → IsSilent here → (m : Meaning) → said_way here m ≡ None
-silent-says here silent m = let own = own-none here silent.others m in let symbol = ends-none here.symbols silent.symbols m in λ i. option_or (own i) (option_map (λ e. way.To e) (symbol i))
+silent-says here silent m = let own = own-none here silent.others silent.brought m in let symbol = ends-none here.symbols silent.symbols m in λ i. option_or (own i) (option_map (λ e. way.To e) (symbol i))
 
 pub nothing-known : (faces : List ModuleFace) (round : List Layer) (here : Layer) → faces ≡ [] → round ≡ [] → IsSilent here → leading_of faces round here ≡ nothing_led
 nothing-known faces round here no_faces no_round silent =
@@ -118,7 +120,7 @@ begun faces round longer here inner own place long has =
     ∙ (λ i. record { count = length faces; faces = faces_of faces; leads = inside i; round = round-more (faces_of faces) round here i })
   where
     says : (m : Meaning) → said_way inner m ≡ option_map (λ e. way.To e) (symbol_among own place m)
-    says m = let own_none = own-none inner has.others m in let symbol = has.symbols m in λ i. option_or (own_none i) (option_map (λ e. way.To e) (symbol i))
+    says m = let own_none = own-none inner has.others has.brought m in let symbol = has.symbols m in λ i. option_or (own_none i) (option_map (λ e. way.To e) (symbol i))
 
     outside : first_ways (round ++ here ∷ []) (length (round ++ here ∷ [])) ≡ way_by round here
     outside = ap (first_ways (round ++ here ∷ [])) (length-more round here) ∙ ways-more round here
@@ -144,21 +146,30 @@ named-lead : (faces : ℕ → FlatFace) (ways : Meaning → way.the_data) (found
 named-lead faces ways None names = refl
 named-lead faces ways (Some meaning) names = refl
 
-pub face-over : (faces : ℕ → FlatFace) (ways : Meaning → way.the_data) (bare face : ModuleFace) (parameters : List Parameter) (outer : ℕ) (is_constant : Bool) (entries : Exports)
-    → IsNamelessFace bare parameters outer is_constant → IsNamedAs bare face → HasWays bare face ways entries
-    → flat_face faces face ≡ face_over (entries_in parameters) outer is_constant entries (leads_by faces ways)
-face-over faces ways bare face parameters outer is_constant entries nameless named has = λ i. record {
-  parameters = entries_in ((named.parameters ∙ nameless.parameters_are) i);
-  outer = (named.outer ∙ nameless.outer_is) i;
-  leads = λ names. leads names i;
-  is_constant = (named.is_constant ∙ nameless.constancy) i;
-}
+pub face-over : (faces : ℕ → FlatFace) (ways : Meaning → way.the_data) (face : ModuleFace) (entries : Exports) → ((name : Named) → way_of face name ≡ option_map ways (entry_of entries name))
+    → flat_face faces face ≡ face_over (entries_in face.parameters) face.outer face.is_constant entries (leads_by faces ways)
+face-over faces ways face entries has = λ i. record { parameters = entries_in face.parameters; outer = face.outer; leads = λ names. leads names i; is_constant = face.is_constant }
   where
     leads : (names : List Named) → face_leads faces face names ≡ exported_leads (leads_by faces ways) entries names
     leads [] = refl
-    leads (name ∷ names) =
-        ap (λ o. found_lead faces o names) (has name ∙ ap (λ o. option_or o (option_map ways (entry_of entries name))) (nameless.ways name))
-        ∙ named-lead faces ways (entry_of entries name) names
+    leads (name ∷ names) = ap (λ o. found_lead faces o names) (has name) ∙ named-lead faces ways (entry_of entries name) names
+
+-- names that are listed behind none
+pub listed-ways : (bare names : ListedNames) (ways : Meaning → way.the_data) (entries : Exports) → ((name : Named) → way_among bare name ≡ None) → HasWays bare names ways entries
+    → (name : Named) → way_among names name ≡ option_map ways (entry_of entries name)
+listed-ways bare names ways entries nameless has name = has name ∙ ap (λ o. option_or o (option_map ways (entry_of entries name))) (nameless name)
+
+-- names of a table, where nothing is said round the module
+pub table-ways : (exports : Table Meaning) (here outer : Layer) (round : List Layer) → round ≡ outer ∷ [] → IsSilent outer
+    → (name : Named) → table_way (record { exports = exports; layer = here }) name ≡ option_map (way_by round here) (entry_of (exports_of exports) name)
+table-ways exports here outer round alone silent name =
+    ap (λ (ways : Meaning → way.the_data). option_map ways (find exports name)) (λ i meaning. layer_way here (bare meaning i) meaning)
+    ∙ ap (option_map (way_by round here)) (sym (entry-of-table exports name))
+  where
+    bare : (meaning : Meaning) → unsaid_way meaning ≡ first_ways round (length round) meaning
+    bare meaning =
+        sym (ap (λ o. unwrap_or o (unsaid_way meaning)) (silent-says outer silent meaning))
+        ∙ sym (ap (λ (layers : List Layer). first_ways layers (length layers) meaning) alone)
 
 pub faced : (faces : List ModuleFace) (more : List ModuleFace) (face : ModuleFace) (flat : FlatFace) (round : List Layer) (here : Layer) → more ≡ faces ++ face ∷ [] → flat_face (faces_of faces) face ≡ flat
     → AreWithin faces round here → leading_of more round here ≡ with_face (leading_of faces round here) flat
@@ -193,31 +204,31 @@ put-more old mid new meanings i meaning way known put within is =
     })
 
 -- one more entry is brought, before those behind it
-pub brought-more : (old mid new : Layer) (entries : List Parameter) (i : ℕ) (entry : Parameter) (j : ℕ) (face : Option ℕ) → IsBrought old mid (drop (i + 1) entries) j face
-    → IsPut mid new entry.meaning (way.Through j face entry.name) → i < length entries → entry ≡ get_or entries i entry → IsBrought old new (drop i entries) j face
+pub brought-more : (old mid new : Layer) (entries : List Parameter) (i : ℕ) (entry : Parameter) (j : ℕ) (face : Option ℕ) → IsBrought old mid (entries_in (drop (i + 1) entries)) j face
+    → IsPut mid new entry.meaning (way.Through j face entry.name) → i < length entries → entry ≡ get_or entries i entry → IsBrought old new (entries_in (drop i entries)) j face
 brought-more old mid new entries i entry j face known put within is =
-    subst (λ es. IsBrought old new es j face) (sym (drop-from entries i entry within is))
+    subst (λ es. IsBrought old new (entries_in es) j face) (sym (drop-from entries i entry within is))
     (record {
       symbols = put.symbols ∙ known.symbols;
       ways = λ other. put.ways other ∙ by other (same_standing other entry.meaning);
     })
   where
     by : (other : Meaning) (b : Bool) → (if b then Some (way.Through j face entry.name) else own_way mid other)
-        ≡ option_or (if b then Some (way.Through j face entry.name) else brought_way (drop (i + 1) entries) j face other) (own_way old other)
-    by other true = refl
+        ≡ option_or (if b then Some (way.Through j face (name_as (named_in entry.name))) else brought_way (entries_in (drop (i + 1) entries)) j face other) (own_way old other)
+    by other true = ap (λ name. Some (way.Through j face name)) (sym (held-name entry.name))
     by other false = known.ways other
 
--- one more name of a face
-pub named-more : (old mid new : ModuleFace) (ways : Meaning → way.the_data) (entries : List Parameter) (i : ℕ) (entry : Parameter) (name : Named) (goes : way.the_data) → HasWays old mid ways (entries_in (take i entries))
-    → ((other : Named) → way_of new other ≡ option_or (way_of mid other) (if same_named other name then Some goes else None)) → name ≡ named_in entry.name → goes ≡ ways entry.meaning
+-- one more name that is listed
+pub named-more : (old mid new : ListedNames) (ways : Meaning → way.the_data) (entries : List Parameter) (i : ℕ) (entry : Parameter) (name : Named) (goes : way.the_data) → HasWays old mid ways (entries_in (take i entries))
+    → ((other : Named) → way_among new other ≡ option_or (way_among mid other) (if same_named other name then Some goes else None)) → name ≡ named_in entry.name → goes ≡ ways entry.meaning
     → i < length entries → entry ≡ get_or entries i entry → HasWays old new ways (entries_in (take (i + 1) entries))
 named-more old mid new ways entries i entry name goes known put named leads within is =
     subst (HasWays old new ways) (sym longer)
     (λ other.
     put other
     ∙ (λ i. option_or (known other i) (if same_named other (named i) then Some (leads i) else None))
-    ∙ joined (way_of old other) (entry_of (entries_in (take i entries)) other) (same_named other (named_in entry.name))
-    ∙ ap (λ z. option_or (way_of old other) (option_map ways z)) (sym (lookup-more same_named (entries_in (take i entries)) (named_in entry.name) entry.meaning other)))
+    ∙ joined (way_among old other) (entry_of (entries_in (take i entries)) other) (same_named other (named_in entry.name))
+    ∙ ap (λ z. option_or (way_among old other) (option_map ways z)) (sym (lookup-more same_named (entries_in (take i entries)) (named_in entry.name) entry.meaning other)))
   where
     longer : entries_in (take (i + 1) entries) ≡ entries_in (take i entries) ++ (named_in entry.name, entry.meaning) ∷ []
     longer =

@@ -13,9 +13,9 @@ use Rattle.list_laws.proofs.Texts.{same-text, text-itself, texts-apart}
 use Rattle.tla_symbols.specs.declared.op.Op.{Op}
 use Rattle.tla_model.specs.Tables.{Named, Word, Symbol, lookup, same_named, same_symbol}
 use Rattle.flat_trees.proofs.Meanings.{named-equal}
-use Rattle.module_leads.specs.declared.faces.ModuleFace.{ModuleFace}
+use Rattle.module_leads.specs.declared.faces.ListedNames.{ListedNames}
 use Rattle.module_leads.specs.declared.ways.Way.TheVariants as way
-use Rattle.module_leads.specs.Faces.{way_of}
+use Rattle.module_leads.specs.Faces.{way_among}
 
 or-none : {A : Type 0} (o : Option A) → o ≡ option_or o None
 or-none None = refl
@@ -39,23 +39,23 @@ lookup-more same (entry ∷ entries) key value other = by (same other entry.0) (
     by false rest = rest
 
 -- a name that is there stays
-pub there-stays : (face : ModuleFace) (name : Named) (way : way.the_data) → is_some (way_of face name) ≡ true → (other : Named) → way_of face other ≡ option_or (way_of face other) (if same_named other name then Some way else None)
-there-stays face name way there other = by (same_named other name) refl
+pub there-stays : (names : ListedNames) (name : Named) (way : way.the_data) → is_some (way_among names name) ≡ true → (other : Named) → way_among names other ≡ option_or (way_among names other) (if same_named other name then Some way else None)
+there-stays names name way there other = by (same_named other name) refl
   where
-    by : (b : Bool) → same_named other name ≡ b → way_of face other ≡ option_or (way_of face other) (if b then Some way else None)
-    by true e = or-there (way_of face other) (Some way) (ap (λ (n : Named). is_some (way_of face n)) (named-equal other name e) ∙ there)
-    by false e = or-none (way_of face other)
+    by : (b : Bool) → same_named other name ≡ b → way_among names other ≡ option_or (way_among names other) (if b then Some way else None)
+    by true e = or-there (way_among names other) (Some way) (ap (λ (n : Named). is_some (way_among names n)) (named-equal other name e) ∙ there)
+    by false e = or-none (way_among names other)
 
 -- a symbol goes last
-pub symbol-pushed : (old new : ModuleFace) (op : Op) (way : way.the_data) → new.words ≡ old.words → new.symbols.items ≡ old.symbols.items ++ (op, way) ∷ []
-    → (other : Named) → way_of new other ≡ option_or (way_of old other) (if same_named other (Symbol op) then Some way else None)
+pub symbol-pushed : (old new : ListedNames) (op : Op) (way : way.the_data) → new.words ≡ old.words → new.symbols.items ≡ old.symbols.items ++ (op, way) ∷ []
+    → (other : Named) → way_among new other ≡ option_or (way_among old other) (if same_named other (Symbol op) then Some way else None)
 symbol-pushed old new op way words symbols (Word bytes) = (λ i. get_by_text (words i) bytes) ∙ or-none (get_by_text old.words bytes)
 symbol-pushed old new op way words symbols (Symbol o) = ap (λ z. lookup same_symbol z o) symbols ∙ lookup-more same_symbol old.symbols.items op way o
 
 -- and so does a word
-pub word-put : (old new : ModuleFace) (key : String Global) (word : List ℕ) (way : way.the_data) → string_bytes key ≡ word → is_some (get_by_text old.words word) ≡ false → new.symbols ≡ old.symbols
+pub word-put : (old new : ListedNames) (key : String Global) (word : List ℕ) (way : way.the_data) → string_bytes key ≡ word → is_some (get_by_text old.words word) ≡ false → new.symbols ≡ old.symbols
     → UpdatesBy string_eq (λ k. bytes_eq (string_bytes key) (string_bytes k)) old.words new.words (Some way)
-    → (other : Named) → way_of new other ≡ option_or (way_of old other) (if same_named other (Word word) then Some way else None)
+    → (other : Named) → way_among new other ≡ option_or (way_among old other) (if same_named other (Word word) then Some way else None)
 word-put old new key word way spelled absent symbols updates (Symbol o) = (λ i. lookup same_symbol (symbols i).items o) ∙ or-none (lookup same_symbol old.symbols.items o)
 word-put old new key word way spelled absent symbols updates (Word bytes) =
     hash_map_updates_text (string_bytes key) old.words new.words (Some way) updates bytes

@@ -1,11 +1,15 @@
 -- Ways of meanings by layers, one after another.
-use Rattle.std.proofs.Common.{◌≡◌, ℕ, ◌+◌, ◌<◌, List, Option, Some, None, sym, ap, ◌∙◌, length, get_or, add-one}
+use Rattle.std.proofs.Common.{◌≡◌, ℕ, ◌+◌, ◌<◌, List, [], ◌∷◌, ◌++◌, Option, Some, None, sym, ap, ◌∙◌, length, get_or, take, add-one}
 use Rattle.std.specs.Prelude.{unwrap_or}
+use Rattle.std.specs.Option.{option_or}
+use Rattle.std.proofs.lemmas.List.{take_more}
 use Rattle.std.proofs.lemmas.Option.{slice_get-get_or}
 use Rattle.tla_model.specs.Entities.{Meaning}
+use Rattle.module_leads.specs.declared.layer.Brought.{Brought}
 use Rattle.module_leads.specs.declared.layer.Layer.{Layer}
 use Rattle.module_leads.specs.declared.ways.Way.TheVariants as way
-use Rattle.module_leads.specs.Layers.{first_ways, layer_way, listed_way, said_way}
+use Rattle.module_leads.specs.Layers.{brought_by, first_ways, last_brought, layer_way, listed_way, said_way}
+use Rattle.module_leads.proofs.Keyed.{last-more}
 
 -- by one more layer
 pub ways-next : (layers : List Layer) (i : ℕ) (layer : Layer) (meaning : Meaning) → i < length layers → layer ≡ get_or layers i layer
@@ -27,3 +31,21 @@ pub ways-said : (layers : List Layer) (i : ℕ) (layer : Layer) (meaning : Meani
 ways-said layers i layer meaning all found within is said known =
     ap (λ (o : Option way.the_data). unwrap_or o (first_ways layers i meaning)) said
     ∙ sym (ways-next layers i layer meaning within is) ∙ known
+
+-- ---- what is brought
+
+-- the last of these has something
+pub brought-last : (brought : List Brought) (i : ℕ) (last : Brought) (meaning : Meaning) (all : Option way.the_data) (found : way.the_data) → i < length brought → last ≡ get_or brought i last → Some found ≡ brought_by last meaning
+    → last_brought (take (i + 1) brought) meaning ≡ all → Some found ≡ all
+brought-last brought i last meaning all found within is has known =
+    ap (λ o. option_or o (last_brought (take i brought) meaning)) has
+    ∙ sym (ap (λ z. last_brought z meaning) (take_more brought i last within ∙ ap (λ z. take i brought ++ z ∷ []) (sym is)) ∙ last-more (take i brought) last meaning)
+    ∙ known
+
+-- or it has not
+pub brought-none : (brought : List Brought) (i : ℕ) (last : Brought) (meaning : Meaning) (all : Option way.the_data) → i < length brought → last ≡ get_or brought i last → None ≡ brought_by last meaning
+    → last_brought (take (i + 1) brought) meaning ≡ all → last_brought (take i brought) meaning ≡ all
+brought-none brought i last meaning all within is none known =
+    ap (λ o. option_or o (last_brought (take i brought) meaning)) none
+    ∙ sym (ap (λ z. last_brought z meaning) (take_more brought i last within ∙ ap (λ z. take i brought ++ z ∷ []) (sym is)) ∙ last-more (take i brought) last meaning)
+    ∙ known

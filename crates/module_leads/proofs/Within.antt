@@ -8,7 +8,7 @@ use Rattle.tla_model.specs.declared.names.Meaning.TheVariants.{BuiltIn, Declared
 use Rattle.tla_model.specs.Entities.{Meaning}
 use Rattle.tla_model.specs.Tables.{Named}
 use Rattle.tree_kinds.specs.Standing.{same_standing}
-use Rattle.tree_names.specs.declared.parameter.Parameter.{Parameter}
+use Rattle.module_model.specs.Exports.{Exports}
 use Rattle.tree_names.specs.Parameters.{named_in}
 use Rattle.flattened_trees.specs.declared.End.TheVariants as end
 use Rattle.flattened_trees.specs.Leads.{FlatFace, behind_instance, through}
@@ -17,7 +17,7 @@ use Rattle.module_leads.specs.declared.layer.Layer.{Layer}
 use Rattle.module_leads.specs.declared.ways.Way.TheVariants as way
 use Rattle.module_leads.specs.Faces.{faces_of, flat_face}
 use Rattle.module_leads.specs.Layers.{IsFaceWithin, IsLayerWithin, IsWayWithin, brought_way, first_ways, layer_way, leads_by, listed_way, own_way, put_ways, round_by, symbol_end, way_by}
-use Rattle.module_leads.specs.Ways.{face_at, unsaid_way, way_lead}
+use Rattle.module_leads.specs.Ways.{face_at, name_as, unsaid_way, way_lead}
 use Rattle.module_leads.proofs.Numbered.{faces-more, other-number}
 
 -- ---- what is put
@@ -39,13 +39,13 @@ put-within count [] ways goes here known m = known m
 put-within count (meaning ∷ rest) ways goes here known m =
     put-within count rest (λ other. if same_standing other meaning then Some goes else ways other) goes here (λ other. choice (IsWayWithin count) (same_standing other meaning) goes (ways other) here (known other)) m
 
-pub brought-within : (count : ℕ) (entries : List Parameter) (j : ℕ) (face : Option ℕ) (before : Option way.the_data) (m : Meaning) → IsFaceWithin count face → IfSome before (IsWayWithin count)
+pub brought-within : (count : ℕ) (entries : Exports) (j : ℕ) (face : Option ℕ) (before : Option way.the_data) (m : Meaning) → IsFaceWithin count face → IfSome before (IsWayWithin count)
     → IfSome (option_or (brought_way entries j face m) before) (IsWayWithin count)
 brought-within count entries j face before m here known = either (IsWayWithin count) (brought_way entries j face m) before (among entries) known
   where
-    among : (entries : List Parameter) → IfSome (brought_way entries j face m) (IsWayWithin count)
+    among : (entries : Exports) → IfSome (brought_way entries j face m) (IsWayWithin count)
     among [] = tt
-    among (entry ∷ rest) = choice (IsWayWithin count) (same_standing m entry.meaning) (way.Through j face entry.name) (brought_way rest j face m) here (among rest)
+    among (entry ∷ rest) = choice (IsWayWithin count) (same_standing m entry.1) (way.Through j face (name_as entry.0)) (brought_way rest j face m) here (among rest)
 
 -- nothing leads anywhere where nothing is put
 pub none-within : (count : ℕ) (layer : Layer) → ((m : Meaning) → own_way layer m ≡ None) → IsLayerWithin count layer

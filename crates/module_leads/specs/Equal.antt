@@ -4,12 +4,10 @@ use Rattle.std.specs.Prelude.{ℕ, ◌&&◌, Option, Some, None}
 use Rattle.std.specs.Cmp.{IsEquivalence, both_ways}
 use Rattle.std.proofs.lemmas.Bool.{and_from, and_parts, eq-eqb}
 use Rattle.std.proofs.lemmas.Bool.Decides.{Decides-eqb}
-use Rattle.tla_model.specs.declared.ids.Callee.{Callee}
-use Rattle.tla_model.specs.declared.names.Meaning.TheVariants.{BuiltIn, Declared}
 use Rattle.tla_model.specs.Equal.{meaning-fed}
 use Rattle.tla_model.specs.Keys.{meaning_input}
-use Rattle.tla_model.specs.Entities.{Meaning, same_decl, same_meaning, same_units}
-use Rattle.tla_model.specs.Same.{decl-equal, meaning-itself, same-alike, same-turned, units-equal}
+use Rattle.tla_model.specs.Entities.{Meaning, same_meaning}
+use Rattle.tla_model.specs.Same.{meaning-itself, same-alike, same-turned}
 use Rattle.tree_kinds.specs.Standing.{same_standing}
 use Rattle.tree_kinds.proofs.Standings.{standing-alike, standing-itself, standing-means, standing-turned}
 use Rattle.module_leads.specs.declared.keys.MeaningKey.{MeaningKey}

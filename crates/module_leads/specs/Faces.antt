@@ -1,24 +1,40 @@
 -- What the faces of a table are to their instances.
 use Rattle.indexmap.specs.IndexMap.{get_by_text}
-use Rattle.std.specs.Prelude.{◌≡◌, ℕ, zero, suc, ◌<◌, Bool, List, [], ◌∷◌, Option, Some, None, if◌then◌else◌, length, nat_eq, option_map, slice_get}
-use Rattle.tla_model.specs.Tables.{Named, Word, Symbol, lookup, same_symbol}
+use Rattle.std.specs.Prelude.{◌≡◌, ℕ, zero, suc, ◌<◌, List, [], ◌∷◌, Option, Some, None, if◌then◌else◌, length, nat_eq, option_map, slice_get}
+use Rattle.tla_model.specs.Tables.{Named, Word, Symbol, find, lookup, same_symbol}
 use Rattle.std.specs.Option.{option_or}
 use Rattle.tla_model.specs.Entities.{Meaning}
 use Rattle.module_model.specs.Exports.{Exports, entry_of}
-use Rattle.tree_names.specs.declared.parameter.Parameter.{Parameter}
 use Rattle.tree_names.specs.Parameters.{entries_in}
 use Rattle.flattened_trees.specs.Leads.{FlatFace, Lead, nowhere}
 use Rattle.flattened_units.specs.Units.{no_face}
+use Rattle.module_leads.specs.declared.faces.FaceNames.TheVariants as names
+use Rattle.module_leads.specs.declared.faces.ListedNames.{ListedNames}
 use Rattle.module_leads.specs.declared.faces.ModuleFace.{ModuleFace}
+use Rattle.module_leads.specs.declared.faces.TableNames.{TableNames}
 use Rattle.module_leads.specs.declared.ways.Way.TheVariants as way
-use Rattle.module_leads.specs.Ways.{face_at, way_lead}
+use Rattle.module_leads.specs.Layers.{layer_way}
+use Rattle.module_leads.specs.Ways.{face_at, unsaid_way, way_lead}
 
 -- ---- faces
 
+-- the way of a name among those that are listed
+abbrev pub way_among : ListedNames → Named → Option way.the_data
+way_among names (Word bytes) = get_by_text names.words bytes
+way_among names (Symbol op) = lookup same_symbol names.symbols.items op
+
+-- the way of a name of a table, by what is said of its meaning in the module
+abbrev pub table_way : TableNames → Named → Option way.the_data
+table_way names name = option_map (λ meaning. layer_way names.layer (unsaid_way meaning) meaning) (find names.exports name)
+
+-- the way of a name among these
+abbrev pub named_way : names.the_data → Named → Option way.the_data
+named_way (names.Listed listed) name = way_among listed name
+named_way (names.Table table) name = table_way table name
+
 -- the way of a name that a module has
 abbrev pub way_of : ModuleFace → Named → Option way.the_data
-way_of face (Word bytes) = get_by_text face.words bytes
-way_of face (Symbol op) = lookup same_symbol face.symbols.items op
+way_of face name = named_way face.names name
 
 -- where a name leads whose way may be there
 abbrev pub found_lead : (ℕ → FlatFace) → Option way.the_data → List Named → Lead
@@ -48,22 +64,9 @@ first_faces listed (suc count) number = if nat_eq number count then listed_face 
 abbrev pub faces_of : List ModuleFace → ℕ → FlatFace
 faces_of listed = first_faces listed (length listed)
 
--- the names alone changed
-pub record IsNamedAs (old new : ModuleFace) : Type 0 where
-  pub parameters : new.parameters ≡ old.parameters
-  pub outer : new.outer ≡ old.outer
-  pub is_constant : new.is_constant ≡ old.is_constant
-
--- a face without names
-pub record IsNamelessFace (face : ModuleFace) (parameters : List Parameter) (outer : ℕ) (is_constant : Bool) : Type 0 where
-  pub parameters_are : face.parameters ≡ parameters
-  pub outer_is : face.outer ≡ outer
-  pub constancy : face.is_constant ≡ is_constant
-  pub ways : (name : Named) → way_of face name ≡ None
-
--- the ways of entries by what goes for their meanings, behind those that a face has
-abbrev pub HasWays : ModuleFace → ModuleFace → (Meaning → way.the_data) → Exports → Type 0
-HasWays old new ways entries = (name : Named) → way_of new name ≡ option_or (way_of old name) (option_map ways (entry_of entries name))
+-- the ways of entries by what goes for their meanings, behind those that are listed
+abbrev pub HasWays : ListedNames → ListedNames → (Meaning → way.the_data) → Exports → Type 0
+HasWays old new ways entries = (name : Named) → way_among new name ≡ option_or (way_among old name) (option_map ways (entry_of entries name))
 
 -- a face among the first so many
 pub record IsFaceBefore (listed : List ModuleFace) (limit : ℕ) (face : Option ℕ) (number : ℕ) (found : ModuleFace) : Type 0 where

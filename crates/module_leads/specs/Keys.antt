@@ -1,10 +1,6 @@
 -- What symbols are looked up by in tables.
-use Rattle.std.specs.Prelude.{ℕ, Bool, true, false, ◌&&◌, List, [], ◌++◌, Option, Some, None, flat_map, nat_eq}
-use Rattle.std.specs.Hash as fed
-use Rattle.std.specs.Str.{bytes_eq}
+use Rattle.std.specs.Prelude.{ℕ, Bool, true, false, ◌&&◌, Option, Some, None, nat_eq}
 use Rattle.tla_model.specs.declared.entity.Entity.TheVariants as entity
-use Rattle.tla_model.specs.declared.ids.Callee.{Callee}
-use Rattle.tla_model.specs.declared.ids.UnitId.{UnitId}
 use Rattle.tla_model.specs.declared.names.Meaning.TheVariants.{BuiltIn, Declared}
 use Rattle.tla_model.specs.Entities.{Entity, Meaning, same_meaning}
 use Rattle.module_leads.specs.declared.keys.SymbolKey.{SymbolKey}

@@ -4,17 +4,18 @@ use Rattle.std.specs.Prelude.{◌≡◌, ℕ, zero, suc, ◌<◌, List, [], ◌�
 use Rattle.std.specs.Option.{option_or}
 use Rattle.tla_model.specs.Entities.{Meaning}
 use Rattle.tree_kinds.specs.Standing.{same_standing}
-use Rattle.tree_names.specs.declared.parameter.Parameter.{Parameter}
+use Rattle.module_model.specs.Exports.{Exports, exports_of, instantiable}
 use Rattle.flat_trees.specs.Layouts.{order_of}
 use Rattle.flat_kinds.specs.Symbols.{same_symbol}
 use Rattle.flattened_trees.specs.declared.End.TheVariants as end
 use Rattle.flattened_trees.specs.Leads.{FlatFace, Leads}
 use Rattle.module_leads.specs.declared.keys.MeaningKey.{MeaningKey}
 use Rattle.module_leads.specs.declared.keys.SymbolKey.{SymbolKey}
+use Rattle.module_leads.specs.declared.layer.Brought.{Brought}
 use Rattle.module_leads.specs.declared.layer.Layer.{Layer}
 use Rattle.module_leads.specs.declared.ways.Way.TheVariants as way
 use Rattle.module_leads.specs.Keys.{same_key, symbol_key}
-use Rattle.module_leads.specs.Ways.{unsaid_way, way_lead}
+use Rattle.module_leads.specs.Ways.{name_as, unsaid_way, way_lead}
 
 -- ---- symbols
 
@@ -44,9 +45,27 @@ AddsSymbol old new meaning place =
 
 -- ---- ways
 
+-- the ways of what has these names in a module, through an instance of it: the first that means something counts
+abbrev pub brought_way : Exports → ℕ → Option ℕ → Meaning → Option way.the_data
+brought_way [] j face other = None
+brought_way (entry ∷ rest) j face other = if same_standing other entry.1 then Some (way.Through j face (name_as entry.0)) else brought_way rest j face other
+
+-- the way of what a module brings that is extended
+abbrev pub brought_by : Brought → Meaning → Option way.the_data
+brought_by brought meaning = brought_way (instantiable (exports_of brought.exports)) brought.instance brought.face meaning
+
+-- the same of several modules: the last that has something counts
+abbrev pub last_brought : List Brought → Meaning → Option way.the_data
+last_brought [] meaning = None
+last_brought (brought ∷ rest) meaning = option_or (last_brought rest meaning) (brought_by brought meaning)
+
+-- the way of what was put
+abbrev pub put_way : {S : Type 0} → IndexMap MeaningKey way.the_data S → Meaning → Option way.the_data
+put_way others meaning = get_by (λ (key : MeaningKey). same_standing meaning key.meaning) others
+
 -- the way of what is defined or brought
 abbrev pub own_way : Layer → Meaning → Option way.the_data
-own_way layer meaning = get_by (λ (key : MeaningKey). same_standing meaning key.meaning) layer.others
+own_way layer meaning = option_or (put_way layer.others meaning) (last_brought layer.brought.items meaning)
 
 -- the way of what is said of a meaning: what is defined or brought, or else a symbol
 abbrev pub said_way : Layer → Meaning → Option way.the_data
@@ -79,24 +98,21 @@ round_by faces layers (suc count) = leads_by faces (first_ways layers (suc count
 pub record IsSilent (layer : Layer) : Type 0 where
   pub symbols : layer.symbols.entries ≡ []
   pub others : layer.others.entries ≡ []
+  pub brought : layer.brought.items ≡ []
 
 -- these symbols are all that is said, at places from this one on
 pub record HasSymbols (layer : Layer) (own : List Meaning) (place : ℕ) : Type 0 where
   pub symbols : (other : Meaning) → symbol_end layer.symbols other ≡ symbol_among own place other
   pub others : layer.others.entries ≡ []
+  pub brought : layer.brought.items ≡ []
 
 -- something is put that goes this way
 pub record IsPut (old new : Layer) (meaning : Meaning) (way : way.the_data) : Type 0 where
   pub symbols : new.symbols ≡ old.symbols
   pub ways : (other : Meaning) → own_way new other ≡ (if same_standing other meaning then Some way else own_way old other)
 
--- the ways of what has these names in a module, through an instance of it: the first that means something counts
-abbrev pub brought_way : List Parameter → ℕ → Option ℕ → Meaning → Option way.the_data
-brought_way [] j face other = None
-brought_way (entry ∷ rest) j face other = if same_standing other entry.meaning then Some (way.Through j face entry.name) else brought_way rest j face other
-
 -- entries of a module are brought, through an instance of it
-pub record IsBrought (old new : Layer) (entries : List Parameter) (j : ℕ) (face : Option ℕ) : Type 0 where
+pub record IsBrought (old new : Layer) (entries : Exports) (j : ℕ) (face : Option ℕ) : Type 0 where
   pub symbols : new.symbols ≡ old.symbols
   pub ways : (other : Meaning) → own_way new other ≡ option_or (brought_way entries j face other) (own_way old other)
 

@@ -1,5 +1,5 @@
 -- What is known at a place of a module of where names lead.
-use Rattle.std.specs.Prelude.{ℕ, suc, Bool, List, [], ◌∷◌, if◌then◌else◌, length, nat_eq}
+use Rattle.std.specs.Prelude.{◌≡◌, ℕ, suc, Bool, List, [], ◌∷◌, if◌then◌else◌, length, nat_eq}
 use Rattle.std.specs.List.{AllByRecursion}
 use Rattle.tla_model.specs.Entities.{Meaning}
 use Rattle.module_model.specs.Exports.{Exports}
@@ -9,7 +9,7 @@ use Rattle.module_leads.specs.declared.faces.ModuleFace.{ModuleFace}
 use Rattle.module_leads.specs.declared.layer.Layer.{Layer}
 use Rattle.module_leads.specs.declared.leads.ModuleLeads.{ModuleLeads}
 use Rattle.module_leads.specs.Faces.{faces_of}
-use Rattle.module_leads.specs.Layers.{IsLayerWithin, leads_by, round_by, way_by}
+use Rattle.module_leads.specs.Layers.{IsLayerWithin, IsSilent, leads_by, round_by, way_by}
 
 -- what modules are to their instances, by so many numbers, and none by any other; where meanings lead, and where they led round
 -- the nested modules in which the place is, the innermost first
@@ -73,3 +73,19 @@ pub record AreWithin (faces : List ModuleFace) (round : List Layer) (here : Laye
 -- the same in code
 abbrev pub IsSound : ModuleLeads → Type 0
 IsSound leads = AreWithin leads.faces.items leads.round.items leads.here
+
+-- ---- a module ends
+
+-- one module alone is round the place, of which nothing is said
+pub record IsOutermost (round : List Layer) : Type 0 where
+  pub outer : Layer
+  pub alone : round ≡ outer ∷ []
+  pub silent : IsSilent outer
+
+-- the place is left for the one round it, and what was said in the module is handed over
+pub record IsTaken (old new : ModuleLeads) (layer : Layer) : Type 0 where
+  pub faces : new.faces ≡ old.faces
+  pub here : layer ≡ old.here
+  pub round : old.round.items ≡ new.here ∷ []
+  pub left : new.round.items ≡ []
+  pub silent : IsSilent new.here

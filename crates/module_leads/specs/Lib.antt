@@ -6,3 +6,4 @@ pub mod Leading
 pub mod Paths
 pub mod There
 pub mod Ways
+pub mod Brought

@@ -4,12 +4,15 @@ use Rattle.tla_symbols.specs.declared.level.Kind.TheVariants.{Const, State}
 use Rattle.tla_symbols.specs.declared.level.Kind.{Kind}
 use Rattle.tla_model.specs.declared.entity.Entity.TheVariants as entity
 use Rattle.tla_model.specs.declared.names.Meaning.TheVariants.{BuiltIn, Declared}
-use Rattle.tla_model.specs.Tables.{Named}
+use Rattle.tla_model.specs.Tables.{Named, Word, Symbol}
+use Rattle.name_context.specs.AsTables.{meant_by}
+use Rattle.tree_names.specs.declared.parameter.Name.TheVariants as name
 use Rattle.tla_model.specs.Entities.{Entity, Meaning}
 use Rattle.tree_names.specs.Parameters.{named_in}
 use Rattle.flattened_trees.specs.declared.End.TheVariants as end
 use Rattle.flattened_trees.specs.Leads.{FlatFace, Lead, behind_instance, only, through}
 use Rattle.flattened_units.specs.Units.{no_face}
+use Rattle.module_leads.specs.declared.ways.FoundWay.TheVariants as found
 use Rattle.module_leads.specs.declared.ways.Way.TheVariants as way
 
 -- the face with a number, or that of no module
@@ -21,7 +24,7 @@ face_at faces (Some number) = faces number
 abbrev pub way_lead : (ℕ → FlatFace) → way.the_data → List Named → Lead
 way_lead faces (way.To e) names = only e names
 way_lead faces (way.Behind j face) names = behind_instance j (face_at faces face) names
-way_lead faces (way.Through j face name) names = through j ((face_at faces face).leads (named_in name ∷ names))
+way_lead faces (way.Through j face word) names = through j ((face_at faces face).leads (named_in word ∷ names))
 
 -- the kind of a bound name
 abbrev pub bound_kind : Bool → Kind
@@ -36,3 +39,14 @@ unsaid_entity _ = way.To end.Nowhere
 abbrev pub unsaid_way : Meaning → way.the_data
 unsaid_way BuiltIn = way.To (end.Leaf Const)
 unsaid_way (Declared e callee) = unsaid_entity e
+
+-- a name of the definitions, as one that is held
+abbrev pub name_as : Named → name.the_data
+name_as (Word bytes) = name.Word bytes
+name_as (Symbol op) = name.Symbol op
+
+-- a way as it is found, as one that is kept
+abbrev pub found_way : found.the_data → way.the_data
+found_way (found.Put way) = way.now
+found_way (found.To e) = way.To e
+found_way (found.Through j face word) = way.Through j face (name_as (meant_by word))

@@ -1,20 +1,70 @@
 // What modules are to those that name them, in a table.
-ghost use Rattle.std.specs.Prelude.{◌≡◌, ◌≤◌, IfOk, MatchOption, None, OnOk, Some, if◌then◌else◌, length};
+ghost use Rattle.std.specs.Prelude.{◌≡◌, ◌≤◌, IfOk, MatchOption, None, OnOk, Some, if◌then◌else◌, length, option_map};
 ghost use Rattle.std.specs.Option.{option_copied, option_or};
 ghost use Rattle.name_context.specs.AsTables.{meant_by};
 ghost use Rattle.tla_model.specs.Tables as tables;
 ghost use Rattle.tree_names.specs.Parameters.{entries_in};
 ghost use Rattle.flattened_units.specs.Units.{no_face};
-ghost use Rattle.module_leads.specs.Faces.{IsFaceBefore, IsNamedAs, IsNamelessFace, faces_of, first_faces, way_of};
-ghost use Rattle.module_leads.specs.Ways.{face_at};
+ghost use Rattle.module_leads.specs.Faces.{IsFaceBefore, faces_of, first_faces, table_way, way_among, way_of};
+ghost use Rattle.module_leads.specs.Ways.{face_at, found_way};
 
-use crate::ways::{Way, copied_name};
+use crate::layer::{Layer, Sought};
+use crate::ways::{FoundWay, Way, copied_name};
 use indexmap::IndexMap;
 use name_context::{Named, symbol_in};
 use std::alloc::Global;
+use tla_model::{Meaning, NameTable};
 use tla_symbols::Op;
 use tool_list::{List, Memory};
 use tree_names::Parameter;
+
+/// Names with where they lead, one by one.
+pub struct ListedNames {
+    pub words: IndexMap<String, Way>,
+    // There are few symbols, so they are looked through.
+    pub symbols: Vec<(Op, Way)>,
+}
+
+// By hand, so that a proof meets one call wherever a value ends.
+impl Drop for ListedNames {
+    fn drop(self) {
+        let ListedNames {
+            words: _,
+            symbols: _,
+        } = self;
+    }
+}
+
+/// The names that a module exports by a table. They lead where their meanings did behind its units.
+pub struct TableNames {
+    pub exports: NameTable,
+    pub layer: Layer,
+}
+
+// By hand, so that a proof meets one call wherever a value ends.
+impl Drop for TableNames {
+    fn drop(self) {
+        let TableNames {
+            exports: _,
+            layer: _,
+        } = self;
+    }
+}
+
+/// The names of a module, with where they lead.
+pub enum FaceNames {
+    Listed(ListedNames),
+    Table(TableNames),
+}
+
+// By hand, so that a proof meets one call wherever a value ends.
+impl Drop for FaceNames {
+    fn drop(self) {
+        match self {
+            FaceNames::Listed(_) | FaceNames::Table(_) => {}
+        }
+    }
+}
 
 /// What a module is to those that name it.
 pub struct ModuleFace {
@@ -23,10 +73,7 @@ pub struct ModuleFace {
     /// How many symbols of modules round it come before these.
     pub outer: usize,
     pub is_constant: bool,
-    /// Where its names lead.
-    pub words: IndexMap<String, Way>,
-    // There are few symbols, so they are looked through.
-    pub symbols: Vec<(Op, Way)>,
+    pub names: FaceNames,
 }
 
 // By hand, so that a proof meets one call wherever a value ends.
@@ -36,35 +83,25 @@ impl Drop for ModuleFace {
             parameters: _,
             outer: _,
             is_constant: _,
-            words: _,
-            symbols: _,
+            names: _,
         } = self;
     }
 }
 
-impl ModuleFace {
-    /// A face without names, by the symbols of the module, how many come before these, and whether it
-    /// is constant.
-    pub(crate) fn new(
-        alloc: Global,
-        parameters: List<Parameter>,
-        outer: usize,
-        is_constant: bool,
-    ) -> ModuleFace
-        ensures { IsNamelessFace result parameters outer is_constant }
+impl ListedNames {
+    /// No names.
+    pub(crate) fn new(alloc: Global) -> ListedNames
+        ensures { (name : tables.Named) → way_among result name ≡ None }
     {
-        ModuleFace {
-            parameters,
-            outer,
-            is_constant,
+        ListedNames {
             words: IndexMap::new(alloc),
             symbols: Vec::new(alloc),
         }
     }
 
-    /// Where a name leads that the module has.
-    pub(crate) fn way(&self, name: Named<'_>) -> Option<&Way>
-        ensures { option_copied result ≡ way_of self.now (meant_by name.entry) }
+    // The way of a name, as it was put.
+    fn put_way(&self, name: Named<'_>) -> Option<&Way>
+        ensures { option_copied result ≡ way_among self.now (meant_by name.entry) }
     {
         match name {
             Named::Word(word) => self.words.get(word),
@@ -72,12 +109,19 @@ impl ModuleFace {
         }
     }
 
+    // Where a name leads.
+    fn way(&self, name: Named<'_>) -> Option<FoundWay<'_>>
+        ensures { option_map found_way result ≡ way_among self.now (meant_by name.entry) }
+    {
+        let way = self.put_way(name)?;
+        Some(FoundWay::Put(way))
+    }
+
     /// Puts a name with where it leads. One that is there stays as it is.
     pub(crate) fn put(&mut self, alloc: Global, name: Named<'_>, way: Way) -> Result<(), Memory>
-        ensures way { OnOk result ((other : tables.Named) → way_of self.new other
-            ≡ option_or (way_of self.old other)
+        ensures { OnOk result ((other : tables.Named) → way_among self.new other
+            ≡ option_or (way_among self.old other)
             (if tables.same_named other (meant_by name.entry) then Some way else None)) }
-        ensures others { OnOk result (IsNamedAs self.old self.new) }
     {
         match name {
             Named::Word(word) => self.put_word(alloc, word, way),
@@ -86,10 +130,9 @@ impl ModuleFace {
     }
 
     fn put_word(&mut self, alloc: Global, word: &str, way: Way) -> Result<(), Memory>
-        ensures way { OnOk result ((other : tables.Named) → way_of self.new other
-            ≡ option_or (way_of self.old other)
+        ensures { OnOk result ((other : tables.Named) → way_among self.new other
+            ≡ option_or (way_among self.old other)
             (if tables.same_named other (tables.Word word.now) then Some way else None)) }
-        ensures others { OnOk result (IsNamedAs self.old self.new) }
     {
         if self.words.contains_key(word) {
             return Ok(());
@@ -100,16 +143,52 @@ impl ModuleFace {
     }
 
     fn put_symbol(&mut self, op: Op, way: Way) -> Result<(), Memory>
-        ensures way { OnOk result ((other : tables.Named) → way_of self.new other
-            ≡ option_or (way_of self.old other)
+        ensures { OnOk result ((other : tables.Named) → way_among self.new other
+            ≡ option_or (way_among self.old other)
             (if tables.same_named other (tables.Symbol op) then Some way else None)) }
-        ensures others { OnOk result (IsNamedAs self.old self.new) }
     {
         if symbol_in(self.symbols.as_slice(), op).is_some() {
             return Ok(());
         }
         self.symbols.push((op, way))?;
         Ok(())
+    }
+}
+
+// What a name means in a table.
+fn meaning_in<'b>(table: &'b NameTable, name: Named<'_>) -> Option<&'b Meaning>
+    ensures { option_copied result ≡ tables.find table.now (meant_by name.entry) }
+{
+    match name {
+        Named::Word(word) => table.word_among(table.len(), word),
+        Named::Symbol(op) => symbol_in(table.symbols(), op),
+    }
+}
+
+impl TableNames {
+    // Where a name leads.
+    fn way(&self, name: Named<'_>) -> Result<Option<FoundWay<'_>>, Memory>
+        ensures { IfOk result (λ way. option_map found_way way
+            ≡ table_way self.now (meant_by name.entry)) }
+    {
+        let Some(meaning) = meaning_in(&self.exports, name) else {
+            return Ok(None);
+        };
+        let sought = Sought::new(meaning)?;
+        Ok(Some(self.layer.way_alone(&sought)))
+    }
+}
+
+impl ModuleFace {
+    /// Where a name leads that the module has.
+    pub(crate) fn way(&self, name: Named<'_>) -> Result<Option<FoundWay<'_>>, Memory>
+        ensures { IfOk result (λ way. option_map found_way way
+            ≡ way_of self.now (meant_by name.entry)) }
+    {
+        match &self.names {
+            FaceNames::Listed(names) => Ok(names.way(name)),
+            FaceNames::Table(names) => names.way(name),
+        }
     }
 }
 

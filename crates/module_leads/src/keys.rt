@@ -10,8 +10,8 @@ use std::hash::{Hash, Hasher};
 use tla_model::{Entity, Meaning};
 use tool_list::Memory;
 
-// Whether it is a name that a quantifier, a function or a set binds.
-fn is_bound(meaning: &Meaning) -> bool
+/// Whether it is a name that a quantifier, a function or a set binds.
+pub(crate) fn is_bound(meaning: &Meaning) -> bool
     ensures { result ≡ standing.is_bound meaning.now }
 {
     match meaning {

@@ -1,26 +1,53 @@
 // What is said of names in one module.
-ghost use Rattle.std.specs.Prelude.{◌≡◌, ◌+◌, ◌<◌, ◌^◌, IfOk, OnOk, length};
+ghost use Rattle.std.specs.Prelude.{◌≡◌, ◌+◌, ◌<◌, ◌^◌, [], IfOk, IsTrue, OnOk, length, option_map};
 ghost use Rattle.std.specs.Option.{option_copied};
 ghost use Rattle.tla_model.specs.Entities as entities;
-ghost use Rattle.module_leads.specs.Layers.{AddsSymbol, HasSymbols, IsPut, IsSilent, first_ways, keyed_end, place_end};
-ghost use Rattle.module_leads.specs.Layers.{said_way, symbol_among, symbol_end};
-ghost use Rattle.module_leads.specs.Ways.{unsaid_way};
+ghost use Rattle.module_model.specs.Exports.{exports_of, instantiable};
+ghost use Rattle.name_context.specs.AsTables.{meant_by};
+ghost use Rattle.module_leads.specs.Brought.{name_meaning, symbol_meaning};
+ghost use Rattle.module_leads.specs.Layers.{AddsSymbol, HasSymbols, IsBrought, IsPut, IsSilent, brought_by, first_ways, keyed_end, layer_way};
+ghost use Rattle.module_leads.specs.Layers.{last_brought, place_end, said_way, symbol_among, symbol_end};
+ghost use Rattle.module_leads.specs.Ways.{found_way, unsaid_way};
+ghost use Rattle.module_leads.specs.declared.ways.Way.TheVariants as way;
 
-use crate::keys::{MeaningKey, SymbolKey};
-use crate::ways::{Way, unsaid_way};
+use crate::keys::{MeaningKey, SymbolKey, is_bound};
+use crate::ways::{FoundWay, Way, unsaid_end};
 use flattened_trees::End;
 use indexmap::IndexMap;
+use name_context::Named;
 use std::alloc::Global;
 use std::marker::Model;
-use tla_model::Meaning;
+use tla_model::{Meaning, NameTable};
+use tla_symbols::Op;
 use tool_list::Memory;
+
+/// What a module brings that is extended: the definitions and instances that it exports, through an instance
+/// of it.
+pub struct Brought {
+    pub exports: NameTable,
+    pub instance: usize,
+    pub face: Option<usize>,
+}
+
+// By hand, so that a proof meets one call wherever a value ends.
+impl Drop for Brought {
+    fn drop(self) {
+        let Brought {
+            exports: _,
+            instance: _,
+            face: _,
+        } = self;
+    }
+}
 
 /// What is said of names in one module, over what is said round it.
 pub struct Layer {
     // Its symbols, each at a place.
     pub symbols: IndexMap<SymbolKey, End>,
-    // What is defined and brought.
+    // What is defined, and what is brought as a list.
     pub others: IndexMap<MeaningKey, Way>,
+    // What is brought as a table, behind all that was put. The last that has something counts.
+    pub brought: Vec<Brought>,
 }
 
 // By hand, so that a proof meets one call wherever a value ends.
@@ -29,6 +56,7 @@ impl Drop for Layer {
         let Layer {
             symbols: _,
             others: _,
+            brought: _,
         } = self;
     }
 }
@@ -71,11 +99,11 @@ impl Sought {
         Ok(Sought { meaning, symbol })
     }
 
-    // The way of the meaning where nothing is said of it.
-    fn unsaid(&self) -> Way
-        ensures { result ≡ unsaid_way self.now }
+    // Where the meaning ends where nothing is said of it.
+    fn unsaid(&self) -> End
+        ensures { way.To result ≡ unsaid_way self.now }
     {
-        unsaid_way(&self.meaning.meaning)
+        unsaid_end(&self.meaning.meaning)
     }
 }
 
@@ -125,6 +153,60 @@ fn symbols_at(
     Ok(symbols)
 }
 
+// The symbol that means this and can be named behind an instance, if there is one.
+fn symbol_meaning(symbols: &[(Op, Meaning)], meaning: &Meaning) -> Option<Op>
+    ensures { result ≡ symbol_meaning symbols.now meaning.now }
+{
+    for (op, meant) in symbols {
+        if meant.stands_behind() && meaning == meant {
+            return Some(*op);
+        }
+    }
+    None
+}
+
+impl Brought {
+    // The name of the module that means this, if it brings one.
+    fn name(&self, meaning: &Meaning) -> Option<Named<'_>>
+        ensures { option_map meant_by result ≡ name_meaning self.now.exports meaning.now }
+    {
+        if let Some((word, _)) = self.exports.word_meaning(meaning) {
+            return Some(Named::Word(word));
+        }
+        let op = symbol_meaning(self.exports.symbols(), meaning)?;
+        Some(Named::Symbol(op))
+    }
+
+    // The way of what it brings. A bound name is nothing that a module brings.
+    fn way(&self, meaning: &Meaning) -> Option<FoundWay<'_>>
+        ensures { option_map found_way result ≡ brought_by self.now meaning.now }
+    {
+        if is_bound(meaning) {
+            return None;
+        }
+        let name = self.name(meaning)?;
+        Some(FoundWay::Through {
+            instance: self.instance,
+            face: self.face,
+            name,
+        })
+    }
+}
+
+// The way of what these bring: the last that has something counts.
+fn last_brought<'b>(brought: &'b [Brought], meaning: &Meaning) -> Option<FoundWay<'b>>
+    ensures { option_map found_way result ≡ last_brought brought.now meaning.now }
+{
+    let mut index = brought.len();
+    while index > 0 {
+        index -= 1;
+        if let Some(way) = brought[index].way(meaning) {
+            return Some(way);
+        }
+    }
+    None
+}
+
 impl Layer {
     /// Nothing is said.
     pub fn new(alloc: Global) -> Layer
@@ -133,6 +215,7 @@ impl Layer {
         Layer {
             symbols: IndexMap::new(alloc),
             others: IndexMap::new(alloc),
+            brought: Vec::new(alloc),
         }
     }
 
@@ -146,6 +229,7 @@ impl Layer {
         Ok(Layer {
             symbols: symbols_at(alloc, own, place)?,
             others: IndexMap::new(alloc),
+            brought: Vec::new(alloc),
         })
     }
 
@@ -168,32 +252,66 @@ impl Layer {
         }
     }
 
+    /// Whether nothing was put; what is brought as a table can stand behind that.
+    pub fn has_none_put(&self) -> bool
+        ensures { IsTrue result → self.now.others.entries ≡ [] }
+    {
+        self.others.is_empty()
+    }
+
+    /// Whether nothing is said.
+    pub fn is_silent(&self) -> bool
+        ensures { IsTrue result → IsSilent self.now }
+    {
+        self.symbols.is_empty() && self.others.is_empty() && self.brought.is_empty()
+    }
+
+    /// Brings what a table has, through an instance of its module, before all that was brought.
+    pub fn bring(&mut self, brought: Brought) -> Result<(), Memory>
+        requires { self.old.others.entries ≡ [] }
+        ensures { OnOk result (IsBrought self.old self.new (instantiable (exports_of brought.exports))
+            brought.instance brought.face) }
+    {
+        self.brought.push(brought)?;
+        Ok(())
+    }
+
     /// The way of what is said of a meaning.
-    pub fn way(&self, sought: &Sought) -> Result<Option<Way>, Memory>
-        ensures { IfOk result (λ way. way ≡ said_way self.now sought.now) }
+    pub fn way(&self, sought: &Sought) -> Option<FoundWay<'_>>
+        ensures { option_map found_way result ≡ said_way self.now sought.now }
     {
         if let Some(way) = self.others.get(&sought.meaning) {
-            return Ok(Some(way.copied()?));
+            return Some(FoundWay::Put(way));
         }
-        match self.symbol(sought.symbol.as_ref()) {
-            Some(end) => Ok(Some(Way::To(end))),
-            None => Ok(None),
+        if let Some(way) = last_brought(self.brought.as_slice(), &sought.meaning.meaning) {
+            return Some(way);
+        }
+        let end = self.symbol(sought.symbol.as_ref())?;
+        Some(FoundWay::To(end))
+    }
+
+    /// The way of a meaning by this layer alone.
+    pub fn way_alone(&self, sought: &Sought) -> FoundWay<'_>
+        ensures { found_way result ≡ layer_way self.now (unsaid_way sought.now) sought.now }
+    {
+        match self.way(sought) {
+            Some(way) => way,
+            None => FoundWay::To(sought.unsaid()),
         }
     }
 }
 
 /// The way of a meaning by these layers, each over those before it.
-pub(crate) fn way_in(layers: &[Layer], sought: &Sought) -> Result<Way, Memory>
-    ensures { IfOk result (λ way. way
-        ≡ first_ways layers.now (length layers.now) sought.now) }
+pub(crate) fn way_in<'b>(layers: &'b [Layer], sought: &Sought) -> FoundWay<'b>
+    ensures { found_way result ≡ first_ways layers.now (length layers.now) sought.now }
 {
     let mut index = layers.len();
     while index > 0 {
         index -= 1;
-        match layers[index].way(sought)? {
-            Some(way) => return Ok(way),
+        match layers[index].way(sought) {
+            Some(way) => return way,
             None => {}
         }
     }
-    Ok(sought.unsaid())
+    FoundWay::To(sought.unsaid())
 }

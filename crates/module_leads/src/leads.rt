@@ -1,26 +1,30 @@
 // What is known at a place of a module of where names lead.
-ghost use Rattle.std.specs.Prelude.{◌≡◌, ◌∷◌, IfOk, OnOk, Some, length, map};
-ghost use Rattle.module_model.specs.Exports.{exports_of, of_symbols, of_words};
+ghost use Rattle.std.specs.Prelude.{◌≡◌, ◌∷◌, IfNone, IfOk, IfSome, IsTrue, OnOk, Some, length, map};
+ghost use Rattle.module_model.specs.Exports.{exports_of, instantiable, of_symbols, of_words};
 ghost use Rattle.name_context.specs.AsTables.{meant_by};
 ghost use Rattle.tree_names.specs.Parameters.{entries_in};
 ghost use Rattle.flattened_trees.specs.Leads.{behind_instance, only, with_leads};
 ghost use Rattle.flattened_units.specs.Units.{face_by, with_brought};
 ghost use Rattle.tree_flattener.specs.Found.{lead_in};
-ghost use Rattle.module_leads.specs.Ways.{face_at};
-ghost use Rattle.module_leads.specs.Faces.{HasWays, IsNamedAs, faces_of};
+ghost use Rattle.module_leads.specs.Ways.{face_at, found_way};
+ghost use Rattle.module_leads.specs.Faces.{HasWays, faces_of};
 ghost use Rattle.module_leads.specs.Layers.{ArePut, IsBrought, IsFaceWithin, way_by};
-ghost use Rattle.module_leads.specs.Leading.{IsSound, face_over, leading_in};
+ghost use Rattle.module_leads.specs.Leading.{IsOutermost, IsSound, IsTaken, face_over, leading_in};
 ghost use Rattle.module_leads.specs.Leading as known;
 
-use crate::faces::{ModuleFace, face_is_constant, face_outer, face_parameters};
-use crate::layer::{Layer, Sought, way_in};
+use crate::entries::{brought_entries, table_entries};
+use crate::faces::{
+    FaceNames, ListedNames, ModuleFace, TableNames, face_is_constant, face_outer, face_parameters,
+};
+use crate::layer::{Brought, Layer, Sought, way_in};
 use crate::paths::{face_lead, follow};
-use crate::ways::{Way, copied_name};
+use crate::ways::{FoundWay, Way, copied_name};
 use flattened_trees::End;
+use indexmap::IndexMap;
 use name_context::Named;
 use std::alloc::Global;
 use std::mem;
-use tla_model::{Meaning, NameTable};
+use tla_model::{Meaning, NameTable, copied_symbols};
 use tla_symbols::Op;
 use tool_list::{List, Memory};
 use tree_flattener::Lead;
@@ -54,7 +58,7 @@ fn put_brought(
     instance: usize,
     face: Option<usize>,
 ) -> Result<(), Memory>
-    ensures { OnOk result (IsBrought layer.old layer.new entries.now instance face) }
+    ensures { OnOk result (IsBrought layer.old layer.new (entries_in entries.now) instance face) }
 {
     let mut index = entries.len();
     while index > 0 {
@@ -94,15 +98,70 @@ fn known_face(faces: &[ModuleFace], face: Option<usize>) -> Option<usize>
     }
 }
 
+// The same names. Their words are shared.
+fn same_table(alloc: Global, table: &NameTable) -> Result<NameTable, Memory>
+    ensures { IfOk result (λ same. same ≡ table.now) }
+{
+    // The proof needs that no name of the table is there twice.
+    let _len = table.len();
+    let symbols = copied_symbols(alloc, table.symbols())?;
+    table.extended(alloc, IndexMap::new(alloc), symbols)
+}
+
+// Puts entries of a table, as a list.
+fn put_table_brought(
+    alloc: Global,
+    layer: &mut Layer,
+    exports: &NameTable,
+    instance: usize,
+    face: Option<usize>,
+) -> Result<(), Memory>
+    ensures { OnOk result (IsBrought layer.old layer.new (instantiable (exports_of exports.now))
+        instance face) }
+{
+    let entries = table_entries(alloc, exports)?;
+    let brought = brought_entries(alloc, None, entries.as_slice())?;
+    put_brought(layer, brought.as_slice(), instance, face)
+}
+
+// Brings what a module exports by a table: as the table, where nothing was put before it.
+fn bring_exports(
+    alloc: Global,
+    layer: &mut Layer,
+    exports: &NameTable,
+    instance: usize,
+    face: Option<usize>,
+) -> Result<(), Memory>
+    ensures { OnOk result (IsBrought layer.old layer.new (instantiable (exports_of exports.now))
+        instance face) }
+{
+    if !layer.has_none_put() {
+        return put_table_brought(alloc, layer, exports, instance, face);
+    }
+    let exports = same_table(alloc, exports)?;
+    layer.bring(Brought {
+        exports,
+        instance,
+        face,
+    })
+}
+
 // The way of a meaning by what is said of it here, and round this.
-fn way_by(round: &[Layer], here: &Layer, meaning: &Meaning) -> Result<Way, Memory>
+fn way_by<'b>(round: &'b [Layer], here: &'b Layer, sought: &Sought) -> FoundWay<'b>
+    ensures { found_way result ≡ way_by round.now here.now sought.now }
+{
+    match here.way(sought) {
+        Some(way) => way,
+        None => way_in(round, sought),
+    }
+}
+
+// The same, to be kept.
+fn kept_way(alloc: Global, round: &[Layer], here: &Layer, meaning: &Meaning) -> Result<Way, Memory>
     ensures { IfOk result (λ way. way ≡ way_by round.now here.now meaning.now) }
 {
     let sought = Sought::new(meaning)?;
-    if let Some(way) = here.way(&sought)? {
-        return Ok(way);
-    }
-    way_in(round, &sought)
+    way_by(round, here, &sought).owned(alloc)
 }
 
 // Puts entries with where their meanings lead.
@@ -110,16 +169,15 @@ fn put_entries(
     alloc: Global,
     round: &[Layer],
     here: &Layer,
-    face: &mut ModuleFace,
+    names: &mut ListedNames,
     entries: &[Parameter],
 ) -> Result<(), Memory>
-    ensures ways { OnOk result (HasWays face.old face.new (way_by round.now here.now)
+    ensures { OnOk result (HasWays names.old names.new (way_by round.now here.now)
         (entries_in entries.now)) }
-    ensures others { OnOk result (IsNamedAs face.old face.new) }
 {
     for entry in entries {
-        let way = way_by(round, here, &entry.meaning)?;
-        face.put(alloc, entry.name.named(), way)?;
+        let way = kept_way(alloc, round, here, &entry.meaning)?;
+        names.put(alloc, entry.name.named(), way)?;
     }
     Ok(())
 }
@@ -129,19 +187,18 @@ fn put_words(
     alloc: Global,
     round: &[Layer],
     here: &Layer,
-    face: &mut ModuleFace,
+    names: &mut ListedNames,
     table: &NameTable,
 ) -> Result<(), Memory>
-    ensures ways { OnOk result (HasWays face.old face.new (way_by round.now here.now)
+    ensures { OnOk result (HasWays names.old names.new (way_by round.now here.now)
         (of_words table.now.words)) }
-    ensures others { OnOk result (IsNamedAs face.old face.new) }
 {
     for index in 0..table.len() {
         let Some((word, meaning)) = table.word_at(index) else {
             unreachable!();
         };
-        let way = way_by(round, here, meaning)?;
-        face.put(alloc, Named::Word(word), way)?;
+        let way = kept_way(alloc, round, here, meaning)?;
+        names.put(alloc, Named::Word(word), way)?;
     }
     Ok(())
 }
@@ -151,16 +208,15 @@ fn put_symbols(
     alloc: Global,
     round: &[Layer],
     here: &Layer,
-    face: &mut ModuleFace,
+    names: &mut ListedNames,
     symbols: &[(Op, Meaning)],
 ) -> Result<(), Memory>
-    ensures ways { OnOk result (HasWays face.old face.new (way_by round.now here.now)
+    ensures { OnOk result (HasWays names.old names.new (way_by round.now here.now)
         (of_symbols symbols.now)) }
-    ensures others { OnOk result (IsNamedAs face.old face.new) }
 {
     for (op, meaning) in symbols {
-        let way = way_by(round, here, meaning)?;
-        face.put(alloc, Named::Symbol(*op), way)?;
+        let way = kept_way(alloc, round, here, meaning)?;
+        names.put(alloc, Named::Symbol(*op), way)?;
     }
     Ok(())
 }
@@ -170,16 +226,25 @@ fn put_table(
     alloc: Global,
     round: &[Layer],
     here: &Layer,
-    face: &mut ModuleFace,
+    names: &mut ListedNames,
     table: &NameTable,
 ) -> Result<(), Memory>
-    ensures ways { OnOk result (HasWays face.old face.new (way_by round.now here.now)
+    ensures { OnOk result (HasWays names.old names.new (way_by round.now here.now)
         (exports_of table.now)) }
-    ensures others { OnOk result (IsNamedAs face.old face.new) }
 {
-    put_words(alloc, round, here, face, table)?;
-    put_symbols(alloc, round, here, face, table.symbols())?;
+    put_words(alloc, round, here, names, table)?;
+    put_symbols(alloc, round, here, names, table.symbols())?;
     Ok(())
+}
+
+// Whether one module alone is round the place, of which nothing is said.
+fn is_outermost(round: &[Layer]) -> bool
+    ensures { IsTrue result → IsOutermost round.now }
+{
+    match round {
+        [outer] => outer.is_silent(),
+        _ => false,
+    }
 }
 
 impl ModuleLeads {
@@ -234,6 +299,25 @@ impl ModuleLeads {
         Ok(())
     }
 
+    /// Brings what a module exports by a table, and can be named behind an instance, through one of it. Where
+    /// nothing was defined and nothing brought as a list in the module that is read, nothing is listed.
+    pub fn bring_table(
+        &mut self,
+        alloc: Global,
+        exports: &NameTable,
+        instance: usize,
+        face: Option<usize>,
+    ) -> Result<(), Memory>
+        ensures known { OnOk result (leading_in self.new ≡ known.leading (leading_in self.old)
+            (with_brought (leading_in self.old).leads (instantiable (exports_of exports.now))
+            instance (face_at (leading_in self.old).faces face))) }
+        ensures sound { OnOk result (IsSound self.old → IsSound self.new) }
+    {
+        let face = known_face(&self.faces, face);
+        bring_exports(alloc, &mut self.here, exports, instance, face)?;
+        Ok(())
+    }
+
     /// Defines these: where no name follows, they lead to this.
     pub fn define(&mut self, meanings: &[Meaning], to: End) -> Result<(), Memory>
         ensures known { OnOk result (leading_in self.new ≡ known.leading (leading_in self.old)
@@ -271,8 +355,9 @@ impl ModuleLeads {
         ensures { IfOk result (λ lead. lead_in lead
             ≡ (leading_in self.now).leads meaning.now (map meant_by names.now)) }
     {
-        let way = way_by(&self.round, &self.here, meaning)?;
-        follow(alloc, &self.faces, self.faces.len(), &way, names)
+        let sought = Sought::new(meaning)?;
+        let way = way_by(&self.round, &self.here, &sought);
+        follow(alloc, &self.faces, self.faces.len(), way, names)
     }
 
     /// Adds what a module is to its instances, by its symbols with their names, how many symbols of
@@ -293,15 +378,20 @@ impl ModuleLeads {
             (leading_in self.old).leads)) }
         ensures sound { OnOk result (IsSound self.new) }
     {
-        let mut face = ModuleFace::new(alloc, parameters, outer, is_constant);
-        put_entries(alloc, &self.round, &self.here, &mut face, entries)?;
+        let mut names = ListedNames::new(alloc);
+        put_entries(alloc, &self.round, &self.here, &mut names, entries)?;
         let number = self.faces.len();
-        self.faces.push(face)?;
+        self.faces.push(ModuleFace {
+            parameters,
+            outer,
+            is_constant,
+            names: FaceNames::Listed(names),
+        })?;
         Ok(number)
     }
 
-    /// The same by a table of what the module exports.
-    pub fn add_table(
+    // The same by a table of what the module exports.
+    fn add_table(
         &mut self,
         alloc: Global,
         parameters: List<Parameter>,
@@ -316,10 +406,65 @@ impl ModuleLeads {
             (leading_in self.old).leads)) }
         ensures sound { OnOk result (IsSound self.new) }
     {
-        let mut face = ModuleFace::new(alloc, parameters, outer, is_constant);
-        put_table(alloc, &self.round, &self.here, &mut face, exports)?;
+        let mut names = ListedNames::new(alloc);
+        put_table(alloc, &self.round, &self.here, &mut names, exports)?;
         let number = self.faces.len();
-        self.faces.push(face)?;
+        self.faces.push(ModuleFace {
+            parameters,
+            outer,
+            is_constant,
+            names: FaceNames::Listed(names),
+        })?;
+        Ok(number)
+    }
+
+    // Goes out of the innermost module and hands over what is said in it, if one alone is round it, of
+    // which nothing is said.
+    fn take_layer(&mut self) -> Option<Layer>
+        ensures none { IfNone result (self.new ≡ self.old) }
+        ensures taken { IfSome result (λ layer. IsTaken self.old self.new layer) }
+    {
+        if !is_outermost(self.round.as_slice()) {
+            return None;
+        }
+        let mut layer = self.round.pop()?;
+        mem::swap(&mut self.here, &mut layer);
+        Some(layer)
+    }
+
+    /// Ends the innermost module, as `leave`, and adds what it is to its instances, by its symbols with
+    /// their names, how many symbols of modules round it come before these, whether it is constant, and a
+    /// table of what it exports, and answers its number. Of an outermost module what is said in it is kept
+    /// as it is, and nothing is listed.
+    pub fn end(
+        &mut self,
+        alloc: Global,
+        parameters: List<Parameter>,
+        outer: usize,
+        is_constant: bool,
+        exports: &NameTable,
+    ) -> Result<usize, Memory>
+        requires { IsSound self.old }
+        ensures number { IfOk result (λ number. number ≡ (leading_in self.old).count) }
+        ensures known { OnOk result (leading_in self.new
+            ≡ known.left (known.with_face (leading_in self.old)
+            (face_over (entries_in parameters) outer is_constant (exports_of exports.now)
+            (leading_in self.old).leads))) }
+        ensures sound { OnOk result (IsSound self.new) }
+    {
+        let Some(layer) = self.take_layer() else {
+            let number = self.add_table(alloc, parameters, outer, is_constant, exports)?;
+            self.leave();
+            return Ok(number);
+        };
+        let exports = same_table(alloc, exports)?;
+        let number = self.faces.len();
+        self.faces.push(ModuleFace {
+            parameters,
+            outer,
+            is_constant,
+            names: FaceNames::Table(TableNames { exports, layer }),
+        })?;
         Ok(number)
     }
 

@@ -6,10 +6,10 @@ ghost use Rattle.flattened_trees.specs.Leads as leading;
 ghost use Rattle.tree_flattener.specs.Found.{lead_in};
 ghost use Rattle.module_leads.specs.Paths.{IsWayBefore, LeadsNowhere, next_lead};
 ghost use Rattle.module_leads.specs.Faces.{faces_of, first_faces};
-ghost use Rattle.module_leads.specs.Ways.{face_at, way_lead};
+ghost use Rattle.module_leads.specs.Ways.{face_at, found_way, way_lead};
 
 use crate::faces::{ModuleFace, face_before};
-use crate::ways::Way;
+use crate::ways::{FoundWay, Way};
 use flattened_trees::End;
 use name_context::Named;
 use std::alloc::Global;
@@ -64,8 +64,8 @@ fn step_behind<'a>(instance: usize, face: Option<usize>, names: &'a [Named<'a>])
     }
 }
 
-// What follows a way at these names.
-fn next_of<'a>(way: &'a Way, names: &'a [Named<'a>]) -> Next<'a>
+// What follows a way that was put, at these names.
+fn next_of_put<'a>(way: &'a Way, names: &'a [Named<'a>]) -> Next<'a>
     ensures { (faces : ℕ → FlatFace) → next_lead faces result
         ≡ way_lead faces way.now (map meant_by names.now) }
 {
@@ -85,20 +85,47 @@ fn next_of<'a>(way: &'a Way, names: &'a [Named<'a>]) -> Next<'a>
     }
 }
 
+// What follows a way at these names.
+fn next_of<'a>(way: FoundWay<'a>, names: &'a [Named<'a>]) -> Next<'a>
+    ensures { (faces : ℕ → FlatFace) → next_lead faces result
+        ≡ way_lead faces (found_way way.entry) (map meant_by names.now) }
+{
+    match way {
+        FoundWay::Put(way) => next_of_put(way, names),
+        FoundWay::To(end) => end_of(end, names),
+        FoundWay::Through {
+            instance,
+            face,
+            name,
+        } => Next::Step {
+            instance,
+            face,
+            name,
+            rest: names,
+        },
+    }
+}
+
 // The way of a name behind a face among the first so many, and the number of the face.
 fn way_before<'a>(
     faces: &'a [ModuleFace],
     limit: usize,
     face: Option<usize>,
     name: Named<'_>,
-) -> Option<(usize, &'a Way)>
+) -> Result<Option<(usize, FoundWay<'a>)>, Memory>
     requires { limit ≤ length faces.now }
-    ensures { MatchOption result (LeadsNowhere faces.now limit face (meant_by name.entry))
-        (λ found. IsWayBefore faces.now limit face (meant_by name.entry) found.0 found.1.now) }
+    ensures { IfOk result (λ way. MatchOption way
+        (LeadsNowhere faces.now limit face (meant_by name.entry))
+        (λ found. IsWayBefore faces.now limit face (meant_by name.entry) found.0
+        (found_way found.1))) }
 {
-    let (number, face) = face_before(faces, limit, face)?;
-    let way = face.way(name)?;
-    Some((number, way))
+    let Some((number, face)) = face_before(faces, limit, face) else {
+        return Ok(None);
+    };
+    let Some(way) = face.way(name)? else {
+        return Ok(None);
+    };
+    Ok(Some((number, way)))
 }
 
 /// Where a name leads that goes this way, at the names that follow, by the first so many faces.
@@ -106,12 +133,12 @@ pub(crate) fn follow<'a>(
     alloc: Global,
     faces: &'a [ModuleFace],
     limit: usize,
-    way: &'a Way,
+    way: FoundWay<'a>,
     names: &'a [Named<'a>],
 ) -> Result<Lead, Memory>
     requires { limit ≤ length faces.now }
     ensures { IfOk result (λ lead. lead_in lead
-        ≡ way_lead (first_faces faces.now limit) way.now (map meant_by names.now)) }
+        ≡ way_lead (first_faces faces.now limit) (found_way way.entry) (map meant_by names.now)) }
 {
     let mut path = Vec::new(alloc);
     let mut limit = limit;
@@ -126,7 +153,8 @@ pub(crate) fn follow<'a>(
                 rest,
             } => {
                 path.push(instance)?;
-                let Some((number, further)) = way_before(faces, limit, face, name) else {
+                let found = way_before(faces, limit, face, name)?;
+                let Some((number, further)) = found else {
                     return Ok(Lead {
                         path,
                         end: End::Nowhere,
@@ -163,7 +191,8 @@ pub(crate) fn face_lead<'a>(
     let Some((name, rest)) = first_of(names) else {
         return Ok(nowhere(alloc));
     };
-    let Some((number, way)) = way_before(faces, faces.len(), face, name) else {
+    let found = way_before(faces, faces.len(), face, name)?;
+    let Some((number, way)) = found else {
         return Ok(nowhere(alloc));
     };
     let lead = follow(alloc, faces, number, way, rest)?;

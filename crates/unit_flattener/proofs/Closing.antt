@@ -2,7 +2,7 @@
 use Rattle.std.proofs.Common.{◌≡◌, ℕ, ◌<◌, Bool, List, [], ◌∷◌, Option, reverse, refl, sym, ap, subst, ◌∙◌, arith}
 use Rattle.std.proofs.lemmas.List.{append-nil}
 use Rattle.unit_grammar.specs.Units.{ModuleUnits}
-use Rattle.tla_model.specs.Entities.{Meaning, Text}
+use Rattle.tla_model.specs.Entities.{Meaning}
 use Rattle.tla_model.specs.Tables.{Table}
 use Rattle.module_model.specs.Exports.{Exports, exports_of, files_of}
 use Rattle.module_model.specs.Imports.{Imports}
@@ -22,9 +22,6 @@ use Rattle.tree_flattener.proofs.Stepping.{extends-on, steps-on}
 use Rattle.module_leads.specs.Leading.{IsSound, Leading, face_over, leading_in, left, left_by, with_face}
 use Rattle.module_leads.specs.There.{AllLeadWithin}
 use Rattle.module_leads.proofs.Led.{faced-there, left-there}
-use Rattle.unit_scope.specs.EnclosingReadings.{IsAt}
-use Rattle.unit_scope.specs.Readings.{Over}
-use Rattle.unit_scope.specs.Steps.{over_for}
 use Rattle.unit_flattener.specs.Modules.{BeginsAreEnded, IsBetween, IsModuleWalked}
 use Rattle.unit_flattener.specs.Numbers.{KeepsFaces, file_faces}
 use Rattle.unit_flattener.specs.Walked.{AreBrought, AreUnitsWalked, ExtendsAll, WalksAll, leading_with}

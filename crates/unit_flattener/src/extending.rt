@@ -14,7 +14,7 @@ ghost use Rattle.unit_flattener.specs.Walking.{IsWithinUnits, face_number, world
 use crate::flattener::UnitFlattener;
 use crate::known::Known;
 use accepted_modules::views_go_together;
-use brought_entries::extended_entries;
+use brought_entries::{extended_entries, extended_table};
 use kind_table::{Instance, Replacement};
 use std::alloc::Global;
 use tla_symbols::Lexeme;
@@ -130,9 +130,13 @@ impl<'a> UnitFlattener<'a> {
     {
         views_go_together();
         let name = written.text.spelled(module);
-        let entries = extended_entries(alloc, &self.reader, name)?;
         let face = self.face(name);
-        self.leads.bring(entries.as_slice(), instance, face)?;
+        let Some(exports) = extended_table(&self.reader, name) else {
+            let entries = extended_entries(alloc, &self.reader, name)?;
+            self.leads.bring(entries.as_slice(), instance, face)?;
+            return Ok(());
+        };
+        self.leads.bring_table(alloc, exports, instance, face)?;
         Ok(())
     }
 

@@ -92,10 +92,7 @@ fn ended(
         is_constant (exports_of exports.now) (leading_in walker.entry.leads).leads))) }
 {
     let mut walker = walker;
-    let face = walker
-        .leads
-        .add_table(alloc, symbols, 0, is_constant, exports)?;
-    walker.leads.leave();
+    let face = walker.leads.end(alloc, symbols, 0, is_constant, exports)?;
     Ok(Flattened {
         tables: walker.into_tables(),
         face,

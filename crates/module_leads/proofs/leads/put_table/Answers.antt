@@ -5,8 +5,8 @@ use Rattle.module_leads.specs.Layers.{way_by}
 use Rattle.module_leads.proofs.Tabled.{ways-both}
 use Rattle.module_leads.proofs.leads.put_table.Goals as goal
 
-pub returns-clause-ways : goal.returns-clause-ways
-returns-clause-ways c =
+pub returns : goal.returns
+returns c =
     let ways = way_by c.args.round.now c.args.here.now in
-    ways-both c.args.face.now c.put_words.new.face c.put_symbols.new.face ways (of_words c.args.table.now.words) (of_symbols c.args.table.now.symbols) c.in_ok-put_words.ensures.ways
-    (subst (λ symbols. HasWays c.put_words.new.face c.put_symbols.new.face ways (of_symbols symbols)) c.symbols.ensures c.in_ok-put_symbols.ensures.ways)
+    ways-both c.args.names.now c.put_words.new.names c.put_symbols.new.names ways (of_words c.args.table.now.words) (of_symbols c.args.table.now.symbols) c.in_ok-put_words.ensures
+    (subst (λ symbols. HasWays c.put_words.new.names c.put_symbols.new.names ways (of_symbols symbols)) c.symbols.ensures c.in_ok-put_symbols.ensures)

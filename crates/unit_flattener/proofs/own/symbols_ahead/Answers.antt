@@ -1,14 +1,11 @@
-use Rattle.std.proofs.Common.{◌≡◌, ◌∙◌, ap, false, map, reverse, subst, sym}
-use Rattle.std.specs.List.{All}
-use Rattle.std.proofs.lemmas.Bool.{OnTrue_at}
+use Rattle.std.proofs.Common.{◌∙◌, ap, map}
 use Rattle.unit_grammar.specs.UnitNodes.{module_of, unit_at}
 use Rattle.tla_model.specs.Lexemes.{LiesIn}
 use Rattle.module_model.specs.Exports.{files_of}
 use Rattle.module_model.specs.Resolution.{words_of, first as first_read}
 use Rattle.unit_scope.specs.Steps.{over_for}
 use Rattle.unit_scope.proofs.Onward.{units-lie}
-use Rattle.unit_flattener.specs.Ahead.{begins, own_ahead}
-use Rattle.unit_flattener.proofs.Ahead.{none-begun}
+use Rattle.unit_flattener.specs.Ahead.{own_ahead}
 use Rattle.unit_flattener.proofs.own.symbols_ahead.Goals as goal
 
 pub own_symbols-requires-clause-lie : goal.own_symbols-requires-clause-lie

@@ -17,5 +17,5 @@ returns-clause-sound c = λ sound. record {
   outer = subst (AllByRecursion (IsLayerWithin (length c.args.self.now.faces.items))) (sym (c.in_ok-push.ensures.items ∙ ap (λ layer. c.args.self.now.round.items ++ layer ∷ []) c.swap.ensures.y_after))
       (all-more (IsLayerWithin (length c.args.self.now.faces.items)) c.args.self.now.round.items c.args.self.now.here sound.outer sound.inner);
   inner = subst (IsLayerWithin (length c.args.self.now.faces.items)) (sym c.swap.ensures.x_after)
-      (none-within (length c.args.self.now.faces.items) c.in_ok-inner.inner (own-none c.in_ok-inner.inner c.in_ok-inner.ensures.others));
+      (none-within (length c.args.self.now.faces.items) c.in_ok-inner.inner (own-none c.in_ok-inner.inner c.in_ok-inner.ensures.others c.in_ok-inner.ensures.brought));
 }
