@@ -1,0 +1,4 @@
+mod Telling
+mod Deep
+mod Known
+mod Kept
