@@ -50,6 +50,14 @@ module _ (flat more : FlatModule) (extends : Extends flat more) (f g : ℕ → R
   form-agree (Form.Symbol rule) places is all u = plain-agree (trees.Symbol rule) places is all
   form-agree (Form.Lambda d) places is all u = let definition = definition-agree d u in let parts = parts-agree is all in λ k. Lambda (definition k) places (parts k)
 
+pub tree-step : (flat : FlatModule) (i : ℕ) (node : Node) → IsOrdered flat → slice_get flat.nodes i ≡ Some node → resolved flat i ≡ form_at flat (resolved flat) node.form node.places node.parts
+tree-step flat i node ordered e =
+    let earlier = ordered i node e in
+    along-step Missing (tree_step flat) i
+    ∙ ap (node_at flat (before Missing (resolved flat) i)) e
+    ∙ form-agree flat flat (record { nodes = λ j x at. at; definitions = λ j x at. at; instances = λ j x at. at }) (before Missing (resolved flat) i) (resolved flat) i (λ j l. before-lt Missing (resolved flat) i j l)
+    node.form node.places node.parts earlier.parts earlier.uses
+
 module _ (flat more : FlatModule) (extends : Extends flat more) (ordered : IsOrdered flat) where
   -- n is above the node
   same-below : (n i : ℕ) → i < n → i < length flat.nodes → resolved flat i ≡ resolved more i

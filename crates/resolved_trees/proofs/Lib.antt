@@ -1,4 +1,4 @@
 mod Telling
 mod Deep
 mod Known
-mod Kept
+pub mod Kept
