@@ -46,7 +46,7 @@ module _ (flat : FlatModule) (ordered : IsOrdered flat) where
   of-told name (ConsTree (TreeNode form at parts) others) [] = refl
   of-told name (ConsTree (TreeNode form at parts) others) (i ∷ is) = refl
 
-  staying-told : (place count : ℕ) (kept made : List Replacement) → AreStaying flat place count kept → replacements_at flat (resolved flat) (kept ++ made) ≡ staying place count (replacements_at flat (resolved flat) made)
+  pub staying-told : (place count : ℕ) (kept made : List Replacement) → AreStaying flat place count kept → replacements_at flat (resolved flat) (kept ++ made) ≡ staying place count (replacements_at flat (resolved flat) made)
   staying-told place zero [] made are = refl
   staying-told place zero (r ∷ kept) made are = absurd are
   staying-told place (suc count) [] made are = absurd are

@@ -1,4 +1,4 @@
-mod Nodes
+pub mod Nodes
 pub mod Settings
 pub mod Instances
 pub mod Told

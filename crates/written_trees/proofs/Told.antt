@@ -287,7 +287,7 @@ module _ (flat : FlatModule) (ordered : IsOrdered flat) (text : Text) (means : �
 
   -- ---- all forms
 
-  inner-hold : (form : Form.the_data) (s : Span) (parts : Trees) → HoldsInstances (TreeNode form s parts) → AllHoldInstances parts
+  pub inner-hold : (form : Form.the_data) (s : Span) (parts : Trees) → HoldsInstances (TreeNode form s parts) → AllHoldInstances parts
   inner-hold form s parts holds = by (defines form) holds
     where
       by : (d : Defines) → HoldsBy parts d → AllHoldInstances parts
