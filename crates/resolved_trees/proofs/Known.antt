@@ -26,7 +26,7 @@ form-places flat f (Form.Name path d) places parts = refl
 form-places flat f (Form.Symbol rule) places parts = refl
 form-places flat f (Form.Lambda d) places parts = refl
 
-node-places : (flat : FlatModule) (f : ℕ → Resolved) (o : Option Node) → places_in (node_at flat f o) ≡ places_of o
+pub node-places : (flat : FlatModule) (f : ℕ → Resolved) (o : Option Node) → places_in (node_at flat f o) ≡ places_of o
 node-places flat f None = refl
 node-places flat f (Some node) = form-places flat f node.form node.places node.parts
 

@@ -1,4 +1,4 @@
-mod Telling
-mod Deep
-mod Known
+pub mod Telling
+pub mod Deep
+pub mod Known
 pub mod Kept

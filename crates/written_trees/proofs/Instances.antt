@@ -14,7 +14,7 @@ use Rattle.flattened_trees.specs.Flattened.{AreReplacing, AreStaying, HasNode, I
 use Rattle.flattened_trees.specs.Leads as flat_leads
 use Rattle.flattened_trees.specs.NodeForms as nodes
 use Rattle.flattened_trees.specs.Questions.{Question}
-use Rattle.resolved_trees.specs.Resolved.{Nil, Replace, Replaced, Replacements, Resolved, instance_at, replacements_at, resolved}
+use Rattle.resolved_trees.specs.Resolved.{Nil, Replace, Replaced, Replacements, instance_at, replacements_at, resolved}
 use Rattle.resolved_trees.proofs.Kept.{tree-step}
 use Rattle.written_trees.specs.Leading.{face_in, leads_in, setting_in}
 use Rattle.written_trees.specs.Written.{Right, instance_of, lead_of, named, replacing, right_for, right_of, staying}
@@ -27,17 +27,17 @@ module _ (flat : FlatModule) (ordered : IsOrdered flat) where
 
   -- a right side, by its tree
   abbrev pub right_in : FlatRight → Right
-  right_in right = record { name = right.name; tree = resolved flat right.node }
+  right_in right = record { name = right.name; tree = resolved flat right.node; at = right.at }
 
   abbrev pub rights_in : List FlatRight → List Right
   rights_in rights = map right_in rights
 
-  for-told : (rights : List FlatRight) (name : Named) → right_for (rights_in rights) name ≡ option_map (λ (right : FlatRight). resolved flat right.node) (flattened.right_for rights name)
+  pub for-told : (rights : List FlatRight) (name : Named) → right_for (rights_in rights) name ≡ option_map right_in (flattened.right_for rights name)
   for-told [] name = refl
   for-told (right ∷ rest) name = by (same_named name right.name) (for-told rest name)
     where
-      by : (b : Bool) → right_for (rights_in rest) name ≡ option_map (λ (r : FlatRight). resolved flat r.node) (flattened.right_for rest name)
-          → (if b then Some (resolved flat right.node) else right_for (rights_in rest) name) ≡ option_map (λ (r : FlatRight). resolved flat r.node) (if b then Some right else flattened.right_for rest name)
+      by : (b : Bool) → right_for (rights_in rest) name ≡ option_map right_in (flattened.right_for rest name)
+          → (if b then Some (right_in right) else right_for (rights_in rest) name) ≡ option_map right_in (if b then Some right else flattened.right_for rest name)
       by true more = refl
       by false more = more
 
@@ -57,9 +57,9 @@ module _ (flat : FlatModule) (ordered : IsOrdered flat) where
 
   module _ (leads : flat_leads.Leads) (frame : List Meaning) (constant : Bool) (rights : List FlatRight) (l : Lexeme) where
     -- what stands for parameters, by whether something is written for the first
-    abbrev replaced_by : Named × Meaning → Exports → List Meaning → Option Resolved → Replacements
+    abbrev replaced_by : Named × Meaning → Exports → List Meaning → Option Right → Replacements
     replaced_by parameter parameters symbols found = elim found [
-      | Some tree ↦ Replace tree (Some (greatest_level constant parameter.1)) (replacing (leads_in flat leads) constant (rights_in rights) parameters symbols)
+      | Some right ↦ Replace right.tree (Some (greatest_level constant parameter.1)) (replacing (leads_in flat leads) constant (rights_in rights) parameters symbols)
       | None ↦ Replace (named (operator_places (Some parameter.1)) (lead_of (leads_in flat leads) (slice_get symbols 0) []) Nil) (Some (greatest_level constant parameter.1))
           (replacing (leads_in flat leads) constant (rights_in rights) parameters (drop 1 symbols))
     ]
@@ -86,12 +86,12 @@ module _ (flat : FlatModule) (ordered : IsOrdered flat) where
         by (Some right) e (root, asks, are) again =
             let further = again symbols rest are in
             (λ i. Replace (resolved flat (root i)) (most i) (further i))
-            ∙ sym (ap (replaced_by parameter parameters symbols) (for-told rights parameter.0 ∙ ap (option_map (λ (x : FlatRight). resolved flat x.node)) e))
+            ∙ sym (ap (replaced_by parameter parameters symbols) (for-told rights parameter.0 ∙ ap (option_map right_in) e))
         by None e (has, asks, are) again =
             let tree = node-told r.root _ has ∙ meant-told flat (operator_places (Some parameter.1)) leads (slice_get symbols 0) [] [] in
             let further = again (drop 1 symbols) rest are in
             (λ i. Replace (tree i) (most i) (further i))
-            ∙ sym (ap (replaced_by parameter parameters symbols) (for-told rights parameter.0 ∙ ap (option_map (λ (x : FlatRight). resolved flat x.node)) e))
+            ∙ sym (ap (replaced_by parameter parameters symbols) (for-told rights parameter.0 ∙ ap (option_map right_in) e))
 
   pub instance-told : (text : Text) (means : ℕ → Option Meaning) (implied : ℕ → List Meaning) (faces : List ℕ → flat_leads.FlatFace) (setting : flat_leads.Setting) (outer count : ℕ) (guards : Bool) (l : Lexeme) (rights : List FlatRight) (j : ℕ) (asked : List Question)
       → IsInstance text means implied faces flat setting outer count guards l rights j asked

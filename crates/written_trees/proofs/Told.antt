@@ -69,7 +69,7 @@ module _ (flat : FlatModule) (ordered : IsOrdered flat) (text : Text) (means : �
     | false ↦ (first ≡ []) × (a ≡ [])
   ]
 
-  operands-told : (taken : Form.the_data → Bool) (parts : Trees) (setting : flat_leads.Setting) (is : List ℕ) (asked : List Question) → EachTold parts
+  pub operands-told : (taken : Form.the_data → Bool) (parts : Trees) (setting : flat_leads.Setting) (is : List ℕ) (asked : List Question) → EachTold parts
       → AreOperands text means implied faces flat taken setting parts is asked → trees flat is ≡ operands_in taken (setting_in flat setting) parts
   operands-told taken NoTrees setting is asked each (none, asks) = ap (trees flat) none
   operands-told taken (ConsTree (TreeNode form s parts) rest) setting is asked each (first, others, a, b, joined, asks, here, more) =
@@ -137,7 +137,7 @@ module _ (flat : FlatModule) (ordered : IsOrdered flat) (text : Text) (means : �
       resolved_faces_of l = face_in flat (flattened.face_of text means implied faces flat l)
   through-told-by (ConsTree (TreeNode form s parts) rest) outside setting own count lead roots asked each holds is = through-told-by rest outside setting own count lead roots asked each.2 holds is
 
-  root-told : (is : List ℕ) (root : ℕ) → IsRoot flat is root → resolved flat root ≡ root_of (trees flat is)
+  pub root-told : (is : List ℕ) (root : ℕ) → IsRoot flat is root → resolved flat root ≡ root_of (trees flat is)
   root-told [] root has = node-told flat ordered root nodes.constant_node has
   root-told (i ∷ is) root same = ap (resolved flat) same
 

@@ -4,6 +4,7 @@ use Rattle.tla_symbols.specs.declared.level.Kind.TheVariants.{Const}
 use Rattle.tla_symbols.specs.declared.level.Rule.{Rule}
 use Rattle.tla_symbols.specs.declared.level.Rule.TheVariants as rule
 use Rattle.tla_symbols.specs.declared.lexeme.Lexeme.{Lexeme}
+use Rattle.tla_symbols.specs.declared.lexeme.Span.{Span}
 use Rattle.tla_symbols.specs.declared.place.Fix.TheVariants.{Prefix, Infix, Postfix}
 use Rattle.tla_tree.specs.declared.form.Form.TheVariants as Form
 use Rattle.tla_tree.specs.Forms.{helps}
@@ -104,19 +105,20 @@ let_over (Some body) roots = Node Let None (Cons body roots)
 
 -- ---- replacements
 
--- a right side that is written for a name
+-- a right side that is written for a name, and where it stands
 pub record Right : Type 0 where
   pub name : Named
   pub tree : Resolved
+  pub at : Span
 
 -- the first right side that is written for a name
-abbrev pub right_for : List Right → Named → Option Resolved
+abbrev pub right_for : List Right → Named → Option Right
 right_for [] name = None
-right_for (right ∷ rest) name = if same_named name right.name then Some right.tree else right_for rest name
+right_for (right ∷ rest) name = if same_named name right.name then Some right else right_for rest name
 
 -- the right side of a replacement, by its parts
 abbrev pub right_of : Named → Trees → Parts → List Right
-right_of name (ConsTree x others) (Cons first rest) = record { name = name; tree = first } ∷ []
+right_of name (ConsTree (TreeNode form at parts) others) (Cons first rest) = record { name = name; tree = first; at = at } ∷ []
 right_of name _ _ = []
 
 -- so many symbols stay, from the one at this place on, before others that are replaced
@@ -128,7 +130,7 @@ staying place (suc count) made = Replace (Node (Parameter place) None Nil) None 
 abbrev pub replacing : Leads → Bool → List Right → Exports → List Meaning → Replacements
 replacing leads is_constant rights [] symbols = Over
 replacing leads is_constant rights (parameter ∷ parameters) symbols = elim (right_for rights parameter.0) [
-  | Some tree ↦ Replace tree (Some (greatest_level is_constant parameter.1)) (replacing leads is_constant rights parameters symbols)
+  | Some right ↦ Replace right.tree (Some (greatest_level is_constant parameter.1)) (replacing leads is_constant rights parameters symbols)
   | None ↦ Replace (named (operator_places (Some parameter.1)) (lead_of leads (slice_get symbols 0) []) Nil) (Some (greatest_level is_constant parameter.1))
       (replacing leads is_constant rights parameters (drop 1 symbols))
 ]
