@@ -1,0 +1,3 @@
+pub mod AtTrees
+pub mod Asks
+pub mod Answered
