@@ -1,21 +1,20 @@
 -- Behind each unit names lead as they do by its text.
 use Rattle.std.proofs.Common.{◌≡◌, ℕ, false, List, [], ◌∷◌, ◌++◌, Option, sym, ap, ◌∙◌, length, map}
-use Rattle.std.specs.List.{AllByRecursion}
 use mathlib.Core.Path.{fun_ext}
 use Rattle.tla_symbols.specs.declared.lexeme.Lexeme.{Lexeme}
 use Rattle.tla_tree.specs.declared.form.Form.TheVariants as Form
 use Rattle.tla_tree.specs.Syntax.{Tree, Node as TreeNode}
-use Rattle.unit_grammar.specs.Units.{UnitTree, OperatorDefinition, FunctionDefinition, ModuleDefinition, Instance as UnitInstance, Assumption, Theorem, ModuleBegin, ModuleEnd, ModuleUnits}
+use Rattle.unit_grammar.specs.Units.{UnitTree, OperatorDefinition, FunctionDefinition, ModuleDefinition, Instance as UnitInstance, Assumption, Theorem, ModuleBegin, ModuleEnd}
 use Rattle.tla_model.specs.Entities.{Meaning, Text}
 use Rattle.tla_model.specs.Lexemes.{spelled}
-use Rattle.module_scope.specs.Environments.{Scope, begun, ended, first as first_scope}
+use Rattle.module_scope.specs.Environments.{Scope, begun, ended}
 use Rattle.module_model.specs.Exports.{exports_of}
-use Rattle.module_model.specs.Modules.{Reading, text_of}
+use Rattle.module_model.specs.Modules.{Reading}
 use Rattle.module_model.specs.Instances.{nested_view}
-use Rattle.module_model.specs.Resolution.{instance_brings, words_of}
+use Rattle.module_model.specs.Resolution.{instance_brings}
 use Rattle.kind_text.specs.FlatModule.{FlatModule, IsOrdered}
 use Rattle.tree_kinds.specs.Standing.{Outside}
-use Rattle.module_kinds.specs.ModuleKinds.{KindState, after, first, views}
+use Rattle.module_kinds.specs.ModuleKinds.{KindState, views}
 use Rattle.flattened_trees.specs.Leads as flat_leads
 use Rattle.flattened_trees.specs.Questions.{Question}
 use Rattle.flattened_units.specs.Units as units
@@ -26,23 +25,23 @@ use Rattle.written_trees.specs.Written.{HoldsInstances, defined_lead, instance_o
 use Rattle.written_trees.proofs.Instances.{instance-told}
 use Rattle.written_trees.proofs.Told.{definition-place, each-told, inner-hold, rights-told}
 use Rattle.written_modules.specs.Faces.{reader_in, scope_in}
-use Rattle.written_modules.specs.Modules.{UnitHolds, behind_begin, behind_definition, behind_end, behind_instance, behind_unit, behind_units, entries_in, extended, extension_of, face_in, module_reader, nested_face, with_brought, with_symbols}
-use Rattle.written_modules.proofs.Placing.{brought-told, exported-told, extension-told, none-told, symbols-told}
+use Rattle.written_modules.specs.Modules.{UnitHolds, behind_begin, behind_definition, behind_end, behind_instance, behind_unit, entries_in, extended, extension_of, face_in, nested_face, with_brought}
+use Rattle.written_modules.proofs.Placing.{brought-told, exported-told, extension-told, symbols-told}
 use Rattle.written_modules.proofs.Scopes.{begun-told, ended-told, face-told}
 
 module _ (flat : FlatModule) (ordered : IsOrdered flat) (text : Text) (means : ℕ → Option Meaning) (implied : ℕ → List Meaning) (files : List ℕ → flat_leads.FlatFace) (outsides : List ℕ → Outside) (words : List ℕ) where
   -- the files, by resolved trees
-  abbrev written_files : List ℕ → Face
+  abbrev pub written_files : List ℕ → Face
   written_files name = leading.face_in flat (files name)
 
   -- the module of a name, in the flat module
-  abbrev flat_face : Scope flat_leads.FlatFace → List ℕ → flat_leads.FlatFace
+  abbrev pub flat_face : Scope flat_leads.FlatFace → List ℕ → flat_leads.FlatFace
   flat_face faces name = units.face_in flat text means implied files outsides words faces name
 
-  faces-told : (faces : Scope flat_leads.FlatFace) → (λ name. leading.face_in flat (flat_face faces name)) ≡ face_in written_files (scope_in flat faces)
+  pub faces-told : (faces : Scope flat_leads.FlatFace) → (λ name. leading.face_in flat (flat_face faces name)) ≡ face_in written_files (scope_in flat faces)
   faces-told faces = fun_ext (λ name. sym (face-told flat files faces name))
 
-  extended-told : (names : List Lexeme) (modules : Scope Outside) (faces : Scope flat_leads.FlatFace) (setting : flat_leads.Setting) (leads next : flat_leads.Leads)
+  pub extended-told : (names : List Lexeme) (modules : Scope Outside) (faces : Scope flat_leads.FlatFace) (setting : flat_leads.Setting) (leads next : flat_leads.Leads)
       → units.AreExtended flat text means implied files outsides words modules faces setting leads names next
       → leads_in flat next ≡ extended text means implied written_files outsides words modules (scope_in flat faces) (setting_in flat setting) (leads_in flat leads) names
   extended-told [] modules faces setting leads next is = ap (leads_in flat) is
@@ -123,7 +122,7 @@ module _ (flat : FlatModule) (ordered : IsOrdered flat) (text : Text) (means : �
       scope_ended : Face → Scope Face
       scope_ended f = ended f (scope_in flat reader.faces).here (scope_in flat reader.faces).round
 
-  unit-told : (unit : UnitTree) (state : KindState) (reader next : units.Reader) (asked : List Question) → UnitHolds unit → units.IsUnitMade flat text means implied files outsides words state reader unit next asked
+  pub unit-told : (unit : UnitTree) (state : KindState) (reader next : units.Reader) (asked : List Question) → UnitHolds unit → units.IsUnitMade flat text means implied files outsides words state reader unit next asked
       → (own : List Meaning) × (reader_in flat next ≡ behind_unit text means implied written_files outsides words state (reader_in flat reader) own unit)
   unit-told (OperatorDefinition local x) state reader next asked holds is = ([], definition-told reader next x asked holds is)
   unit-told (FunctionDefinition local x) state reader next asked holds is = ([], definition-told reader next x asked holds is)
@@ -134,28 +133,3 @@ module _ (flat : FlatModule) (ordered : IsOrdered flat) (text : Text) (means : �
   unit-told (ModuleBegin dashes name extends) state reader next asked holds is = begin-told state reader next name extends is.0
   unit-told (ModuleEnd closing) state reader next asked holds is = ([], end-told state.read.place.round state reader next reader.round is.0)
   unit-told unit state reader next asked holds is = ([], ap (reader_in flat) is.0)
-
-  pub units-told : (list : List UnitTree) (state : KindState) (reader next : units.Reader) (asked : List Question) → AllByRecursion UnitHolds list → units.AreUnitsMade flat text means implied files outsides words state reader list next asked
-      → (owns : List (List Meaning)) × (reader_in flat next ≡ behind_units text means implied written_files outsides words state (reader_in flat reader) owns list)
-  units-told [] state reader next asked holds is = ([], ap (reader_in flat) is.0)
-  units-told (unit ∷ list) state reader next asked holds (mid, a, b, is, more, asks) =
-      let first = unit-told unit state reader mid a holds.0 is in
-      let rest = units-told list (after text outsides words state unit) mid next b holds.1 more in
-      (first.0 ∷ rest.0, rest.1 ∙ ap (λ r. behind_units text means implied written_files outsides words (after text outsides words state unit) r rest.0 list) first.1)
-
-pub module-told : (flat : FlatModule) (ordered : IsOrdered flat) (means : ℕ → Option Meaning) (implied : ℕ → List Meaning) (files : List ℕ → flat_leads.FlatFace) (outsides : List ℕ → Outside) (source : List ℕ) (module_units : ModuleUnits) (symbols : List Meaning) (last : units.Reader) (asked : List Question)
-    → AllByRecursion UnitHolds module_units.units → units.IsModuleMade flat means implied files outsides source module_units symbols last asked
-    → (owns : List (List Meaning)) × (reader_in flat last ≡ module_reader means implied (λ name. leading.face_in flat (files name)) outsides source module_units symbols owns)
-module-told flat ordered means implied files outsides source module_units symbols last asked holds (leads, extension, made) =
-    let text = text_of source module_units in
-    let words = words_of module_units in
-    let setting = units.symbol_setting flat means implied files outsides source module_units symbols in
-    let start = symbols-told flat symbols units.no_leads 0 ∙ ap (λ (ls : Leads). with_symbols ls symbols 0) (none-told flat) in
-    let told = extended-told flat ordered text means implied files outsides words module_units.extends (first_scope text.file) (first_scope text.file) setting setting.leads leads extension
-    ∙ (λ i. extended text means implied (λ name. leading.face_in flat (files name)) outsides words (first_scope text.file) (first_scope text.file) (record { leads = start i; frame = symbols; olds = Nil }) (start i) module_units.extends) in
-    let all = units-told flat ordered text means implied files outsides words module_units.units (first outsides source module_units)
-    (record { setting = record { leads = leads; frame = symbols; olds = [] }; round = []; faces = first_scope text.file }) last asked holds made in (
-      all.0,
-      all.1 ∙ (λ i. behind_units text means implied (λ name. leading.face_in flat (files name)) outsides words (first outsides source module_units)
-          (record { setting = record { leads = told i; frame = symbols; olds = Nil }; round = []; faces = first_scope text.file }) all.0 module_units.units),
-    )

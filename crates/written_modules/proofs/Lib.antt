@@ -1,3 +1,4 @@
 mod Placing
 mod Scopes
 mod Behind
+mod Asked

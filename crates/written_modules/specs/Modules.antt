@@ -4,7 +4,7 @@ use Rattle.tla_symbols.specs.declared.level.Kind.TheVariants.{Const, State}
 use Rattle.tla_symbols.specs.declared.lexeme.Lexeme.{Lexeme}
 use Rattle.tla_tree.specs.declared.form.Form.TheVariants as Form
 use Rattle.tla_tree.specs.Syntax.{Tree, Node as TreeNode}
-use Rattle.unit_grammar.specs.Units.{UnitTree, OperatorDefinition, FunctionDefinition, ModuleDefinition, Instance as UnitInstance, ModuleBegin, ModuleEnd, ModuleUnits}
+use Rattle.unit_grammar.specs.Units.{UnitTree, OperatorDefinition, FunctionDefinition, ModuleDefinition, Instance as UnitInstance, Assumption, Theorem, ModuleBegin, ModuleEnd, ModuleUnits}
 use Rattle.tla_model.specs.declared.entity.Entity.TheVariants as entity
 use Rattle.tla_model.specs.Tables.{Named}
 use Rattle.tla_model.specs.declared.names.Meaning.TheVariants.{BuiltIn, Declared}
@@ -190,4 +190,6 @@ UnitHolds (OperatorDefinition local x) = HoldsInstances x
 UnitHolds (FunctionDefinition local x) = HoldsInstances x
 UnitHolds (ModuleDefinition local x) = HoldsInstances x
 UnitHolds (UnitInstance local x) = HoldsInstances x
+UnitHolds (Assumption word name x) = HoldsInstances x
+UnitHolds (Theorem word name x) = HoldsInstances x
 UnitHolds unit = Unit {0}
