@@ -20,16 +20,16 @@ use Rattle.known_modules.specs.Known.{IsForeignTo, IsKnownFile, no_knowledge}
 use Rattle.leveled_facts.specs.Families.{declares, leveled}
 use Rattle.leveled_modules.specs.Leveled.{LevelTables}
 use Rattle.family_levels.specs.declared.«module».Found.{Found}
-use Rattle.family_levels.specs.Leveling.{AreLeveled, AreNumbers, HasNumber, IsNext, IsReady, KeepsFaces, Says, face_count, faces_of, numbers_with}
+use Rattle.family_levels.specs.Leveling.{AreLeveled, AreNumbers, HasNumber, IsNext, IsReady, KeepsFaces, Says, face_count, faces_of, with_item}
 
--- the number of a name behind one more
-pub numbers-append : (numbers : List (List ℕ × ℕ)) (name : List ℕ) (number : Option ℕ) → entry_of numbers name ≡ None → (other : List ℕ) → entry_of (numbers_with numbers name number) other ≡ cond (bytes_eq other name) number (entry_of numbers other)
-numbers-append numbers name None none other = by (bytes_eq other name) refl
+-- the item of a name behind one more
+pub items-append : {T : Type 0} (items : List (List ℕ × T)) (name : List ℕ) (item : Option T) → entry_of items name ≡ None → (other : List ℕ) → entry_of (with_item items name item) other ≡ cond (bytes_eq other name) item (entry_of items other)
+items-append items name None none other = by (bytes_eq other name) refl
   where
-    by : (b : Bool) → bytes_eq other name ≡ b → entry_of numbers other ≡ cond b None (entry_of numbers other)
-    by true same = ap (entry_of numbers) (same-text other name same) ∙ none
+    by : (b : Bool) → bytes_eq other name ≡ b → entry_of items other ≡ cond b None (entry_of items other)
+    by true same = ap (entry_of items) (same-text other name same) ∙ none
     by false apart = refl
-numbers-append numbers name (Some number) none other = entry-append numbers other name number none
+items-append items name (Some item) none other = entry-append items other name item none
 
 -- no face is there yet
 pub agreed-none : AreAgreed []
@@ -54,12 +54,12 @@ leveled-none family known plain = record {
 }
 
 module _ (family : List Member) (outcomes more : List (List ℕ × Outcome)) (numbers others : List (List ℕ × ℕ)) (old new : LevelTables) (name : List ℕ) (found : Found) (fresh : entry_of outcomes name ≡ None) (was : AreLeveled family outcomes numbers old) (next : IsNext family outcomes numbers name new found)
-    (grown : more ≡ outcomes ++ (name, found.outcome) ∷ []) (numbered : others ≡ numbers_with numbers name found.number) where
+    (grown : more ≡ outcomes ++ (name, found.outcome) ∷ []) (numbered : others ≡ with_item numbers name found.number) where
   outcome-at : (other : List ℕ) → entry_of more other ≡ cond (bytes_eq other name) (Some found.outcome) (entry_of outcomes other)
   outcome-at other = ap (λ z. entry_of z other) grown ∙ entry-append outcomes other name found.outcome fresh
 
   number-at : (other : List ℕ) → entry_of others other ≡ cond (bytes_eq other name) found.number (entry_of numbers other)
-  number-at other = ap (λ z. entry_of z other) numbered ∙ numbers-append numbers name found.number (was.only name fresh) other
+  number-at other = ap (λ z. entry_of z other) numbered ∙ items-append numbers name found.number (was.only name fresh) other
 
   some-outcome : (o p : Outcome) → ◌≡◌ {A = Option Outcome} (Some o) (Some p) → o ≡ p
   some-outcome o p same = cc
@@ -115,8 +115,8 @@ module _ (family : List Member) (outcomes more : List (List ℕ × Outcome)) (nu
   }
 
 -- numbers are those of faces
-pub numbers-more : (outcomes : List (List ℕ × Outcome)) (numbers others : List (List ℕ × ℕ)) (old new : LevelTables) (name : List ℕ) (number : Option ℕ) → entry_of numbers name ≡ None → others ≡ numbers_with numbers name number → AreNumbers old numbers → KeepsFaces old new → IfSome number (λ n. n < face_count new) → AreNumbers new others
-numbers-more outcomes numbers others old new name number none grown are keeps below other n at = by (bytes_eq other name) refl (sym (ap (λ z. entry_of z other) grown ∙ numbers-append numbers name number none other) ∙ at)
+pub numbers-more : (outcomes : List (List ℕ × Outcome)) (numbers others : List (List ℕ × ℕ)) (old new : LevelTables) (name : List ℕ) (number : Option ℕ) → entry_of numbers name ≡ None → others ≡ with_item numbers name number → AreNumbers old numbers → KeepsFaces old new → IfSome number (λ n. n < face_count new) → AreNumbers new others
+numbers-more outcomes numbers others old new name number none grown are keeps below other n at = by (bytes_eq other name) refl (sym (ap (λ z. entry_of z other) grown ∙ items-append numbers name number none other) ∙ at)
   where
     of : (some : Option ℕ) → IfSome some (λ k. k < face_count new) → some ≡ Some n → n < face_count new
     of None below is = absurd (cc is)
@@ -141,16 +141,3 @@ ready-here modules plan planned i d name l is one family distinct are outcomes n
   before = before-here modules plan planned i d name l is one family are outcomes names;
   leveled_so = so;
 }
-
--- a module without an outcome has no number
-pub only-more : (outcomes more : List (List ℕ × Outcome)) (numbers others : List (List ℕ × ℕ)) (name : List ℕ) (outcome : Outcome) (number : Option ℕ) → entry_of outcomes name ≡ None → ((other : List ℕ) → entry_of outcomes other ≡ None → entry_of numbers other ≡ None)
-    → more ≡ outcomes ++ (name, outcome) ∷ [] → others ≡ numbers_with numbers name number → (other : List ℕ) → entry_of more other ≡ None → entry_of others other ≡ None
-only-more outcomes more numbers others name outcome number fresh only grown numbered other none =
-    by (bytes_eq other name) refl (sym (ap (λ z. entry_of z other) grown ∙ entry-append outcomes other name outcome fresh) ∙ none)
-  where
-    at : entry_of others other ≡ cond (bytes_eq other name) number (entry_of numbers other)
-    at = ap (λ z. entry_of z other) numbered ∙ numbers-append numbers name number (only name fresh) other
-
-    by : (b : Bool) → bytes_eq other name ≡ b → cond (bytes_eq other name) (Some outcome) (entry_of outcomes other) ≡ None → entry_of others other ≡ None
-    by true same is = let never : Some outcome ≡ None = sym (ap (λ b. cond b (Some outcome) (entry_of outcomes other)) same) ∙ is in cc
-    by false apart is = at ∙ (ap (λ b. cond b number (entry_of numbers other)) apart ∙ only other (sym (ap (λ b. cond b (Some outcome) (entry_of outcomes other)) apart) ∙ is))

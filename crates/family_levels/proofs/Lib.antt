@@ -4,7 +4,12 @@ mod Unleveled
 mod Judging
 mod Numbering
 mod Steps
+mod Over
+mod Anew
+mod Lasting
+mod Following
 mod Growing
+mod Adding
 mod Uses
 mod Placing
 mod InTexts

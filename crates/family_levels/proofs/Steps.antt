@@ -1,5 +1,5 @@
 -- What is found of one module, without a family.
-use Rattle.std.proofs.Common.{◌≡◌, ◌<◌, ℕ, List, [], ◌∷◌, Option, Some, None, refl, sym, ap, subst, ◌∙◌, arith}
+use Rattle.std.proofs.Common.{◌≡◌, ◌<◌, ℕ, List, [], ◌∷◌, Option, Some, None, refl, sym, ap, subst, ◌∙◌, arith, is_some}
 use Rattle.std.specs.Prelude.{Contains, IfSome}
 use Rattle.std.specs.Arc.{arc_value}
 use Rattle.tla_model.specs.declared.Diagnostic.{Diagnostic}
@@ -35,7 +35,8 @@ use Rattle.leveled_facts.specs.Families.{leveled}
 use Rattle.leveled_facts.specs.Modules.{Leveled, front_refused}
 use Rattle.family_levels.specs.declared.«module».Found.{Found}
 use Rattle.family_levels.specs.Judging.{HasFace, HasFaults, IsFoundFrom, IsJudged, IsJudgedFrom, IsLeveledOver}
-use Rattle.family_levels.specs.Leveling.{AreNumbers, IsNext, IsReady, KeepsFaces, face_count}
+use Rattle.family_levels.specs.Leveling.{AreNumbers, HasNumber, IsNext, IsReady, KeepsFaces, face_count}
+use Rattle.family_levels.specs.Versions.{Grows}
 use Rattle.family_levels.specs.Numbers.{number_by}
 use Rattle.family_levels.proofs.Judging.{refused-number, refused-says}
 use Rattle.family_levels.proofs.Statuses.{files-given}
@@ -77,9 +78,35 @@ module _ (name : List ℕ) (tree : ModuleTree) (imports : Imports) (files : List
       record { count = omega (arith, more); faces = made.faces }
   keeps-from checked (fault ∷ faults) so = subst (λ (t : LevelTables). KeepsFaces old t) (sym so.1) (record { count = omega (arith); faces = λ number below. refl })
 
-  -- earlier faces stay
-  pub judged-keeps : IsJudged name tree imports files old new found → KeepsFaces old new
-  judged-keeps judged = keeps-from judged.checked judged.checked.faults judged.so
+  grows-from : (checked : CheckedModule) (faults : List Diagnostic) → IsJudgedFrom tree imports files old new checked faults found → Grows old new
+  grows-from checked [] so = record { nodes = (leveled-some so.0 so.1).extends; faces = keeps-from checked [] so }
+  grows-from checked (fault ∷ faults) so =
+      subst (λ (t : LevelTables). Grows old t) (sym so.1)
+      (record { nodes = record { nodes = λ i x at. at; definitions = λ i x at. at; instances = λ i x at. at }; faces = record { count = omega (arith); faces = λ number below. refl } })
+
+  -- earlier nodes and faces stay
+  pub judged-grows : IsJudged name tree imports files old new found → Grows old new
+  judged-grows judged = grows-from judged.checked judged.checked.faults judged.so
+
+  numbered-refused : (Are : List Diagnostic → Type 0) (o : outcome.the_data) → HasFaults Are o → found.number ≡ None → HasNumber o found.number
+  numbered-refused Are (outcome.Refused all) has none = none
+  numbered-refused Are (outcome.Accepted face) has none = absurd has
+
+  numbered-accepted : (face : Face) (o : outcome.the_data) (number : ℕ) → HasFace face o → found.number ≡ Some number → HasNumber o found.number
+  numbered-accepted face (outcome.Refused all) number has at = absurd has
+  numbered-accepted face (outcome.Accepted shared) number has at = ap is_some at
+
+  numbered-by : (levels : ModuleLevels) (checked : CheckedModule) (faults : List Diagnostic) → IsFoundFrom checked levels faults found → HasNumber found.outcome found.number
+  numbered-by levels checked [] accepts = numbered-accepted checked.face found.outcome levels.face accepts.outcome accepts.number
+  numbered-by levels checked (fault ∷ faults) refused = numbered-refused _ found.outcome refused.outcome refused.number
+
+  numbered-from : (checked : CheckedModule) (faults : List Diagnostic) → IsJudgedFrom tree imports files old new checked faults found → HasNumber found.outcome found.number
+  numbered-from checked [] so = numbered-by so.0 checked so.0.faults so.2
+  numbered-from checked (fault ∷ faults) so = numbered-refused _ found.outcome so.0.outcome so.0.number
+
+  -- an accepted module has a number, and another one has none
+  pub judged-numbered : IsJudged name tree imports files old new found → HasNumber found.outcome found.number
+  judged-numbered judged = numbered-from judged.checked judged.checked.faults judged.so
 
   number-from : (levels : ModuleLevels) (checked : CheckedModule) (faults : List Diagnostic) → levels.face < face_count new → IsFoundFrom checked levels faults found → IfSome found.number (λ number. number < face_count new)
   number-from levels checked [] below accepts = subst (λ n. IfSome n (λ number. number < face_count new)) (sym accepts.number) below

@@ -97,10 +97,10 @@ pub record IsNext (family : List Member) (outcomes : List (List ℕ × Outcome))
       (title : List ℕ) (number : ℕ) → entry_of outcomes title ≡ None → bytes_eq name title ≡ false → found.number ≡ Some number
       → IsForeignTo title (leveled (texts_of family) name).outside
 
--- numbers with that of one module more, if it has one
-abbrev pub numbers_with : List (List ℕ × ℕ) → List ℕ → Option ℕ → List (List ℕ × ℕ)
-numbers_with numbers name None = numbers
-numbers_with numbers name (Some number) = numbers ++ (name, number) ∷ []
+-- items with that of one module more, if it has one
+abbrev pub with_item : {T : Type 0} → List (List ℕ × T) → List ℕ → Option T → List (List ℕ × T)
+with_item items name None = items
+with_item items name (Some item) = items ++ (name, item) ∷ []
 
 -- ---- all modules
 

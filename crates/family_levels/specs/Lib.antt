@@ -3,3 +3,6 @@ pub mod Leveling
 pub mod Judging
 pub mod Findings
 pub mod Telling
+pub mod Versions
+pub mod Again
+pub mod Holding

@@ -9,13 +9,17 @@ ghost use Rattle.family_tables.specs.Modules.{AreModules};
 ghost use Rattle.family_tables.specs.Outcomes.{IsSomeModule};
 ghost use Rattle.family_tables.specs.Plans.{AreOnce};
 ghost use Rattle.family_tables.specs.Tables.{has_name, names_in};
+ghost use Rattle.leveled_modules.specs.Leveled.{AreKept};
 ghost use Rattle.family_levels.specs.Findings.{nothing_found};
+ghost use Rattle.family_levels.specs.Holding.{HoldVersions};
+ghost use Rattle.family_levels.specs.Versions.{AreHeld, AreHeldWith};
 ghost use Rattle.family_levels.specs.Telling.{AreFound, AreFoundIf, AreFoundOf, HasChecked};
 ghost use Rattle.family_levels.specs.declared.findings.Findings.{Findings as FindingsOf};
 
 use crate::findings::Findings;
 use crate::modules::level_all;
 use crate::standing::findings_stand_in_text;
+use crate::versions::{Nodes, Version, Versions};
 use family_facts::{File, names_differ};
 use family_read::read_family;
 use family_tables::{Module, Reading, SharedTree, Table, plan_of, reached_by};
@@ -31,6 +35,8 @@ pub struct Family {
     trees: Table<SharedTree>,
     // The names of the modules of which it was found; none where it was of all.
     names: Option<List<Chars>>,
+    // What was found of modules, with what it was found from; none behind want of memory.
+    versions: Option<Versions>,
     found: Findings,
 }
 
@@ -41,6 +47,7 @@ impl Drop for Family {
             files: _,
             trees: _,
             names: _,
+            versions: _,
             found: _,
         } = self;
     }
@@ -49,13 +56,15 @@ impl Drop for Family {
 impl Model for Family {
     ghost use Rattle.family_tables.specs.Keeping.{AreRead};
     ghost use Rattle.family_levels.specs.Telling.{AreFoundIf};
+    ghost use Rattle.family_levels.specs.Holding.{HoldVersions};
     ghost use Rattle.family_levels.specs.declared.findings.Findings.{Findings};
 
     ghost Value = { Findings };
 
     ghost view = { λ f. f.found };
 
-    ghost invariant = { λ f. AreRead f.trees × AreFoundIf f.names f.files f.found };
+    ghost invariant = { λ f. AreRead f.trees × AreFoundIf f.names f.files f.found
+        × HoldVersions f.versions };
 }
 
 // Whether files are one: their names and their bytes.
@@ -140,46 +149,61 @@ fn trees_of(alloc: Global, modules: &Table<Module>) -> Result<Table<SharedTree>,
     Ok(trees)
 }
 
-// What is found of files whose family has these modules.
+// What is found of files whose family has these modules, with the versions of these.
 fn find_modules<L>(
     alloc: Global,
     files: &[File],
     modules: &Table<Module>,
+    old: &Table<Version>,
+    nodes: Nodes,
     steps: &mut Steps<L>,
-) -> Result<Findings, Memory>
+) -> Result<(Findings, Versions), Memory>
     requires distinct { AreDistinct files.now }
     requires modules { AreModules (family_of files.now) modules.now }
-    ensures found { IfOk result (AreFound files.now) }
-    ensures steps { IfOk result (λ _. steps.new ≡ after_checks (checks_of files.now) steps.old) }
+    requires kept { AreKept nodes.known }
+    requires held { AreHeld nodes.known nodes.next old.now }
+    ensures found { IfOk result (λ made. AreFound files.now made.0) }
+    ensures kept { IfOk result (λ made. AreKept made.1.nodes.known) }
+    ensures held { IfOk result (λ made. AreHeldWith made.1.nodes.known made.1.nodes.next
+        made.1.modules old.now) }
+    ensures steps { IfOk result (λ _. steps.new ≤ after_checks (checks_of files.now) steps.old) }
 {
     front_laws::one_front();
     names_differ();
     findings_stand_in_text();
     let plan = plan_of(alloc, modules)?;
-    let found = level_all(alloc, modules, &plan, steps)?;
-    Ok(found)
+    let made = level_all(alloc, modules, &plan, old, nodes, steps)?;
+    Ok(made)
 }
 
-// Files with what is found of them, by trees that were kept.
+// Files with what is found of them, by trees and versions that were kept.
 fn find_family<L>(
     alloc: Global,
     files: List<File>,
     kept: &Table<SharedTree>,
+    versions: Option<Versions>,
     steps: &mut Steps<L>,
 ) -> Result<Family, Memory>
     requires distinct { AreDistinct files }
     requires small { sum_by (λ file. length file.bytes) files < 2 ^ 31 }
     requires kept { AreRead kept.now }
+    requires held { HoldVersions versions }
     ensures found { IfOk result (AreFound files) }
-    ensures steps { IfOk result (λ _. steps.new ≡ after_checks (checks_of files) steps.old) }
+    ensures steps { IfOk result (λ _. steps.new ≤ after_checks (checks_of files) steps.old) }
 {
     let modules = read_family(alloc, kept, files.as_slice())?;
     let trees = trees_of(alloc, &modules)?;
-    let found = find_modules(alloc, files.as_slice(), &modules, steps)?;
+    let Versions {
+        modules: old,
+        nodes,
+    } = Versions::or_new(alloc, versions, &modules)?;
+    let (found, versions) = find_modules(alloc, files.as_slice(), &modules, &old, nodes, steps)?;
+    let versions = versions.with_others(alloc, &old, &modules)?;
     Ok(Family {
         files,
         trees,
         names: None,
+        versions: Some(versions),
         found,
     })
 }
@@ -208,60 +232,73 @@ fn named_files(alloc: Global, files: &[File], names: &Table<()>) -> Result<List<
     Ok(part)
 }
 
-// What is found of the modules of some names: of the files whose family has these modules it looks
-// at those that they reach.
+// What is found of the modules of some names, with their versions: of the files whose family has
+// these modules it looks at those that they reach.
 fn find_reached<L>(
     alloc: Global,
     files: &[File],
     modules: &Table<Module>,
     trees: &Table<SharedTree>,
     names: &[Chars],
+    versions: Versions,
     steps: &mut Steps<L>,
-) -> Result<Findings, Memory>
+) -> Result<(Findings, Versions), Memory>
     requires distinct { AreDistinct files.now }
     requires small { sum_by (λ file. length file.bytes) files.now < 2 ^ 31 }
     requires modules { AreModules (family_of files.now) modules.now }
     requires trees { AreRead trees.now }
-    ensures found { IfOk result (AreFoundOf names.now files.now) }
+    requires held { HoldVersions (Some versions) }
+    ensures found { IfOk result (λ made. AreFoundOf names.now files.now made.0) }
+    ensures held { IfOk result (λ made. HoldVersions (Some made.1)) }
     ensures steps { IfOk result (λ _. HasChecked files.now steps.old steps.new) }
 {
     front_laws::one_front();
     let plan = plan_of(alloc, modules)?;
     let reached = reached_by(alloc, modules, &plan, names)?;
     let part = named_files(alloc, files, &reached)?;
-    let modules = read_family(alloc, trees, part.as_slice())?;
-    let found = find_modules(alloc, part.as_slice(), &modules, steps)?;
-    Ok(found)
+    let read = read_family(alloc, trees, part.as_slice())?;
+    let Versions {
+        modules: old,
+        nodes,
+    } = versions;
+    let (found, versions) = find_modules(alloc, part.as_slice(), &read, &old, nodes, steps)?;
+    let versions = versions.with_others(alloc, &old, modules)?;
+    Ok((found, versions))
 }
 
-// Files with what is found of the modules of some names, by trees that were kept.
+// Files with what is found of the modules of some names, by trees and versions that were kept.
 fn find_part<L>(
     alloc: Global,
     files: List<File>,
     names: List<Chars>,
     kept: &Table<SharedTree>,
+    versions: Option<Versions>,
     steps: &mut Steps<L>,
 ) -> Result<Family, Memory>
     requires distinct { AreDistinct files }
     requires small { sum_by (λ file. length file.bytes) files < 2 ^ 31 }
     requires kept { AreRead kept.now }
+    requires held { HoldVersions versions }
     ensures found { IfOk result (AreFoundOf names files) }
     ensures steps { IfOk result (λ _. HasChecked files steps.old steps.new) }
 {
     let modules = read_family(alloc, kept, files.as_slice())?;
     let trees = trees_of(alloc, &modules)?;
-    let found = find_reached(
+    let versions = Versions::or_new(alloc, versions, &modules)?;
+    let (found, versions) = find_reached(
         alloc,
         files.as_slice(),
         &modules,
         &trees,
         names.as_slice(),
+        versions,
         steps,
     )?;
     Ok(Family {
         files,
         trees,
         names: Some(names),
+        versions: Some(versions),
         found,
     })
 }
@@ -275,6 +312,7 @@ impl Family {
             files: List::new(alloc),
             trees: Table::new(alloc),
             names: None,
+            versions: None,
             found: Findings::new(alloc),
         }
     }
@@ -307,7 +345,8 @@ impl Family {
         if self.names.is_none() && are_same(self.files.as_slice(), files.as_slice()) {
             return Ok(());
         }
-        let family = find_family(alloc, files, &self.trees, steps)?;
+        let versions = self.versions.take();
+        let family = find_family(alloc, files, &self.trees, versions, steps)?;
         *self = family;
         Ok(())
     }
@@ -335,7 +374,8 @@ impl Family {
         {
             return Ok(());
         }
-        let family = find_part(alloc, files, names, &self.trees, steps)?;
+        let versions = self.versions.take();
+        let family = find_part(alloc, files, names, &self.trees, versions, steps)?;
         *self = family;
         Ok(())
     }

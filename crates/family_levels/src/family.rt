@@ -14,6 +14,7 @@ ghost use Rattle.fact_lines.specs.Reports.{IsReportPlaced, reports_on};
 use crate::modules::level_all;
 use crate::shown::{reports_of, use_count_of};
 use crate::standing::reports_stand_in_text;
+use crate::versions::Versions;
 use fact_lines::{ModuleReport, declared_places, places_are_declared};
 use family_facts::{File, names_differ};
 use family_read::read_family;
@@ -78,7 +79,11 @@ fn check_modules<L>(
     places_are_declared();
     reports_stand_in_text();
     let plan = plan_of(alloc, modules)?;
-    let found = level_all(alloc, modules, &plan, steps)?;
+    let Versions {
+        modules: none,
+        nodes,
+    } = Versions::new(alloc)?;
+    let (found, _) = level_all(alloc, modules, &plan, &none, nodes, steps)?;
     let verdicts = verdicts_of(alloc, files, &found.outcomes)?;
     let use_count = use_count_of(files, &found)?;
     let places = places_if(alloc, facts, modules)?;

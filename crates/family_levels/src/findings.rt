@@ -2,7 +2,7 @@
 ghost use Rattle.std.specs.Prelude.{◌≡◌};
 ghost use Rattle.family_levels.specs.Findings as findings;
 
-use crate::names::Names;
+use crate::names::SharedNames;
 use family_tables::{Outcome, Table};
 use std::alloc::Global;
 use tla_model::{Decl, Diagnostic, Use};
@@ -11,7 +11,7 @@ use tla_model::{Decl, Diagnostic, Use};
 pub struct Findings {
     /// Their faults, or what they are to others.
     pub outcomes: Table<Outcome>,
-    pub names: Table<Names>,
+    pub names: Table<SharedNames>,
 }
 
 // By hand, so that a proof meets one call wherever a value ends.
@@ -52,7 +52,7 @@ impl Findings {
         ensures { result.now ≡ findings.uses_in self.now name.now }
     {
         match self.names.get(name) {
-            Some(names) => names.uses.as_slice(),
+            Some(names) => names.names().uses.as_slice(),
             None => &[],
         }
     }
@@ -63,7 +63,7 @@ impl Findings {
         ensures { result.now ≡ findings.decls_in self.now name.now }
     {
         match self.names.get(name) {
-            Some(names) => names.decls.as_slice(),
+            Some(names) => names.names().decls.as_slice(),
             None => &[],
         }
     }
@@ -74,7 +74,7 @@ impl Findings {
         ensures { result.now ≡ findings.shown_in self.now name.now }
     {
         match (self.outcomes.get(name), self.names.get(name)) {
-            (Some(Outcome::Accepted(_)), Some(names)) => names.uses.as_slice(),
+            (Some(Outcome::Accepted(_)), Some(names)) => names.names().uses.as_slice(),
             _ => &[],
         }
     }

@@ -15,8 +15,9 @@ mod names;
 mod numbers;
 mod shown;
 mod standing;
+mod versions;
 
 pub use changing::Family;
 pub use family::{FamilyCheck, check_family};
 pub use findings::Findings;
-pub use names::Names;
+pub use names::{Names, SharedNames};

@@ -8,15 +8,18 @@ ghost use Rattle.family_tables.specs.Outcomes as outcomes_of;
 ghost use Rattle.family_tables.specs.Tables.{entry_of};
 ghost use Rattle.family_tables.specs.declared.reading.Reading.TheVariants as reading;
 ghost use Rattle.leveled_modules.specs.Leveled.{AreKept};
-ghost use Rattle.family_levels.specs.Leveling.{AreNumbers, IsNext, IsReady, KeepsFaces};
+ghost use Rattle.family_levels.specs.Leveling.{AreNumbers, HasNumber, IsNext, IsReady};
 ghost use Rattle.family_levels.specs.Judging.{IsFoundBy, IsJudged};
 ghost use Rattle.family_levels.specs.Leveling.{face_count};
 ghost use Rattle.family_tables.specs.declared.outcome.Outcome.TheVariants as outcome;
 ghost use Rattle.family_tables.specs.Outcomes.{IsMember};
 ghost use Rattle.indexmap.specs.IndexMap.{get_by_text};
 ghost use Rattle.module_model.specs.Given.{AreFaces};
+ghost use Rattle.family_levels.specs.Versions.{AreNeedsAccepted, Grows, IsCopy, IsFoundOver};
+ghost use Rattle.family_levels.specs.Versions.{Over, told_by};
+ghost use Rattle.tla_tree.specs.declared.unit.ModuleTree.{ModuleTree as ModuleTreeOf};
 
-use crate::names::Names;
+use crate::names::{Names, SharedNames};
 use crate::numbers::numbers_of;
 use check_core::{Checked, check_module};
 use family_tables::{Module, Outcome, Plan, Reading, Table, imports_of};
@@ -41,11 +44,24 @@ pub(crate) struct Found {
     pub outcome: Outcome,
     /// The number of what it is to its instances, if it is accepted.
     pub number: Option<usize>,
-    pub names: Names,
+    pub names: SharedNames,
+}
+
+impl Found {
+    /// The same. It shares what it holds, but for faults.
+    pub(crate) fn copied(&self, alloc: Global) -> Result<Found, Memory>
+        ensures { IfOk result (IsCopy self.now) }
+    {
+        Ok(Found {
+            outcome: self.outcome.copied(alloc)?,
+            number: self.number,
+            names: self.names.copied()?,
+        })
+    }
 }
 
 // A module with these faults.
-fn refused(faults: List<Diagnostic>, names: Names) -> Found
+fn refused(faults: List<Diagnostic>, names: SharedNames) -> Found
     ensures outcome { result.outcome ≡ outcome.Refused faults }
     ensures number { result.number ≡ None }
     ensures names { result.names ≡ names }
@@ -58,7 +74,7 @@ fn refused(faults: List<Diagnostic>, names: Names) -> Found
 }
 
 // What is found of a module whose names and arities have no fault, by what is found of levels.
-fn found_by(checked: Checked, levels: ModuleLevels) -> Result<Found, Memory>
+fn found_by(alloc: Global, checked: Checked, levels: ModuleLevels) -> Result<Found, Memory>
     ensures { IfOk result (IsFoundBy checked levels) }
 {
     let ModuleLevels {
@@ -67,13 +83,14 @@ fn found_by(checked: Checked, levels: ModuleLevels) -> Result<Found, Memory>
         face,
     } = levels;
     if !faults.is_empty() {
-        return Ok(refused(in_order(faults), Names::of(checked)));
+        let names = SharedNames::new(alloc, Names::of(checked))?;
+        return Ok(refused(in_order(faults), names));
     }
     let outcome = Outcome::Accepted(checked.face().clone()?);
     Ok(Found {
         outcome,
         number: Some(face),
-        names: Names::leveled(checked, &levels),
+        names: SharedNames::new(alloc, Names::leveled(checked, &levels))?,
     })
 }
 
@@ -105,11 +122,12 @@ fn judge<L>(
     let faults = checked.faults();
     if !faults.is_empty() {
         let faults = copied(alloc, faults.as_slice())?;
-        return Ok((known, refused(faults, Names::of(checked))));
+        let names = SharedNames::new(alloc, Names::of(checked))?;
+        return Ok((known, refused(faults, names)));
     }
     let face = checked.face();
     let (known, levels) = level_module(alloc, &text, tree, imports, face, &names, known, files)?;
-    let found = found_by(checked, levels)?;
+    let found = found_by(alloc, checked, levels)?;
     Ok((known, found))
 }
 
@@ -132,14 +150,21 @@ fn level_tree<L>(
     requires kept { AreKept known }
     requires numbers { AreNumbers known numbers.now }
     ensures kept { IfOk result (λ made. AreKept made.0) }
-    ensures faces { IfOk result (λ made. KeepsFaces known made.0) }
     ensures number { IfOk result (λ made. IfSome made.1.number
         (λ number. number < face_count made.0)) }
+    ensures numbered { IfOk result (λ made. HasNumber made.1.outcome made.1.number) }
     ensures agreed { IfOk result (λ made. IsAgreed outcomes.now name.now made.1.outcome) }
     ensures next { (family : ListOf Member)
         → IsReady family plan.now outcomes.now numbers.now known name.now
         → IsMember family name.now (reading.Tree tree.now) needs.now
         → IfOk result (λ made. IsNext family outcomes.now numbers.now name.now made.0 made.1) }
+    ensures grows { IfOk result (λ made. Grows known made.0) }
+    ensures so { (family : ListOf Member) (over : Over)
+        → IsReady family plan.now outcomes.now numbers.now known name.now
+        → IsMember family name.now (reading.Tree tree.now) needs.now
+        → AreNeedsAccepted family outcomes.now numbers.now name.now needs.now over
+        → IfOk result (λ made. IsFoundOver made.0 over
+        (told_by made.1.outcome made.1.number over tree.now) name.now tree.now made.1) }
     ensures steps { IfOk result (λ _. steps.new ≡ after_checks 1 steps.old) }
 {
     made_modules_answer();
@@ -183,14 +208,22 @@ pub(crate) fn level_one<L>(
     requires kept { AreKept known }
     requires numbers { AreNumbers known numbers.now }
     ensures kept { IfOk result (λ made. AreKept made.0) }
-    ensures faces { IfOk result (λ made. KeepsFaces known made.0) }
     ensures number { IfOk result (λ made. IfSome made.1.number
         (λ number. number < face_count made.0)) }
+    ensures numbered { IfOk result (λ made. HasNumber made.1.outcome made.1.number) }
     ensures agreed { IfOk result (λ made. IsAgreed outcomes.now name.now made.1.outcome) }
     ensures next { (family : ListOf Member)
         → IsReady family plan.now outcomes.now numbers.now known name.now
         → IsMember family name.now module.now.reading module.now.needs
         → IfOk result (λ made. IsNext family outcomes.now numbers.now name.now made.0 made.1) }
+    ensures grows { IfOk result (λ made. Grows known made.0) }
+    ensures so { (family : ListOf Member) (over : Over) (tree : ModuleTreeOf)
+        → IsReady family plan.now outcomes.now numbers.now known name.now
+        → IsMember family name.now module.now.reading module.now.needs
+        → module.now.reading ≡ reading.Tree tree
+        → AreNeedsAccepted family outcomes.now numbers.now name.now module.now.needs over
+        → IfOk result (λ made. IsFoundOver made.0 over
+        (told_by made.1.outcome made.1.number over tree) name.now tree made.1) }
     ensures steps { IfOk result (λ _. steps.new
         ≡ after_checks (tree_count module.now.reading) steps.old) }
 {
@@ -208,7 +241,8 @@ pub(crate) fn level_one<L>(
         Reading::Fault(fault) => {
             leveled_is();
             let faults = lone_fault(alloc, *fault)?;
-            Ok((known, refused(faults, Names::none(alloc))))
+            let names = SharedNames::new(alloc, Names::none(alloc))?;
+            Ok((known, refused(faults, names)))
         }
     }
 }

@@ -1,5 +1,5 @@
 // What is found of the modules of a family, one after another.
-ghost use Rattle.std.specs.Prelude.{◌≡◌, List as ListOf, IfOk, None, OnOk};
+ghost use Rattle.std.specs.Prelude.{◌≡◌, ◌≤◌, ◌+◌, [], List as ListOf, IfOk, None, OnOk};
 ghost use Rattle.std.specs.List.{All};
 ghost use Rattle.family_facts.specs.Family.{AreMembersDistinct, Member};
 ghost use Rattle.family_facts.specs.Verdicts.{after_checks};
@@ -7,78 +7,124 @@ ghost use Rattle.family_tables.specs.Modules as modules_of;
 ghost use Rattle.family_tables.specs.Outcomes as outcomes_of;
 ghost use Rattle.family_tables.specs.Plans.{AreOnce, IsPlan};
 ghost use Rattle.family_tables.specs.Tables.{entry_of, names_in};
-ghost use Rattle.family_levels.specs.Leveling.{AreNames, AreOutcomes, numbers_with};
+ghost use Rattle.leveled_modules.specs.Leveled.{AreKept};
+ghost use Rattle.family_levels.specs.Leveling.{AreNames, AreOutcomes, with_item};
+ghost use Rattle.family_levels.specs.Versions.{AreHeld, AreHeldWith};
 
 use crate::findings::Findings;
-use crate::module::{Found, level_one};
+use crate::module::Found;
+use crate::versions::{Nodes, Version, Versions, level_next};
 use family_tables::{Module, Plan, Table};
+use growing_modules::made_modules_stay;
 use known_modules::made_modules_are_known;
-use leveled_modules::LevelTables;
 use std::alloc::Global;
 use step_count::Steps;
 use tool_list::Memory;
 
-// Keeps the number of a module, if it has one.
-fn keep_number(
+// Keeps the item of a module, if it has one.
+fn keep<T: Drop>(
     alloc: Global,
-    numbers: &mut Table<usize>,
+    items: &mut Table<T>,
     name: &str,
-    number: Option<usize>,
+    item: Option<T>,
 ) -> Result<(), Memory>
-    requires { entry_of numbers.old name.now ≡ None }
-    ensures { OnOk result (numbers.new ≡ numbers_with numbers.old name.now number) }
+    requires { entry_of items.old name.now ≡ None }
+    ensures { OnOk result (items.new ≡ with_item items.old name.now item) }
 {
-    match number {
-        Some(number) => numbers.add(alloc, name, number),
+    match item {
+        Some(item) => items.add(alloc, name, item),
         None => Ok(()),
     }
 }
 
-/// What is found of modules, in the order of a plan. Each module without front fault is checked
-/// once, which is one step.
+// How many bytes of text became nodes for a version, if it was found anew with this number.
+fn size_anew(version: &Option<Version>, id: u64) -> u64 {
+    match version {
+        Some(version) if version.id == id => version.size(),
+        _ => 0,
+    }
+}
+
+// The number behind that of a version. One that 64 bits can't hold is want of memory.
+fn following(id: u64) -> Result<u64, Memory>
+    ensures { IfOk result (λ after. after ≡ id + 1) }
+{
+    match id.checked_add(1) {
+        Some(after) => Ok(after),
+        None => Err(Memory),
+    }
+}
+
+/// What is found of modules, in the order of a plan, with their versions. One that was found before
+/// over the same is not checked again; each other module without front fault is checked once, which
+/// is one step. Versions that are found anew get numbers from the next one on.
 pub(crate) fn level_all<L>(
     alloc: Global,
     modules: &Table<Module>,
     plan: &Plan,
+    old: &Table<Version>,
+    nodes: Nodes,
     steps: &mut Steps<L>,
-) -> Result<Findings, Memory>
+) -> Result<(Findings, Versions), Memory>
     requires once { AreOnce (names_in modules.now) }
     requires read { All (λ entry. outcomes_of.IsSomeModule entry.0 entry.1) modules.now }
     requires plan { IsPlan modules.now plan.now }
+    requires kept { AreKept nodes.known }
+    requires held { AreHeld nodes.known nodes.next old.now }
     ensures outcomes { (family : ListOf Member) → AreMembersDistinct family
         → modules_of.AreModules family modules.now
-        → IfOk result (λ found. AreOutcomes family found.outcomes) }
+        → IfOk result (λ made. AreOutcomes family made.0.outcomes) }
     ensures names { (family : ListOf Member) → AreMembersDistinct family
         → modules_of.AreModules family modules.now
-        → IfOk result (λ found. AreNames family found.names) }
-    ensures steps { IfOk result (λ _. steps.new
+        → IfOk result (λ made. AreNames family made.0.names) }
+    ensures kept { IfOk result (λ made. AreKept made.1.nodes.known) }
+    ensures held { (family : ListOf Member) → AreMembersDistinct family
+        → modules_of.AreModules family modules.now
+        → IfOk result (λ made. AreHeldWith made.1.nodes.known made.1.nodes.next made.1.modules
+        old.now) }
+    ensures most { IfOk result (λ _. steps.new
+        ≤ after_checks (outcomes_of.trees_in modules.now) steps.old) }
+    ensures all { old.now ≡ [] → IfOk result (λ _. steps.new
         ≡ after_checks (outcomes_of.trees_in modules.now) steps.old) }
 {
     front_laws::one_front();
     made_modules_are_known();
+    made_modules_stay();
     // The proof needs that a count is below 2^64.
     let _count = steps.count();
     let mut outcomes = Table::new(alloc);
     let mut numbers = Table::new(alloc);
     let mut names = Table::new(alloc);
-    let mut known = LevelTables::new(alloc)?;
+    let mut versions = Table::new(alloc);
+    let Nodes {
+        mut known,
+        mut next,
+        mut made,
+    } = nodes;
     for name in plan.order.as_slice() {
         let name = name.as_str();
         let Some(module) = modules.get(name) else {
             unreachable!();
         };
-        let (next, found) = level_one(
-            alloc, plan, &outcomes, &numbers, name, module, known, steps,
+        let (behind, found, version) = level_next(
+            alloc, plan, old, &versions, &outcomes, &numbers, name, module, known, next, steps,
         )?;
-        known = next;
+        known = behind;
+        made = made.saturating_add(size_anew(&version, next));
+        next = following(next)?;
         let Found {
             outcome,
             number,
             names: own,
         } = found;
         outcomes.add(alloc, name, outcome)?;
-        keep_number(alloc, &mut numbers, name, number)?;
+        keep(alloc, &mut numbers, name, number)?;
+        keep(alloc, &mut versions, name, version)?;
         names.add(alloc, name, own)?;
     }
-    Ok(Findings { outcomes, names })
+    let versions = Versions {
+        modules: versions,
+        nodes: Nodes { known, next, made },
+    };
+    Ok((Findings { outcomes, names }, versions))
 }

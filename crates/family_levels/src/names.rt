@@ -1,12 +1,14 @@
 // The names of a module, and their levels.
-ghost use Rattle.std.specs.Prelude.{◌≡◌, [], map};
+ghost use Rattle.std.specs.Prelude.{◌≡◌, [], IfOk, map};
 ghost use Rattle.family_levels.specs.Judging.{level_at, with_level};
 
 use check_core::Checked;
 use indexmap::IndexMap;
 use std::alloc::Global;
+use std::marker::Model;
+use std::sync::Arc;
 use tla_model::{Decl, Level, Use};
-use tool_list::List;
+use tool_list::{List, Memory};
 
 /// The uses of names in a module, with their levels where it is accepted, and its declarations,
 /// both in the order of the text. There are none after a fault of its front or of an import.
@@ -74,5 +76,53 @@ impl Names {
             uses: with_levels(uses, levels),
             decls,
         }
+    }
+}
+
+/// Names that copies share. Contracts see the names.
+pub struct SharedNames {
+    names: Arc<Names>,
+}
+
+// By hand, so that a proof meets one call wherever a value ends.
+impl Drop for SharedNames {
+    fn drop(self) {
+        let SharedNames { names: _ } = self;
+    }
+}
+
+impl Model for SharedNames {
+    ghost use Rattle.std.specs.Arc.{arc_value};
+    ghost use Rattle.family_levels.specs.declared.names.Names.{Names};
+
+    ghost Value = { Names };
+
+    ghost view = { λ n. arc_value n.names };
+}
+
+impl SharedNames {
+    /// These names, to be shared.
+    pub(crate) fn new(alloc: Global, names: Names) -> Result<SharedNames, Memory>
+        ensures { IfOk result (λ shared. shared ≡ names) }
+    {
+        Ok(SharedNames {
+            names: Arc::new(alloc, names)?,
+        })
+    }
+
+    /// The names.
+    pub fn names(&self) -> &Names
+        ensures { result.now ≡ self.now }
+    {
+        &self.names
+    }
+
+    /// The same names. `Memory` comes where so many copies can't be counted.
+    pub(crate) fn copied(&self) -> Result<SharedNames, Memory>
+        ensures { IfOk result (λ shared. shared ≡ self.now) }
+    {
+        Ok(SharedNames {
+            names: self.names.clone()?,
+        })
     }
 }

@@ -489,3 +489,16 @@ fn tells_others_of_an_edit(rt: HostRuntime) -> Result<(), Fail> {
     answer(&rt, rt.alloc(), &sessions::edits::EDITS)?;
     Ok(())
 }
+
+#[test]
+fn checks_what_reaches_a_change(rt: HostRuntime) -> Result<(), Fail> {
+    let alloc = rt.alloc();
+    for (contents, ticks) in &sessions::counts::COUNTED {
+        let folder = folder_at(alloc, "/w", modules_of(alloc, &sessions::FILES)?, 0)?;
+        let input = frames_of(alloc, *contents)?;
+        let output = MemorySink::new(alloc, 4096, 7, List::new(alloc))?;
+        let ran = run_with(alloc, &["serve"], folder, input, output)?;
+        assert_eq!(rt; ran.ticks, *ticks);
+    }
+    Ok(())
+}

@@ -1,5 +1,6 @@
 // Sessions of a client, message by message.
 pub mod changes;
+pub mod counts;
 pub mod edits;
 pub mod files;
 pub mod names;

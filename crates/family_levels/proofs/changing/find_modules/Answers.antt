@@ -1,4 +1,4 @@
-use Rattle.std.proofs.Common.{◌∙◌, ap}
+use Rattle.std.proofs.Common.{◌≤◌, subst}
 use Rattle.family_facts.specs.Verdicts.{after_checks, family_of}
 use Rattle.family_tables.proofs.Once.{modules-once}
 use Rattle.family_tables.proofs.Read.{checks-are, modules-some}
@@ -18,8 +18,12 @@ returns-clause-found g c =
     let files = c.args.files.now in
     let modules = c.args.modules.now in
     let differ = c.names_differ.ensures files c.requires.distinct in
-    let found = c.in_ok-found.ensures in
-    c.findings_stand_in_text.ensures files modules c.in_ok-found.found c.requires.distinct c.requires.modules (found.outcomes (family_of files) differ c.requires.modules) (found.names (family_of files) differ c.requires.modules)
+    let found = c.in_ok-made.ensures in
+    c.findings_stand_in_text.ensures files modules c.in_ok-made.made.0 c.requires.distinct c.requires.modules (found.outcomes (family_of files) differ c.requires.modules) (found.names (family_of files) differ c.requires.modules)
 
 pub returns-clause-steps : goal.returns-clause-steps
-returns-clause-steps g c = c.in_ok-found.ensures.steps ∙ ap (λ n. after_checks n c.args.steps.now) (checks-are c.one_front.ensures.same c.args.files.now c.args.modules.now c.requires.modules)
+returns-clause-steps g c =
+    subst (λ n. c.level_all.new.steps ≤ after_checks n c.args.steps.now) (checks-are c.one_front.ensures.same c.args.files.now c.args.modules.now c.requires.modules) c.in_ok-made.ensures.most
+
+pub returns-clause-held : goal.returns-clause-held
+returns-clause-held g c = c.in_ok-made.ensures.held (family_of c.args.files.now) (c.names_differ.ensures c.args.files.now c.requires.distinct) c.requires.modules

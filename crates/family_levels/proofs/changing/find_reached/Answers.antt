@@ -1,4 +1,4 @@
-use Rattle.std.proofs.Common.{◌∙◌, ap, arith, length, subst, sym}
+use Rattle.std.proofs.Common.{◌≤◌, ◌∙◌, ap, arith, length, subst, sym}
 use Rattle.std.specs.Prelude.{sum_by}
 use Rattle.family_facts.specs.Verdicts.{AreDistinct, after_checks, checks_of, family_of}
 use Rattle.family_facts.specs.declared.verdict.File.{File}
@@ -31,7 +31,9 @@ read_family-requires-clause-small g c =
 pub find_modules-requires : goal.find_modules-requires
 find_modules-requires g c = record {
   distinct = subst AreDistinct (sym (c.as_slice-2.ensures ∙ c.in_ok-part.ensures)) (part-distinct (has_name c.in_ok-reached.reached) c.args.files.now c.requires.distinct);
-  modules = subst (λ files. AreModules (family_of files) c.in_ok-modules.modules) (c.as_slice.ensures ∙ sym c.as_slice-2.ensures) c.in_ok-modules.ensures;
+  modules = subst (λ files. AreModules (family_of files) c.in_ok-read.read) (c.as_slice.ensures ∙ sym c.as_slice-2.ensures) c.in_ok-read.ensures;
+  kept = c.requires.held.0;
+  held = c.requires.held.1;
 }
 
 pub returns-clause-found : goal.returns-clause-found
@@ -45,10 +47,9 @@ returns-clause-found g c =
 
 pub returns-clause-steps : goal.returns-clause-steps
 returns-clause-steps g c =
-    let same = c.in_ok-found.ensures.steps ∙ ap (λ fs. after_checks (checks_of fs) c.args.steps.now) (c.as_slice-2.ensures ∙ c.in_ok-part.ensures) in
     record {
       part = part (has_name c.in_ok-reached.reached) c.args.files.now c.requires.distinct;
       distinct = part-distinct (has_name c.in_ok-reached.reached) c.args.files.now c.requires.distinct;
       within = λ file h. (in-filter (λ (f : File). has_name c.in_ok-reached.reached f.name) c.args.files.now file h).0;
-      most = omega (arith, same);
+      most = subst (λ fs. c.find_modules.new.steps ≤ after_checks (checks_of fs) c.args.steps.now) (c.as_slice-2.ensures ∙ c.in_ok-part.ensures) c.in_ok-found.ensures.steps;
     }

@@ -39,4 +39,4 @@ pub returns-clause-placed : goal.returns-clause-placed
 returns-clause-placed g c = subst (All IsReportPlaced) (sym (returns-clause-reports g c)) (c.reports_stand_in_text.ensures c.args.facts c.args.files.now c.args.modules.now c.requires.distinct c.requires.modules)
 
 pub returns-clause-steps : goal.returns-clause-steps
-returns-clause-steps g c = c.in_ok-found.ensures.steps ∙ ap (λ n. after_checks n c.args.steps.now) (checks-are c.one_front.ensures.same c.args.files.now c.args.modules.now c.requires.modules)
+returns-clause-steps g c = c.in_ok-found.ensures.all c.in_ok-none.ensures.none ∙ ap (λ n. after_checks n c.args.steps.now) (checks-are c.one_front.ensures.same c.args.files.now c.args.modules.now c.requires.modules)

@@ -59,5 +59,5 @@ returns-then-not-is_empty-clause-judged g c =
       so = refused-so c.args.tree.now c.args.imports.now (get_by_text c.args.files.now) c.args.known checked checked.faults c.refused.result
           (λ none. false≢true (c.if-not-is_empty.ensures.1 (ap length (c.faults-faults.ensures ∙ none))))
           (c.refused.ensures.outcome ∙ ap outcome.Refused same) c.refused.ensures.number
-          (c.refused.ensures.names ∙ (λ i. record { uses = c.of.ensures.uses i; decls = c.of.ensures.decls i }));
+          (c.refused.ensures.names ∙ (c.in_ok-names.ensures ∙ (λ i. record { uses = c.of.ensures.uses i; decls = c.of.ensures.decls i })));
     }

@@ -1,4 +1,4 @@
-use Rattle.std.proofs.Common.{◌≡◌, ℕ, List, Some, None, take}
+use Rattle.std.proofs.Common.{◌≡◌, ◌≤◌, ℕ, List, [], Option, Some, None, take}
 use Rattle.std.specs.Prelude.{sum_by}
 use Rattle.family_facts.specs.Facts.{texts_of}
 use Rattle.family_facts.specs.Family.{AreMembersDistinct, Member}
@@ -8,7 +8,9 @@ use Rattle.family_tables.specs.Modules.{AreModules}
 use Rattle.family_tables.specs.Outcomes.{trees_of}
 use Rattle.family_tables.specs.Tables.{entry_of, names_in}
 use Rattle.leveled_modules.specs.Leveled.{AreKept}
+use Rattle.family_levels.specs.Again.{AreOutsides, ArePlaced}
 use Rattle.family_levels.specs.Leveling.{AreLeveled, AreNumbers, names_on}
+use Rattle.family_levels.specs.Versions.{AreVersions, Told}
 use Rattle.family_levels.specs.declared.names.Names.{Names}
 use Rattle.family_levels.proofs.modules.level_all.Given as goal
 
@@ -20,7 +22,14 @@ invariant-loop-name g l = record {
   kept : AreKept l.known;
   numbers : AreNumbers l.known l.numbers;
   only : (name : List ℕ) → entry_of l.outcomes name ≡ None → entry_of l.numbers name ≡ None;
+  unversioned : (name : List ℕ) → entry_of l.outcomes name ≡ None → entry_of l.versions name ≡ None;
+  told : ℕ → Option Told;
+  placed : ArePlaced l.outcomes l.numbers told l.next l.versions;
+  before : AreVersions l.known told l.next l.old;
+  outsides : (family : List Member) → AreMembersDistinct family → AreModules family l.modules → AreOutsides family told l.versions;
+  versions_so : (family : List Member) → AreMembersDistinct family → AreModules family l.modules → AreVersions l.known told l.next l.versions;
   leveled_so : (family : List Member) → AreMembersDistinct family → AreModules family l.modules → AreLeveled family l.outcomes l.numbers l.known;
   owned : (family : List Member) → AreMembersDistinct family → AreModules family l.modules → (name : List ℕ) (own : Names) → entry_of l.names name ≡ Some own → own ≡ names_on (texts_of family) name;
-  steps : l.steps ≡ after_checks (sum_by (λ name. trees_of (entry_of l.modules name)) (take l.name-index l.plan.order)) l.fn.steps;
+  most : l.steps ≤ after_checks (sum_by (λ name. trees_of (entry_of l.modules name)) (take l.name-index l.plan.order)) l.fn.steps;
+  all : l.old ≡ [] → l.steps ≡ after_checks (sum_by (λ name. trees_of (entry_of l.modules name)) (take l.name-index l.plan.order)) l.fn.steps;
 }

@@ -1,5 +1,6 @@
 use Rattle.std.proofs.Common.{◌≡◌, ◌∙◌, List, arith, subst, sym}
 use Rattle.family_facts.specs.declared.verdict.File.{File}
+use Rattle.family_levels.specs.Holding.{HoldVersions}
 use Rattle.family_levels.specs.Telling.{AreFound}
 use Rattle.family_levels.specs.declared.findings.Findings.{Findings}
 use Rattle.family_levels.proofs.Telling.{found-of-all}
@@ -21,7 +22,7 @@ returns-then-are_same-clause-steps g c =
     omega (arith, count, same)
 
 pub find_family-requires : goal.find_family-requires
-find_family-requires g c = record { distinct = c.requires.distinct; small = c.requires.small; kept = c.self.invariant.0 }
+find_family-requires g c = record { distinct = c.requires.distinct; small = c.requires.small; kept = c.self.invariant.0; held = subst HoldVersions (sym c.take-versions.ensures.value) c.self.invariant.2 }
 
 pub returns-clause-found : goal.returns-clause-found
 returns-clause-found g c = subst (AreFound c.args.files) (sym c.drop.view_is) c.in_ok-family.ensures.found

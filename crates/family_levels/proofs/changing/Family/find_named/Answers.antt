@@ -1,5 +1,6 @@
 use Rattle.std.proofs.Common.{◌≡◌, ◌∙◌, List, ℕ, arith, subst, sym}
 use Rattle.family_facts.specs.declared.verdict.File.{File}
+use Rattle.family_levels.specs.Holding.{HoldVersions}
 use Rattle.family_levels.specs.Telling.{AreFoundOf}
 use Rattle.family_levels.specs.declared.findings.Findings.{Findings}
 use Rattle.family_levels.proofs.changing.Family.find_named.Goals as goal
@@ -20,7 +21,7 @@ returns-then-are_same-clause-steps g c =
     record { part = c.args.files; distinct = c.requires.distinct; within = λ file h. h; most = omega (arith, count, same) }
 
 pub find_part-requires : goal.find_part-requires
-find_part-requires g c = record { distinct = c.requires.distinct; small = c.requires.small; kept = c.self.invariant.0 }
+find_part-requires g c = record { distinct = c.requires.distinct; small = c.requires.small; kept = c.self.invariant.0; held = subst HoldVersions (sym c.take-versions.ensures.value) c.self.invariant.2 }
 
 pub returns-clause-found : goal.returns-clause-found
 returns-clause-found g c = subst (AreFoundOf c.args.names c.args.files) (sym c.drop.view_is) c.in_ok-family.ensures.found

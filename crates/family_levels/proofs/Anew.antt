@@ -1,0 +1,141 @@
+-- What is found of a module anew is found of it over what its needs are.
+use mathlib.Core.Path.{fun_ext}
+use Rattle.std.proofs.Common.{◌≡◌, ◌<◌, ℕ, Bool, true, false, List, ◌⊎◌, inl, inr, Option, Some, None, refl, sym, ap, subst, ◌∙◌}
+use Rattle.std.specs.Prelude.{Contains, IfSome}
+use Rattle.std.specs.Arc.{arc_value}
+use Rattle.tla_tree.specs.declared.unit.ModuleTree.{ModuleTree}
+use Rattle.tla_model.specs.declared.ids.DeclId.{DeclId}
+use Rattle.module_model.specs.declared.face.Face.{Face}
+use Rattle.module_model.specs.declared.imported.Import.{Import}
+use Rattle.module_model.specs.declared.imported.Import.TheVariants as import
+use Rattle.module_model.specs.Exports.{Exports, ModuleView, face_instances, face_outside}
+use Rattle.module_model.specs.Given.{ComesFrom, Text, Reached, face_of}
+use Rattle.module_model.specs.Imports.{Imports, import_of}
+use Rattle.module_facts.specs.Checks as names
+use Rattle.module_facts.specs.Checks.{given_by, given_in}
+use Rattle.kind_text.specs.FlatModule.{IsOrdered}
+use Rattle.leveled_modules.specs.Leveled.{LevelTables}
+use Rattle.family_facts.specs.Facts.{texts_of}
+use Rattle.family_facts.specs.Family as families
+use Rattle.family_facts.specs.Family.{Member}
+use Rattle.family_facts.proofs.Lists.{among-or-not}
+use Rattle.family_tables.specs.Agreement.{AreFrom, accepted_face}
+use Rattle.family_tables.proofs.Bridging.{cyclic-map}
+use Rattle.family_tables.specs.Outcomes.{ImportsOnly, IsMember, IsNeedTold, Matches, status_by}
+use Rattle.family_tables.specs.Plans as plans
+use Rattle.family_tables.specs.Tables.{entry_of}
+use Rattle.family_tables.specs.declared.order.Plan.{Plan}
+use Rattle.family_tables.specs.declared.outcome.Outcome.{Outcome}
+use Rattle.family_tables.specs.declared.outcome.Outcome.TheVariants as outcome
+use Rattle.family_tables.specs.declared.reading.Reading.TheVariants as reading
+use Rattle.leveled_facts.specs.Families.{leveled}
+use Rattle.leveled_facts.specs.Modules.{Accepted, Leveled}
+use Rattle.family_levels.specs.declared.«module».Found.{Found}
+use Rattle.family_levels.specs.Judging.{HasFace, IsJudged}
+use Rattle.family_levels.specs.Leveling.{AreNumbers, IsNext, IsReady, face_count}
+use Rattle.family_levels.specs.Numbers.{number_by}
+use Rattle.family_levels.specs.Versions.{AreNeedsAccepted, IsAcceptedOver, IsFoundOver, IsHeld, IsHeldFace, IsNeedAccepted, Over, Own, Shared, given_over, leveled_over, number_in, numbers_over, status_told, told_by}
+use Rattle.family_levels.proofs.Laws.{FamilyLaws, KnownLaws}
+use Rattle.family_levels.proofs.Judging.{made-found}
+use Rattle.family_levels.proofs.Over.{over-found}
+use Rattle.family_levels.proofs.Statuses.{given as given_to, status_with}
+use Rattle.family_levels.proofs.Steps.{files-below, judged-number}
+
+same-face : (a b : Face) → ◌≡◌ {A = Option Face} (Some a) (Some b) → a ≡ b
+same-face a b same = cc
+
+-- an import that is accepted has its number
+module-number : (i : Option Import) (number : Option ℕ) (view : ModuleView) → given_by i ≡ names.Accepted view → number_by i number ≡ number
+module-number None number view is = absurd (cc is)
+module-number (Some import.Unknown) number view is = absurd (cc is)
+module-number (Some import.Cyclic) number view is = absurd (cc is)
+module-number (Some import.Refused) number view is = absurd (cc is)
+module-number (Some (import.Module face)) number view is = refl
+
+module _ (known_laws : KnownLaws) (laws : FamilyLaws) (family : List Member) (plan : Plan) (outcomes : List (List ℕ × Outcome)) (numbers : List (List ℕ × ℕ)) (old new : LevelTables) (name : List ℕ) (ready : IsReady family plan outcomes numbers old name) (unfound : entry_of outcomes name ≡ None)
+    (numbered : AreNumbers old numbers) (was_ordered : IsOrdered old.tables.state.flat) (is_ordered : IsOrdered new.tables.state.flat) (tree : ModuleTree) (needs : List (List ℕ)) (member : IsMember family name (reading.Tree tree) needs) (imports : Imports)
+    (told : (need : List ℕ) → Contains needs need → IsNeedTold ready.entries outcomes name need (given_in imports need)) (only : ImportsOnly needs imports) (from : AreFrom outcomes imports) (files : List ℕ → Option ℕ) (are : (other : List ℕ) → files other ≡ number_by (import_of imports other) (entry_of numbers other)) (found : Found)
+    (judged : IsJudged name tree imports files old new found) (over : Over) (accepted : AreNeedsAccepted family outcomes numbers name needs over) where
+  -- a module that is needed is imported as accepted
+  need-accepted : (need : List ℕ) → Contains needs need → (n : IsNeedAccepted family outcomes numbers name need over) → given_in imports need ≡ names.Accepted (face_outside n.told.face)
+  need-accepted need c n = (told need c).is ∙ by (told need c).is_cyclic refl (entry_of outcomes need) n.face
+    where
+      by : (answer : Bool) → answer ≡ (told need c).is_cyclic → (o : Option Outcome) → accepted_face o ≡ Some n.told.face → status_by answer o ≡ names.Accepted (face_outside n.told.face)
+      by true e o is = absurd (n.apart (cyclic-map (plans.Needs ready.entries) (families.Needs family) name need ready.own ((told need c).exactly.0 (sym e))))
+      by false e None is = absurd (cc is)
+      by false e (Some (outcome.Refused faults)) is = absurd (cc is)
+      by false e (Some (outcome.Accepted face)) is = ap (λ (f : Face). names.Accepted (face_outside f)) (same-face (arc_value face) n.told.face is)
+
+  given-same : given_to family plan outcomes numbers old name ready tree needs member imports told only ≡ given_over over
+  given-same = fun_ext (λ other. by other (among-or-not needs other))
+    where
+      by : (other : List ℕ) → Contains needs other ⊎ (Contains needs other → ⊥) → status_with (leveled (texts_of family) other).outside (given_in imports other) ≡ status_told (over other)
+      by other (inl c) =
+          let n = accepted.each other c in
+          ap (status_with (leveled (texts_of family) other).outside) (need-accepted other c n) ∙ (ap Accepted n.outside ∙ ap status_told (sym n.is))
+      by other (inr never) = ap (λ i. status_with (leveled (texts_of family) other).outside (given_by i)) (only other never) ∙ ap status_told (sym (accepted.others other never))
+
+  numbers-same : files ≡ numbers_over over
+  numbers-same = fun_ext (λ other. are other ∙ by other (among-or-not needs other))
+    where
+      by : (other : List ℕ) → Contains needs other ⊎ (Contains needs other → ⊥) → number_by (import_of imports other) (entry_of numbers other) ≡ number_in (over other)
+      by other (inl c) =
+          let n = accepted.each other c in
+          module-number (import_of imports other) (entry_of numbers other) (face_outside n.told.face) (need-accepted other c n) ∙ (n.number ∙ ap number_in (sym n.is))
+      by other (inr never) = ap (λ i. number_by i (entry_of numbers other)) (only other never) ∙ ap number_in (sym (accepted.others other never))
+
+  -- its face is over theirs
+  held-from : (decl : DeclId) (entries : Exports) → ComesFrom imports name decl entries → IsHeld over name decl entries
+  held-from decl entries (Text own) = Own own
+  held-from decl entries (Reached other face there has) = by (among-or-not needs other)
+    where
+      by : Contains needs other ⊎ (Contains needs other → ⊥) → IsHeld over name decl entries
+      by (inl c) =
+          let n = accepted.each other c in
+          let same : face ≡ n.told.face = same-face face n.told.face (sym (from other face there) ∙ n.face) in
+          Shared other n.told n.is (ap (λ (f : Face). face_instances f decl) (sym same) ∙ has)
+      by (inr never) = let none : None ≡ Some face = sym (ap face_of (only other never)) ∙ there in cc
+
+  held-face : IsHeldFace over name judged.checked.face
+  held-face = record { named = judged.face.named; whole = judged.face.whole; from = λ decl entries there. held-from decl entries (judged.face.from decl entries there) }
+
+  module _ (next : IsNext family outcomes numbers name new found) where
+    told-by : (o : outcome.the_data) (n : Option ℕ) (number : ℕ) (face : Face) → HasFace face o → n ≡ Some number → told_by o n over tree ≡ Some (record { face = face; number = number; outside = (leveled_over over tree).outside })
+    told-by (outcome.Refused faults) n number face has at = absurd has
+    told-by (outcome.Accepted shared) None number face has at = absurd (cc at)
+    told-by (outcome.Accepted shared) (Some m) number face has at =
+        let same : m ≡ number = cc in
+        λ i. Some (record { face = has i; number = same i; outside = (leveled_over over tree).outside })
+
+    face-by : (o : outcome.the_data) (face : Face) → HasFace face o → accepted_face (Some o) ≡ Some face
+    face-by (outcome.Refused faults) face has = absurd has
+    face-by (outcome.Accepted shared) face has = ap (λ f. Some f) has
+
+    below-by : (number : ℕ) → found.number ≡ Some number → number < face_count new
+    below-by number at = subst (λ n. IfSome n (λ m. m < face_count new)) at (judged-number name tree imports files old new found judged)
+
+    accepted-over : (number : ℕ) → found.number ≡ Some number → IsAcceptedOver new over (told_by found.outcome found.number over tree) name tree found number
+    accepted-over number at =
+        let as_made = made-found known_laws laws family plan outcomes numbers old new name ready unfound numbered was_ordered is_ordered tree needs member imports told only files are found judged over given-same numbers-same (files-below old imports numbers files numbered are) number at in
+        record {
+          there = below-by number at;
+          told = record { face = judged.checked.face; number = number; outside = (leveled_over over tree).outside };
+          is = told-by found.outcome found.number number judged.checked.face as_made.has at;
+          number_is = refl;
+          face_is = face-by found.outcome judged.checked.face as_made.has;
+          outside_is = refl;
+          held = held-face;
+          made = as_made.made;
+        }
+
+    -- so it is found over them
+    pub anew-found : IsFoundOver new over (told_by found.outcome found.number over tree) name tree found
+    anew-found =
+        let is = over-found laws family plan outcomes numbers old name ready tree needs member over accepted in
+        record {
+          read = (member.member.bytes, member.is);
+          says = subst (λ (l : Leveled). Matches l.faults l.outside.view found.outcome) is next.says;
+          numbered = next.numbered;
+          names = next.names ∙ (λ i. record { uses = (is i).uses; decls = (is i).decls });
+          accepted = accepted-over;
+        }
