@@ -47,7 +47,7 @@ module _ (flat : FlatModule) (f : ℕ → ℕ) (g : ℕ → Resolved) (tell : (j
   roots-told [] = refl
   roots-told (r ∷ rs) = ap (λ n. max n (greatest f (map (λ r. r.root) rs))) (tell r.root) ∙ ap (max (depth_in (g r.root))) (roots-told rs)
 
-  replaced-told : (o : Option Instance) → flat_depth.replaced_depth f o ≡ replaced_in (instance_at flat g o)
+  pub replaced-told : (o : Option Instance) → flat_depth.replaced_depth f o ≡ replaced_in (instance_at flat g o)
   replaced-told None = refl
   replaced-told (Some x) = roots-told x.replacements
 
@@ -57,7 +57,7 @@ module _ (flat : FlatModule) (f : ℕ → ℕ) (g : ℕ → Resolved) (tell : (j
       ap (λ n. max n (flat_depth.replaced_on flat f path)) (replaced-told (slice_get flat.instances j))
       ∙ ap (max (replaced_in (instance_at flat g (slice_get flat.instances j)))) (path-told path)
 
-  parameters-told : (o : Option Instance) → flat_depth.parameters_of o ≡ parameters_of (instance_at flat g o)
+  pub parameters-told : (o : Option Instance) → flat_depth.parameters_of o ≡ parameters_of (instance_at flat g o)
   parameters-told None = refl
   parameters-told (Some x) = refl
 
@@ -67,7 +67,7 @@ module _ (flat : FlatModule) (f : ℕ → ℕ) (g : ℕ → Resolved) (tell : (j
       ap (λ n. n + flat_depth.parameters_on flat f path) (parameters-told (slice_get flat.instances j))
       ∙ ap (λ n. parameters_of (instance_at flat g (slice_get flat.instances j)) + n) (arguments-told path)
 
-  definition-told : (o : Option Definition) → flat_depth.depth_of f o ≡ depth_of (definition_at flat g o)
+  pub definition-told : (o : Option Definition) → flat_depth.depth_of f o ≡ depth_of (definition_at flat g o)
   definition-told None = refl
   definition-told (Some x) = ap suc (tell x.root)
 

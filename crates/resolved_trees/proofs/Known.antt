@@ -3,7 +3,7 @@ use Rattle.std.proofs.Common.{◌≡◌, ◌⊎◌, ℕ, zero, suc, Bool, true, 
 use Rattle.std.specs.Prelude.{nat_lt, slice_get}
 use Rattle.order_rec.specs.Earlier.{before, within}
 use Rattle.kind_text.specs.FlatModule.{FlatModule, Form, Node, places_of}
-use Rattle.resolved_trees.specs.Resolved.{Missing, Resolved, form_at, node_at, places_in}
+use Rattle.resolved_trees.specs.Resolved.{Missing, Resolved, form_at, node_at, places_in, resolved}
 
 -- a tree is missing, or has the places of the node with this number
 abbrev pub IsKnown : FlatModule → ℕ → Resolved → Type 0
@@ -41,3 +41,7 @@ before-known flat n i j = by (nat_lt j i)
     by : (b : Bool) → IsKnown flat j (cond b (within Missing (tree_step flat) n j) Missing)
     by true = within-known flat n j
     by false = inl refl
+
+-- so is the tree of a node
+pub resolved-known : (flat : FlatModule) (j : ℕ) → IsKnown flat j (resolved flat j)
+resolved-known flat j = within-known flat (suc j) j

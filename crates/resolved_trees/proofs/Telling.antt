@@ -36,11 +36,11 @@ module _ (flat : FlatModule) (f : Earlier) (g : ℕ → Resolved) (tell : (j : �
           ∙ sym (ap (λ x. judged (places_in x) (item_of x s)) missing)
       by (inr places) = ap (λ p. judged p (item_of (g i) s)) (sym places)
 
-  roots-told : (rs : List Replacement) (s : List Item) → items f (map (λ r. r.root) rs) s ≡ replaced_items (replacements_at flat g rs) s
+  pub roots-told : (rs : List Replacement) (s : List Item) → items f (map (λ r. r.root) rs) s ≡ replaced_items (replacements_at flat g rs) s
   roots-told [] s = refl
   roots-told (r ∷ rs) s = ap (λ x. x s ∷ items f (map (λ r. r.root) rs) s) (tell r.root) ∙ ap (λ xs. item_of (g r.root) s ∷ xs) (roots-told rs s)
 
-  guards-told : (rs : List Replacement) (s : List Item) → guards_of flat f rs s ≡ guards_in (replacements_at flat g rs) s
+  pub guards-told : (rs : List Replacement) (s : List Item) → guards_of flat f rs s ≡ guards_in (replacements_at flat g rs) s
   guards-told [] s = refl
   guards-told (r ∷ rs) s =
       ap (λ t. guarded_by r.most t ++ guards_of flat f rs s) (judged-told r.root s)
