@@ -40,6 +40,14 @@ abbrev pub table_shown : {Z : Type 0} → Option (Bor (Arc (Table Meaning) Z)) �
 table_shown None = None
 table_shown (Some table) = Some (arc_value table.now)
 
+-- an instance of a text with what its module exports, as it is shown
+abbrev pub instance_shown : {Z : Type 0} → ℕ × Bor (Arc (Table Meaning) Z) → ℕ × Table Meaning
+instance_shown (place, exports) = (place, arc_value exports.now)
+
+-- a part with the module whose text it is of, as it is shown
+abbrev pub part_shown : {Z : Type 0} → Bor (List ℕ) × Bor (Arc InText Z) → List ℕ × InText
+part_shown (title, part) = (title.now, arc_value part.now)
+
 -- these are those of the first, with those of the others that are not among them
 abbrev pub AreJoined : ByText → ByText → ByText → Type 0
 AreJoined new first others = (decl : DeclId) → reached new decl ≡ option_or (reached first decl) (reached others decl)

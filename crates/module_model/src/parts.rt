@@ -1,8 +1,10 @@
 // The instances that a face reaches.
-ghost use Rattle.std.specs.Prelude.{◌≡◌, ◌∷◌, [], is_some, nat_eq, IfOk, IsTrue, OnOk};
+ghost use Rattle.std.specs.Prelude.{◌≡◌, ◌∷◌, [], is_some, nat_eq, IfOk, IsTrue, OnOk, length};
+ghost use Rattle.std.specs.Prelude.{option_map, slice_get};
 ghost use Rattle.std.specs.Arc.{arc_value};
 ghost use Rattle.tla_model.specs.Tables as tables;
-ghost use Rattle.module_model.specs.Parts.{AreJoined, AreUnited, IsSet, reached, table_shown};
+ghost use Rattle.module_model.specs.Parts.{AreJoined, AreUnited, IsSet, instance_shown, part_shown};
+ghost use Rattle.module_model.specs.Parts.{reached, table_shown};
 
 use indexmap::IndexMap;
 use std::alloc::Global;
@@ -47,6 +49,24 @@ impl Part {
         ensures { table_shown result ≡ tables.lookup nat_eq self.now place }
     {
         self.instances.get(&place)
+    }
+
+    /// How many instances there are.
+    pub fn len(&self) -> usize
+        ensures { result ≡ length self.now }
+    {
+        self.instances.len()
+    }
+
+    /// The place of an instance by its number, in the order in which they were put, with what the module
+    /// exports of which it is one.
+    pub fn at(&self, index: usize) -> Option<(u32, &Arc<NameTable>)>
+        ensures { option_map instance_shown result ≡ slice_get self.now index }
+    {
+        match self.instances.get_index(index) {
+            Some((place, exports)) => Some((*place, exports)),
+            None => None,
+        }
     }
 
     // Whether the instance at a place is there.
@@ -144,6 +164,23 @@ impl Parts {
     {
         match self.texts.get(decl.module.as_str()) {
             Some(part) => part.get(decl.place),
+            None => None,
+        }
+    }
+
+    /// How many parts there are.
+    pub fn len(&self) -> usize
+        ensures { result ≡ length self.now }
+    {
+        self.texts.len()
+    }
+
+    /// A part by its number, with the module whose text declares its instances.
+    pub fn at(&self, index: usize) -> Option<(&str, &Arc<Part>)>
+        ensures { option_map part_shown result ≡ slice_get self.now index }
+    {
+        match self.texts.get_index(index) {
+            Some((title, part)) => Some((title.as_str(), part)),
             None => None,
         }
     }
