@@ -1,0 +1,14 @@
+//! Numbers of the nodes of a flat module, by their resolved trees.
+//!
+//! Nodes with one number have one tree: so trees are compared by comparing two numbers. Each node
+//! is numbered once, by what it is made of. Knows nothing of names, texts and kinds.
+#![tactic(auto)]
+
+mod instances;
+mod keys;
+mod numbers;
+
+pub use numbers::{TreeNumbers, numbers_stay};
+
+#[cfg(test)]
+mod tests;
