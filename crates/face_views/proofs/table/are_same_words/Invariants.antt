@@ -1,0 +1,5 @@
+use Rattle.face_views.proofs.Comparing.{AreSameBefore}
+use Rattle.face_views.proofs.table.are_same_words.Given as goal
+
+abbrev pub invariant-loop-index : goal.invariant-loop-index
+invariant-loop-index l = AreSameBefore l.index l.one.words l.other.words
