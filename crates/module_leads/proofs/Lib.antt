@@ -4,6 +4,7 @@ mod Following
 mod Keyed
 mod Leaded
 pub mod Led
+mod Likeness
 mod Listing
 mod Numbered
 mod Placed

@@ -1,10 +1,11 @@
 // What modules are to those that name them, in a table.
-ghost use Rattle.std.specs.Prelude.{◌≡◌, ◌≤◌, IfOk, MatchOption, None, OnOk, Some, if◌then◌else◌, length, option_map};
+ghost use Rattle.std.specs.Prelude.{◌≡◌, ◌≤◌, IfOk, MatchOption, None, OnOk, Some, if◌then◌else◌, length, option_map, slice_get};
 ghost use Rattle.std.specs.Option.{option_copied, option_or};
 ghost use Rattle.name_context.specs.AsTables.{meant_by};
 ghost use Rattle.tla_model.specs.Tables as tables;
 ghost use Rattle.tree_names.specs.Parameters.{entries_in};
 ghost use Rattle.flattened_units.specs.Units.{no_face};
+ghost use Rattle.module_leads.specs.Alike.{listed_words, symbols_in, symbols_of, words_in, words_of};
 ghost use Rattle.module_leads.specs.Faces.{IsFaceBefore, faces_of, first_faces, table_way, way_among, way_of};
 ghost use Rattle.module_leads.specs.Ways.{face_at, found_way};
 
@@ -117,6 +118,21 @@ impl ListedNames {
         Some(FoundWay::Put(way))
     }
 
+    // The word at an index.
+    fn word_at(&self, index: usize) -> Option<Named<'_>>
+        ensures { option_map meant_by result ≡ slice_get (listed_words self.now) index }
+    {
+        let (word, _) = self.words.get_index(index)?;
+        Some(Named::Word(word.as_str()))
+    }
+
+    // The symbol at an index.
+    fn symbol_at(&self, index: usize) -> Option<Named<'_>>
+        ensures { option_map meant_by result ≡ slice_get (symbols_of self.now.symbols.items) index }
+    {
+        symbol_named(self.symbols.as_slice(), index)
+    }
+
     /// Puts a name with where it leads. One that is there stays as it is.
     pub(crate) fn put(&mut self, alloc: Global, name: Named<'_>, way: Way) -> Result<(), Memory>
         ensures { OnOk result ((other : tables.Named) → way_among self.new other
@@ -155,6 +171,14 @@ impl ListedNames {
     }
 }
 
+// The symbol at an index, as a name.
+fn symbol_named<V>(symbols: &[(Op, V)], index: usize) -> Option<Named<'_>>
+    ensures { option_map meant_by result ≡ slice_get (symbols_of symbols.now) index }
+{
+    let (op, _) = symbols.get(index)?;
+    Some(Named::Symbol(*op))
+}
+
 // What a name means in a table.
 fn meaning_in<'b>(table: &'b NameTable, name: Named<'_>) -> Option<&'b Meaning>
     ensures { option_copied result ≡ tables.find table.now (meant_by name.entry) }
@@ -177,9 +201,64 @@ impl TableNames {
         let sought = Sought::new(meaning)?;
         Ok(Some(self.layer.way_alone(&sought)))
     }
+
+    // The word at an index.
+    fn word_at(&self, index: usize) -> Option<Named<'_>>
+        ensures { option_map meant_by result ≡ slice_get (words_of self.now.exports.words) index }
+    {
+        let (word, _) = self.exports.word_at(index)?;
+        Some(Named::Word(word))
+    }
+
+    // The symbol at an index.
+    fn symbol_at(&self, index: usize) -> Option<Named<'_>>
+        ensures { option_map meant_by result ≡ slice_get (symbols_of self.now.exports.symbols) index }
+    {
+        symbol_named(self.exports.symbols(), index)
+    }
 }
 
 impl ModuleFace {
+    /// How many words the module has.
+    pub(crate) fn word_count(&self) -> usize
+        ensures { result ≡ length (words_in self.now.names) }
+    {
+        match &self.names {
+            FaceNames::Listed(names) => names.words.len(),
+            FaceNames::Table(names) => names.exports.len(),
+        }
+    }
+
+    /// How many symbols it has.
+    pub(crate) fn symbol_count(&self) -> usize
+        ensures { result ≡ length (symbols_in self.now.names) }
+    {
+        match &self.names {
+            FaceNames::Listed(names) => names.symbols.len(),
+            FaceNames::Table(names) => names.exports.symbols().len(),
+        }
+    }
+
+    /// The word at an index.
+    pub(crate) fn word_at(&self, index: usize) -> Option<Named<'_>>
+        ensures { option_map meant_by result ≡ slice_get (words_in self.now.names) index }
+    {
+        match &self.names {
+            FaceNames::Listed(names) => names.word_at(index),
+            FaceNames::Table(names) => names.word_at(index),
+        }
+    }
+
+    /// The symbol at an index.
+    pub(crate) fn symbol_at(&self, index: usize) -> Option<Named<'_>>
+        ensures { option_map meant_by result ≡ slice_get (symbols_in self.now.names) index }
+    {
+        match &self.names {
+            FaceNames::Listed(names) => names.symbol_at(index),
+            FaceNames::Table(names) => names.symbol_at(index),
+        }
+    }
+
     /// Where a name leads that the module has.
     pub(crate) fn way(&self, name: Named<'_>) -> Result<Option<FoundWay<'_>>, Memory>
         ensures { IfOk result (λ way. option_map found_way way

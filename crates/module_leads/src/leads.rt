@@ -6,12 +6,15 @@ ghost use Rattle.tree_names.specs.Parameters.{entries_in};
 ghost use Rattle.flattened_trees.specs.Leads.{behind_instance, only, with_leads};
 ghost use Rattle.flattened_units.specs.Units.{face_by, with_brought};
 ghost use Rattle.tree_flattener.specs.Found.{lead_in};
+ghost use Rattle.kind_table.specs.Flattened.{flat_of};
+ghost use Rattle.module_leads.specs.Alike.{AreFacesAlike};
 ghost use Rattle.module_leads.specs.Ways.{face_at, found_way};
 ghost use Rattle.module_leads.specs.Faces.{HasWays, faces_of};
 ghost use Rattle.module_leads.specs.Layers.{ArePut, IsBrought, IsFaceWithin, way_by};
 ghost use Rattle.module_leads.specs.Leading.{IsOutermost, IsSound, IsTaken, face_over, leading_in};
 ghost use Rattle.module_leads.specs.Leading as known;
 
+use crate::alike::faces_alike;
 use crate::entries::{brought_entries, table_entries};
 use crate::faces::{
     FaceNames, ListedNames, ModuleFace, TableNames, face_is_constant, face_outer, face_parameters,
@@ -21,6 +24,7 @@ use crate::paths::{face_lead, follow};
 use crate::ways::{FoundWay, Way, copied_name};
 use flattened_trees::End;
 use indexmap::IndexMap;
+use kind_table::FlatModule;
 use name_context::Named;
 use std::alloc::Global;
 use std::mem;
@@ -479,6 +483,21 @@ impl ModuleLeads {
             ≡ (face_at (leading_in self.now).faces face).leads (map meant_by names.now)) }
     {
         face_lead(alloc, &self.faces, face, names)
+    }
+
+    /// Whether two modules lead alike, as far as numbers of nodes tell: whether they have the same symbols,
+    /// with as many round them, both are constant or neither, and their names lead to the same resolved trees.
+    pub fn are_alike(
+        &self,
+        flat: &FlatModule,
+        numbers: &[usize],
+        one: usize,
+        other: usize,
+    ) -> Result<bool, Memory>
+        ensures { IfOk result (λ same. IsTrue same → AreFacesAlike (flat_of flat.now) numbers.now
+            ((leading_in self.now).faces one) ((leading_in self.now).faces other)) }
+    {
+        faces_alike(flat, numbers, &self.faces, one, other)
     }
 
     /// The symbols of a module that INSTANCE replaces, in their order.

@@ -5,6 +5,7 @@
 //! and of how names are resolved.
 #![tactic(auto)]
 
+mod alike;
 mod entries;
 mod faces;
 mod keys;

@@ -109,6 +109,7 @@ pub(crate) fn unsaid_end(meaning: &Meaning) -> End
 }
 
 /// The way of a meaning as it is found: one that was put, an end, or a name of a module that is extended.
+#[derive(Clone, Copy)]
 pub enum FoundWay<'a> {
     Put(&'a Way),
     To(End),

@@ -1,9 +1,13 @@
 // What is kept of modules that became nodes.
-ghost use Rattle.std.specs.Prelude.{◌≡◌, IfOk};
+ghost use Rattle.std.specs.Prelude.{◌≡◌, IfOk, IsTrue};
+ghost use Rattle.kind_text.specs.FlatModule.{IsOrdered};
+ghost use Rattle.kind_table.specs.Flattened.{flat_of};
 ghost use Rattle.flat_builder.specs.Building.{empty};
+ghost use Rattle.module_leads.specs.Alike.{AreFacesAlike};
 ghost use Rattle.module_leads.specs.Leading.{leading_in, nothing_led};
 ghost use Rattle.module_levels.specs.Kept.{AreKept};
 
+use kind_table::FlatModule;
 use level_facts::KindFacts;
 use module_leads::ModuleLeads;
 use node_depths::Depths;
@@ -39,5 +43,25 @@ impl LevelTables {
             facts,
             depths,
         })
+    }
+
+    /// The flat module so far.
+    pub fn as_flat(&self) -> &FlatModule
+        ensures tables { flat_of result.now ≡ self.now.tables.state.flat }
+        ensures ordered { IsOrdered self.now.tables.state.flat }
+    {
+        self.tables.state.flat.as_flat()
+    }
+
+    /// Whether two modules lead alike, as far as numbers of all nodes tell: whether they are the same to
+    /// their instances, up to resolved trees.
+    pub fn are_alike(&self, numbers: &[usize], one: usize, other: usize) -> Result<bool, Memory>
+        ensures { IfOk result (λ same. IsTrue same → AreFacesAlike self.now.tables.state.flat
+            numbers.now ((leading_in self.now.tables.leads).faces one)
+            ((leading_in self.now.tables.leads).faces other)) }
+    {
+        self.tables
+            .leads
+            .are_alike(self.as_flat(), numbers, one, other)
     }
 }

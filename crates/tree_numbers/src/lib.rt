@@ -7,8 +7,10 @@
 mod instances;
 mod keys;
 mod numbers;
+mod same;
 
 pub use numbers::{TreeNumbers, numbers_stay};
+pub use same::{is_same_definition, is_same_instance};
 
 #[cfg(test)]
 mod tests;
