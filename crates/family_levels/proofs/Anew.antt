@@ -34,10 +34,10 @@ use Rattle.family_levels.specs.declared.«module».Found.{Found}
 use Rattle.family_levels.specs.Judging.{HasFace, IsJudged}
 use Rattle.family_levels.specs.Leveling.{AreNumbers, IsNext, IsReady, face_count}
 use Rattle.family_levels.specs.Numbers.{number_by}
-use Rattle.family_levels.specs.Versions.{AreNeedsAccepted, IsAcceptedOver, IsFoundOver, IsHeld, IsHeldFace, IsNeedAccepted, Over, Own, Shared, given_over, leveled_over, number_in, numbers_over, status_told, told_by}
+use Rattle.family_levels.specs.Versions.{AreNeedsAccepted, IsAcceptedOver, IsFoundOver, IsHeld, IsHeldFace, IsNeedAccepted, Over, Own, Shared, given_over, number_in, numbers_over, shown_by, status_told}
 use Rattle.family_levels.proofs.Laws.{FamilyLaws, KnownLaws}
-use Rattle.family_levels.proofs.Judging.{made-found}
-use Rattle.family_levels.proofs.Over.{over-found}
+use Rattle.family_levels.proofs.Judging.{made-found, names-made}
+use Rattle.family_levels.proofs.Over.{over-found, over-viewed}
 use Rattle.family_levels.proofs.Statuses.{given as given_to, status_with}
 use Rattle.family_levels.proofs.Steps.{files-below, judged-number}
 
@@ -57,14 +57,14 @@ module _ (known_laws : KnownLaws) (laws : FamilyLaws) (family : List Member) (pl
     (told : (need : List ℕ) → Contains needs need → IsNeedTold ready.entries outcomes name need (given_in imports need)) (only : ImportsOnly needs imports) (from : AreFrom outcomes imports) (files : List ℕ → Option ℕ) (are : (other : List ℕ) → files other ≡ number_by (import_of imports other) (entry_of numbers other)) (found : Found)
     (judged : IsJudged name tree imports files old new found) (over : Over) (accepted : AreNeedsAccepted family outcomes numbers name needs over) where
   -- a module that is needed is imported as accepted
-  need-accepted : (need : List ℕ) → Contains needs need → (n : IsNeedAccepted family outcomes numbers name need over) → given_in imports need ≡ names.Accepted (face_outside n.told.face)
+  need-accepted : (need : List ℕ) → Contains needs need → (n : IsNeedAccepted family outcomes numbers name need over) → given_in imports need ≡ names.Accepted (face_outside n.told.shown.face)
   need-accepted need c n = (told need c).is ∙ by (told need c).is_cyclic refl (entry_of outcomes need) n.face
     where
-      by : (answer : Bool) → answer ≡ (told need c).is_cyclic → (o : Option Outcome) → accepted_face o ≡ Some n.told.face → status_by answer o ≡ names.Accepted (face_outside n.told.face)
+      by : (answer : Bool) → answer ≡ (told need c).is_cyclic → (o : Option Outcome) → accepted_face o ≡ Some n.told.shown.face → status_by answer o ≡ names.Accepted (face_outside n.told.shown.face)
       by true e o is = absurd (n.apart (cyclic-map (plans.Needs ready.entries) (families.Needs family) name need ready.own ((told need c).exactly.0 (sym e))))
       by false e None is = absurd (cc is)
       by false e (Some (outcome.Refused faults)) is = absurd (cc is)
-      by false e (Some (outcome.Accepted face)) is = ap (λ (f : Face). names.Accepted (face_outside f)) (same-face (arc_value face) n.told.face is)
+      by false e (Some (outcome.Accepted face)) is = ap (λ (f : Face). names.Accepted (face_outside f)) (same-face (arc_value face) n.told.shown.face is)
 
   given-same : given_to family plan outcomes numbers old name ready tree needs member imports told only ≡ given_over over
   given-same = fun_ext (λ other. by other (among-or-not needs other))
@@ -81,7 +81,7 @@ module _ (known_laws : KnownLaws) (laws : FamilyLaws) (family : List Member) (pl
       by : (other : List ℕ) → Contains needs other ⊎ (Contains needs other → ⊥) → number_by (import_of imports other) (entry_of numbers other) ≡ number_in (over other)
       by other (inl c) =
           let n = accepted.each other c in
-          module-number (import_of imports other) (entry_of numbers other) (face_outside n.told.face) (need-accepted other c n) ∙ (n.number ∙ ap number_in (sym n.is))
+          module-number (import_of imports other) (entry_of numbers other) (face_outside n.told.shown.face) (need-accepted other c n) ∙ (n.number ∙ ap number_in (sym n.is))
       by other (inr never) = ap (λ i. number_by i (entry_of numbers other)) (only other never) ∙ ap number_in (sym (accepted.others other never))
 
   -- its face is over theirs
@@ -92,7 +92,7 @@ module _ (known_laws : KnownLaws) (laws : FamilyLaws) (family : List Member) (pl
       by : Contains needs other ⊎ (Contains needs other → ⊥) → IsHeld over name decl entries
       by (inl c) =
           let n = accepted.each other c in
-          let same : face ≡ n.told.face = same-face face n.told.face (sym (from other face there) ∙ n.face) in
+          let same : face ≡ n.told.shown.face = same-face face n.told.shown.face (sym (from other face there) ∙ n.face) in
           Shared other n.told n.is (ap (λ (f : Face). face_instances f decl) (sym same) ∙ has)
       by (inr never) = let none : None ≡ Some face = sym (ap face_of (only other never)) ∙ there in cc
 
@@ -100,12 +100,12 @@ module _ (known_laws : KnownLaws) (laws : FamilyLaws) (family : List Member) (pl
   held-face = record { named = judged.face.named; whole = judged.face.whole; from = λ decl entries there. held-from decl entries (judged.face.from decl entries there) }
 
   module _ (next : IsNext family outcomes numbers name new found) where
-    told-by : (o : outcome.the_data) (n : Option ℕ) (number : ℕ) (face : Face) → HasFace face o → n ≡ Some number → told_by o n over tree ≡ Some (record { face = face; number = number; outside = (leveled_over over tree).outside })
-    told-by (outcome.Refused faults) n number face has at = absurd has
-    told-by (outcome.Accepted shared) None number face has at = absurd (cc at)
-    told-by (outcome.Accepted shared) (Some m) number face has at =
+    shown-as : (o : outcome.the_data) (n : Option ℕ) (number : ℕ) (face : Face) → HasFace face o → n ≡ Some number → shown_by o n ≡ Some (record { face = face; number = number })
+    shown-as (outcome.Refused faults) n number face has at = absurd has
+    shown-as (outcome.Accepted shared) None number face has at = absurd (cc at)
+    shown-as (outcome.Accepted shared) (Some m) number face has at =
         let same : m ≡ number = cc in
-        λ i. Some (record { face = has i; number = same i; outside = (leveled_over over tree).outside })
+        λ i. Some (record { face = has i; number = same i })
 
     face-by : (o : outcome.the_data) (face : Face) → HasFace face o → accepted_face (Some o) ≡ Some face
     face-by (outcome.Refused faults) face has = absurd has
@@ -114,28 +114,30 @@ module _ (known_laws : KnownLaws) (laws : FamilyLaws) (family : List Member) (pl
     below-by : (number : ℕ) → found.number ≡ Some number → number < face_count new
     below-by number at = subst (λ n. IfSome n (λ m. m < face_count new)) at (judged-number name tree imports files old new found judged)
 
-    accepted-over : (number : ℕ) → found.number ≡ Some number → IsAcceptedOver new over (told_by found.outcome found.number over tree) name tree found number
+    accepted-over : (number : ℕ) → found.number ≡ Some number → IsAcceptedOver new over (shown_by found.outcome found.number) name tree found number
     accepted-over number at =
         let as_made = made-found known_laws laws family plan outcomes numbers old new name ready unfound numbered was_ordered is_ordered tree needs member imports told only files are found judged over given-same numbers-same (files-below old imports numbers files numbered are) number at in
         record {
           there = below-by number at;
-          told = record { face = judged.checked.face; number = number; outside = (leveled_over over tree).outside };
-          is = told-by found.outcome found.number number judged.checked.face as_made.has at;
+          shown = record { face = judged.checked.face; number = number };
+          is = shown-as found.outcome found.number number judged.checked.face as_made.has at;
           number_is = refl;
           face_is = face-by found.outcome judged.checked.face as_made.has;
-          outside_is = refl;
           held = held-face;
           made = as_made.made;
+          like = as_made.like;
         }
 
     -- so it is found over them
-    pub anew-found : IsFoundOver new over (told_by found.outcome found.number over tree) name tree found
+    pub anew-found : IsFoundOver new over (shown_by found.outcome found.number) name tree found
     anew-found =
         let is = over-found laws family plan outcomes numbers old name ready tree needs member over accepted in
         record {
           read = (member.member.bytes, member.is);
+          viewed = over-viewed laws family plan outcomes numbers old name ready tree needs member over accepted;
           says = subst (λ (l : Leveled). Matches l.faults l.outside.view found.outcome) is next.says;
           numbered = next.numbered;
           names = next.names ∙ (λ i. record { uses = (is i).uses; decls = (is i).decls });
+          made = names-made known_laws laws family plan outcomes numbers old new name ready unfound numbered was_ordered is_ordered tree needs member imports told only files are found judged over given-same numbers-same (files-below old imports numbers files numbered are);
           accepted = accepted-over;
         }

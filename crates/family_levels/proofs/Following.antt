@@ -1,6 +1,6 @@
 -- The next module, with its version: found again, or anew.
 use Rattle.std.proofs.Common.{◌≡◌, ◌<◌, ◌+◌, ◌⊎◌, inl, inr, ℕ, Bool, true, false, List, [], ◌∷◌, Option, Some, None, refl, sym, ap, subst, ◌∙◌, arith, cond, is_some}
-use Rattle.std.specs.Prelude.{◌||◌, Contains, IfSome, IsSome, option_and_then, option_map}
+use Rattle.std.specs.Prelude.{◌||◌, Contains, IfSome, IsSome, option_and_then}
 use Rattle.std.specs.List.{AllByRecursion, AllZip, list_any}
 use Rattle.std.specs.Arc.{arc_value}
 use Rattle.std.specs.Str.{bytes_eq}
@@ -8,8 +8,8 @@ use Rattle.list_laws.proofs.Texts.{any-contains, contains-any, same-text}
 use Rattle.tla_tree.specs.declared.unit.ModuleTree.{ModuleTree}
 use Rattle.unit_grammar.specs.UnitNodes.{module_of}
 use Rattle.kind_text.specs.FlatModule.{IsOrdered}
-use Rattle.tree_kinds.specs.Standing.{Outside}
 use Rattle.leveled_modules.specs.Leveled.{LevelTables}
+use Rattle.fact_values.specs.Names.{Texts}
 use Rattle.family_facts.specs.Facts.{texts_of}
 use Rattle.family_facts.specs.Family as families
 use Rattle.family_facts.specs.Family.{IsCyclic, Member}
@@ -27,21 +27,35 @@ use Rattle.family_tables.specs.declared.reading.Module.{Module}
 use Rattle.family_tables.specs.declared.reading.Reading.TheVariants as reading
 use Rattle.family_tables.proofs.Bridging.{cyclic-map}
 use Rattle.leveled_facts.specs.Families.{leveled}
-use Rattle.leveled_facts.specs.Modules.{Leveled}
 use Rattle.family_levels.specs.declared.«module».Found.{Found}
 use Rattle.family_levels.specs.declared.versions.Version.{Version}
 use Rattle.family_levels.specs.Leveling.{HasNumber, IsNext, IsReady, face_count}
-use Rattle.family_levels.specs.Versions.{AreNeedsAccepted, AreVersions, IsCopy, IsFoundOver, IsNeedAccepted, IsVersion, Over, Told, leveled_over, over_of, told_by, version_in}
-use Rattle.family_levels.specs.Again.{AreNeeds, AreOutsides, ArePlaced, IsFoundAgain, IsNeed, IsNextLeveled, IsOutsideOf, IsPlaced, IsPlacedNext, IsSameVersion, IsVersionAnew, told_after, version_by}
-use Rattle.family_levels.proofs.Laws.{FamilyLaws, KnownLaws}
-use Rattle.family_levels.proofs.Lasting.{found-copy, found-same, module-same, needs-same, over-told, told-below, told-here, version-copy, version-told}
-use Rattle.family_levels.proofs.Over.{again-next, found-agrees, over-found}
+use Rattle.family_levels.specs.Versions.{AreNeedsAccepted, AreVersions, IsCopy, IsFoundOver, IsNeedAccepted, IsVersion, Over, Shown, Told, shown_by, shown_in, shown_over, version_in}
+use Rattle.family_levels.specs.Again.{AreNeeds, ArePlaced, IsFoundAgain, IsFoundAs, IsLike, IsNeed, IsNextLeveled, IsPlaced, IsPlacedNext, IsSameVersion, IsVersionAnew, IsVersionAs, shown_after, version_by}
+use Rattle.family_levels.proofs.Laws.{AlikeLaws, FamilyLaws, KnownLaws}
+use Rattle.family_levels.proofs.Across.{found-across}
+use Rattle.family_levels.proofs.Taking.{LookAlike, found-taken, taken-next}
+use Rattle.family_levels.proofs.Lasting.{found-copy, found-same, module-same, needs-same, shown-below, shown-here, shown-same, version-copy, version-shown}
+use Rattle.family_levels.proofs.Over.{again-next, found-agrees}
 
 -- ---- what needs are
 
--- what a module is over that needs these, of versions with these numbers
-abbrev pub over_ids : (ℕ → Option Told) → List (List ℕ) → List ℕ → Over
-over_ids told needs ids other = option_and_then told (version_in needs ids other)
+-- what is kept of modules that are needed, of versions with these numbers
+abbrev pub shown_ids : (ℕ → Option Shown) → List (List ℕ) → List ℕ → List ℕ → Option Shown
+shown_ids shown needs ids other = option_and_then shown (version_in needs ids other)
+
+-- a module of which this is kept, as it is among some texts
+abbrev told_among : Texts → List ℕ → Option Shown → Option Told
+told_among texts name None = None
+told_among texts name (Some shown) = Some (record { shown = shown; outside = (leveled texts name).outside })
+
+-- the modules that are needed, as they are among some texts
+abbrev pub over_ids : Texts → (ℕ → Option Shown) → List (List ℕ) → List ℕ → Over
+over_ids texts shown needs ids other = told_among texts other (shown_ids shown needs ids other)
+
+shown-told : (texts : Texts) (name : List ℕ) (shown : Option Shown) → shown_in (told_among texts name shown) ≡ shown
+shown-told texts name None = refl
+shown-told texts name (Some shown) = refl
 
 -- a name is needed with a version, or it is not needed
 record IsVersioned (R : List ℕ → ℕ → Type 0) (needs : List (List ℕ)) (ids : List ℕ) (other : List ℕ) : Type 0 where
@@ -92,7 +106,7 @@ accepted-version versions need id is = by (entry_of versions need) refl is
     by None e has = absurd (cc has)
     by (Some version) e has = by_number version e (is_some version.found.number) refl has
 
-module _ (plan : Plan) (outcomes : List (List ℕ × Outcome)) (numbers : List (List ℕ × ℕ)) (told : ℕ → Option Told) (next : ℕ) (versions : List (List ℕ × Version)) (placed : ArePlaced outcomes numbers told next versions) (name : List ℕ) (needs : List (List ℕ)) (ids : List ℕ) (are : AreNeeds plan versions name needs ids) where
+module _ (plan : Plan) (outcomes : List (List ℕ × Outcome)) (numbers : List (List ℕ × ℕ)) (shown : ℕ → Option Shown) (next : ℕ) (versions : List (List ℕ × Version)) (placed : ArePlaced outcomes numbers shown next versions) (name : List ℕ) (needs : List (List ℕ)) (ids : List ℕ) (are : AreNeeds plan versions name needs ids) where
   -- the versions that are needed have numbers below the next one
   ids-below : (ns : List (List ℕ)) (js : List ℕ) → AllZip (IsNeed plan versions name) ns js → AllByRecursion (λ id. id < next) js
   ids-below [] [] all = tt
@@ -105,50 +119,46 @@ module _ (plan : Plan) (outcomes : List (List ℕ × Outcome)) (numbers : List (
   pub needs-below : AllByRecursion (λ id. id < next) ids
   needs-below = ids-below needs ids are
 
-  outside-some : (a b : Outside) → ◌≡◌ {A = Option Outside} (Some a) (Some b) → a ≡ b
-  outside-some a b e = cc
+  shown-some : (a b : Shown) → ◌≡◌ {A = Option Shown} (Some a) (Some b) → a ≡ b
+  shown-some a b e = cc
 
-  told-some : (a b : Told) → ◌≡◌ {A = Option Told} (Some a) (Some b) → a ≡ b
-  told-some a b e = cc
-
-  place-of : (need : List ℕ) (id : ℕ) → version_by (entry_of versions need) ≡ Some id → IsPlaced (entry_of outcomes need) (entry_of numbers need) (told id)
+  place-of : (need : List ℕ) (id : ℕ) → version_by (entry_of versions need) ≡ Some id → IsPlaced (entry_of outcomes need) (entry_of numbers need) (shown id)
   place-of need id is =
       let v = accepted-version versions need id is in
-      subst (λ i. IsPlaced (entry_of outcomes need) (entry_of numbers need) (told i)) v.itself ((placed need v.version v.there).is v.some)
+      subst (λ i. IsPlaced (entry_of outcomes need) (entry_of numbers need) (shown i)) v.itself ((placed need v.version v.there).is v.some)
 
   -- their faces are those that were found
-  pub needs-found : (need : List ℕ) (t : Told) → over_ids told needs ids need ≡ Some t → found_face outcomes need ≡ Some t.face
+  pub needs-found : (need : List ℕ) (t : Shown) → shown_ids shown needs ids need ≡ Some t → found_face outcomes need ≡ Some t.face
   needs-found need t is = by (versioned (IsNeed plan versions name) needs ids are need)
     where
       by : IsVersioned (IsNeed plan versions name) needs ids need ⊎ IsUnversioned needs ids need → found_face outcomes need ≡ Some t.face
       by (inl v) =
           let place = place-of need v.id v.related.accepted in
-          let same : place.told ≡ t = told-some place.told t (sym (ap (option_and_then told) v.is ∙ place.is) ∙ is) in
-          place.face ∙ ap (λ (u : Told). Some u.face) same
-      by (inr v) = let never : None ≡ Some t = sym (ap (option_and_then told) v.is) ∙ is in cc
+          let same : place.shown ≡ t = shown-some place.shown t (sym (ap (option_and_then shown) v.is ∙ place.is) ∙ is) in
+          place.face ∙ ap (λ (u : Shown). Some u.face) same
+      by (inr v) = let never : None ≡ Some t = sym (ap (option_and_then shown) v.is) ∙ is in cc
 
-  module _ (family : List Member) (outsides : AreOutsides family told versions) (known : LevelTables) (ready : IsReady family plan outcomes numbers known name) (own : (need : List ℕ) → Contains needs need → families.Needs family name need) where
+  module _ (family : List Member) (known : LevelTables) (ready : IsReady family plan outcomes numbers known name) (own : (need : List ℕ) → Contains needs need → families.Needs family name need) where
     -- they are accepted, and told so
-    pub needs-accepted : AreNeedsAccepted family outcomes numbers name needs (over_ids told needs ids)
+    pub needs-accepted : AreNeedsAccepted family outcomes numbers name needs (over_ids (texts_of family) shown needs ids)
     needs-accepted = record { each = λ need c. each need c (versioned (IsNeed plan versions name) needs ids are need); others = λ other never. others other never (versioned (IsNeed plan versions name) needs ids are other) }
       where
-        each : (need : List ℕ) → Contains needs need → IsVersioned (IsNeed plan versions name) needs ids need ⊎ IsUnversioned needs ids need → IsNeedAccepted family outcomes numbers name need (over_ids told needs ids)
+        each : (need : List ℕ) → Contains needs need → IsVersioned (IsNeed plan versions name) needs ids need ⊎ IsUnversioned needs ids need → IsNeedAccepted family outcomes numbers name need (over_ids (texts_of family) shown needs ids)
         each need c (inl v) =
-            let a = accepted-version versions need v.id v.related.accepted in
             let place = place-of need v.id v.related.accepted in
             record {
-              told = place.told;
-              is = ap (option_and_then told) v.is ∙ place.is;
+              told = record { shown = place.shown; outside = (leveled (texts_of family) need).outside };
+              is = ap (told_among (texts_of family) need) (ap (option_and_then shown) v.is ∙ place.is);
               face = place.face;
               number = place.at;
-              outside = outside-some (leveled (texts_of family) need).outside place.told.outside (sym (outsides need a.version a.there a.some) ∙ ap (option_map (λ (t : Told). t.outside)) (ap told a.itself ∙ place.is));
+              outside = refl;
               apart = λ cycle. v.related.apart ready.entries ready.planned (ready.all name need (own need c)) (cyclic-map (families.Needs family) (plans.Needs ready.entries) name need ready.all cycle);
             }
         each need c (inr v) = let never : true ≡ false = sym (contains-any needs need c) ∙ v.absent in cc
 
-        others : (other : List ℕ) → (Contains needs other → ⊥) → IsVersioned (IsNeed plan versions name) needs ids other ⊎ IsUnversioned needs ids other → over_ids told needs ids other ≡ None
+        others : (other : List ℕ) → (Contains needs other → ⊥) → IsVersioned (IsNeed plan versions name) needs ids other ⊎ IsUnversioned needs ids other → over_ids (texts_of family) shown needs ids other ≡ None
         others other never (inl v) = absurd (never (any-contains needs other v.there))
-        others other never (inr v) = ap (option_and_then told) v.is
+        others other never (inr v) = ap (λ found. told_among (texts_of family) other (option_and_then shown found)) v.is
 
 -- ---- modules that were read
 
@@ -165,12 +175,12 @@ tree-here name m tree some reads = record {
 
 -- ---- found again
 
-module _ (no_other : HasNoOther) (plan : Plan) (outcomes : List (List ℕ × Outcome)) (numbers : List (List ℕ × ℕ)) (told : ℕ → Option Told) (next : ℕ) (old versions : List (List ℕ × Version)) (placed : ArePlaced outcomes numbers told next versions) (name : List ℕ) (m : Module) (some : IsSomeModule name m)
-    (needs : Option (List ℕ)) (known : LevelTables) (are : AreVersions known told next old) (asked : IfSome needs (AreNeeds plan versions name m.needs)) (version copy : Version) (found : Found) (again : IsFoundAgain old name m needs version) (same : IsSameVersion version copy) (taken : IsCopy version.found found) where
+module _ (no_other : HasNoOther) (plan : Plan) (outcomes : List (List ℕ × Outcome)) (numbers : List (List ℕ × ℕ)) (shown : ℕ → Option Shown) (next : ℕ) (old versions : List (List ℕ × Version)) (placed : ArePlaced outcomes numbers shown next versions) (name : List ℕ) (m : Module) (some : IsSomeModule name m)
+    (needs : Option (List ℕ)) (known : LevelTables) (are : AreVersions known shown next old) (asked : IfSome needs (AreNeeds plan versions name m.needs)) (version copy : Version) (found : Found) (again : IsFoundAgain old name m needs version) (same : IsSameVersion version copy) (taken : IsCopy version.found found) where
   here : IsTreeHere name m again.tree
   here = tree-here name m again.tree some again.reads
 
-  was : IsVersion known told next name version
+  was : IsVersion known shown next name version
   was = are name version again.there
 
   module-is : module_of version.tree ≡ module_of again.tree
@@ -182,73 +192,73 @@ module _ (no_other : HasNoOther) (plan : Plan) (outcomes : List (List ℕ × Out
   ids-are : AreNeeds plan versions name m.needs version.needs
   ids-are = subst (AreNeeds plan versions name m.needs) (sym again.is.over) (subst (λ n. IfSome n (AreNeeds plan versions name m.needs)) again.over asked)
 
-  over-is : over_of told version ≡ over_ids told m.needs version.needs
-  over-is = ap (λ ns. over_ids told ns version.needs) needs-are
+  -- what is kept of its needs is what was kept of them then
+  shows-are : (other : List ℕ) → shown_in (was.over other) ≡ shown_ids shown m.needs version.needs other
+  shows-are other = was.shows other ∙ ap (λ ns. shown_ids shown ns version.needs other) needs-are
 
-  again-found : IsFoundOver known (over_ids told m.needs version.needs) (told version.id) name again.tree found
+  again-found : IsFoundOver known was.over (shown version.id) name again.tree found
   again-found =
-      subst (λ over. IsFoundOver known over (told version.id) name again.tree found) over-is
-      (found-same known (over_of told version) (told version.id) name version.tree again.tree found here.read again.is.same module-is
-      (found-copy known (over_of told version) (told version.id) name version.tree version.found found taken was.found))
+      found-same known was.over (shown version.id) name version.tree again.tree found here.read again.is.same module-is
+      (found-copy known was.over (shown version.id) name version.tree version.found found taken was.found)
 
-  -- what each version is stays
-  after-is : told_after told next found (Some copy) copy.id ≡ told version.id
-  after-is = told-below told next _ copy.id (subst (λ id. id < next) (sym same.id) was.itself) ∙ ap told same.id
+  faces-are : (need : List ℕ) (t : Told) → was.over need ≡ Some t → found_face outcomes need ≡ Some t.shown.face
+  faces-are need t is = needs-found plan outcomes numbers shown next versions placed name m.needs version.needs ids-are need t.shown (sym (shows-are need) ∙ ap shown_in is)
+
+  -- what is kept of each version stays
+  after-is : shown_after shown next found copy.id ≡ shown version.id
+  after-is = shown-below shown next (shown_by found.outcome found.number) copy.id (subst (λ id. id < next) (sym same.id) was.itself) ∙ ap shown same.id
 
   number-same : IsSome copy.found.number → IsSome found.number
   number-same has = subst IsSome (same.found.number ∙ sym taken.number) has
 
-  placed-by : (number : Option ℕ) → found.number ≡ number → IsSome found.number → IsPlaced (Some found.outcome) found.number (told version.id)
+  placed-by : (number : Option ℕ) → found.number ≡ number → IsSome found.number → IsPlaced (Some found.outcome) found.number (shown version.id)
   placed-by None at has = let never : false ≡ true = sym (ap is_some at) ∙ has in cc
   placed-by (Some number) at has =
       let a = again-found.accepted number at in
-      record { told = a.told; is = a.is; face = a.face_is; at = at ∙ ap (λ n. Some n) (sym a.number_is) }
+      record { shown = a.shown; is = a.is; face = a.face_is; at = at ∙ ap (λ n. Some n) (sym a.number_is) }
 
   below-by : (number : Option ℕ) → found.number ≡ number → IfSome found.number (λ n. n < face_count known)
   below-by None at = subst (λ n. IfSome n (λ k. k < face_count known)) (sym at) tt
   below-by (Some number) at = subst (λ n. IfSome n (λ k. k < face_count known)) (sym at) (again-found.accepted number at).there
 
-  pub again-placed : IsPlacedNext outcomes told next name known found (Some copy)
+  pub again-placed : IsPlacedNext outcomes shown next name known found (Some copy)
   again-placed = record {
-    agreed = found-agrees outcomes name (over_ids told m.needs version.needs) (needs-found plan outcomes numbers told next versions placed name m.needs version.needs ids-are) known (told version.id) again.tree found again-found;
+    agreed = found-agrees outcomes name was.over faces-are known (shown version.id) again.tree found again-found;
     number = below-by found.number refl;
     below = let less : copy.id < next = subst (λ id. id < next) (sym same.id) was.itself in omega (arith, less);
     placed = λ has. subst (IsPlaced (Some found.outcome) found.number) (sym after-is) (placed-by found.number refl (number-same has));
   }
 
-  module _ (known_laws : KnownLaws) (laws : FamilyLaws) (family : List Member) (outsides : AreOutsides family told versions) (ready : IsReady family plan outcomes numbers known name) (member : IsMember family name m.reading m.needs) (unfound : entry_of outcomes name ≡ None) (ordered : IsOrdered known.tables.state.flat) where
+  module _ (known_laws : KnownLaws) (alike_laws : AlikeLaws) (laws : FamilyLaws) (family : List Member) (ready : IsReady family plan outcomes numbers known name) (member : IsMember family name m.reading m.needs) (unfound : entry_of outcomes name ≡ None) (ordered : IsOrdered known.tables.state.flat) where
     abbrev over : Over
-    over = over_ids told m.needs version.needs
+    over = over_ids (texts_of family) shown m.needs version.needs
 
     tree-member : IsMember family name (reading.Tree again.tree) m.needs
     tree-member = subst (λ r. IsMember family name r m.needs) again.reads member
 
     accepted : AreNeedsAccepted family outcomes numbers name m.needs over
-    accepted = needs-accepted plan outcomes numbers told next versions placed name m.needs version.needs ids-are family outsides known ready member.own
+    accepted = needs-accepted plan outcomes numbers shown next versions placed name m.needs version.needs ids-are family known ready member.own
 
-    outside-by : (number : Option ℕ) → found.number ≡ number → IsSome found.number → IsOutsideOf family name (told version.id)
-    outside-by None at has = let never : false ≡ true = sym (ap is_some at) ∙ has in cc
-    outside-by (Some number) at has =
-        let a = again-found.accepted number at in
-        ap (option_map (λ (t : Told). t.outside)) a.is
-        ∙ ap (λ o. Some o) (a.outside_is ∙ ap (λ (l : Leveled). l.outside) (sym (over-found laws family plan outcomes numbers known name ready again.tree m.needs tree-member over accepted)))
+    now-found : IsFoundOver known over (shown version.id) name again.tree found
+    now-found =
+        found-across laws family plan outcomes numbers known name ready again.tree m.needs tree-member over accepted known_laws unfound ordered alike_laws was.over
+        (λ other. shows-are other ∙ sym (shown-told (texts_of family) other (shown_ids shown m.needs version.needs other))) (shown version.id) found again-found
 
-    pub again-leveled : IsNextLeveled family outcomes numbers told next name known found (Some copy)
+    pub again-leveled : IsNextLeveled family outcomes numbers shown next name known found (Some copy)
     again-leveled = record {
-      is = again-next laws family plan outcomes numbers known name ready again.tree m.needs tree-member over accepted known_laws unfound ordered (told version.id) found again-found;
-      held = version-told told (told_after told next found (Some copy)) next (told-below told next _) known (next + 1) (omega (arith)) name copy (version-copy known told next name version copy same was);
-      outside = λ has. subst (IsOutsideOf family name) (sym after-is) (outside-by found.number refl (number-same has));
+      is = again-next laws family plan outcomes numbers known name ready again.tree m.needs tree-member over accepted known_laws unfound ordered alike_laws (shown version.id) found now-found;
+      held = version-shown shown (shown_after shown next found) next (shown-below shown next (shown_by found.outcome found.number)) known (next + 1) (omega (arith)) name copy (version-copy known shown next name version copy same was);
     }
 
 -- ---- found anew
 
--- an accepted module is told by its face, its number and what it is to others
-told-placed : (o : outcome.the_data) (number : Option ℕ) (over : Over) (tree : ModuleTree) → HasNumber o number → IsSome number → IsPlaced (Some o) number (told_by o number over tree)
-told-placed (outcome.Refused faults) number over tree none some = let never : false ≡ true = sym (ap is_some none) ∙ some in cc
-told-placed (outcome.Accepted face) None over tree has some = absurd (cc some)
-told-placed (outcome.Accepted face) (Some number) over tree has some = record { told = record { face = arc_value face; number = number; outside = (leveled_over over tree).outside }; is = refl; face = refl; at = refl }
+-- an accepted module is kept with its face and its number
+shown-placed : (o : outcome.the_data) (number : Option ℕ) → HasNumber o number → IsSome number → IsPlaced (Some o) number (shown_by o number)
+shown-placed (outcome.Refused faults) number none some = let never : false ≡ true = sym (ap is_some none) ∙ some in cc
+shown-placed (outcome.Accepted face) None has some = absurd (cc some)
+shown-placed (outcome.Accepted face) (Some number) has some = record { shown = record { face = arc_value face; number = number }; is = refl; face = refl; at = refl }
 
-module _ (plan : Plan) (outcomes : List (List ℕ × Outcome)) (numbers : List (List ℕ × ℕ)) (told : ℕ → Option Told) (next : ℕ) (versions : List (List ℕ × Version)) (placed : ArePlaced outcomes numbers told next versions) (name : List ℕ) (m : Module) (some : IsSomeModule name m)
+module _ (plan : Plan) (outcomes : List (List ℕ × Outcome)) (numbers : List (List ℕ × ℕ)) (shown : ℕ → Option Shown) (next : ℕ) (versions : List (List ℕ × Version)) (placed : ArePlaced outcomes numbers shown next versions) (name : List ℕ) (m : Module) (some : IsSomeModule name m)
     (needs : Option (List ℕ)) (known new : LevelTables) (asked : IfSome needs (AreNeeds plan versions name m.needs)) (found : Found) (numbered : HasNumber found.outcome found.number) where
   module _ (version : Version) (anew : IsVersionAnew m needs next found version) where
     here-anew : IsTreeHere name m version.tree
@@ -257,72 +267,88 @@ module _ (plan : Plan) (outcomes : List (List ℕ × Outcome)) (numbers : List (
     ids-anew : AreNeeds plan versions name m.needs version.needs
     ids-anew = subst (λ n. IfSome n (AreNeeds plan versions name m.needs)) anew.over asked
 
-    over-anew : over_ids told m.needs version.needs ≡ over_of told version
-    over-anew = ap (λ ns. over_ids told ns version.needs) here-anew.needs
+    abbrev own-anew : Option Shown
+    own-anew = shown_by found.outcome found.number
 
-    abbrev own-anew : Option Told
-    own-anew = told_by found.outcome found.number (over_of told version) version.tree
+    after-anew : shown_after shown next found version.id ≡ own-anew
+    after-anew = ap (shown_after shown next found) anew.itself ∙ shown-here shown next own-anew
 
-    after-anew : told_after told next found (Some version) version.id ≡ own-anew
-    after-anew = ap (told_after told next found (Some version)) anew.itself ∙ told-here told next own-anew
-
-    placed-anew : IsSome version.found.number → IsPlaced (Some found.outcome) found.number (told_after told next found (Some version) version.id)
-    placed-anew has = subst (IsPlaced (Some found.outcome) found.number) (sym after-anew) (told-placed found.outcome found.number (over_of told version) version.tree numbered (subst IsSome anew.copy.number has))
+    placed-anew : IsSome version.found.number → IsPlaced (Some found.outcome) found.number (shown_after shown next found version.id)
+    placed-anew has = subst (IsPlaced (Some found.outcome) found.number) (sym after-anew) (shown-placed found.outcome found.number numbered (subst IsSome anew.copy.number has))
 
     below-anew : version.id < next + 1
     below-anew = let is : version.id ≡ next = anew.itself in omega (arith, is)
 
-    module _ (laws : FamilyLaws) (family : List Member) (outsides : AreOutsides family told versions) (ready : IsReady family plan outcomes numbers known name) (member : IsMember family name m.reading m.needs)
-        (so : AreNeedsAccepted family outcomes numbers name m.needs (over_ids told m.needs version.needs) → IsFoundOver new (over_ids told m.needs version.needs) (told_by found.outcome found.number (over_ids told m.needs version.needs) version.tree) name version.tree found) where
-      accepted-anew : AreNeedsAccepted family outcomes numbers name m.needs (over_ids told m.needs version.needs)
-      accepted-anew = needs-accepted plan outcomes numbers told next versions placed name m.needs version.needs ids-anew family outsides known ready member.own
+    needs-below-anew : AllByRecursion (λ id. id < next) version.needs
+    needs-below-anew = needs-below plan outcomes numbers shown next versions placed name m.needs version.needs ids-anew
 
-      found-anew : IsFoundOver new (over_of told version) own-anew name version.tree found
-      found-anew = subst (λ over. IsFoundOver new over (told_by found.outcome found.number over version.tree) name version.tree found) over-anew (so accepted-anew)
+    module _ (laws : FamilyLaws) (family : List Member) (ready : IsReady family plan outcomes numbers known name) (member : IsMember family name m.reading m.needs)
+        (so : AreNeedsAccepted family outcomes numbers name m.needs (over_ids (texts_of family) shown m.needs version.needs) → IsFoundOver new (over_ids (texts_of family) shown m.needs version.needs) own-anew name version.tree found) where
+      abbrev over-anew : Over
+      over-anew = over_ids (texts_of family) shown m.needs version.needs
+
+      found-anew : IsFoundOver new over-anew own-anew name version.tree found
+      found-anew = so (needs-accepted plan outcomes numbers shown next versions placed name m.needs version.needs ids-anew family known ready member.own)
 
       all-below-anew : (ids : List ℕ) → AllByRecursion (λ id. id < next) ids → AllByRecursion (λ id. id < next + 1) ids
       all-below-anew [] all = tt
       all-below-anew (id ∷ ids) all = let less : id < next = all.0 in (omega (arith, less), all-below-anew ids all.1)
 
-      version-anew : IsVersion new (told_after told next found (Some version)) (next + 1) name version
+      shows-anew : (other : List ℕ) → shown_in (over-anew other) ≡ shown_over (shown_after shown next found) version other
+      shows-anew other =
+          shown-told (texts_of family) other (shown_ids shown m.needs version.needs other)
+          ∙ (ap (λ ns. shown_ids shown ns version.needs other) here-anew.needs ∙ shown-same shown (shown_after shown next found) next (shown-below shown next own-anew) version needs-below-anew other)
+
+      version-anew : IsVersion new (shown_after shown next found) (next + 1) name version
       version-anew = record {
-        needs = all-below-anew version.needs (needs-below plan outcomes numbers told next versions placed name m.needs version.needs ids-anew);
+        needs = all-below-anew version.needs needs-below-anew;
         itself = below-anew;
-        found =
-            subst (λ own. IsFoundOver new (over_of (told_after told next found (Some version)) version) own name version.tree version.found) (sym after-anew)
-            (subst (λ over. IsFoundOver new over own-anew name version.tree version.found) (over-told told (told_after told next found (Some version)) next (told-below told next own-anew) version (needs-below plan outcomes numbers told next versions placed name m.needs version.needs ids-anew))
-            (found-copy new (over_of told version) own-anew name version.tree found version.found anew.copy found-anew));
+        over = over-anew;
+        shows = shows-anew;
+        found = subst (λ own. IsFoundOver new over-anew own name version.tree version.found) (sym after-anew) (found-copy new over-anew own-anew name version.tree found version.found anew.copy found-anew);
       }
 
-      outside-anew : (number : Option ℕ) → found.number ≡ number → IsSome found.number → IsOutsideOf family name own-anew
-      outside-anew None at has = let never : false ≡ true = sym (ap is_some at) ∙ has in cc
-      outside-anew (Some number) at has =
-          let a = found-anew.accepted number at in
-          ap (option_map (λ (t : Told). t.outside)) a.is
-          ∙ ap (λ o. Some o) (a.outside_is ∙ (ap (λ over. (leveled_over over version.tree).outside) (sym over-anew)
-          ∙ ap (λ (l : Leveled). l.outside) (sym (over-found laws family plan outcomes numbers known name ready version.tree m.needs (subst (λ r. IsMember family name r m.needs) anew.reads member) (over_ids told m.needs version.needs) accepted-anew))))
+      -- in the place of one that was to others what it is
+      module _ (look : LookAlike) (alike_laws : AlikeLaws) (before : Version) (was : IsVersion new shown next name before) (taken : Found) (like : IsLike new before found) (taking : IsFoundAs before found taken) (copy : Version) (in_place : IsVersionAs before version taken copy) where
+        kept-shown : shown_after shown next taken before.id ≡ shown before.id
+        kept-shown = shown-below shown next (shown_by taken.outcome taken.number) before.id was.itself
 
-      outside-after : IsSome version.found.number → IsOutsideOf family name (told_after told next found (Some version) version.id)
-      outside-after has = subst (IsOutsideOf family name) (sym after-anew) (outside-anew found.number refl (subst IsSome anew.copy.number has))
+        shows-taken : (other : List ℕ) → shown_in (over-anew other) ≡ shown_over (shown_after shown next taken) copy other
+        shows-taken other =
+            shown-told (texts_of family) other (shown_ids shown m.needs version.needs other)
+            ∙ (ap (λ ns. shown_ids shown ns version.needs other) here-anew.needs
+            ∙ (shown-same shown (shown_after shown next taken) next (shown-below shown next (shown_by taken.outcome taken.number)) version needs-below-anew other
+            ∙ (λ i. option_and_then (shown_after shown next taken) (version_in (needs_of (sym in_place.tree i)) (sym in_place.needs i) other))))
+
+        version-taken : IsVersion new (shown_after shown next taken) (next + 1) name copy
+        version-taken = record {
+          needs = all-below-anew copy.needs (subst (AllByRecursion (λ id. id < next)) (sym in_place.needs) needs-below-anew);
+          itself = let less : copy.id < next = subst (λ id. id < next) (sym in_place.id) was.itself in omega (arith, less);
+          over = over-anew;
+          shows = shows-taken;
+          found =
+              subst (λ own. IsFoundOver new over-anew own name copy.tree copy.found) (sym (ap (shown_after shown next taken) in_place.id ∙ kept-shown))
+              (subst (λ t. IsFoundOver new over-anew (shown before.id) name t copy.found) (sym in_place.tree)
+              (found-copy new over-anew (shown before.id) name version.tree taken copy.found in_place.copy (found-taken new before found taken like taking shown next name was look over-anew own-anew version.tree found-anew)));
+        }
+
+        pub taken-leveled : IsNext family outcomes numbers name new found → IsNextLeveled family outcomes numbers shown next name new taken (Some copy)
+        taken-leveled is_next = record { is = taken-next new before found taken like taking shown next name was look alike_laws family outcomes numbers is_next; held = version-taken }
 
   -- the version of the next module is one, if it has one
   module _ (version : Option Version) (anew : IfSome version (IsVersionAnew m needs next found)) (agreed : IsAgreed outcomes name found.outcome) (number : IfSome found.number (λ n. n < face_count new)) where
-    pub anew-placed : IsPlacedNext outcomes told next name new found version
+    pub anew-placed : IsPlacedNext outcomes shown next name new found version
     anew-placed = by version anew
       where
-        by : (v : Option Version) → IfSome v (IsVersionAnew m needs next found) → IsPlacedNext outcomes told next name new found v
+        by : (v : Option Version) → IfSome v (IsVersionAnew m needs next found) → IsPlacedNext outcomes shown next name new found v
         by None is = record { agreed = agreed; number = number; below = tt; placed = tt }
         by (Some v) is = record { agreed = agreed; number = number; below = below-anew v is; placed = placed-anew v is }
 
-    pub anew-leveled : FamilyLaws → (family : List Member) → AreOutsides family told versions → IsReady family plan outcomes numbers known name → IsMember family name m.reading m.needs → IsNext family outcomes numbers name new found
-        → ((over : Over) (tree : ModuleTree) → m.reading ≡ reading.Tree tree → AreNeedsAccepted family outcomes numbers name m.needs over → IsFoundOver new over (told_by found.outcome found.number over tree) name tree found)
-        → IsNextLeveled family outcomes numbers told next name new found version
-    anew-leveled laws family outsides ready member is_next so = by version anew
+    pub anew-leveled : FamilyLaws → (family : List Member) → IsReady family plan outcomes numbers known name → IsMember family name m.reading m.needs → IsNext family outcomes numbers name new found
+        → ((over : Over) (tree : ModuleTree) → m.reading ≡ reading.Tree tree → AreNeedsAccepted family outcomes numbers name m.needs over → IsFoundOver new over (shown_by found.outcome found.number) name tree found)
+        → IsNextLeveled family outcomes numbers shown next name new found version
+    anew-leveled laws family ready member is_next so = by version anew
       where
-        by : (v : Option Version) → IfSome v (IsVersionAnew m needs next found) → IsNextLeveled family outcomes numbers told next name new found v
-        by None is = record { is = is_next; held = tt; outside = tt }
-        by (Some v) is = record {
-          is = is_next;
-          held = version-anew v is laws family outsides ready member (so (over_ids told m.needs v.needs) v.tree is.reads);
-          outside = outside-after v is laws family outsides ready member (so (over_ids told m.needs v.needs) v.tree is.reads);
-        }
+        by : (v : Option Version) → IfSome v (IsVersionAnew m needs next found) → IsNextLeveled family outcomes numbers shown next name new found v
+        by None is = record { is = is_next; held = tt }
+        by (Some v) is = record { is = is_next; held = version-anew v is laws family ready member (so (over_ids (texts_of family) shown m.needs v.needs) v.tree is.reads) }

@@ -32,14 +32,14 @@ use Rattle.module_kinds.specs.ModuleKinds.{depth_faults, kind_faults, level_faul
 use Rattle.flat_trees.specs.Instances.{symbols_of}
 use Rattle.flat_kinds.specs.Declarations.{HasPlaces}
 use Rattle.flattened_trees.specs.Leads.{FlatFace}
-use Rattle.flattened_units.specs.Units.{IsModuleMade, no_face}
-use Rattle.readable_laws.specs.Uses.{implied_by, means_by}
+use Rattle.flattened_units.specs.Units.{no_face}
+use Rattle.written_trees.specs.Leading.{face_in}
 use Rattle.leveled_modules.specs.Leveled.{file_faces}
 use Rattle.leveled_modules.specs.Leveled.{face_at}
 use Rattle.leveled_modules.specs.Leveled.{ModuleLevels}
 use Rattle.leveled_modules.specs.Leveled.{LevelTables}
 use Rattle.leveled_modules.specs.Leveled.{AreFilesOf, AreLevelsOf, IsModuleLeveled, faces_by}
-use Rattle.known_modules.specs.Known.{IsForeignTo, IsKnownFile, IsMadeOver, Knowledge, face_of, found_over, with_own_knowledge}
+use Rattle.known_modules.specs.Known.{IsForeignTo, IsKnownFile, IsMadeOver, Knowledge, face_of, with_own_knowledge}
 use Rattle.family_facts.specs.Facts.{texts_of}
 use Rattle.family_facts.specs.Family.{Member, is_there}
 use Rattle.family_facts.proofs.Members.{member-there}
@@ -54,7 +54,7 @@ use Rattle.leveled_facts.specs.Modules.{Leveled, Status, all_faults, import_stat
 use Rattle.family_levels.specs.declared.«module».Found.{Found}
 use Rattle.family_levels.specs.Judging.{HasFace, HasFaults, IsFoundAccepted, IsFoundBy, IsFoundFrom, IsFoundRefused, IsJudged, IsJudgedFrom, IsLeveledOver, level_at, names_of, with_level}
 use Rattle.family_levels.specs.Leveling.{AreNumbers, HasNumber, IsNext, IsReady, face_count, faces_of, names_on}
-use Rattle.family_levels.specs.Versions.{IsMadeWith, Over, given_over, numbers_over}
+use Rattle.family_levels.specs.Versions.{IsFaceLike, IsMadeWith, Over, given_over, named_faults, numbers_over, outsides_over}
 use Rattle.family_levels.specs.Numbers.{number_by}
 use Rattle.family_levels.proofs.Laws.{FamilyLaws, KnownLaws}
 use Rattle.family_levels.proofs.Unleveled.{plain-uses, unleveled}
@@ -109,9 +109,10 @@ some-same : (a b : ℕ) → ◌≡◌ {A = Option ℕ} (Some a) (Some b) → a �
 some-same a b same = cc
 
 -- an accepted module has the face that was checked, and nodes over what modules are by their versions
-pub record IsMadeAs (known : LevelTables) (over : Over) (source : List ℕ) (units : ModuleUnits) (found : Found) (face : Face) (number : ℕ) : Type 0 where
+pub record IsMadeAs (known : LevelTables) (over : Over) (name source : List ℕ) (units : ModuleUnits) (found : Found) (face : Face) (number : ℕ) : Type 0 where
   pub has : HasFace face found.outcome
-  pub made : IsMadeWith known over source units number
+  pub made : IsMadeWith known over name source units
+  pub like : IsFaceLike known.tables.state.flat (faces_of known number) (face_of (outsides_over over) source units made.last)
 
 module _ (known_laws : KnownLaws) (laws : FamilyLaws) (family : List Member) (plan : Plan) (outcomes : List (List ℕ × Outcome)) (numbers : List (List ℕ × ℕ)) (old new : LevelTables) (name : List ℕ) (ready : IsReady family plan outcomes numbers old name) (unfound : entry_of outcomes name ≡ None)
     (numbered : AreNumbers old numbers) (was_ordered : IsOrdered old.tables.state.flat) (is_ordered : IsOrdered new.tables.state.flat) (tree : ModuleTree) (needs : List (List ℕ)) (member : IsMember family name (reading.Tree tree) needs) (imports : Imports)
@@ -354,31 +355,46 @@ module _ (known_laws : KnownLaws) (laws : FamilyLaws) (family : List Member) (pl
         }
 
     -- its nodes are over what modules are by their versions
-    made-with : (over_all : Over) → given ≡ given_over over_all → files ≡ numbers_over over_all → ((other : List ℕ) → IfSome (files other) (λ number. number < face_count old)) → IsMadeWith new over_all source units levels.face
-    made-with over_all same numbers_same below =
-        record {
-          last = made.last;
-          asked = made.asked;
-          below = λ other. subst (λ (fs : List ℕ → Option ℕ). IfSome (fs other) (λ n. n < face_count new)) numbers_same (still-below (files other) (below other));
-          is = subst (λ (g : List ℕ → Status). faces_of new levels.face ≡ face_of (λ other. outside_by (g other)) source units made.last) same made.is;
-          made =
-              subst (λ (g : List ℕ → Status). IsModuleMade new.tables.state.flat (means_by (found_over (λ other. outside_by (g other)) source units)) (implied_by (found_over (λ other. outside_by (g other)) source units)) (file_faces (faces_of new) (numbers_over over_all)) (λ other. outside_by (g other)) source units
-              (symbols_of (module_outside (λ other. outside_by (g other)) source units)) made.last made.asked) same
-              (subst (λ (f : List ℕ → FlatFace). IsModuleMade new.tables.state.flat (means_by (found_over outs source units)) (implied_by (found_over outs source units)) f outs source units (symbols_of (module_outside outs source units)) made.last made.asked) faces-same made.made);
-          names = subst (λ (g : List ℕ → Status). faults (found_over (λ other. outside_by (g other)) source units) ≡ []) same both-none.first;
-          arities = subst (λ (g : List ℕ → Status). arity_faults (found_over (λ other. outside_by (g other)) source units) units.units ≡ []) same both-none.second;
-        }
-      where
-        still-below : (n : Option ℕ) → IfSome n (λ number. number < face_count old) → IfSome n (λ number. number < face_count new)
-        still-below None less = tt
-        still-below (Some at) less = let more : face_count old < face_count new = made.more_faces in omega (arith, less, more)
+    module _ (over_all : Over) (same : given ≡ given_over over_all) (numbers_same : files ≡ numbers_over over_all) (below : (other : List ℕ) → IfSome (files other) (λ number. number < face_count old)) where
+      still-below : (n : Option ℕ) → IfSome n (λ number. number < face_count old) → IfSome n (λ number. number < face_count new)
+      still-below None less = tt
+      still-below (Some at) less = let more : face_count old < face_count new = made.more_faces in omega (arith, less, more)
 
-        kept-face : (found_number : Option ℕ) → IfSome found_number (λ number. number < face_count old) → face_at (faces_of old) found_number ≡ face_at (faces_of new) found_number
-        kept-face None less = refl
-        kept-face (Some at) less = sym (made.faces at less)
+      kept-face : (found_number : Option ℕ) → IfSome found_number (λ number. number < face_count old) → face_at (faces_of old) found_number ≡ face_at (faces_of new) found_number
+      kept-face None less = refl
+      kept-face (Some at) less = sym (made.faces at less)
 
-        faces-same : faces ≡ file_faces (faces_of new) (numbers_over over_all)
-        faces-same = fun_ext (λ other. kept-face (files other) (below other) ∙ ap (λ fs. face_at (faces_of new) (fs other)) numbers_same)
+      faces-same : faces ≡ file_faces (faces_of new) (numbers_over over_all)
+      faces-same = fun_ext (λ other. kept-face (files other) (below other) ∙ ap (λ fs. face_at (faces_of new) (fs other)) numbers_same)
+
+      made-with : IsMadeWith new over_all name source units
+      made-with = record {
+        last = made.last;
+        asked = made.asked;
+        below = λ other. subst (λ (fs : List ℕ → Option ℕ). IfSome (fs other) (λ n. n < face_count new)) numbers_same (still-below (files other) (below other));
+        declares = declares texts;
+        knowledge = knowledge;
+        made =
+            subst (λ (g : List ℕ → Status). IsMadeOver (declares texts) new.tables.state.flat knowledge (file_faces (faces_of new) (numbers_over over_all)) (λ other. outside_by (g other)) name source units
+            (symbols_of (module_outside (λ other. outside_by (g other)) source units)) made.last made.asked) same
+            (subst (λ (f : List ℕ → FlatFace). IsMadeOver (declares texts) new.tables.state.flat knowledge f outs name source units (symbols_of (module_outside outs source units)) made.last made.asked) faces-same is-made);
+      }
+
+      -- its face is known, and is its own
+      like-with : IsFaceLike new.tables.state.flat (faces_of new levels.face) (face_of (outsides_over over_all) source units made.last)
+      like-with =
+          let own : Knowledge = with_own_knowledge (declares texts) outs source units knowledge in
+          let itself : faces_of new levels.face ≡ face_of (outsides_over over_all) source units made.last =
+          subst (λ (g : List ℕ → Status). faces_of new levels.face ≡ face_of (λ other. outside_by (g other)) source units made.last) same made.is in
+          record {
+            declares = declares texts;
+            knowledge = own;
+            file = module_outside outs source units;
+            known =
+                subst (λ f. IsKnownFile (declares texts) new.tables.state.flat own f (module_outside outs source units)) (sym made.is)
+                (known_laws.itself (declares texts) new.tables.state.flat knowledge faces outs name source units (symbols_of (module_outside outs source units)) made.last made.asked is-made);
+            alike = λ more extends. ap (face_in more) itself;
+          }
 
     leveled-next : (these : List Diagnostic) → levels.faults ≡ these → IsFoundFrom checked levels these found → IsNext family outcomes numbers name new found
     leveled-next [] e so = accepted-levels e so
@@ -388,18 +404,32 @@ module _ (known_laws : KnownLaws) (laws : FamilyLaws) (family : List Member) (pl
   judged-next [] e so = leveled-next e so.0 so.1 so.2 so.0.faults refl so.2
   judged-next (fault ∷ rest) e so = refused-next fault rest e so.0 so.1
 
-  module _ (over_all : Over) (same : given ≡ given_over over_all) (numbers_same : files ≡ numbers_over over_all) (below : (other : List ℕ) → IfSome (files other) (λ number. number < face_count old)) (number : ℕ) (at : found.number ≡ Some number) where
-    no-number : found.number ≡ None → ⊥
-    no-number none = let never : None ≡ Some number = sym none ∙ at in cc
+  module _ (over_all : Over) (same : given ≡ given_over over_all) (numbers_same : files ≡ numbers_over over_all) (below : (other : List ℕ) → IfSome (files other) (λ number. number < face_count old)) where
+    -- where names and arities have no faults, it has nodes
+    made-named : (these : List Diagnostic) → checked.faults ≡ these → IsJudgedFrom tree imports files old new checked these found → named_faults (given_over over_all) source units ≡ [] → IsMadeWith new over_all name source units
+    made-named [] e so none = made-with e so.0 so.1 so.2 over_all same numbers_same below
+    made-named (fault ∷ rest) e so none =
+        let named_none : named ≡ [] = ap (λ (g : List ℕ → Status). named_faults g source units) same ∙ none in
+        let never : fault ∷ rest ≡ [] = sym e ∙ (faults-are ∙ ap in_order named_none) in cc
 
-    made-leveled : (accepted : checked.faults ≡ []) (levels : ModuleLevels) → IsLeveledOver tree imports files old new levels → IsFoundBy checked levels found → (these : List Diagnostic) → levels.faults ≡ these → IsFoundFrom checked levels these found → IsMadeAs new over_all source units found checked.face number
-    made-leveled accepted levels over by [] e so =
-        record { has = so.outcome; made = subst (IsMadeWith new over_all source units) (some-same levels.face number (sym so.number ∙ at)) (made-with accepted levels over by over_all same numbers_same below) }
-    made-leveled accepted levels over by (fault ∷ rest) e so = absurd (no-number so.number)
+    module _ (number : ℕ) (at : found.number ≡ Some number) where
+      no-number : found.number ≡ None → ⊥
+      no-number none = let never : None ≡ Some number = sym none ∙ at in cc
 
-    made-judged : (these : List Diagnostic) → checked.faults ≡ these → IsJudgedFrom tree imports files old new checked these found → IsMadeAs new over_all source units found checked.face number
-    made-judged [] e so = made-leveled e so.0 so.1 so.2 so.0.faults refl so.2
-    made-judged (fault ∷ rest) e so = absurd (no-number so.0.number)
+      made-leveled : (accepted : checked.faults ≡ []) (levels : ModuleLevels) → IsLeveledOver tree imports files old new levels → IsFoundBy checked levels found → (these : List Diagnostic) → levels.faults ≡ these → IsFoundFrom checked levels these found → IsMadeAs new over_all name source units found checked.face number
+      unfolding made-with made
+      made-leveled accepted levels over by [] e so = record {
+        has = so.outcome;
+        made = made-with accepted levels over by over_all same numbers_same below;
+        like =
+            subst (λ n. IsFaceLike new.tables.state.flat (faces_of new n) (face_of (outsides_over over_all) source units (made accepted levels over by).last)) (some-same levels.face number (sym so.number ∙ at))
+            (like-with accepted levels over by over_all same numbers_same below);
+      }
+      made-leveled accepted levels over by (fault ∷ rest) e so = absurd (no-number so.number)
+
+      made-judged : (these : List Diagnostic) → checked.faults ≡ these → IsJudgedFrom tree imports files old new checked these found → IsMadeAs new over_all name source units found checked.face number
+      made-judged [] e so = made-leveled e so.0 so.1 so.2 so.0.faults refl so.2
+      made-judged (fault ∷ rest) e so = absurd (no-number so.0.number)
 
 -- what is found of a tree over its imports is found of the next module
 pub next-found : (known_laws : KnownLaws) (laws : FamilyLaws) (family : List Member) (plan : Plan) (outcomes : List (List ℕ × Outcome)) (numbers : List (List ℕ × ℕ)) (old new : LevelTables) (name : List ℕ) (ready : IsReady family plan outcomes numbers old name) → entry_of outcomes name ≡ None → AreNumbers old numbers
@@ -415,6 +445,15 @@ pub made-found : (known_laws : KnownLaws) (laws : FamilyLaws) (family : List Mem
     (told : (need : List ℕ) → Contains needs need → IsNeedTold ready.entries outcomes name need (given_in imports need)) (only : ImportsOnly needs imports) (files : List ℕ → Option ℕ) (are : (other : List ℕ) → files other ≡ number_by (import_of imports other) (entry_of numbers other)) (found : Found)
     (judged : IsJudged name tree imports files old new found) (over_all : Over) → given_to family plan outcomes numbers old name ready tree needs member imports told only ≡ given_over over_all → files ≡ numbers_over over_all
     → ((other : List ℕ) → IfSome (files other) (λ number. number < face_count old)) → (number : ℕ) → found.number ≡ Some number
-    → IsMadeAs new over_all tree.source (module_of tree) found judged.checked.face number
+    → IsMadeAs new over_all name tree.source (module_of tree) found judged.checked.face number
 made-found known_laws laws family plan outcomes numbers old new name ready unfound numbered was_ordered is_ordered tree needs member imports told only files are found judged over_all same numbers_same below number at =
     made-judged known_laws laws family plan outcomes numbers old new name ready unfound numbered was_ordered is_ordered tree needs member imports told only files are found judged.checked judged.facts over_all same numbers_same below number at judged.checked.faults refl judged.so
+
+-- and one without faults of names and arities has nodes
+pub names-made : (known_laws : KnownLaws) (laws : FamilyLaws) (family : List Member) (plan : Plan) (outcomes : List (List ℕ × Outcome)) (numbers : List (List ℕ × ℕ)) (old new : LevelTables) (name : List ℕ) (ready : IsReady family plan outcomes numbers old name) (unfound : entry_of outcomes name ≡ None) (numbered : AreNumbers old numbers)
+    (was_ordered : IsOrdered old.tables.state.flat) (is_ordered : IsOrdered new.tables.state.flat) (tree : ModuleTree) (needs : List (List ℕ)) (member : IsMember family name (reading.Tree tree) needs) (imports : Imports)
+    (told : (need : List ℕ) → Contains needs need → IsNeedTold ready.entries outcomes name need (given_in imports need)) (only : ImportsOnly needs imports) (files : List ℕ → Option ℕ) (are : (other : List ℕ) → files other ≡ number_by (import_of imports other) (entry_of numbers other)) (found : Found)
+    (judged : IsJudged name tree imports files old new found) (over_all : Over) → given_to family plan outcomes numbers old name ready tree needs member imports told only ≡ given_over over_all → files ≡ numbers_over over_all
+    → ((other : List ℕ) → IfSome (files other) (λ number. number < face_count old)) → named_faults (given_over over_all) tree.source (module_of tree) ≡ [] → IsMadeWith new over_all name tree.source (module_of tree)
+names-made known_laws laws family plan outcomes numbers old new name ready unfound numbered was_ordered is_ordered tree needs member imports told only files are found judged over_all same numbers_same below =
+    made-named known_laws laws family plan outcomes numbers old new name ready unfound numbered was_ordered is_ordered tree needs member imports told only files are found judged.checked judged.facts over_all same numbers_same below judged.checked.faults refl judged.so

@@ -1,5 +1,5 @@
 -- Laws on which proofs stand here, as types.
-use Rattle.std.specs.Prelude.{◌≡◌, ℕ, false, List, [], Contains}
+use Rattle.std.specs.Prelude.{◌≡◌, ℕ, false, List, [], ◌∷◌, Option, Contains}
 use Rattle.std.specs.Str.{bytes_eq}
 use Rattle.unit_grammar.specs.Units.{ModuleUnits}
 use Rattle.front_laws.specs.Fronts.{IsFront, Fault, Tree}
@@ -14,15 +14,18 @@ use Rattle.flat_kinds.specs.Declarations.{Declarations, HasPlaces}
 use Rattle.flattened_trees.specs.Answers.{deep_answers, level_answers}
 use Rattle.flattened_trees.specs.Leads.{FlatFace}
 use Rattle.flattened_trees.specs.Questions.{Question}
-use Rattle.flattened_units.specs.Units.{Reader, no_face}
+use Rattle.flattened_units.specs.Units.{IsModuleMade, Reader, no_face}
+use Rattle.written_trees.specs.Leading.{face_in}
 use Rattle.known_modules.specs.Known.{face_of}
 use Rattle.known_modules.specs.Known.{AreSymbolsPlain}
 use Rattle.known_modules.specs.Known.{IsForeignTo, IsKnownFile, IsMadeOver, Knowledge, with_own_knowledge}
 use Rattle.family_facts.specs.Facts.{texts_of}
 use Rattle.family_facts.specs.Family.{AreMembersDistinct, Member, Needs}
+use Rattle.module_facts.specs.Checks.{all_faults}
 use Rattle.module_facts.specs.Ordered.{in_order}
 use Rattle.leveled_facts.specs.Families.{IsStatus, declares, leveled}
-use Rattle.leveled_facts.specs.Modules.{Status, Unknown, front_refused, leveled_by}
+use Rattle.leveled_facts.specs.Modules.{Status, Unknown, front_refused, import_status, leveled_by, outside_by}
+use Rattle.alike_findings.specs.Alike.{AreFoundAlike}
 
 -- laws on modules that are known, one after another
 pub record KnownLaws : Type 0 where
@@ -65,3 +68,29 @@ pub record FamilyLaws : Type 0 where
       → HasPlaces (declares (texts_of family)) member.bytes found
   pub one_order : (all found : List Diagnostic) → AreInOrder all found → found ≡ in_order all
   pub none : (all : List Diagnostic) → AreInOrder all [] → all ≡ []
+
+-- laws on modules over others that are to them what those before were
+pub record AlikeLaws : Type 0 where
+  pub known :
+      (before declares : Declarations) (flat : FlatModule) (then knowledge : Knowledge) (face other : FlatFace) (was file : Outside) → IsKnownFile before flat then face was → IsKnownFile declares flat knowledge other file
+      → face_in flat face ≡ face_in flat other → IsKnownFile declares flat knowledge face file
+  pub views :
+      (flat : FlatModule) (means : ℕ → Option Meaning) (implied : ℕ → List Meaning) (files : List ℕ → FlatFace) (outsides others : List ℕ → Outside) (source : List ℕ) (units : ModuleUnits) (symbols : List Meaning) (last : Reader) (asked : List Question)
+      → ((name : List ℕ) → (outsides name).view ≡ (others name).view) → IsModuleMade flat means implied files outsides source units symbols last asked → IsModuleMade flat means implied files others source units symbols last asked
+  pub found :
+      (given others : List ℕ → Status) (before declares : Declarations) (flat : FlatModule) (then knowledge : Knowledge) (files : List ℕ → FlatFace) (name source : List ℕ) (units : ModuleUnits) (symbols : List Meaning) (last : Reader) (asked : List Question)
+      → ((other : List ℕ) → import_status (given other) ≡ import_status (others other))
+      → IsMadeOver before flat then files (λ other. outside_by (given other)) name source units symbols last asked
+      → IsMadeOver declares flat knowledge files (λ other. outside_by (others other)) name source units symbols last asked
+      → AreFoundAlike (leveled_by given source units) (leveled_by others source units)
+  pub refused :
+      (given others : List ℕ → Status) (source : List ℕ) (units : ModuleUnits) (fault : Diagnostic) (rest : List Diagnostic)
+      → ((other : List ℕ) → import_status (given other) ≡ import_status (others other))
+      → all_faults (λ other. import_status (given other)) source units ≡ fault ∷ rest
+      → AreFoundAlike (leveled_by given source units) (leveled_by others source units)
+  pub faces :
+      (given others : List ℕ → Status) (before declares : Declarations) (flat : FlatModule) (then knowledge : Knowledge) (files : List ℕ → FlatFace) (name source : List ℕ) (units : ModuleUnits) (symbols : List Meaning) (last : Reader) (asked : List Question)
+      → ((other : List ℕ) → (outside_by (given other)).view ≡ (outside_by (others other)).view)
+      → IsMadeOver before flat then files (λ other. outside_by (given other)) name source units symbols last asked
+      → IsMadeOver declares flat knowledge files (λ other. outside_by (others other)) name source units symbols last asked
+      → face_of (λ other. outside_by (given other)) source units last ≡ face_of (λ other. outside_by (others other)) source units last

@@ -5,8 +5,11 @@ mod Judging
 mod Numbering
 mod Steps
 mod Over
+mod Across
 mod Anew
 mod Lasting
+mod Keeping
+mod Taking
 mod Following
 mod Growing
 mod Adding

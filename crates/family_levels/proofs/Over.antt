@@ -1,5 +1,5 @@
 -- What was found of a module over others is found of it again, where these are what they were.
-use Rattle.std.proofs.Common.{◌≡◌, ℕ, true, false, List, ◌⊎◌, inl, inr, Option, Some, None, refl, sym, ap, subst, ◌∙◌, is_some}
+use Rattle.std.proofs.Common.{◌≡◌, ℕ, true, false, List, [], ◌⊎◌, inl, inr, Option, Some, None, refl, sym, ap, subst, ◌∙◌, is_some}
 use Rattle.std.specs.Prelude.{Contains}
 use Rattle.std.specs.Arc.{arc_value}
 use Rattle.std.specs.Str.{bytes_eq}
@@ -10,15 +10,21 @@ use Rattle.unit_grammar.specs.UnitNodes.{module_of}
 use Rattle.unit_grammar.specs.Units.{ModuleUnits}
 use Rattle.front_laws.specs.Fronts.{IsFront, Tree}
 use Rattle.module_model.specs.declared.face.Face.{Face}
-use Rattle.module_model.specs.Exports.{Exports}
+use Rattle.module_model.specs.Bindings.{faults}
+use Rattle.module_model.specs.Exports.{Exports, face_outside}
 use Rattle.module_model.specs.Modules.{text_of}
-use Rattle.kind_text.specs.FlatModule.{IsOrdered}
+use Rattle.arity_rules.specs.Arities.{arity_faults}
+use Rattle.kind_text.specs.FlatModule.{FlatModule, IsOrdered}
 use Rattle.tree_kinds.specs.Standing.{Outside}
 use Rattle.module_kinds.specs.ModuleKinds.{outside as module_outside}
 use Rattle.flat_trees.specs.Instances.{symbols_of}
 use Rattle.flat_kinds.specs.Declarations.{HasPlaces}
+use Rattle.flattened_trees.specs.Leads.{FlatFace}
+use Rattle.flattened_trees.specs.Questions.{Question}
+use Rattle.flattened_units.specs.Units.{IsModuleMade, Reader}
+use Rattle.readable_laws.specs.Uses.{implied_by, means_by}
 use Rattle.leveled_modules.specs.Leveled.{LevelTables, file_faces, face_at}
-use Rattle.known_modules.specs.Known.{IsForeignTo, IsKnownFile, IsMadeOver, Knowledge, with_own_knowledge}
+use Rattle.known_modules.specs.Known.{IsForeignTo, IsKnownFile, IsMadeOver, Knowledge, face_of, found_over, with_own_knowledge}
 use Rattle.fact_values.specs.Names.{Texts}
 use Rattle.family_facts.specs.Facts.{texts_of}
 use Rattle.family_facts.specs.Family as families
@@ -36,8 +42,8 @@ use Rattle.leveled_facts.specs.Families.{IsStatus, accepted, declares, leveled}
 use Rattle.leveled_facts.specs.Modules.{Accepted, Leveled, leveled_by, outside_by}
 use Rattle.family_levels.specs.declared.«module».Found.{Found}
 use Rattle.family_levels.specs.Leveling.{HasNumber, IsNext, IsReady, Says, faces_of, names_on}
-use Rattle.family_levels.specs.Versions.{AreNeedsAccepted, IsFoundOver, IsHeld, IsHeldFace, IsMadeWith, IsNeedAccepted, Over, Own, Shared, Told, given_over, leveled_over, number_in, numbers_over, outsides_over, status_told}
-use Rattle.family_levels.proofs.Laws.{FamilyLaws, KnownLaws}
+use Rattle.family_levels.specs.Versions.{AreNeedsAccepted, AreViewed, IsAcceptedOver, IsFoundOver, IsHeld, IsHeldFace, IsMadeWith, IsNeedAccepted, Over, Own, Shared, Shown, Told, given_over, leveled_over, number_in, numbers_over, outsides_over, status_told}
+use Rattle.family_levels.proofs.Laws.{AlikeLaws, FamilyLaws, KnownLaws}
 
 some-text : (a b : ℕ) → ◌≡◌ {A = Option ℕ} (Some a) (Some b) → a ≡ b
 some-text a b same = cc
@@ -47,10 +53,10 @@ some-face a b same = cc
 
 -- ---- faces
 
-module _ (outcomes : List (List ℕ × Outcome)) (name : List ℕ) (over : Over) (faces : (need : List ℕ) (told : Told) → over need ≡ Some told → found_face outcomes need ≡ Some told.face) where
+module _ (outcomes : List (List ℕ × Outcome)) (name : List ℕ) (over : Over) (faces : (need : List ℕ) (told : Told) → over need ≡ Some told → found_face outcomes need ≡ Some told.shown.face) where
   held-taken : (decl : DeclId) (entries : Exports) → IsHeld over name decl entries → IsTaken outcomes name decl entries
   held-taken decl entries (Own own) = TakenOwn own
-  held-taken decl entries (Shared need told is has) = TakenShared need told.face (faces need told is) has
+  held-taken decl entries (Shared need told is has) = TakenShared need told.shown.face (faces need told is) has
 
   -- a face over what is found goes with it
   pub held-agrees : (face : Face) (o : outcome.the_data) → accepted_face (Some o) ≡ Some face → IsHeldFace over name face → IsAgreed outcomes name o
@@ -60,7 +66,7 @@ module _ (outcomes : List (List ℕ × Outcome)) (name : List ℕ) (over : Over)
       (record { named = held.named; whole = held.whole; from = λ decl entries there. held-taken decl entries (held.from decl entries there) })
 
   -- so does what was found of a module
-  pub found-agrees : (known : LevelTables) (own : Option Told) (tree : ModuleTree) (found : Found) → IsFoundOver known over own name tree found → IsAgreed outcomes name found.outcome
+  pub found-agrees : (known : LevelTables) (own : Option Shown) (tree : ModuleTree) (found : Found) → IsFoundOver known over own name tree found → IsAgreed outcomes name found.outcome
   found-agrees known own tree found is = by found.outcome refl found.number refl is.numbered
     where
       by : (o : outcome.the_data) → found.outcome ≡ o → (number : Option ℕ) → found.number ≡ number → HasNumber found.outcome found.number → IsAgreed outcomes name found.outcome
@@ -69,7 +75,7 @@ module _ (outcomes : List (List ℕ × Outcome)) (name : List ℕ) (over : Over)
         where
           none-left : is_some found.number ≡ true → ⊥
           none-left some = let never : false ≡ true = sym (ap is_some at) ∙ some in cc
-      by (outcome.Accepted shared) e (Some number) at has = held-agrees (is.accepted number at).told.face found.outcome (is.accepted number at).face_is (is.accepted number at).held
+      by (outcome.Accepted shared) e (Some number) at has = held-agrees (is.accepted number at).shown.face found.outcome (is.accepted number at).face_is (is.accepted number at).held
 
 -- ---- modules
 
@@ -94,8 +100,8 @@ module _ (laws : FamilyLaws) (family : List Member) (plan : Plan) (outcomes : Li
   need-status need c = by (told.each need c) (entry_of outcomes need) refl
     where
       by : (n : IsNeedAccepted family outcomes numbers name need over) (o : Option Outcome) → entry_of outcomes need ≡ o → IsStatus family name need (given_over over need)
-      by n None e = let never : None ≡ Some n.told.face = sym (ap accepted_face e) ∙ n.face in cc
-      by n (Some (outcome.Refused faults)) e = let never : None ≡ Some n.told.face = sym (ap accepted_face e) ∙ n.face in cc
+      by n None e = let never : None ≡ Some n.told.shown.face = sym (ap accepted_face e) ∙ n.face in cc
+      by n (Some (outcome.Refused faults)) e = let never : None ≡ Some n.told.shown.face = sym (ap accepted_face e) ∙ n.face in cc
       by n (Some (outcome.Accepted face)) e =
           subst (IsStatus family name need) (ap Accepted n.outside ∙ ap status_told (sym n.is))
           (accepted (ready.leveled_so.there need (outcome.Accepted face) e) n.apart (ready.leveled_so.says need (outcome.Accepted face) e).0)
@@ -126,7 +132,7 @@ module _ (laws : FamilyLaws) (family : List Member) (plan : Plan) (outcomes : Li
       there : IsNeedAccepted family outcomes numbers name other over → IsKnownFile (declares texts) known.tables.state.flat knowledge (file_faces (faces_of known) (numbers_over over) other) (outs other)
       there n =
           subst (λ t. IsKnownFile (declares texts) known.tables.state.flat knowledge (face_at (faces_of known) (number_in t)) (outside_by (status_told t))) (sym n.is)
-          (subst (IsKnownFile (declares texts) known.tables.state.flat knowledge (faces_of known n.told.number)) n.outside (ready.leveled_so.files other n.told.number n.number))
+          (subst (IsKnownFile (declares texts) known.tables.state.flat knowledge (faces_of known n.told.shown.number)) n.outside (ready.leveled_so.files other n.told.shown.number n.number))
 
       absent : over other ≡ None → IsKnownFile (declares texts) known.tables.state.flat knowledge (file_faces (faces_of known) (numbers_over over) other) (outs other)
       absent none =
@@ -137,10 +143,29 @@ module _ (laws : FamilyLaws) (family : List Member) (plan : Plan) (outcomes : Li
   over-foreign known_laws title later other = any-told (λ o. IsForeignTo title (outs o)) other there absent
     where
       there : IsNeedAccepted family outcomes numbers name other over → IsForeignTo title (outs other)
-      there n = subst (λ t. IsForeignTo title (outside_by (status_told t))) (sym n.is) (subst (IsForeignTo title) n.outside (ready.leveled_so.foreign title other n.told.number later n.number))
+      there n = subst (λ t. IsForeignTo title (outside_by (status_told t))) (sym n.is) (subst (IsForeignTo title) n.outside (ready.leveled_so.foreign title other n.told.shown.number later n.number))
 
       absent : over other ≡ None → IsForeignTo title (outs other)
       absent none = subst (λ t. IsForeignTo title (outside_by (status_told t))) (sym none) (known_laws.foreign_nothing title)
+
+  -- their views are those of their faces
+  pub over-viewed : AreViewed over
+  over-viewed other t is = any-told (λ o. (u : Told) → over o ≡ Some u → u.outside.view ≡ face_outside u.shown.face) other there absent t is
+    where
+      told-some : (a b : Told) → ◌≡◌ {A = Option Told} (Some a) (Some b) → a ≡ b
+      told-some a b e = cc
+
+      said : (n : IsNeedAccepted family outcomes numbers name other over) (o : Option Outcome) → entry_of outcomes other ≡ o → accepted_face o ≡ Some n.told.shown.face → n.told.outside.view ≡ face_outside n.told.shown.face
+      said n None e has = absurd (cc has)
+      said n (Some (outcome.Refused faults)) e has = absurd (cc has)
+      said n (Some (outcome.Accepted face)) e has =
+          ap (λ (o : Outside). o.view) (sym n.outside) ∙ (sym (ready.leveled_so.says other (outcome.Accepted face) e).1 ∙ ap face_outside (some-face (arc_value face) n.told.shown.face has))
+
+      there : IsNeedAccepted family outcomes numbers name other over → (u : Told) → over other ≡ Some u → u.outside.view ≡ face_outside u.shown.face
+      there n u at = subst (λ (v : Told). v.outside.view ≡ face_outside v.shown.face) (told-some n.told u (sym n.is ∙ at)) (said n (entry_of outcomes other) refl n.face)
+
+      absent : over other ≡ None → (u : Told) → over other ≡ Some u → u.outside.view ≡ face_outside u.shown.face
+      absent none u at = let never : None ≡ Some u = sym none ∙ at in cc
 
   title-is : (text_of source units).file ≡ name
   title-is = member.is.named
@@ -148,78 +173,96 @@ module _ (laws : FamilyLaws) (family : List Member) (plan : Plan) (outcomes : Li
   outside-is : (leveled texts name).outside ≡ module_outside outs source units
   outside-is = ap (λ (l : Leveled). l.outside) over-found
 
-  module _ (known_laws : KnownLaws) (unfound : entry_of outcomes name ≡ None) (ordered : IsOrdered known.tables.state.flat) (own : Option Told) (found : Found) (is : IsFoundOver known over own name tree found) where
-    said : Says texts name found.outcome
-    said = subst (λ (l : Leveled). Matches l.faults l.outside.view found.outcome) (sym over-found) is.says
+  module _ (known_laws : KnownLaws) (unfound : entry_of outcomes name ≡ None) (ordered : IsOrdered known.tables.state.flat) where
+    abbrev flat : FlatModule
+    flat = known.tables.state.flat
 
-    named : found.names ≡ names_on texts name
-    named = is.names ∙ (λ i. record { uses = (sym over-found i).uses; decls = (sym over-found i).decls })
+    abbrev files : List ℕ → FlatFace
+    files = file_faces (faces_of known) (numbers_over over)
 
-    there : is_there family name ≡ true
-    there = member-there family name member.member member.there member.named
+    abbrev symbols : List Meaning
+    symbols = symbols_of (module_outside outs source units)
 
-    refused-again : found.number ≡ None → IsNext family outcomes numbers name known found
-    refused-again none = record {
-      there = there;
-      says = said;
-      numbered = is.numbered;
-      names = named;
-      knowledge = knowledge;
-      plain = ready.leveled_so.plain;
-      others = ready.leveled_so.files;
-      itself = λ number at. let never : None ≡ Some number = sym none ∙ at in cc;
-      foreign = λ title number later apart at. let never : None ≡ Some number = sym none ∙ at in cc;
+    -- nodes that are its units are those of a module over files that are known
+    pub made-over :
+        (last : Reader) (asked : List Question) → IsModuleMade flat (means_by (found_over outs source units)) (implied_by (found_over outs source units)) files outs source units symbols last asked
+        → faults (found_over outs source units) ≡ [] → arity_faults (found_over outs source units) units.units ≡ [] → IsMadeOver (declares texts) flat knowledge files outs name source units symbols last asked
+    made-over last asked made names arities = record {
+      made = made;
+      ordered = ordered;
+      known = record { each = over-known known_laws; plain = ready.leveled_so.plain };
+      foreign = λ other. subst (λ t. IsForeignTo t (outs other)) (sym title-is) (over-foreign known_laws name unfound other);
+      faultless = record {
+        front = subst (λ b. IsFront name b (Tree units)) (sym member.is.source) member.is.front;
+        names = names;
+        arities = arities;
+        places = subst (λ b. HasPlaces (declares texts) b units) (sym member.is.source) (laws.places family member.member units ready.distinct member.there (subst (λ n. IsFront n member.member.bytes (Tree units)) (sym member.named) member.is.front));
+      };
+      same = refl;
     }
 
-    module _ (number : ℕ) (at : found.number ≡ Some number) where
-      made : IsMadeWith known over source units number
-      made = (is.accepted number at).made
+    module _ (alike_laws : AlikeLaws) (own : Option Shown) (found : Found) (is : IsFoundOver known over own name tree found) where
+      said : Says texts name found.outcome
+      said = subst (λ (l : Leveled). Matches l.faults l.outside.view found.outcome) (sym over-found) is.says
 
-      abbrev symbols : List Meaning
-      symbols = symbols_of (module_outside outs source units)
+      named : found.names ≡ names_on texts name
+      named = is.names ∙ (λ i. record { uses = (sym over-found i).uses; decls = (sym over-found i).decls })
 
-      is-made : IsMadeOver (declares texts) known.tables.state.flat knowledge (file_faces (faces_of known) (numbers_over over)) outs name source units symbols made.last made.asked
-      is-made = record {
-        made = made.made;
-        ordered = ordered;
-        known = record { each = over-known known_laws; plain = ready.leveled_so.plain };
-        foreign = λ other. subst (λ t. IsForeignTo t (outs other)) (sym title-is) (over-foreign known_laws name unfound other);
-        faultless = record {
-          front = subst (λ b. IsFront name b (Tree units)) (sym member.is.source) member.is.front;
-          names = made.names;
-          arities = made.arities;
-          places = subst (λ b. HasPlaces (declares texts) b units) (sym member.is.source) (laws.places family member.member units ready.distinct member.there (subst (λ n. IsFront n member.member.bytes (Tree units)) (sym member.named) member.is.front));
-        };
-        same = refl;
+      there : is_there family name ≡ true
+      there = member-there family name member.member member.there member.named
+
+      refused-again : found.number ≡ None → IsNext family outcomes numbers name known found
+      refused-again none = record {
+        there = there;
+        says = said;
+        numbered = is.numbered;
+        names = named;
+        knowledge = knowledge;
+        plain = ready.leveled_so.plain;
+        others = ready.leveled_so.files;
+        itself = λ number at. let never : None ≡ Some number = sym none ∙ at in cc;
+        foreign = λ title number later apart at. let never : None ≡ Some number = sym none ∙ at in cc;
       }
 
-      accepted-again : IsNext family outcomes numbers name known found
-      accepted-again =
-          let now : Knowledge = with_own_knowledge (declares texts) outs source units knowledge in
-          record {
-            there = there;
-            says = said;
-            numbered = is.numbered;
-            names = named;
-            knowledge = now;
-            plain = known_laws.plain (declares texts) known.tables.state.flat knowledge (file_faces (faces_of known) (numbers_over over)) outs name source units symbols made.last made.asked is-made;
-            others = λ other number' at'.
-                known_laws.others (declares texts) known.tables.state.flat knowledge outs source units (faces_of known number') (leveled texts other).outside (ready.leveled_so.files other number' at')
-                (subst (λ t. IsForeignTo t (leveled texts other).outside) (sym title-is) (ready.leveled_so.foreign name other number' unfound at'));
-            itself = λ number' at'.
-                let same : number ≡ number' = some-text number number' (sym at ∙ at') in
-                subst (λ o. IsKnownFile (declares texts) known.tables.state.flat now (faces_of known number') o) (sym outside-is)
-                (subst (λ f. IsKnownFile (declares texts) known.tables.state.flat now f (module_outside outs source units)) (sym made.is ∙ ap (faces_of known) same)
-                (known_laws.itself (declares texts) known.tables.state.flat knowledge (file_faces (faces_of known) (numbers_over over)) outs name source units symbols made.last made.asked is-made));
-            foreign = λ title number' later apart at'.
-                subst (IsForeignTo title) (sym outside-is)
-                (known_laws.foreign outs source title units (over-foreign known_laws title later) (ap (λ t. bytes_eq t title) title-is ∙ apart));
-          }
+      module _ (number : ℕ) (at : found.number ≡ Some number) where
+        kept : IsAcceptedOver known over own name tree found number
+        kept = is.accepted number at
 
-    -- it is found again of the next module
-    pub again-next : IsNext family outcomes numbers name known found
-    again-next = by found.number refl
-      where
-        by : (number : Option ℕ) → found.number ≡ number → IsNext family outcomes numbers name known found
-        by None none = refused-again none
-        by (Some number) at = accepted-again number at
+        made : IsMadeWith known over name source units
+        made = kept.made
+
+        is-made : IsMadeOver (declares texts) flat knowledge files outs name source units symbols made.last made.asked
+        is-made = made-over made.last made.asked made.made.made made.made.faultless.names made.made.faultless.arities
+
+        accepted-again : IsNext family outcomes numbers name known found
+        unfolding made kept
+        accepted-again =
+            let now : Knowledge = with_own_knowledge (declares texts) outs source units knowledge in
+            record {
+              there = there;
+              says = said;
+              numbered = is.numbered;
+              names = named;
+              knowledge = now;
+              plain = known_laws.plain (declares texts) flat knowledge files outs name source units symbols made.last made.asked is-made;
+              others = λ other number' at'.
+                  known_laws.others (declares texts) flat knowledge outs source units (faces_of known number') (leveled texts other).outside (ready.leveled_so.files other number' at')
+                  (subst (λ t. IsForeignTo t (leveled texts other).outside) (sym title-is) (ready.leveled_so.foreign name other number' unfound at'));
+              itself = λ number' at'.
+                  let same : number ≡ number' = some-text number number' (sym at ∙ at') in
+                  subst (λ o. IsKnownFile (declares texts) flat now (faces_of known number') o) (sym outside-is)
+                  (subst (λ n. IsKnownFile (declares texts) flat now (faces_of known n) (module_outside outs source units)) same
+                  (alike_laws.known kept.like.declares (declares texts) flat kept.like.knowledge now (faces_of known number) (face_of outs source units made.last) kept.like.file (module_outside outs source units) kept.like.known
+                  (known_laws.itself (declares texts) flat knowledge files outs name source units symbols made.last made.asked is-made) (kept.like.alike flat (record { nodes = λ i x there. there; definitions = λ i x there. there; instances = λ i x there. there }))));
+              foreign = λ title number' later apart at'.
+                  subst (IsForeignTo title) (sym outside-is)
+                  (known_laws.foreign outs source title units (over-foreign known_laws title later) (ap (λ t. bytes_eq t title) title-is ∙ apart));
+            }
+
+      -- it is found again of the next module
+      pub again-next : IsNext family outcomes numbers name known found
+      again-next = by found.number refl
+        where
+          by : (number : Option ℕ) → found.number ≡ number → IsNext family outcomes numbers name known found
+          by None none = refused-again none
+          by (Some number) at = accepted-again number at

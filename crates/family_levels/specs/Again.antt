@@ -1,10 +1,13 @@
 -- When a version of a module is the one that is asked for, and what is said of the next one.
-use Rattle.std.specs.Prelude.{◌≡◌, ◌<◌, ◌+◌, ℕ, List, Option, Some, None, IfSome, IsSome, is_some, nat_eq, option_map, if◌then◌else◌}
+use Rattle.std.specs.Prelude.{◌≡◌, ◌<◌, ◌+◌, ℕ, List, Option, Some, None, IfSome, IsSome, is_some, nat_eq, if◌then◌else◌}
 use Rattle.std.specs.List.{AllZip}
 use Rattle.tla_tree.specs.declared.unit.ModuleTree.{ModuleTree}
 use Rattle.index_graph.specs.Leading.{LeadsBack}
-use Rattle.family_facts.specs.Facts.{texts_of}
 use Rattle.family_facts.specs.Family.{Member}
+use Rattle.face_views.specs.Same.{IsSameFace}
+use Rattle.kind_text.specs.FlatModule.{Extends, FlatModule}
+use Rattle.module_model.specs.declared.face.Face.{Face}
+use Rattle.written_trees.specs.Leading.{face_in}
 use Rattle.family_tables.specs.Agreement.{IsAgreed, accepted_face}
 use Rattle.family_tables.specs.Modules.{Entry}
 use Rattle.family_tables.specs.Plans as plans
@@ -15,11 +18,11 @@ use Rattle.family_tables.specs.declared.outcome.Outcome.{Outcome}
 use Rattle.family_tables.specs.declared.reading.Module.{Module}
 use Rattle.family_tables.specs.declared.reading.Reading.TheVariants as reading
 use Rattle.leveled_modules.specs.Leveled.{LevelTables}
-use Rattle.leveled_facts.specs.Families.{leveled}
 use Rattle.family_levels.specs.declared.«module».Found.{Found}
 use Rattle.family_levels.specs.declared.versions.Version.{Version}
-use Rattle.family_levels.specs.Leveling.{IsNext, face_count}
-use Rattle.family_levels.specs.Versions.{IsCopy, IsVersion, Told, over_of, told_by}
+use Rattle.family_tables.specs.Outcomes.{faults_of}
+use Rattle.family_levels.specs.Leveling.{IsNext, face_count, faces_of}
+use Rattle.family_levels.specs.Versions.{IsCopy, IsVersion, Shown, shown_by}
 
 -- the number of a version that was accepted
 abbrev pub version_by : Option Version → Option ℕ
@@ -63,52 +66,71 @@ pub record IsVersionAnew («module» : Module) (needs : Option (List ℕ)) (id :
   pub itself : version.id ≡ id
   pub copy : IsCopy found version.found
 
--- ---- what each version is
+-- ---- in the place of a version
 
--- with the next one
-abbrev pub told_with : (ℕ → Option Told) → ℕ → Option Told → ℕ → Option Told
-told_with told next own id = if nat_eq id next then own else told id
+-- a version was to others what a module is of which this was found, in all that a flat module becomes
+pub record IsLike (known : LevelTables) (version : Version) (found : Found) : Type 0 where
+  pub face : Face
+  pub before : Face
+  pub number : ℕ
+  pub was : ℕ
+  pub face_is : accepted_face (Some found.outcome) ≡ Some face
+  pub before_is : accepted_face (Some version.found.outcome) ≡ Some before
+  pub number_is : found.number ≡ Some number
+  pub was_is : version.found.number ≡ Some was
+  pub same : IsSameFace before face
+  pub alike : (more : FlatModule) → Extends known.tables.state.flat more → face_in more (faces_of known was) ≡ face_in more (faces_of known number)
+
+-- this was found, with the face and the number of a version
+pub record IsFoundAs (version : Version) (found taken : Found) : Type 0 where
+  pub faults : faults_of (Some taken.outcome) ≡ faults_of (Some version.found.outcome)
+  pub face : accepted_face (Some taken.outcome) ≡ accepted_face (Some version.found.outcome)
+  pub number : taken.number ≡ version.found.number
+  pub names : taken.names ≡ found.names
+
+-- a version in the place of one before, of which this was found
+pub record IsVersionAs (before anew : Version) (taken : Found) (version : Version) : Type 0 where
+  pub tree : version.tree ≡ anew.tree
+  pub needs : version.needs ≡ anew.needs
+  pub id : version.id ≡ before.id
+  pub copy : IsCopy taken version.found
+
+-- ---- what is kept
+
+-- with what is kept under the next number
+abbrev pub shown_with : (ℕ → Option Shown) → ℕ → Option Shown → ℕ → Option Shown
+shown_with shown next own id = if nat_eq id next then own else shown id
 
 -- behind a module of which this was found
-abbrev pub told_after : (ℕ → Option Told) → ℕ → Found → Option Version → ℕ → Option Told
-told_after told next found None = told
-told_after told next found (Some version) = told_with told next (told_by found.outcome found.number (over_of told version) version.tree)
+abbrev pub shown_after : (ℕ → Option Shown) → ℕ → Found → ℕ → Option Shown
+shown_after shown next found = shown_with shown next (shown_by found.outcome found.number)
 
--- a version that is accepted is what was found of its module
-pub record IsPlaced (outcome : Option Outcome) (number : Option ℕ) (own : Option Told) : Type 0 where
-  pub told : Told
-  pub is : own ≡ Some told
-  pub face : accepted_face outcome ≡ Some told.face
-  pub at : number ≡ Some told.number
+-- of a version that is accepted that is kept which was found of its module
+pub record IsPlaced (outcome : Option Outcome) (number : Option ℕ) (own : Option Shown) : Type 0 where
+  pub shown : Shown
+  pub is : own ≡ Some shown
+  pub face : accepted_face outcome ≡ Some shown.face
+  pub at : number ≡ Some shown.number
 
 -- one of these versions has a number below the next one, and is so
-pub record IsPlacedVersion (outcomes : List (List ℕ × Outcome)) (numbers : List (List ℕ × ℕ)) (told : ℕ → Option Told) (next : ℕ) (name : List ℕ) (version : Version) : Type 0 where
+pub record IsPlacedVersion (outcomes : List (List ℕ × Outcome)) (numbers : List (List ℕ × ℕ)) (shown : ℕ → Option Shown) (next : ℕ) (name : List ℕ) (version : Version) : Type 0 where
   pub below : version.id < next
-  pub is : IsSome version.found.number → IsPlaced (entry_of outcomes name) (entry_of numbers name) (told version.id)
+  pub is : IsSome version.found.number → IsPlaced (entry_of outcomes name) (entry_of numbers name) (shown version.id)
 
 -- so are all of these
-abbrev pub ArePlaced : List (List ℕ × Outcome) → List (List ℕ × ℕ) → (ℕ → Option Told) → ℕ → List (List ℕ × Version) → Type 0
-ArePlaced outcomes numbers told next versions = (name : List ℕ) (version : Version) → entry_of versions name ≡ Some version → IsPlacedVersion outcomes numbers told next name version
-
--- a version is to others what the module of this name is to them
-abbrev pub IsOutsideOf : List Member → List ℕ → Option Told → Type 0
-IsOutsideOf family name own = option_map (λ (told : Told). told.outside) own ≡ Some (leveled (texts_of family) name).outside
-
--- so are all of these that were accepted
-abbrev pub AreOutsides : List Member → (ℕ → Option Told) → List (List ℕ × Version) → Type 0
-AreOutsides family told versions = (name : List ℕ) (version : Version) → entry_of versions name ≡ Some version → IsSome version.found.number → IsOutsideOf family name (told version.id)
+abbrev pub ArePlaced : List (List ℕ × Outcome) → List (List ℕ × ℕ) → (ℕ → Option Shown) → ℕ → List (List ℕ × Version) → Type 0
+ArePlaced outcomes numbers shown next versions = (name : List ℕ) (version : Version) → entry_of versions name ≡ Some version → IsPlacedVersion outcomes numbers shown next name version
 
 -- ---- the next module
 
 -- the face of the next module goes with those before it, it has the number of a face, and its version is what was found of it
-pub record IsPlacedNext (outcomes : List (List ℕ × Outcome)) (told : ℕ → Option Told) (next : ℕ) (name : List ℕ) (known : LevelTables) (found : Found) (version : Option Version) : Type 0 where
+pub record IsPlacedNext (outcomes : List (List ℕ × Outcome)) (shown : ℕ → Option Shown) (next : ℕ) (name : List ℕ) (known : LevelTables) (found : Found) (version : Option Version) : Type 0 where
   pub agreed : IsAgreed outcomes name found.outcome
   pub number : IfSome found.number (λ number. number < face_count known)
   pub below : IfSome version (λ v. v.id < next + 1)
-  pub placed : IfSome version (λ v. IsSome v.found.number → IsPlaced (Some found.outcome) found.number (told_after told next found version v.id))
+  pub placed : IfSome version (λ v. IsSome v.found.number → IsPlaced (Some found.outcome) found.number (shown_after shown next found v.id))
 
 -- what is found of the next module is what the texts give, and its version is one of those
-pub record IsNextLeveled (family : List Member) (outcomes : List (List ℕ × Outcome)) (numbers : List (List ℕ × ℕ)) (told : ℕ → Option Told) (next : ℕ) (name : List ℕ) (known : LevelTables) (found : Found) (version : Option Version) : Type 0 where
+pub record IsNextLeveled (family : List Member) (outcomes : List (List ℕ × Outcome)) (numbers : List (List ℕ × ℕ)) (shown : ℕ → Option Shown) (next : ℕ) (name : List ℕ) (known : LevelTables) (found : Found) (version : Option Version) : Type 0 where
   pub is : IsNext family outcomes numbers name known found
-  pub held : IfSome version (λ v. IsVersion known (told_after told next found version) (next + 1) name v)
-  pub outside : IfSome version (λ v. IsSome v.found.number → IsOutsideOf family name (told_after told next found version v.id))
+  pub held : IfSome version (IsVersion known (shown_after shown next found) (next + 1) name)

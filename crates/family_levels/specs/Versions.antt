@@ -4,23 +4,25 @@ use Rattle.std.specs.List.{AllByRecursion}
 use Rattle.std.specs.Arc.{arc_value}
 use Rattle.std.specs.Str.{bytes_eq}
 use Rattle.tla_tree.specs.declared.unit.ModuleTree.{ModuleTree}
+use Rattle.tla_model.specs.declared.Diagnostic.{Diagnostic}
 use Rattle.tla_model.specs.declared.ids.DeclId.{DeclId}
 use Rattle.unit_grammar.specs.UnitNodes.{module_of}
 use Rattle.unit_grammar.specs.Units.{ModuleUnits}
 use Rattle.module_model.specs.declared.face.Face.{Face}
-use Rattle.module_model.specs.Bindings.{faults}
-use Rattle.module_model.specs.Exports.{Exports, face_instances}
+use Rattle.module_model.specs.Exports.{Exports, face_instances, face_outside}
 use Rattle.module_model.specs.Given.{IsWhole}
-use Rattle.arity_rules.specs.Arities.{arity_faults}
-use Rattle.kind_text.specs.FlatModule.{Extends}
+use Rattle.module_facts.specs.Checks.{all_faults as names_faults}
+use Rattle.kind_text.specs.FlatModule.{Extends, FlatModule}
 use Rattle.tree_kinds.specs.Standing.{Outside}
 use Rattle.module_kinds.specs.ModuleKinds.{outside as module_outside}
 use Rattle.flat_trees.specs.Instances.{symbols_of}
+use Rattle.flat_kinds.specs.Declarations.{Declarations}
+use Rattle.flattened_trees.specs.Leads.{FlatFace}
 use Rattle.flattened_trees.specs.Questions.{Question}
-use Rattle.flattened_units.specs.Units.{IsModuleMade, Reader}
-use Rattle.readable_laws.specs.Uses.{implied_by, means_by}
+use Rattle.flattened_units.specs.Units.{Reader}
+use Rattle.written_trees.specs.Leading.{face_in}
 use Rattle.leveled_modules.specs.Leveled.{LevelTables, file_faces}
-use Rattle.known_modules.specs.Known.{face_of, found_over}
+use Rattle.known_modules.specs.Known.{IsKnownFile, IsMadeOver, Knowledge, face_of}
 use Rattle.family_facts.specs.Facts.{texts_of}
 use Rattle.family_facts.specs.Family.{IsCyclic, Member}
 use Rattle.family_tables.specs.Agreement.{accepted_face, found_face}
@@ -31,7 +33,7 @@ use Rattle.family_tables.specs.Tables.{entry_of}
 use Rattle.family_tables.specs.declared.outcome.Outcome.{Outcome}
 use Rattle.family_tables.specs.declared.outcome.Outcome.TheVariants as outcome
 use Rattle.leveled_facts.specs.Families.{leveled}
-use Rattle.leveled_facts.specs.Modules.{Accepted, Leveled, Status, Unknown, leveled_by, outside_by}
+use Rattle.leveled_facts.specs.Modules.{Accepted, Leveled, Status, Unknown, import_status, leveled_by, outside_by}
 use Rattle.family_levels.specs.declared.«module».Found.{Found}
 use Rattle.family_levels.specs.declared.versions.Version.{Version}
 use Rattle.family_levels.specs.Leveling.{HasNumber, KeepsFaces, face_count, faces_of}
@@ -50,11 +52,20 @@ pub record Grows (old new : LevelTables) : Type 0 where
 
 -- ---- what modules are that another one needs
 
--- what an accepted module is to others: what it exports, the number of its face, and what it is to all of a module
-pub record Told : Type 0 where
+-- what an accepted module is to others, as far as it is kept: what it exports, and the number of its face
+pub record Shown : Type 0 where
   pub face : Face
   pub number : ℕ
+
+-- the same, with what it is to all of a module
+pub record Told : Type 0 where
+  pub shown : Shown
   pub outside : Outside
+
+-- what is kept of a module that is needed
+abbrev pub shown_in : Option Told → Option Shown
+shown_in None = None
+shown_in (Some told) = Some told.shown
 
 -- the modules that a module needs, all of them accepted
 abbrev pub Over : Type 0
@@ -76,22 +87,30 @@ outsides_over over name = outside_by (given_over over name)
 -- the number of a module that is needed
 abbrev pub number_in : Option Told → Option ℕ
 number_in None = None
-number_in (Some told) = Some told.number
+number_in (Some told) = Some told.shown.number
 
 -- their numbers
 abbrev pub numbers_over : Over → List ℕ → Option ℕ
 numbers_over over name = number_in (over name)
 
+-- their views are those of their faces
+abbrev pub AreViewed : Over → Type 0
+AreViewed over = (name : List ℕ) (told : Told) → over name ≡ Some told → told.outside.view ≡ face_outside told.shown.face
+
 -- this is found of a text over them
 abbrev pub leveled_over : Over → ModuleTree → Leveled
 leveled_over over tree = leveled_by (given_over over) tree.source (module_of tree)
+
+-- faults of imports, or else of names and arities, by what modules are
+abbrev pub named_faults : (List ℕ → Status) → List ℕ → ModuleUnits → List Diagnostic
+named_faults given source units = names_faults (λ name. import_status (given name)) source units
 
 -- a module that is needed is told so among modules that were found
 pub record IsNeedAccepted (family : List Member) (outcomes : List (List ℕ × Outcome)) (numbers : List (List ℕ × ℕ)) (name need : List ℕ) (over : Over) : Type 0 where
   pub told : Told
   pub is : over need ≡ Some told
-  pub face : found_face outcomes need ≡ Some told.face
-  pub number : entry_of numbers need ≡ Some told.number
+  pub face : found_face outcomes need ≡ Some told.shown.face
+  pub number : entry_of numbers need ≡ Some told.shown.number
   pub outside : (leveled (texts_of family) need).outside ≡ told.outside
   pub apart : IsCyclic family name need → ⊥
 
@@ -100,17 +119,17 @@ pub record AreNeedsAccepted (family : List Member) (outcomes : List (List ℕ ×
   pub each : (need : List ℕ) → Contains needs need → IsNeedAccepted family outcomes numbers name need over
   pub others : (other : List ℕ) → (Contains needs other → ⊥) → over other ≡ None
 
--- what a module is of which this was found, if it is accepted
-abbrev pub told_by : Outcome → Option ℕ → Over → ModuleTree → Option Told
-told_by (outcome.Accepted face) (Some number) over tree = Some (record { face = arc_value face; number = number; outside = (leveled_over over tree).outside })
-told_by _ _ over tree = None
+-- what is kept of a module of which this was found, if it is accepted
+abbrev pub shown_by : Outcome → Option ℕ → Option Shown
+shown_by (outcome.Accepted face) (Some number) = Some (record { face = arc_value face; number = number })
+shown_by _ _ = None
 
 -- ---- what is found over them
 
 -- where an instance of a face comes from: the text of its module, or the face of one that the module needs
 pub data IsHeld (over : Over) (title : List ℕ) (decl : DeclId) (entries : Exports) : Type 0 where
   Own : bytes_eq decl.«module» title ≡ true → IsHeld over title decl entries
-  Shared : (name : List ℕ) (told : Told) → over name ≡ Some told → face_instances told.face decl ≡ Some entries → IsHeld over title decl entries
+  Shared : (name : List ℕ) (told : Told) → over name ≡ Some told → face_instances told.shown.face decl ≡ Some entries → IsHeld over title decl entries
 
 -- the face of a module over these holds what its exports reach, and nothing from elsewhere
 pub record IsHeldFace (over : Over) (title : List ℕ) (face : Face) : Type 0 where
@@ -118,34 +137,42 @@ pub record IsHeldFace (over : Over) (title : List ℕ) (face : Face) : Type 0 wh
   pub whole : IsWhole face
   pub from : (decl : DeclId) (entries : Exports) → face_instances face decl ≡ Some entries → IsHeld over title decl entries
 
--- a module without faults of names and arities became nodes over these, and has a face with this number
-pub record IsMadeWith (known : LevelTables) (over : Over) (source : List ℕ) (units : ModuleUnits) (number : ℕ) : Type 0 where
+-- a module without faults of imports, names and arities became nodes over these, which were known then
+pub record IsMadeWith (known : LevelTables) (over : Over) (name source : List ℕ) (units : ModuleUnits) : Type 0 where
   pub last : Reader
   pub asked : List Question
   pub below : (other : List ℕ) → IfSome (numbers_over over other) (λ n. n < face_count known)
-  pub is : faces_of known number ≡ face_of (outsides_over over) source units last
-  pub made : IsModuleMade known.tables.state.flat (means_by (found_over (outsides_over over) source units)) (implied_by (found_over (outsides_over over) source units)) (file_faces (faces_of known) (numbers_over over)) (outsides_over over) source units
-      (symbols_of (module_outside (outsides_over over) source units)) last asked
-  pub names : faults (found_over (outsides_over over) source units) ≡ []
-  pub arities : arity_faults (found_over (outsides_over over) source units) units.units ≡ []
+  pub declares : Declarations
+  pub knowledge : Knowledge
+  pub made : IsMadeOver declares known.tables.state.flat knowledge (file_faces (faces_of known) (numbers_over over)) (outsides_over over) name source units (symbols_of (module_outside (outsides_over over) source units)) last asked
 
--- a module was accepted with this number, and is so to others
-pub record IsAcceptedOver (known : LevelTables) (over : Over) (own : Option Told) (name : List ℕ) (tree : ModuleTree) (found : Found) (number : ℕ) : Type 0 where
+-- a face that was known of some file leads to the same resolved trees as another one, in all that a flat module becomes
+pub record IsFaceLike (flat : FlatModule) (face other : FlatFace) : Type 0 where
+  pub declares : Declarations
+  pub knowledge : Knowledge
+  pub file : Outside
+  pub known : IsKnownFile declares flat knowledge face file
+  pub alike : (more : FlatModule) → Extends flat more → face_in more face ≡ face_in more other
+
+-- a module was accepted, and this is kept of it: it became nodes, and its face has this number, or is like one that has it
+pub record IsAcceptedOver (known : LevelTables) (over : Over) (own : Option Shown) (name : List ℕ) (tree : ModuleTree) (found : Found) (number : ℕ) : Type 0 where
   pub there : number < face_count known
-  pub told : Told
-  pub is : own ≡ Some told
-  pub number_is : told.number ≡ number
-  pub face_is : accepted_face (Some found.outcome) ≡ Some told.face
-  pub outside_is : told.outside ≡ (leveled_over over tree).outside
-  pub held : IsHeldFace over name told.face
-  pub made : IsMadeWith known over tree.source (module_of tree) number
+  pub shown : Shown
+  pub is : own ≡ Some shown
+  pub number_is : shown.number ≡ number
+  pub face_is : accepted_face (Some found.outcome) ≡ Some shown.face
+  pub held : IsHeldFace over name shown.face
+  pub made : IsMadeWith known over name tree.source (module_of tree)
+  pub like : IsFaceLike known.tables.state.flat (faces_of known number) (face_of (outsides_over over) tree.source (module_of tree) made.last)
 
--- this is found of a tree over these, and what it is to others, if it is accepted
-pub record IsFoundOver (known : LevelTables) (over : Over) (own : Option Told) (name : List ℕ) (tree : ModuleTree) (found : Found) : Type 0 where
+-- this is found of a tree over these, and this is kept of it, if it is accepted
+pub record IsFoundOver (known : LevelTables) (over : Over) (own : Option Shown) (name : List ℕ) (tree : ModuleTree) (found : Found) : Type 0 where
   pub read : IsRead name tree
+  pub viewed : AreViewed over
   pub says : Matches (leveled_over over tree).faults (leveled_over over tree).outside.view found.outcome
   pub numbered : HasNumber found.outcome found.number
   pub names : found.names ≡ record { uses = (leveled_over over tree).uses; decls = (leveled_over over tree).decls }
+  pub made : named_faults (given_over over) tree.source (module_of tree) ≡ [] → IsMadeWith known over name tree.source (module_of tree)
   pub accepted : (number : ℕ) → found.number ≡ Some number → IsAcceptedOver known over own name tree found number
 
 -- ---- versions
@@ -155,24 +182,26 @@ abbrev pub version_in : List (List ℕ) → List ℕ → List ℕ → Option ℕ
 version_in (need ∷ needs) (id ∷ ids) name = if bytes_eq name need then Some id else version_in needs ids name
 version_in _ _ name = None
 
--- what the needs of a version are, by what each version is
-abbrev pub over_of : (ℕ → Option Told) → Version → Over
-over_of told version name = option_and_then told (version_in (needs_of version.tree) version.needs name)
+-- what is kept of the needs of a version, by what is kept under each number
+abbrev pub shown_over : (ℕ → Option Shown) → Version → List ℕ → Option Shown
+shown_over shown version name = option_and_then shown (version_in (needs_of version.tree) version.needs name)
 
--- this was found of a version, by what each one before this number is
-pub record IsVersion (known : LevelTables) (told : ℕ → Option Told) (next : ℕ) (name : List ℕ) (version : Version) : Type 0 where
+-- this was found of a version, over modules of which that is kept which is kept under the numbers of its needs
+pub record IsVersion (known : LevelTables) (shown : ℕ → Option Shown) (next : ℕ) (name : List ℕ) (version : Version) : Type 0 where
   pub needs : AllByRecursion (λ id. id < next) version.needs
   pub itself : version.id < next
-  pub found : IsFoundOver known (over_of told version) (told version.id) name version.tree version.found
+  pub over : Over
+  pub shows : (other : List ℕ) → shown_in (over other) ≡ shown_over shown version other
+  pub found : IsFoundOver known over (shown version.id) name version.tree version.found
 
 -- so it was of each of these
-abbrev pub AreVersions : LevelTables → (ℕ → Option Told) → ℕ → List (List ℕ × Version) → Type 0
-AreVersions known told next versions = (name : List ℕ) (version : Version) → entry_of versions name ≡ Some version → IsVersion known told next name version
+abbrev pub AreVersions : LevelTables → (ℕ → Option Shown) → ℕ → List (List ℕ × Version) → Type 0
+AreVersions known shown next versions = (name : List ℕ) (version : Version) → entry_of versions name ≡ Some version → IsVersion known shown next name version
 
--- what each version is can be told, so that this was found of all of these
+-- something is kept under each number, so that this was found of all of these
 abbrev pub AreHeld : LevelTables → ℕ → List (List ℕ × Version) → Type 0
-AreHeld known next versions = (told : ℕ → Option Told) × AreVersions known told next versions
+AreHeld known next versions = (shown : ℕ → Option Shown) × AreVersions known shown next versions
 
 -- the same of two lists of versions
 abbrev pub AreHeldWith : LevelTables → ℕ → List (List ℕ × Version) → List (List ℕ × Version) → Type 0
-AreHeldWith known next versions others = (told : ℕ → Option Told) × AreVersions known told next versions × AreVersions known told next others
+AreHeldWith known next versions others = (shown : ℕ → Option Shown) × AreVersions known shown next versions × AreVersions known shown next others

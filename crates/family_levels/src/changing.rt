@@ -10,6 +10,7 @@ ghost use Rattle.family_tables.specs.Outcomes.{IsSomeModule};
 ghost use Rattle.family_tables.specs.Plans.{AreOnce};
 ghost use Rattle.family_tables.specs.Tables.{has_name, names_in};
 ghost use Rattle.leveled_modules.specs.Leveled.{AreKept};
+ghost use Rattle.tree_numbers.specs.Numbered.{IsNumbered};
 ghost use Rattle.family_levels.specs.Findings.{nothing_found};
 ghost use Rattle.family_levels.specs.Holding.{HoldVersions};
 ghost use Rattle.family_levels.specs.Versions.{AreHeld, AreHeldWith};
@@ -161,9 +162,12 @@ fn find_modules<L>(
     requires distinct { AreDistinct files.now }
     requires modules { AreModules (family_of files.now) modules.now }
     requires kept { AreKept nodes.known }
+    requires numbered { IsNumbered nodes.known.tables.state.flat nodes.trees }
     requires held { AreHeld nodes.known nodes.next old.now }
     ensures found { IfOk result (λ made. AreFound files.now made.0) }
     ensures kept { IfOk result (λ made. AreKept made.1.nodes.known) }
+    ensures numbered { IfOk result (λ made. IsNumbered made.1.nodes.known.tables.state.flat
+        made.1.nodes.trees) }
     ensures held { IfOk result (λ made. AreHeldWith made.1.nodes.known made.1.nodes.next
         made.1.modules old.now) }
     ensures steps { IfOk result (λ _. steps.new ≤ after_checks (checks_of files.now) steps.old) }
@@ -326,8 +330,9 @@ impl Family {
 
     /// Finds what there is to find of files over the built-in modules, levels and depths among it:
     /// a file hides the built-in module of its name. Where they are the files of before, all of it
-    /// was found. Else each module without front fault is checked, which is one step; one whose
-    /// text is what it was is not read again. After `Memory` all is as before.
+    /// was found. Else each module without front fault is checked at most once, which is one step:
+    /// mostly it is not where neither its text has changed nor what the modules that it names are to
+    /// it; one whose text is what it was is not read again. After `Memory` all is as before.
     pub fn find<L>(
         &mut self,
         alloc: Global,

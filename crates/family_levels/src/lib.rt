@@ -12,6 +12,7 @@ mod findings;
 mod module;
 mod modules;
 mod names;
+mod next;
 mod numbers;
 mod shown;
 mod standing;

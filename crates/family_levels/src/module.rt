@@ -16,7 +16,7 @@ ghost use Rattle.family_tables.specs.Outcomes.{IsMember};
 ghost use Rattle.indexmap.specs.IndexMap.{get_by_text};
 ghost use Rattle.module_model.specs.Given.{AreFaces};
 ghost use Rattle.family_levels.specs.Versions.{AreNeedsAccepted, Grows, IsCopy, IsFoundOver};
-ghost use Rattle.family_levels.specs.Versions.{Over, told_by};
+ghost use Rattle.family_levels.specs.Versions.{Over, shown_by};
 ghost use Rattle.tla_tree.specs.declared.unit.ModuleTree.{ModuleTree as ModuleTreeOf};
 
 use crate::names::{Names, SharedNames};
@@ -164,7 +164,7 @@ fn level_tree<L>(
         → IsMember family name.now (reading.Tree tree.now) needs.now
         → AreNeedsAccepted family outcomes.now numbers.now name.now needs.now over
         → IfOk result (λ made. IsFoundOver made.0 over
-        (told_by made.1.outcome made.1.number over tree.now) name.now tree.now made.1) }
+        (shown_by made.1.outcome made.1.number) name.now tree.now made.1) }
     ensures steps { IfOk result (λ _. steps.new ≡ after_checks 1 steps.old) }
 {
     made_modules_answer();
@@ -223,7 +223,7 @@ pub(crate) fn level_one<L>(
         → module.now.reading ≡ reading.Tree tree
         → AreNeedsAccepted family outcomes.now numbers.now name.now module.now.needs over
         → IfOk result (λ made. IsFoundOver made.0 over
-        (told_by made.1.outcome made.1.number over tree) name.now tree made.1) }
+        (shown_by made.1.outcome made.1.number) name.now tree made.1) }
     ensures steps { IfOk result (λ _. steps.new
         ≡ after_checks (tree_count module.now.reading) steps.old) }
 {

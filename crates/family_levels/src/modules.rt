@@ -8,15 +8,17 @@ ghost use Rattle.family_tables.specs.Outcomes as outcomes_of;
 ghost use Rattle.family_tables.specs.Plans.{AreOnce, IsPlan};
 ghost use Rattle.family_tables.specs.Tables.{entry_of, names_in};
 ghost use Rattle.leveled_modules.specs.Leveled.{AreKept};
+ghost use Rattle.tree_numbers.specs.Numbered.{IsNumbered};
 ghost use Rattle.family_levels.specs.Leveling.{AreNames, AreOutcomes, with_item};
 ghost use Rattle.family_levels.specs.Versions.{AreHeld, AreHeldWith};
 
 use crate::findings::Findings;
 use crate::module::Found;
-use crate::versions::{Nodes, Version, Versions, level_next};
+use crate::next::level_next;
+use crate::versions::{Nodes, Version, Versions};
 use family_tables::{Module, Plan, Table};
 use growing_modules::made_modules_stay;
-use known_modules::made_modules_are_known;
+use known_modules::{known_files_stay_known, made_modules_are_known};
 use std::alloc::Global;
 use step_count::Steps;
 use tool_list::Memory;
@@ -37,10 +39,10 @@ fn keep<T: Drop>(
     }
 }
 
-// How many bytes of text became nodes for a version, if it was found anew with this number.
-fn size_anew(version: &Option<Version>, id: u64) -> u64 {
+// How many bytes of text became nodes for a version, if it was found anew.
+fn size_anew(version: &Option<Version>, is_anew: bool) -> u64 {
     match version {
-        Some(version) if version.id == id => version.size(),
+        Some(version) if is_anew => version.size(),
         _ => 0,
     }
 }
@@ -70,6 +72,7 @@ pub(crate) fn level_all<L>(
     requires read { All (λ entry. outcomes_of.IsSomeModule entry.0 entry.1) modules.now }
     requires plan { IsPlan modules.now plan.now }
     requires kept { AreKept nodes.known }
+    requires numbered { IsNumbered nodes.known.tables.state.flat nodes.trees }
     requires held { AreHeld nodes.known nodes.next old.now }
     ensures outcomes { (family : ListOf Member) → AreMembersDistinct family
         → modules_of.AreModules family modules.now
@@ -78,6 +81,8 @@ pub(crate) fn level_all<L>(
         → modules_of.AreModules family modules.now
         → IfOk result (λ made. AreNames family made.0.names) }
     ensures kept { IfOk result (λ made. AreKept made.1.nodes.known) }
+    ensures numbered { IfOk result (λ made. IsNumbered made.1.nodes.known.tables.state.flat
+        made.1.nodes.trees) }
     ensures held { (family : ListOf Member) → AreMembersDistinct family
         → modules_of.AreModules family modules.now
         → IfOk result (λ made. AreHeldWith made.1.nodes.known made.1.nodes.next made.1.modules
@@ -89,6 +94,7 @@ pub(crate) fn level_all<L>(
 {
     front_laws::one_front();
     made_modules_are_known();
+    known_files_stay_known();
     made_modules_stay();
     // The proof needs that a count is below 2^64.
     let _count = steps.count();
@@ -98,6 +104,7 @@ pub(crate) fn level_all<L>(
     let mut versions = Table::new(alloc);
     let Nodes {
         mut known,
+        mut trees,
         mut next,
         mut made,
     } = nodes;
@@ -106,11 +113,13 @@ pub(crate) fn level_all<L>(
         let Some(module) = modules.get(name) else {
             unreachable!();
         };
+        let checks = steps.count();
         let (behind, found, version) = level_next(
-            alloc, plan, old, &versions, &outcomes, &numbers, name, module, known, next, steps,
+            alloc, plan, old, &versions, &outcomes, &numbers, name, module, known, &mut trees,
+            next, steps,
         )?;
         known = behind;
-        made = made.saturating_add(size_anew(&version, next));
+        made = made.saturating_add(size_anew(&version, steps.count() != checks));
         next = following(next)?;
         let Found {
             outcome,
@@ -124,7 +133,12 @@ pub(crate) fn level_all<L>(
     }
     let versions = Versions {
         modules: versions,
-        nodes: Nodes { known, next, made },
+        nodes: Nodes {
+            known,
+            trees,
+            next,
+            made,
+        },
     };
     Ok((Findings { outcomes, names }, versions))
 }

@@ -1,40 +1,28 @@
 // What was found of modules once, and over what.
-ghost use Rattle.std.specs.Prelude.{◌≡◌, ◌≤◌, [], ℕ, List as ListOf, IfOk, IfSome};
-ghost use Rattle.std.specs.Prelude.{Option as OptionOf, Some};
+ghost use Rattle.std.specs.Prelude.{◌≡◌, [], IfOk, IfSome, Some};
 ghost use Rattle.std.specs.Bool.{OnTrue};
-ghost use Rattle.family_facts.specs.Family.{Member};
-ghost use Rattle.family_facts.specs.Verdicts.{after_checks};
-ghost use Rattle.family_tables.specs.Agreement.{AreAgreed};
-ghost use Rattle.family_tables.specs.Modules.{tree_count};
-ghost use Rattle.family_tables.specs.Outcomes.{IsMember, IsSomeModule};
 ghost use Rattle.family_tables.specs.Tables.{entry_of};
 ghost use Rattle.leveled_modules.specs.Leveled.{AreKept};
-ghost use Rattle.family_levels.specs.Leveling.{AreNumbers, IsReady};
+ghost use Rattle.tree_numbers.specs.Numbered.{IsNumbered};
+ghost use Rattle.family_levels.specs.Again.{IsSameVersion, IsVersionAs};
 ghost use Rattle.family_levels.specs.Holding.{HoldVersions};
-ghost use Rattle.family_levels.specs.Versions.{AreHeldWith, AreVersions, Grows, Told};
-ghost use Rattle.family_levels.specs.Again.{AreNeeds, AreOutsides, ArePlaced, IsFoundAgain};
-ghost use Rattle.family_levels.specs.Again.{IsNextLeveled, IsPlacedNext, IsSameVersion};
-ghost use Rattle.family_levels.specs.Again.{IsVersionAnew, IsVersionOf, version_by};
+ghost use Rattle.family_levels.specs.Versions.{AreHeldWith};
 
-use crate::module::{Found, level_one};
-use family_tables::{Module, Outcome, Plan, Reading, SharedTree, Table};
-use known_modules::{
-    known_files_stay_known, made_modules_answer, made_modules_are_known, modules_are_foreign,
-};
-use leveled_facts::{declarations_have_places, leveled_is};
+use crate::module::Found;
+use family_tables::{Module, Reading, SharedTree, Table};
 use leveled_modules::LevelTables;
-use module_facts::{in_order as in_order_is_one, none_in_order};
 use std::alloc::Global;
-use step_count::Steps;
 use tla_tree::ModuleTree;
-use tool_list::{Chars, List, Memory, copied};
+use tool_list::{List, Memory, copied};
+use tree_numbers::TreeNumbers;
 
 /// A module as it was once, with what was found of it over others as they were.
 pub(crate) struct Version {
     pub tree: SharedTree,
     /// The numbers of the versions of the modules that it needs, in the order of its text.
     pub needs: List<u64>,
-    /// Its own number, which no other version has.
+    /// Its own number, which it has from the version before where it is to others what that was, and
+    /// else alone.
     pub id: u64,
     pub found: Found,
 }
@@ -56,12 +44,49 @@ impl Version {
     pub(crate) fn size(&self) -> u64 {
         self.tree.tree().source.as_str().len() as u64
     }
+
+    /// The same version. It shares what it holds, but for faults.
+    pub(crate) fn copied(&self, alloc: Global) -> Result<Version, Memory>
+        ensures { IfOk result (IsSameVersion self.now) }
+    {
+        Ok(Version {
+            tree: self.tree.copied()?,
+            needs: copied(alloc, self.needs.as_slice())?,
+            id: self.id,
+            found: self.found.copied(alloc)?,
+        })
+    }
+
+    /// The version with the number of another one, and with this that was found.
+    pub(crate) fn in_place_of(
+        self,
+        alloc: Global,
+        before: &Version,
+        found: &Found,
+    ) -> Result<Version, Memory>
+        ensures { IfOk result (IsVersionAs before.now self found.now) }
+    {
+        let Version {
+            tree,
+            needs,
+            id: _,
+            found: _,
+        } = self;
+        Ok(Version {
+            tree,
+            needs,
+            id: before.id,
+            found: found.copied(alloc)?,
+        })
+    }
 }
 
 /// What versions are to the levels of others.
 #[derive(Drop)]
 pub(crate) struct Nodes {
     pub known: LevelTables,
+    /// Numbers of nodes with the same trees, as far as they were compared.
+    pub trees: TreeNumbers,
     /// No version has this number or a later one.
     pub next: u64,
     /// How many bytes have the texts that became nodes, those of versions that are no more among
@@ -79,8 +104,8 @@ pub(crate) struct Versions {
 // How many bytes of text may be left of versions that are no more, beside as many as others have.
 const SPARE: u64 = 1 << 16;
 
-// Whether the text of a version is that of a tree.
-fn is_text_of(version: &Version, tree: &ModuleTree) -> bool
+/// Whether the text of a version is that of a tree.
+pub(crate) fn is_text_of(version: &Version, tree: &ModuleTree) -> bool
     ensures { OnTrue result (version.now.tree.source ≡ tree.now.source) }
 {
     version.tree.tree().source.as_str().as_bytes() == tree.source.as_str().as_bytes()
@@ -135,6 +160,7 @@ impl Versions {
             modules: Table::new(alloc),
             nodes: Nodes {
                 known: LevelTables::new(alloc)?,
+                trees: TreeNumbers::new(alloc),
                 next: 0,
                 made: 0,
             },
@@ -170,6 +196,7 @@ impl Versions {
         modules: &Table<Module>,
     ) -> Result<Versions, Memory>
         requires kept { AreKept self.nodes.known }
+        requires numbered { IsNumbered self.nodes.known.tables.state.flat self.nodes.trees }
         requires held { AreHeldWith self.nodes.known self.nodes.next self.modules old.now }
         ensures { IfOk result (λ versions. HoldVersions (Some versions)) }
     {
@@ -191,182 +218,4 @@ impl Versions {
             nodes,
         })
     }
-}
-
-// The number of the version of a module, if it is accepted.
-fn version_of(versions: &Table<Version>, name: &str) -> Option<u64>
-    ensures { result ≡ version_by (entry_of versions.now name.now) }
-{
-    match versions.get(name) {
-        Some(version) if version.found.number.is_some() => Some(version.id),
-        _ => None,
-    }
-}
-
-// The numbers of the versions of what a module needs. There are none where it needs one that is not
-// accepted.
-fn needed_versions(
-    alloc: Global,
-    plan: &Plan,
-    versions: &Table<Version>,
-    name: &str,
-    needs: &[Chars],
-) -> Result<Option<List<u64>>, Memory>
-    ensures { IfOk result (λ ids. IfSome ids (AreNeeds plan.now versions.now name.now needs.now)) }
-{
-    let mut ids = List::new(alloc);
-    for need in needs {
-        let need = need.as_str();
-        if plan.is_cyclic(alloc, name, need)? {
-            return Ok(None);
-        }
-        let Some(id) = version_of(versions, need) else {
-            return Ok(None);
-        };
-        ids.push(id)?;
-    }
-    Ok(Some(ids))
-}
-
-// Whether a version is that of a tree over versions with these numbers.
-fn is_version_of(version: &Version, tree: &ModuleTree, needs: &[u64]) -> bool
-    ensures { OnTrue result (IsVersionOf version.now tree.now needs.now) }
-{
-    version.needs.as_slice() == needs && is_text_of(version, tree)
-}
-
-// The version of a tree over versions with these numbers, if it was found before.
-fn known_version<'a>(
-    old: &'a Table<Version>,
-    name: &str,
-    tree: &ModuleTree,
-    needs: &[u64],
-) -> Option<&'a Version>
-    ensures { IfSome result (λ version. (entry_of old.now name.now ≡ Some version.now)
-        × IsVersionOf version.now tree.now needs.now) }
-{
-    let Some(version) = old.get(name) else {
-        return None;
-    };
-    if is_version_of(version, tree, needs) {
-        Some(version)
-    } else {
-        None
-    }
-}
-
-impl Version {
-    /// The same version. It shares what it holds, but for faults.
-    fn copied(&self, alloc: Global) -> Result<Version, Memory>
-        ensures { IfOk result (IsSameVersion self.now) }
-    {
-        Ok(Version {
-            tree: self.tree.copied()?,
-            needs: copied(alloc, self.needs.as_slice())?,
-            id: self.id,
-            found: self.found.copied(alloc)?,
-        })
-    }
-}
-
-// The version of a module with these numbers of what it needs, if it was found before.
-fn found_version<'a>(
-    old: &'a Table<Version>,
-    name: &str,
-    module: &Module,
-    needs: &Option<List<u64>>,
-) -> Option<&'a Version>
-    ensures { IfSome result (λ version. IsFoundAgain old.now name.now module.now needs.now
-        version.now) }
-{
-    let (Reading::Tree(tree), Some(needs)) = (&module.reading, needs) else {
-        return None;
-    };
-    known_version(old, name, tree.tree(), needs.as_slice())
-}
-
-// The version of a module of which this was found, if it has a tree and all that it needs has a
-// version.
-fn new_version(
-    alloc: Global,
-    module: &Module,
-    needs: Option<List<u64>>,
-    id: u64,
-    found: &Found,
-) -> Result<Option<Version>, Memory>
-    ensures { IfOk result (λ version. IfSome version
-        (IsVersionAnew module.now needs id found.now)) }
-{
-    let (Reading::Tree(tree), Some(needs)) = (&module.reading, needs) else {
-        return Ok(None);
-    };
-    Ok(Some(Version {
-        tree: tree.copied()?,
-        needs,
-        id,
-        found: found.copied(alloc)?,
-    }))
-}
-
-/// What is found of a module behind what it needs, and the version that it is, if it has a tree and
-/// all that it needs is accepted: what was found of it before over the same versions, or else what
-/// a check finds, which is one step if it has no front fault. A version that is found anew gets the
-/// next number.
-pub(crate) fn level_next<L>(
-    alloc: Global,
-    plan: &Plan,
-    old: &Table<Version>,
-    versions: &Table<Version>,
-    outcomes: &Table<Outcome>,
-    numbers: &Table<usize>,
-    name: &str,
-    module: &Module,
-    known: LevelTables,
-    next: u64,
-    steps: &mut Steps<L>,
-) -> Result<(LevelTables, Found, Option<Version>), Memory>
-    requires some { IsSomeModule name.now module.now }
-    requires agreed { AreAgreed outcomes.now }
-    requires unfound { entry_of outcomes.now name.now ≡ None }
-    requires kept { AreKept known }
-    requires numbers { AreNumbers known numbers.now }
-    ensures kept { IfOk result (λ made. AreKept made.0) }
-    ensures grows { IfOk result (λ made. Grows known made.0) }
-    ensures found { (told : ℕ → OptionOf Told) → AreVersions known told next old.now
-        → ArePlaced outcomes.now numbers.now told next versions.now
-        → IfOk result (λ made. IsPlacedNext outcomes.now told next name.now made.0 made.1
-        made.2) }
-    ensures next { (family : ListOf Member) (told : ℕ → OptionOf Told)
-        → AreVersions known told next old.now
-        → ArePlaced outcomes.now numbers.now told next versions.now
-        → AreOutsides family told versions.now
-        → IsReady family plan.now outcomes.now numbers.now known name.now
-        → IsMember family name.now module.now.reading module.now.needs
-        → IfOk result (λ made. IsNextLeveled family outcomes.now numbers.now told next name.now
-        made.0 made.1 made.2) }
-    ensures most { IfOk result (λ _. steps.new
-        ≤ after_checks (tree_count module.now.reading) steps.old) }
-    ensures all { old.now ≡ [] → IfOk result (λ _. steps.new
-        ≡ after_checks (tree_count module.now.reading) steps.old) }
-{
-    // The proof needs that a count is below 2^64.
-    let _count = steps.count();
-    front_laws::one_front();
-    made_modules_answer();
-    made_modules_are_known();
-    known_files_stay_known();
-    modules_are_foreign();
-    leveled_is();
-    declarations_have_places();
-    in_order_is_one();
-    none_in_order();
-    let needs = needed_versions(alloc, plan, versions, name, module.needs.as_slice())?;
-    if let Some(version) = found_version(old, name, module, &needs) {
-        let found = version.found.copied(alloc)?;
-        let version = version.copied(alloc)?;
-        return Ok((known, found, Some(version)));
-    }
-    let (known, found) = level_one(alloc, plan, outcomes, numbers, name, module, known, steps)?;
-    let version = new_version(alloc, module, needs, next, &found)?;
-    Ok((known, found, version))
 }

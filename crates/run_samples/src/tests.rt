@@ -493,8 +493,8 @@ fn tells_others_of_an_edit(rt: HostRuntime) -> Result<(), Fail> {
 #[test]
 fn checks_what_reaches_a_change(rt: HostRuntime) -> Result<(), Fail> {
     let alloc = rt.alloc();
-    for (contents, ticks) in &sessions::counts::COUNTED {
-        let folder = folder_at(alloc, "/w", modules_of(alloc, &sessions::FILES)?, 0)?;
+    for (files, contents, ticks) in &sessions::counts::COUNTED {
+        let folder = folder_at(alloc, "/w", modules_of(alloc, *files)?, 0)?;
         let input = frames_of(alloc, *contents)?;
         let output = MemorySink::new(alloc, 4096, 7, List::new(alloc))?;
         let ran = run_with(alloc, &["serve"], folder, input, output)?;

@@ -17,7 +17,8 @@ find_modules-requires g c = record {
   distinct = subst AreDistinct (sym c.as_slice-2.ensures) c.requires.distinct;
   modules = subst (λ files. AreModules (family_of files) c.in_ok-modules.modules) (c.as_slice.ensures ∙ sym c.as_slice-2.ensures) c.in_ok-modules.ensures;
   kept = c.in_ok-old.ensures.0;
-  held = c.in_ok-old.ensures.1;
+  numbered = c.in_ok-old.ensures.1;
+  held = c.in_ok-old.ensures.2;
 }
 
 pub read_family-requires-clause-distinct : goal.read_family-requires-clause-distinct

@@ -33,7 +33,8 @@ find_modules-requires g c = record {
   distinct = subst AreDistinct (sym (c.as_slice-2.ensures ∙ c.in_ok-part.ensures)) (part-distinct (has_name c.in_ok-reached.reached) c.args.files.now c.requires.distinct);
   modules = subst (λ files. AreModules (family_of files) c.in_ok-read.read) (c.as_slice.ensures ∙ sym c.as_slice-2.ensures) c.in_ok-read.ensures;
   kept = c.requires.held.0;
-  held = c.requires.held.1;
+  numbered = c.requires.held.1;
+  held = c.requires.held.2;
 }
 
 pub returns-clause-found : goal.returns-clause-found

@@ -1,6 +1,6 @@
 use Rattle.std.proofs.Common.{◌≡◌, ◌∙◌, ap, subst, sym}
 use Rattle.tla_tree.specs.declared.unit.ModuleTree.{ModuleTree}
-use Rattle.family_levels.specs.Versions.{AreNeedsAccepted, IsFoundOver, told_by}
+use Rattle.family_levels.specs.Versions.{AreNeedsAccepted, IsFoundOver, shown_by}
 use Rattle.family_tables.specs.Outcomes.{IsMember}
 use Rattle.family_tables.specs.declared.reading.Reading.TheVariants as reading
 use Rattle.family_levels.specs.declared.names.Names.{Names}
@@ -27,8 +27,8 @@ pub returns-in_ok-made-in-Tree-clause-so : goal.returns-in_ok-made-in-Tree-claus
 returns-in_ok-made-in-Tree-clause-so g c family over tree ready member reads accepted =
     let name = c.args.name.now in
     let same = tree-some c.in-Tree.tree tree (sym c.in-Tree.is ∙ reads) in
-    subst (λ t. IsFoundOver c.in_ok-made-in-Tree.made.0 over (told_by c.in_ok-made-in-Tree.made.1.outcome c.in_ok-made-in-Tree.made.1.number over t) name t c.in_ok-made-in-Tree.made.1) same
-    (subst (λ t. IsFoundOver c.in_ok-made-in-Tree.made.0 over (told_by c.in_ok-made-in-Tree.made.1.outcome c.in_ok-made-in-Tree.made.1.number over t) name t c.in_ok-made-in-Tree.made.1) c.tree-tree.ensures
+    subst (λ t. IsFoundOver c.in_ok-made-in-Tree.made.0 over (shown_by c.in_ok-made-in-Tree.made.1.outcome c.in_ok-made-in-Tree.made.1.number) name t c.in_ok-made-in-Tree.made.1) same
+    (subst (λ t. IsFoundOver c.in_ok-made-in-Tree.made.0 over (shown_by c.in_ok-made-in-Tree.made.1.outcome c.in_ok-made-in-Tree.made.1.number) name t c.in_ok-made-in-Tree.made.1) c.tree-tree.ensures
     (c.in_ok-made-in-Tree.ensures.so family over ready
     (subst (λ t. IsMember family name (reading.Tree t) c.as_slice-needs.result.now) (sym c.tree-tree.ensures)
     (subst (λ needs. IsMember family name (reading.Tree c.in-Tree.tree) needs) (sym c.as_slice-needs.ensures) (subst (λ read. IsMember family name read c.args.«module».now.needs) c.in-Tree.is member)))

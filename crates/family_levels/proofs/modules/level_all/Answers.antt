@@ -13,7 +13,7 @@ use Rattle.family_tables.proofs.Ordered.{entries-all, found-more, member-here, m
 use Rattle.leveled_facts.specs.Families.{declares}
 use Rattle.family_levels.specs.Again.{IsNextLeveled}
 use Rattle.family_levels.specs.Leveling.{AreLeveled, Says, names_on}
-use Rattle.family_levels.proofs.Adding.{none-more, old-more, outsides-more, placed-more, versions-more}
+use Rattle.family_levels.proofs.Adding.{none-more, old-more, placed-more, versions-more}
 use Rattle.family_levels.proofs.Growing.{agreed-none, leveled-more, leveled-none, numbers-more, ready-here}
 use Rattle.family_levels.proofs.modules.level_all.Goals as goal
 
@@ -26,13 +26,13 @@ loop-name-init g c =
       listed = ap names_in c.new-names.ensures;
       agreed = subst AreAgreed (sym c.new-outcomes.ensures) agreed-none;
       kept = c.requires.kept;
+      numbered = c.requires.numbered;
       numbers = λ name number at. absurd (cc (sym (ap (λ z. entry_of z name) c.new-numbers.ensures) ∙ at));
       only = λ name none. ap (λ z. entry_of z name) c.new-numbers.ensures;
       unversioned = λ name none. ap (λ z. entry_of z name) c.new-versions.ensures;
-      told = c.requires.held.0;
+      shown = c.requires.held.0;
       placed = λ name version at. absurd (cc (sym (ap (λ z. entry_of z name) c.new-versions.ensures) ∙ at));
       before = c.requires.held.1;
-      outsides = λ family distinct are name version at. absurd (cc (sym (ap (λ z. entry_of z name) c.new-versions.ensures) ∙ at));
       versions_so = λ family distinct are name version at. absurd (cc (sym (ap (λ z. entry_of z name) c.new-versions.ensures) ∙ at));
       leveled_so = λ family distinct are.
           subst (λ outcomes. AreLeveled family outcomes c.new-numbers.result c.args.nodes.known) (sym c.new-outcomes.ensures)
@@ -124,10 +124,11 @@ loop-name-preserved g c =
     let numbers_are = c.in_ok-keep.ensures in
     let versions_are = c.in_ok-keep-2.ensures in
     let grows = c.in_ok-behind.ensures.grows in
-    let found_so = c.in_ok-behind.ensures.found inv.told inv.before inv.placed in
+    let found_so = c.in_ok-behind.ensures.found inv.shown inv.before inv.placed in
     let stay = c.made_modules_stay.ensures in
-    let next : (family : List Member) → AreMembersDistinct family → AreModules family modules → IsNextLeveled family at.outcomes at.numbers inv.told at.next name known found version =
-    (λ family distinct are. c.in_ok-behind.ensures.next family inv.told inv.before inv.placed (inv.outsides family distinct are)
+    let known_stay = c.known_files_stay_known.ensures.grows in
+    let next : (family : List Member) → AreMembersDistinct family → AreModules family modules → IsNextLeveled family at.outcomes at.numbers inv.shown at.next name known found version =
+    (λ family distinct are. c.in_ok-behind.ensures.next family inv.shown inv.before inv.placed
     (ready-here modules plan c.requires.plan i d name within is one family distinct are at.outcomes inv.names at.numbers at.known (inv.leveled_so family distinct are))
     (member-here one family modules name module_here c.requires.once are there)) in
     record {
@@ -135,16 +136,15 @@ loop-name-preserved g c =
       listed = ordered-names modules plan c.requires.plan i d name within is at.names c.add-in-loop-name.new.self found.names inv.listed c.in_ok-add-2.ensures;
       agreed = agreed-more at.outcomes name inv.agreed fresh outcomes found.outcome outcomes_are found_so.agreed;
       kept = c.in_ok-behind.ensures.kept;
+      numbered = c.in_ok-behind.ensures.numbered;
       numbers = numbers-more at.outcomes at.numbers numbers at.known known name found.number unnumbered numbers_are inv.numbers grows.faces found_so.number;
       only = none-more at.outcomes outcomes at.numbers numbers name found.outcome found.number fresh inv.only outcomes_are numbers_are;
       unversioned = none-more at.outcomes outcomes at.versions versions name found.outcome version fresh inv.unversioned outcomes_are versions_are;
-      told = _;
-      placed = placed-more stay at.outcomes at.numbers at.versions inv.told at.next name found version fresh unnumbered unversioned at.known known grows outcomes numbers versions c.in_ok-next.next outcomes_are numbers_are versions_are after inv.placed found_so;
-      before = old-more stay at.outcomes at.numbers at.versions inv.told at.next name found version fresh unnumbered unversioned at.known known grows outcomes numbers versions c.in_ok-next.next outcomes_are numbers_are versions_are after c.args.old.now inv.before;
-      outsides = λ family distinct are.
-          outsides-more stay at.outcomes at.numbers at.versions inv.told at.next name found version fresh unnumbered unversioned at.known known grows outcomes numbers versions c.in_ok-next.next outcomes_are numbers_are versions_are after family inv.placed (inv.outsides family distinct are) (next family distinct are).outside;
+      shown = _;
+      placed = placed-more stay known_stay at.outcomes at.numbers at.versions inv.shown at.next name found version fresh unnumbered unversioned at.known known grows inv.kept.ordered c.in_ok-behind.ensures.kept.ordered outcomes numbers versions c.in_ok-next.next outcomes_are numbers_are versions_are after inv.placed found_so;
+      before = old-more stay known_stay at.outcomes at.numbers at.versions inv.shown at.next name found version fresh unnumbered unversioned at.known known grows inv.kept.ordered c.in_ok-behind.ensures.kept.ordered outcomes numbers versions c.in_ok-next.next outcomes_are numbers_are versions_are after c.args.old.now inv.before;
       versions_so = λ family distinct are.
-          versions-more stay at.outcomes at.numbers at.versions inv.told at.next name found version fresh unnumbered unversioned at.known known grows outcomes numbers versions c.in_ok-next.next outcomes_are numbers_are versions_are after (inv.versions_so family distinct are) (next family distinct are).held;
+          versions-more stay known_stay at.outcomes at.numbers at.versions inv.shown at.next name found version fresh unnumbered unversioned at.known known grows inv.kept.ordered c.in_ok-behind.ensures.kept.ordered outcomes numbers versions c.in_ok-next.next outcomes_are numbers_are versions_are after (inv.versions_so family distinct are) (next family distinct are).held;
       leveled_so = λ family distinct are.
           leveled-more family at.outcomes outcomes at.numbers numbers at.known known name found fresh (inv.leveled_so family distinct are) (next family distinct are).is outcomes_are numbers_are;
       owned = λ family distinct are.
@@ -166,11 +166,17 @@ returns-clause-names g c family distinct are name there =
     let own = entries-all (λ n own. own ≡ names_on (texts_of family) n) family c.args.modules.now c.args.plan.now c.loop-name.names are c.requires.plan (c.loop-name.invariant.listed ∙ whole) (c.loop-name.invariant.owned family distinct are) name there in
     own.1 ∙ ap Some own.2
 
+pub level_next-requires-clause-numbered : goal.level_next-requires-clause-numbered
+level_next-requires-clause-numbered g c = c.loop-name.invariant.numbered
+
+pub returns-clause-numbered : goal.returns-clause-numbered
+returns-clause-numbered g c = c.loop-name.invariant.numbered
+
 pub returns-clause-kept : goal.returns-clause-kept
 returns-clause-kept g c = c.loop-name.invariant.kept
 
 pub returns-clause-held : goal.returns-clause-held
-returns-clause-held g c family distinct are = (c.loop-name.invariant.told, c.loop-name.invariant.versions_so family distinct are, c.loop-name.invariant.before)
+returns-clause-held g c family distinct are = (c.loop-name.invariant.shown, c.loop-name.invariant.versions_so family distinct are, c.loop-name.invariant.before)
 
 pub returns-clause-most : goal.returns-clause-most
 returns-clause-most g c =

@@ -8,9 +8,10 @@ use Rattle.family_tables.specs.Modules.{AreModules}
 use Rattle.family_tables.specs.Outcomes.{trees_of}
 use Rattle.family_tables.specs.Tables.{entry_of, names_in}
 use Rattle.leveled_modules.specs.Leveled.{AreKept}
-use Rattle.family_levels.specs.Again.{AreOutsides, ArePlaced}
+use Rattle.tree_numbers.specs.Numbered.{IsNumbered}
+use Rattle.family_levels.specs.Again.{ArePlaced}
 use Rattle.family_levels.specs.Leveling.{AreLeveled, AreNumbers, names_on}
-use Rattle.family_levels.specs.Versions.{AreVersions, Told}
+use Rattle.family_levels.specs.Versions.{AreVersions, Shown}
 use Rattle.family_levels.specs.declared.names.Names.{Names}
 use Rattle.family_levels.proofs.modules.level_all.Given as goal
 
@@ -20,14 +21,14 @@ invariant-loop-name g l = record {
   listed : names_in l.names ≡ take l.name-index l.plan.order;
   agreed : AreAgreed l.outcomes;
   kept : AreKept l.known;
+  numbered : IsNumbered l.known.tables.state.flat l.trees;
   numbers : AreNumbers l.known l.numbers;
   only : (name : List ℕ) → entry_of l.outcomes name ≡ None → entry_of l.numbers name ≡ None;
   unversioned : (name : List ℕ) → entry_of l.outcomes name ≡ None → entry_of l.versions name ≡ None;
-  told : ℕ → Option Told;
-  placed : ArePlaced l.outcomes l.numbers told l.next l.versions;
-  before : AreVersions l.known told l.next l.old;
-  outsides : (family : List Member) → AreMembersDistinct family → AreModules family l.modules → AreOutsides family told l.versions;
-  versions_so : (family : List Member) → AreMembersDistinct family → AreModules family l.modules → AreVersions l.known told l.next l.versions;
+  shown : ℕ → Option Shown;
+  placed : ArePlaced l.outcomes l.numbers shown l.next l.versions;
+  before : AreVersions l.known shown l.next l.old;
+  versions_so : (family : List Member) → AreMembersDistinct family → AreModules family l.modules → AreVersions l.known shown l.next l.versions;
   leveled_so : (family : List Member) → AreMembersDistinct family → AreModules family l.modules → AreLeveled family l.outcomes l.numbers l.known;
   owned : (family : List Member) → AreMembersDistinct family → AreModules family l.modules → (name : List ℕ) (own : Names) → entry_of l.names name ≡ Some own → own ≡ names_on (texts_of family) name;
   most : l.steps ≤ after_checks (sum_by (λ name. trees_of (entry_of l.modules name)) (take l.name-index l.plan.order)) l.fn.steps;

@@ -1,6 +1,6 @@
-// How many modules are checked for a session: the eight built-in ones once, and else those that reach
-// a change.
-use crate::tests::sessions::{ASK_F, OPEN_B, OPEN_C, ROOT};
+// How many modules are checked for a session: the eight built-in ones once, and else those that
+// change, and those to which one that they name is not what it was.
+use crate::tests::sessions::{ASK_F, FILES, OPEN_B, OPEN_C, ROOT};
 
 const CHANGE_B: &str =
     r#"{"method":"textDocument/didChange","params":{"textDocument":{"uri":"file:///w/B.tla"},"contentChanges":[{"range":{"start":{"line":2,"character":5},"end":{"line":2,"character":6}},"text":"1"}]}}"#;
@@ -14,19 +14,75 @@ const SAME_C: &str =
 const ASK_ALL: &str =
     r#"{"id":2,"method":"textDocument/references","params":{"textDocument":{"uri":"file:///w/B.tla"},"position":{"line":2,"character":0},"context":{"includeDeclaration":true}}}"#;
 
-/// The contents of the input's frames, and how many modules are checked for them.
-pub type Counted = (&'static [&'static str], u64);
+// Spelled in another way: to others the module is what it was.
+const COMMENT_B: &str =
+    r#"{"method":"textDocument/didChange","params":{"textDocument":{"uri":"file:///w/B.tla"},"contentChanges":[{"range":{"start":{"line":2,"character":0},"end":{"line":2,"character":0}},"text":"(* N *)\n"}]}}"#;
 
-/// Sessions over the folder.
-pub static COUNTED: [Counted; 7] = [
-    (&[ROOT, OPEN_C], 10),
+const LOCAL_B: &str =
+    r#"{"method":"textDocument/didChange","params":{"textDocument":{"uri":"file:///w/B.tla"},"contentChanges":[{"range":{"start":{"line":3,"character":0},"end":{"line":3,"character":0}},"text":"LOCAL Z == 1\n"}]}}"#;
+
+// Another number, which is none of a level.
+const NUMBER_B: &str =
+    r#"{"method":"textDocument/didChange","params":{"textDocument":{"uri":"file:///w/B.tla"},"contentChanges":[{"range":{"start":{"line":2,"character":5},"end":{"line":2,"character":6}},"text":"2"}]}}"#;
+
+// A change that another one in the same message takes back.
+const TWICE_B: &str =
+    r#"{"method":"textDocument/didChange","params":{"textDocument":{"uri":"file:///w/B.tla"},"contentChanges":[{"range":{"start":{"line":2,"character":5},"end":{"line":2,"character":6}},"text":"{N}"},{"range":{"start":{"line":2,"character":5},"end":{"line":2,"character":8}},"text":"N"}]}}"#;
+
+// One name more, which others may see.
+const NAME_B: &str =
+    r#"{"method":"textDocument/didChange","params":{"textDocument":{"uri":"file:///w/B.tla"},"contentChanges":[{"range":{"start":{"line":3,"character":0},"end":{"line":3,"character":0}},"text":"K == 1\n"}]}}"#;
+
+const OPEN_LAST: &str =
+    r#"{"method":"textDocument/didOpen","params":{"textDocument":{"uri":"file:///w/C.tla","text":"---- MODULE C ----\nEXTENDS B\nH == G\n====\n"}}}"#;
+
+const OPEN_FIRST: &str =
+    r#"{"method":"textDocument/didOpen","params":{"textDocument":{"uri":"file:///w/A.tla","text":"---- MODULE A ----\nCONSTANT N\nF == N\n====\n"}}}"#;
+
+const COMMENT_A: &str =
+    r#"{"method":"textDocument/didChange","params":{"textDocument":{"uri":"file:///w/A.tla"},"contentChanges":[{"range":{"start":{"line":1,"character":0},"end":{"line":1,"character":0}},"text":"\\* N\n"}]}}"#;
+
+const SET_A: &str =
+    r#"{"method":"textDocument/didChange","params":{"textDocument":{"uri":"file:///w/A.tla"},"contentChanges":[{"range":{"start":{"line":3,"character":5},"end":{"line":3,"character":6}},"text":"{N}"}]}}"#;
+
+/// The files of a folder, the contents of the input's frames, and how many modules are checked.
+pub type Counted = (
+    &'static [(&'static str, &'static str)],
+    &'static [&'static str],
+    u64,
+);
+
+// Three modules, each over the one before.
+const CHAIN: [(&str, &str); 3] = [
+    ("A", "CONSTANT N\nF == N"),
+    ("B", "EXTENDS A\nG == F"),
+    ("C", "EXTENDS B\nH == G"),
+];
+
+/// Sessions over folders.
+pub static COUNTED: [Counted; 16] = [
+    (&FILES, &[ROOT, OPEN_C], 10),
     // A document with the text of its file, and a change that changes nothing.
-    (&[ROOT, OPEN_C, OPEN_B, SAME_C], 10),
+    (&FILES, &[ROOT, OPEN_C, OPEN_B, SAME_C], 10),
     // Of one that nobody needs, and of one that another needs.
-    (&[ROOT, OPEN_C, OPEN_B, CHANGE_C], 11),
-    (&[ROOT, OPEN_C, OPEN_B, CHANGE_B], 12),
-    (&[ROOT, OPEN_C, OPEN_B, CHANGE_B, CHANGE_C, CHANGE_C], 13),
+    (&FILES, &[ROOT, OPEN_C, OPEN_B, CHANGE_C], 11),
+    (&FILES, &[ROOT, OPEN_C, OPEN_B, CHANGE_B], 12),
+    (
+        &FILES,
+        &[ROOT, OPEN_C, OPEN_B, CHANGE_B, CHANGE_C, CHANGE_C],
+        13,
+    ),
     // Questions ask no further checks where all is found.
-    (&[ROOT, OPEN_C, OPEN_B, ASK_F, ASK_ALL], 10),
-    (&[ROOT, OPEN_B, CHANGE_B, ASK_ALL], 11),
+    (&FILES, &[ROOT, OPEN_C, OPEN_B, ASK_F, ASK_ALL], 10),
+    (&FILES, &[ROOT, OPEN_B, CHANGE_B, ASK_ALL], 11),
+    // What others do not see of a module, or what it is to them still.
+    (&FILES, &[ROOT, OPEN_C, OPEN_B, COMMENT_B], 11),
+    (&FILES, &[ROOT, OPEN_C, OPEN_B, LOCAL_B], 11),
+    (&FILES, &[ROOT, OPEN_C, OPEN_B, CHANGE_B, NUMBER_B], 13),
+    (&FILES, &[ROOT, OPEN_C, OPEN_B, TWICE_B], 10),
+    (&FILES, &[ROOT, OPEN_C, OPEN_B, NAME_B], 12),
+    (&CHAIN, &[ROOT, OPEN_LAST], 11),
+    (&CHAIN, &[ROOT, OPEN_LAST, OPEN_FIRST], 11),
+    (&CHAIN, &[ROOT, OPEN_LAST, OPEN_FIRST, COMMENT_A], 12),
+    (&CHAIN, &[ROOT, OPEN_LAST, OPEN_FIRST, COMMENT_A, SET_A], 15),
 ];

@@ -4,4 +4,4 @@ use Rattle.family_levels.proofs.versions.Versions.new.Goals as goal
 
 pub returns-clause-hold : goal.returns-clause-hold
 returns-clause-hold c =
-    (c.in_ok-new.ensures.kept, (λ id. None, λ name version at. let never : None ≡ Some version = sym (ap (λ z. entry_of z name) c.new.ensures) ∙ at in cc))
+    (c.in_ok-new.ensures.kept, c.new-3.ensures c.in_ok-new.field-0.tables.state.flat, (λ id. None, λ name version at. let never : None ≡ Some version = sym (ap (λ z. entry_of z name) c.new.ensures) ∙ at in cc))

@@ -2,7 +2,7 @@ use Rattle.std.proofs.Common.{◌∙◌, Option, subst, sym, ℕ}
 use Rattle.family_tables.specs.Tables.{entry_of}
 use Rattle.family_tables.proofs.Ordered.{found-more}
 use Rattle.family_tables.proofs.Tabling.{gone}
-use Rattle.family_levels.specs.Versions.{AreVersions, IsVersion, Told}
+use Rattle.family_levels.specs.Versions.{AreVersions, IsVersion, Shown}
 use Rattle.family_levels.proofs.Lasting.{version-copy}
 use Rattle.family_levels.proofs.versions.Versions.with_others.Goals.{in-Some+in_ok-copied+in_ok-add, in_default}
 use Rattle.family_levels.proofs.versions.Versions.with_others.Goals as goal
@@ -25,5 +25,5 @@ loop-index-preserved c =
             inv.2,
           )
       | in_default w ↦
-          subst (λ vs. (told : ℕ → Option Told) × AreVersions known told next vs × AreVersions known told next c.args.old.now) (sym w.versions-is) inv
+          subst (λ vs. (shown : ℕ → Option Shown) × AreVersions known shown next vs × AreVersions known shown next c.args.old.now) (sym w.versions-is) inv
     ]

@@ -3,7 +3,7 @@ use Rattle.std.proofs.lemmas.Bool.{false≢true}
 use Rattle.std.specs.List.{AllZip}
 use Rattle.family_facts.proofs.Lists.{zip-more}
 use Rattle.family_levels.specs.Again.{IsNeed}
-use Rattle.family_levels.proofs.versions.needed_versions.Goals as goal
+use Rattle.family_levels.proofs.next.needed_versions.Goals as goal
 
 pub loop-need-preserved : goal.loop-need-preserved
 loop-need-preserved c =

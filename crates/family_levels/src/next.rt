@@ -1,0 +1,292 @@
+// The next module, by its version or by a check.
+ghost use Rattle.std.specs.Prelude.{◌≡◌, ◌≤◌, [], ℕ, List as ListOf, IfOk, IfSome, IsTrue};
+ghost use Rattle.std.specs.Prelude.{Option as OptionOf, Some};
+ghost use Rattle.std.specs.Bool.{OnTrue};
+ghost use Rattle.family_facts.specs.Family.{Member};
+ghost use Rattle.family_facts.specs.Verdicts.{after_checks};
+ghost use Rattle.family_tables.specs.Agreement.{AreAgreed};
+ghost use Rattle.family_tables.specs.Modules.{tree_count};
+ghost use Rattle.family_tables.specs.Outcomes.{IsMember, IsSomeModule};
+ghost use Rattle.family_tables.specs.Tables.{entry_of};
+ghost use Rattle.leveled_modules.specs.Leveled.{AreKept};
+ghost use Rattle.tree_numbers.specs.Numbered.{IsNumbered};
+ghost use Rattle.family_levels.specs.Leveling.{AreNumbers, IsReady};
+ghost use Rattle.family_levels.specs.Versions.{AreVersions, Grows, Shown};
+ghost use Rattle.family_levels.specs.Again.{AreNeeds, ArePlaced, IsFoundAgain, IsFoundAs};
+ghost use Rattle.family_levels.specs.Again.{IsLike, IsNextLeveled, IsPlacedNext, IsVersionAnew};
+ghost use Rattle.family_levels.specs.Again.{IsVersionOf, version_by};
+
+use crate::module::{Found, level_one};
+use crate::versions::{Version, is_text_of};
+use alike_findings::{
+    faces_are_made_alike, modules_are_found_alike, refused_modules_are_found_alike,
+};
+use face_views::{are_same, same_faces_look_alike};
+use family_tables::{Module, Outcome, Plan, Reading, Table};
+use growing_modules::made_modules_stay;
+use known_modules::{
+    known_files_stay_known, made_modules_answer, made_modules_are_known, modules_are_foreign,
+};
+use leveled_facts::{declarations_have_places, leveled_is};
+use leveled_modules::LevelTables;
+use module_facts::{in_order as in_order_is_one, none_in_order};
+use resolved_faces::faces_are_known_alike;
+use resolved_trees::trees_are_kept;
+use std::alloc::Global;
+use step_count::Steps;
+use tla_tree::ModuleTree;
+use tool_list::{Chars, List, Memory};
+use tree_numbers::{TreeNumbers, numbers_stay};
+use viewed_modules::made_modules_need_views;
+
+// The number of the version of a module, if it is accepted.
+fn version_of(versions: &Table<Version>, name: &str) -> Option<u64>
+    ensures { result ≡ version_by (entry_of versions.now name.now) }
+{
+    match versions.get(name) {
+        Some(version) if version.found.number.is_some() => Some(version.id),
+        _ => None,
+    }
+}
+
+// The numbers of the versions of what a module needs. There are none where it needs one that is not
+// accepted.
+fn needed_versions(
+    alloc: Global,
+    plan: &Plan,
+    versions: &Table<Version>,
+    name: &str,
+    needs: &[Chars],
+) -> Result<Option<List<u64>>, Memory>
+    ensures { IfOk result (λ ids. IfSome ids (AreNeeds plan.now versions.now name.now needs.now)) }
+{
+    let mut ids = List::new(alloc);
+    for need in needs {
+        let need = need.as_str();
+        if plan.is_cyclic(alloc, name, need)? {
+            return Ok(None);
+        }
+        let Some(id) = version_of(versions, need) else {
+            return Ok(None);
+        };
+        ids.push(id)?;
+    }
+    Ok(Some(ids))
+}
+
+// Whether a version is that of a tree over versions with these numbers.
+fn is_version_of(version: &Version, tree: &ModuleTree, needs: &[u64]) -> bool
+    ensures { OnTrue result (IsVersionOf version.now tree.now needs.now) }
+{
+    version.needs.as_slice() == needs && is_text_of(version, tree)
+}
+
+// The version of a tree over versions with these numbers, if it was found before.
+fn known_version<'a>(
+    old: &'a Table<Version>,
+    name: &str,
+    tree: &ModuleTree,
+    needs: &[u64],
+) -> Option<&'a Version>
+    ensures { IfSome result (λ version. (entry_of old.now name.now ≡ Some version.now)
+        × IsVersionOf version.now tree.now needs.now) }
+{
+    let Some(version) = old.get(name) else {
+        return None;
+    };
+    if is_version_of(version, tree, needs) {
+        Some(version)
+    } else {
+        None
+    }
+}
+
+// The version of a module with these numbers of what it needs, if it was found before.
+fn found_version<'a>(
+    old: &'a Table<Version>,
+    name: &str,
+    module: &Module,
+    needs: &Option<List<u64>>,
+) -> Option<&'a Version>
+    ensures { IfSome result (λ version. IsFoundAgain old.now name.now module.now needs.now
+        version.now) }
+{
+    let (Reading::Tree(tree), Some(needs)) = (&module.reading, needs) else {
+        return None;
+    };
+    known_version(old, name, tree.tree(), needs.as_slice())
+}
+
+// The version of a module of which this was found, if it has a tree and all that it needs has a
+// version.
+fn new_version(
+    alloc: Global,
+    module: &Module,
+    needs: Option<List<u64>>,
+    id: u64,
+    found: &Found,
+) -> Result<Option<Version>, Memory>
+    ensures { IfOk result (λ version. IfSome version
+        (IsVersionAnew module.now needs id found.now)) }
+{
+    let (Reading::Tree(tree), Some(needs)) = (&module.reading, needs) else {
+        return Ok(None);
+    };
+    Ok(Some(Version {
+        tree: tree.copied()?,
+        needs,
+        id,
+        found: found.copied(alloc)?,
+    }))
+}
+
+// Whether a version was to others what a module is of which this was found: with the same face to
+// their names, and with the same trees to their levels.
+fn is_like(
+    alloc: Global,
+    known: &LevelTables,
+    trees: &mut TreeNumbers,
+    version: &Version,
+    found: &Found,
+) -> Result<bool, Memory>
+    requires kept { AreKept known.now }
+    requires numbered { IsNumbered known.now.tables.state.flat trees.old }
+    ensures numbered { IsNumbered known.now.tables.state.flat trees.new }
+    ensures like { IfOk result (λ same. IsTrue same → IsLike known.now version.now found.now) }
+{
+    trees_are_kept();
+    let (Outcome::Accepted(before), Some(was)) = (&version.found.outcome, version.found.number)
+    else {
+        return Ok(false);
+    };
+    let (Outcome::Accepted(face), Some(number)) = (&found.outcome, found.number) else {
+        return Ok(false);
+    };
+    if !are_same(before, face) {
+        return Ok(false);
+    }
+    trees.extend(alloc, known.as_flat())?;
+    let same = known.are_alike(trees.as_slice(), was, number)?;
+    Ok(same)
+}
+
+// The version of a module that was to others what the module is of which this was found, if there
+// is one.
+fn version_like<'a>(
+    alloc: Global,
+    old: &'a Table<Version>,
+    name: &str,
+    known: &LevelTables,
+    trees: &mut TreeNumbers,
+    found: &Found,
+) -> Result<Option<&'a Version>, Memory>
+    requires kept { AreKept known.now }
+    requires numbered { IsNumbered known.now.tables.state.flat trees.old }
+    ensures numbered { IsNumbered known.now.tables.state.flat trees.new }
+    ensures like { IfOk result (λ version. IfSome version (λ v.
+        (entry_of old.now name.now ≡ Some v.now) × IsLike known.now v.now found.now)) }
+{
+    let Some(version) = old.get(name) else {
+        return Ok(None);
+    };
+    if is_like(alloc, known, trees, version, found)? {
+        return Ok(Some(version));
+    }
+    Ok(None)
+}
+
+// What was found, with the face of a version and its number.
+fn found_as(alloc: Global, version: &Version, found: Found) -> Result<Found, Memory>
+    ensures { IfOk result (IsFoundAs version.now found) }
+{
+    let Found {
+        outcome: _,
+        number: _,
+        names,
+    } = found;
+    Ok(Found {
+        outcome: version.found.outcome.copied(alloc)?,
+        number: version.found.number,
+        names,
+    })
+}
+
+/// What is found of a module behind what it needs, and the version that it is, if it has a tree and
+/// all that it needs is accepted: what was found of it before over the same versions, or else what
+/// a check finds, which is one step if it has no front fault. A version that is found anew has the
+/// number of the one before if it is to others what that was, or else the next one.
+pub(crate) fn level_next<L>(
+    alloc: Global,
+    plan: &Plan,
+    old: &Table<Version>,
+    versions: &Table<Version>,
+    outcomes: &Table<Outcome>,
+    numbers: &Table<usize>,
+    name: &str,
+    module: &Module,
+    known: LevelTables,
+    trees: &mut TreeNumbers,
+    next: u64,
+    steps: &mut Steps<L>,
+) -> Result<(LevelTables, Found, Option<Version>), Memory>
+    requires some { IsSomeModule name.now module.now }
+    requires agreed { AreAgreed outcomes.now }
+    requires unfound { entry_of outcomes.now name.now ≡ None }
+    requires kept { AreKept known }
+    requires numbered { IsNumbered known.tables.state.flat trees.old }
+    requires numbers { AreNumbers known numbers.now }
+    ensures kept { IfOk result (λ made. AreKept made.0) }
+    ensures numbered { IfOk result (λ made. IsNumbered made.0.tables.state.flat trees.new) }
+    ensures grows { IfOk result (λ made. Grows known made.0) }
+    ensures found { (shown : ℕ → OptionOf Shown) → AreVersions known shown next old.now
+        → ArePlaced outcomes.now numbers.now shown next versions.now
+        → IfOk result (λ made. IsPlacedNext outcomes.now shown next name.now made.0 made.1
+        made.2) }
+    ensures next { (family : ListOf Member) (shown : ℕ → OptionOf Shown)
+        → AreVersions known shown next old.now
+        → ArePlaced outcomes.now numbers.now shown next versions.now
+        → IsReady family plan.now outcomes.now numbers.now known name.now
+        → IsMember family name.now module.now.reading module.now.needs
+        → IfOk result (λ made. IsNextLeveled family outcomes.now numbers.now shown next name.now
+        made.0 made.1 made.2) }
+    ensures most { IfOk result (λ _. steps.new
+        ≤ after_checks (tree_count module.now.reading) steps.old) }
+    ensures all { old.now ≡ [] → IfOk result (λ _. steps.new
+        ≡ after_checks (tree_count module.now.reading) steps.old) }
+{
+    // The proof needs that a count is below 2^64.
+    let _count = steps.count();
+    front_laws::one_front();
+    made_modules_answer();
+    made_modules_are_known();
+    known_files_stay_known();
+    modules_are_foreign();
+    leveled_is();
+    declarations_have_places();
+    in_order_is_one();
+    none_in_order();
+    faces_are_known_alike();
+    made_modules_need_views();
+    made_modules_stay();
+    modules_are_found_alike();
+    refused_modules_are_found_alike();
+    faces_are_made_alike();
+    same_faces_look_alike();
+    numbers_stay();
+    let needs = needed_versions(alloc, plan, versions, name, module.needs.as_slice())?;
+    if let Some(version) = found_version(old, name, module, &needs) {
+        let found = version.found.copied(alloc)?;
+        let version = version.copied(alloc)?;
+        return Ok((known, found, Some(version)));
+    }
+    let (known, found) = level_one(alloc, plan, outcomes, numbers, name, module, known, steps)?;
+    let Some(anew) = new_version(alloc, module, needs, next, &found)? else {
+        return Ok((known, found, None));
+    };
+    let Some(before) = version_like(alloc, old, name, &known, trees, &found)? else {
+        return Ok((known, found, Some(anew)));
+    };
+    let found = found_as(alloc, before, found)?;
+    let version = anew.in_place_of(alloc, before, &found)?;
+    Ok((known, found, Some(version)))
+}
