@@ -24,5 +24,5 @@ pub fn skip<T>(items: &[T], count: usize) -> &[T]
 pub fn copied<T: Copy>(alloc: Global, items: &[T]) -> Result<List<T>, Memory>
     ensures { IfOk result (λ copy. copy ≡ items.now) }
 {
-    Ok(List::from_vec(items.iter().copied().collect(alloc)?))
+    Ok(List::from_vec(Vec::from_slice(alloc, items)?))
 }

@@ -13,7 +13,7 @@ use server_documents::{Documents, ModuleText};
 use server_locations::FoundModule;
 use std::alloc::Global;
 use step_count::Steps;
-use tool_list::{Chars, List, Memory};
+use tool_list::{Chars, List, Memory, copied};
 
 // The file that a text is.
 fn file_of(alloc: Global, text: &ModuleText<'_>) -> Result<File, Memory>
@@ -21,7 +21,7 @@ fn file_of(alloc: Global, text: &ModuleText<'_>) -> Result<File, Memory>
 {
     Ok(File {
         name: text.name().copied()?,
-        bytes: List::from_vec(text.bytes().iter().copied().collect(alloc)?),
+        bytes: copied(alloc, text.bytes())?,
     })
 }
 
