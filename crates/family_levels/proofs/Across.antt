@@ -22,7 +22,7 @@ use Rattle.flattened_trees.specs.Leads.{FlatFace}
 use Rattle.flattened_units.specs.Units.{IsModuleMade}
 use Rattle.readable_laws.specs.Uses.{implied_by, means_by}
 use Rattle.leveled_modules.specs.Leveled.{LevelTables, file_faces}
-use Rattle.known_modules.specs.Known.{IsMadeOver, face_of, found_over}
+use Rattle.alike_modules.specs.Known.{IsMadeOver, face_of, found_over}
 use Rattle.family_facts.specs.Facts.{texts_of}
 use Rattle.family_facts.specs.Family.{Member}
 use Rattle.family_tables.specs.Outcomes.{IsMember, Matches}
@@ -31,7 +31,7 @@ use Rattle.family_tables.specs.declared.order.Plan.{Plan}
 use Rattle.family_tables.specs.declared.outcome.Outcome.{Outcome}
 use Rattle.family_tables.specs.declared.reading.Reading.TheVariants as reading
 use Rattle.leveled_facts.specs.Families.{declares}
-use Rattle.alike_findings.specs.Alike.{AreFoundAlike}
+use Rattle.alike_modules.specs.Alike.{AreFoundAlike}
 use Rattle.leveled_facts.specs.Modules.{Accepted, import_status, outside_by}
 use Rattle.family_levels.specs.declared.«module».Found.{Found}
 use Rattle.family_levels.specs.Leveling.{IsReady, face_count, faces_of}

@@ -15,8 +15,8 @@ use Rattle.family_tables.specs.declared.outcome.Outcome.{Outcome}
 use Rattle.family_tables.proofs.Bridging.{all-needs, own-needs}
 use Rattle.family_tables.proofs.Ordered.{before-here, found-more}
 use Rattle.family_tables.proofs.Tabling.{entry-append}
-use Rattle.known_modules.specs.Known.{AreSymbolsPlain}
-use Rattle.known_modules.specs.Known.{IsForeignTo, IsKnownFile, no_knowledge}
+use Rattle.alike_modules.specs.Known.{AreSymbolsPlain}
+use Rattle.alike_modules.specs.Known.{IsForeignTo, IsKnownFile, no_knowledge}
 use Rattle.leveled_facts.specs.Families.{declares, leveled}
 use Rattle.leveled_modules.specs.Leveled.{LevelTables}
 use Rattle.family_levels.specs.declared.«module».Found.{Found}

@@ -39,7 +39,7 @@ use Rattle.leveled_modules.specs.Leveled.{face_at}
 use Rattle.leveled_modules.specs.Leveled.{ModuleLevels}
 use Rattle.leveled_modules.specs.Leveled.{LevelTables}
 use Rattle.leveled_modules.specs.Leveled.{AreFilesOf, AreLevelsOf, IsModuleLeveled, faces_by}
-use Rattle.known_modules.specs.Known.{IsForeignTo, IsKnownFile, IsMadeOver, Knowledge, face_of, with_own_knowledge}
+use Rattle.alike_modules.specs.Known.{IsForeignTo, IsKnownFile, IsMadeOver, Knowledge, face_of, with_own_knowledge}
 use Rattle.family_facts.specs.Facts.{texts_of}
 use Rattle.family_facts.specs.Family.{Member, is_there}
 use Rattle.family_facts.proofs.Members.{member-there}

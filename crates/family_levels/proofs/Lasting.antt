@@ -26,7 +26,7 @@ use Rattle.flattened_trees.specs.Questions.{Question}
 use Rattle.flattened_units.specs.Units.{IsModuleMade, Reader}
 use Rattle.readable_laws.specs.Uses.{implied_by, means_by}
 use Rattle.leveled_modules.specs.Leveled.{LevelTables, face_at, file_faces}
-use Rattle.known_modules.specs.Known.{IsKnownFile, IsMadeOver, Knowledge, face_of, found_over}
+use Rattle.alike_modules.specs.Known.{IsKnownFile, IsMadeOver, Knowledge, face_of, found_over}
 use Rattle.family_facts.proofs.Needing.{HasNoOther}
 use Rattle.family_tables.specs.Agreement.{accepted_face}
 use Rattle.family_tables.specs.Keeping.{IsRead}

@@ -16,16 +16,16 @@ use Rattle.flattened_trees.specs.Leads.{FlatFace}
 use Rattle.flattened_trees.specs.Questions.{Question}
 use Rattle.flattened_units.specs.Units.{IsModuleMade, Reader, no_face}
 use Rattle.written_trees.specs.Leading.{face_in}
-use Rattle.known_modules.specs.Known.{face_of}
-use Rattle.known_modules.specs.Known.{AreSymbolsPlain}
-use Rattle.known_modules.specs.Known.{IsForeignTo, IsKnownFile, IsMadeOver, Knowledge, with_own_knowledge}
+use Rattle.alike_modules.specs.Known.{face_of}
+use Rattle.alike_modules.specs.Known.{AreSymbolsPlain}
+use Rattle.alike_modules.specs.Known.{IsForeignTo, IsKnownFile, IsMadeOver, Knowledge, with_own_knowledge}
 use Rattle.family_facts.specs.Facts.{texts_of}
 use Rattle.family_facts.specs.Family.{AreMembersDistinct, Member, Needs}
 use Rattle.module_facts.specs.Checks.{all_faults}
 use Rattle.module_facts.specs.Ordered.{in_order}
 use Rattle.leveled_facts.specs.Families.{IsStatus, declares, leveled}
 use Rattle.leveled_facts.specs.Modules.{Status, Unknown, front_refused, import_status, leveled_by, outside_by}
-use Rattle.alike_findings.specs.Alike.{AreFoundAlike}
+use Rattle.alike_modules.specs.Alike.{AreFoundAlike}
 
 -- laws on modules that are known, one after another
 pub record KnownLaws : Type 0 where

@@ -24,7 +24,7 @@ use Rattle.flattened_trees.specs.Questions.{Question}
 use Rattle.flattened_units.specs.Units.{IsModuleMade, Reader}
 use Rattle.readable_laws.specs.Uses.{implied_by, means_by}
 use Rattle.leveled_modules.specs.Leveled.{LevelTables, file_faces, face_at}
-use Rattle.known_modules.specs.Known.{IsForeignTo, IsKnownFile, IsMadeOver, Knowledge, face_of, found_over, with_own_knowledge}
+use Rattle.alike_modules.specs.Known.{IsForeignTo, IsKnownFile, IsMadeOver, Knowledge, face_of, found_over, with_own_knowledge}
 use Rattle.fact_values.specs.Names.{Texts}
 use Rattle.family_facts.specs.Facts.{texts_of}
 use Rattle.family_facts.specs.Family as families

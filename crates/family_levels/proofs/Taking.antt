@@ -10,7 +10,7 @@ use Rattle.module_model.specs.Exports.{Exports, Instances, ModuleView, face_expo
 use Rattle.module_model.specs.Given.{AreReached, IsWhole}
 use Rattle.face_views.specs.Same.{IsSameFace}
 use Rattle.leveled_modules.specs.Leveled.{LevelTables}
-use Rattle.known_modules.specs.Known.{IsKnownFile}
+use Rattle.alike_modules.specs.Known.{IsKnownFile}
 use Rattle.family_facts.specs.Facts.{texts_of}
 use Rattle.family_facts.specs.Family.{Member}
 use Rattle.family_tables.specs.Agreement.{IsAgreed, IsAgreedFace, accepted_face}

@@ -17,8 +17,8 @@ use Rattle.flattened_trees.specs.Leads.{FlatFace}
 use Rattle.leveled_modules.specs.Leveled.{leading_in}
 use Rattle.leveled_modules.specs.Leveled.{LevelTables}
 use Rattle.leveled_facts.specs.Families.{declares, leveled}
-use Rattle.known_modules.specs.Known.{IsForeignTo, IsKnownFile, Knowledge}
-use Rattle.known_modules.specs.Known.{AreSymbolsPlain}
+use Rattle.alike_modules.specs.Known.{IsForeignTo, IsKnownFile, Knowledge}
+use Rattle.alike_modules.specs.Known.{AreSymbolsPlain}
 use Rattle.family_levels.specs.declared.«module».Found.{Found}
 use Rattle.family_levels.specs.declared.names.Names.{Names}
 

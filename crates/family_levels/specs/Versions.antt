@@ -22,7 +22,7 @@ use Rattle.flattened_trees.specs.Questions.{Question}
 use Rattle.flattened_units.specs.Units.{Reader}
 use Rattle.written_trees.specs.Leading.{face_in}
 use Rattle.leveled_modules.specs.Leveled.{LevelTables, file_faces}
-use Rattle.known_modules.specs.Known.{IsKnownFile, IsMadeOver, Knowledge, face_of}
+use Rattle.alike_modules.specs.Known.{IsKnownFile, IsMadeOver, Knowledge, face_of}
 use Rattle.family_facts.specs.Facts.{texts_of}
 use Rattle.family_facts.specs.Family.{IsCyclic, Member}
 use Rattle.family_tables.specs.Agreement.{accepted_face, found_face}

@@ -21,12 +21,12 @@ ghost use Rattle.tla_tree.specs.declared.unit.ModuleTree.{ModuleTree as ModuleTr
 
 use crate::names::{Names, SharedNames};
 use crate::numbers::numbers_of;
+use alike_modules::{
+    known_files_stay_known, made_modules_answer, made_modules_are_known, modules_are_foreign,
+};
 use check_core::{Checked, check_module};
 use family_tables::{Module, Outcome, Plan, Reading, Table, imports_of};
 use indexmap::IndexMap;
-use known_modules::{
-    known_files_stay_known, made_modules_answer, made_modules_are_known, modules_are_foreign,
-};
 use leveled_facts::{declarations_have_places, leveled_is};
 use leveled_modules::{LevelTables, ModuleLevels, level_module};
 use module_facts::{in_order as in_order_is_one, none_in_order};

@@ -18,19 +18,17 @@ ghost use Rattle.family_levels.specs.Again.{IsVersionOf, version_by};
 
 use crate::module::{Found, level_one};
 use crate::versions::{Version, is_text_of};
-use alike_findings::{
-    faces_are_made_alike, modules_are_found_alike, refused_modules_are_found_alike,
+use alike_modules::{
+    faces_are_known_alike, faces_are_made_alike, known_files_stay_known, made_modules_answer,
+    made_modules_are_known, modules_are_foreign, modules_are_found_alike,
+    refused_modules_are_found_alike,
 };
 use face_views::{are_same, same_faces_look_alike};
 use family_tables::{Module, Outcome, Plan, Reading, Table};
 use growing_modules::made_modules_stay;
-use known_modules::{
-    known_files_stay_known, made_modules_answer, made_modules_are_known, modules_are_foreign,
-};
 use leveled_facts::{declarations_have_places, leveled_is};
 use leveled_modules::LevelTables;
 use module_facts::{in_order as in_order_is_one, none_in_order};
-use resolved_faces::faces_are_known_alike;
 use resolved_trees::trees_are_kept;
 use std::alloc::Global;
 use step_count::Steps;

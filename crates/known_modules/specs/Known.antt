@@ -18,16 +18,16 @@ use Rattle.flat_kinds.specs.Yields.{IsYielding, Yields}
 use Rattle.steady_kinds.specs.Steady.{IsOpen, IsSteady}
 use Rattle.flattened_trees.specs.Leads.{FlatFace}
 use Rattle.flattened_trees.specs.Questions.{Question}
-use Rattle.arranged_modules.specs.Passed.{IsModuleMade, Reader}
+use Rattle.arranged_modules.specs.Passed.{IsModuleMade}
 use Rattle.arranged_modules.specs.Passed.{implied_by, means_by}
 use Rattle.arranged_modules.specs.Passed.{Behinds, IsForeignView, with_own}
 use Rattle.arranged_modules.specs.Passed.{IsFaultless, IsGoodFile}
 use Rattle.arranged_modules.specs.Passed.{BringsOthers}
 use Rattle.arranged_modules.specs.Passed.{with_own_yields}
 use Rattle.arranged_modules.specs.Passed.{GivenDepths, IsGivenOutside, no_reach}
-pub use Rattle.arranged_modules.specs.Passed.{AreSymbolsPlain, face_of}
+pub use Rattle.arranged_modules.specs.Passed.{AreSymbolsPlain, Reader, face_of}
 use Rattle.arranged_modules.specs.Passed.{with_own_depths}
-use Rattle.arranged_modules.specs.Files.{IsDeepFace}
+pub use Rattle.arranged_modules.specs.Files.{IsDeepFace}
 
 -- what is known of declarations: what stands behind each, what it yields, and how deep it is
 pub record Knowledge : Type 0 where

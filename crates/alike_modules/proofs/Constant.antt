@@ -19,7 +19,7 @@ use Rattle.tree_kinds.specs.Standing.{Outside}
 use Rattle.module_kinds.specs.Constancy.{are_constant_trees, extends_constant, is_constant_form, is_constant_tree, is_constant_unit}
 use Rattle.module_kinds.specs.ModuleKinds.{KindState, after, first, is_outermost, last, module_under, named, named_in, nested_outside, read_all, views}
 use Rattle.flattened_units.specs.Units.{Reader, exported_leads}
-use Rattle.arranged_modules.specs.Passed.{face_of}
+use Rattle.known_modules.specs.Known.{face_of}
 
 -- ---- trees
 

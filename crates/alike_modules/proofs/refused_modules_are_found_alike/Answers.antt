@@ -1,5 +1,5 @@
-use Rattle.alike_findings.proofs.Finding.{refused-alike}
-use Rattle.alike_findings.proofs.refused_modules_are_found_alike.Goals as goal
+use Rattle.alike_modules.proofs.Finding.{refused-alike}
+use Rattle.alike_modules.proofs.refused_modules_are_found_alike.Goals as goal
 
 pub returns : goal.returns
 returns c given others source units fault rest same first =

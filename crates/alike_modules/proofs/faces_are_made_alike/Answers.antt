@@ -1,7 +1,7 @@
 use Rattle.std.proofs.Common.{sym, ◌∙◌}
 use Rattle.leveled_facts.specs.Modules.{outsides}
-use Rattle.alike_findings.proofs.Constant.{face-alike}
-use Rattle.alike_findings.proofs.faces_are_made_alike.Goals as goal
+use Rattle.alike_modules.proofs.Constant.{face-alike}
+use Rattle.alike_modules.proofs.faces_are_made_alike.Goals as goal
 
 pub returns-clause-shown : goal.returns-clause-shown
 returns-clause-shown c = λ given others source units last views constant. face-alike (outsides given) (outsides others) source units views constant last

@@ -9,7 +9,7 @@ use Rattle.module_facts.specs.Checks.{ImportStatus, files_given, or_others}
 use Rattle.module_facts.specs.Ordered.{in_order}
 use Rattle.module_kinds.specs.ModuleKinds.{depth_faults, level_faults, level_findings, or_levels, too_deep, outside as module_outside}
 use Rattle.leveled_facts.specs.Modules.{Status, all_faults, import_status, imports, leveled_by, leveled_use, levels_by, outsides}
-use Rattle.alike_findings.specs.Alike.{AreFoundAlike}
+use Rattle.alike_modules.specs.Alike.{AreFoundAlike}
 
 -- the view of a module by what modules are to names
 abbrev pub IsViewGiven : (List ℕ → Status) → List ℕ → ModuleUnits → Type 0

@@ -13,10 +13,10 @@ use Rattle.flattened_trees.specs.Leads.{FlatFace, Leads}
 use Rattle.accepted_modules.specs.Faces.{ReadsAs}
 use Rattle.module_meanings.specs.Faces.{IsExtendedBy, IsFaceBy, LeadsAs}
 use Rattle.module_meanings.specs.Premises.{symbol_leads}
-use Rattle.arranged_modules.specs.Files.{IsDeepFace}
+use Rattle.known_modules.specs.Known.{IsDeepFace}
 use Rattle.known_modules.specs.Known.{IsKnownFile, Knowledge}
 use Rattle.written_trees.specs.Leading.{Face, face_in, lead_in}
-use Rattle.resolved_faces.proofs.Merging.{LeadAlike, Tells, TellsDepths, merge, merged-depths, merged-leads, merged-parameters, merged-stands, merged-takes}
+use Rattle.alike_modules.proofs.Merging.{LeadAlike, Tells, TellsDepths, merge, merged-depths, merged-leads, merged-parameters, merged-stands, merged-takes}
 
 module _ (flat : FlatModule) (tells : Tells flat) (deeps : TellsDepths flat) (face other : FlatFace) (inner : Named → Stand) (paths : (name : Named) (names : List Named) → face.leads (name ∷ names) ≡ lead_by (inner name) names) (same : face_in flat face ≡ face_in flat other) where
   outer-same : face.outer ≡ other.outer

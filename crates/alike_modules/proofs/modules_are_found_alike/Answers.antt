@@ -1,7 +1,7 @@
 use Rattle.std.proofs.Common.{sym, ◌∙◌}
 use Rattle.leveled_facts.specs.Modules.{outsides}
-use Rattle.alike_findings.proofs.Finding.{module-alike}
-use Rattle.alike_findings.proofs.modules_are_found_alike.Goals as goal
+use Rattle.alike_modules.proofs.Finding.{module-alike}
+use Rattle.alike_modules.proofs.modules_are_found_alike.Goals as goal
 
 pub returns : goal.returns
 returns c given others one two flat before now files name source units symbols last asked same over other =

@@ -1,7 +1,8 @@
-//! That a module is found alike over modules that are known alike.
+//! That modules which are the same to others are known alike, and that what names them is found
+//! alike.
 //!
-//! No code: each function states a law. Knows nothing of how nodes are built, and of which modules
-//! are known alike.
+//! No code: each function states a law. Knows nothing of how nodes are made, and of where files come
+//! from. The laws of `known_modules` are passed on.
 #![tactic(auto)]
 
 ghost use Rattle.std.specs.Prelude.{◌≡◌, ◌∷◌, ℕ, List};
@@ -10,16 +11,32 @@ ghost use Rattle.tla_model.specs.declared.Diagnostic.{Diagnostic};
 ghost use Rattle.tla_model.specs.Entities.{Meaning};
 ghost use Rattle.module_facts.specs.Checks.{all_faults};
 ghost use Rattle.kind_text.specs.FlatModule.{FlatModule};
+ghost use Rattle.tree_kinds.specs.Standing.{Outside};
 ghost use Rattle.flat_kinds.specs.Declarations.{Declarations};
 ghost use Rattle.flattened_trees.specs.Leads.{FlatFace};
 ghost use Rattle.flattened_trees.specs.Questions.{Question};
-ghost use Rattle.arranged_modules.specs.Passed.{Reader, face_of};
-ghost use Rattle.known_modules.specs.Known.{IsMadeOver, Knowledge};
+ghost use Rattle.written_trees.specs.Leading.{face_in};
+ghost use Rattle.known_modules.specs.Known.{IsKnownFile, IsMadeOver, Knowledge, Reader, face_of};
 ghost use Rattle.leveled_facts.specs.Modules.{Status, import_status, imports, leveled_by, outsides};
-ghost use Rattle.alike_findings.specs.Alike.{AreFoundAlike};
+ghost use Rattle.alike_modules.specs.Alike.{AreFoundAlike};
 
-use known_modules::made_modules_answer;
+pub use known_modules::{
+    known_files_stay_known, made_modules_answer, made_modules_are_known, modules_are_foreign,
+};
 use leveled_facts::views_are_given;
+use resolved_trees::{trees_tell_depths, trees_tell_expansions};
+
+/// A face that was known of some file, whatever was known then, is known of another one, if a face
+/// is that of a module with the same symbols and with the same resolved trees where its names lead.
+pub fn faces_are_known_alike()
+    ensures { (then declares : Declarations) (flat : FlatModule) (before knowledge : Knowledge)
+        (face other : FlatFace) (was file : Outside) → IsKnownFile then flat before face was
+        → IsKnownFile declares flat knowledge other file → face_in flat face ≡ face_in flat other
+        → IsKnownFile declares flat knowledge face file }
+{
+    trees_tell_expansions();
+    trees_tell_depths();
+}
 
 /// Where modules are to the names of a module what others are, and it comes over both with the same
 /// nodes, symbols and questions, the same is found of it over both.

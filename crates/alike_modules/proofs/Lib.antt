@@ -1,2 +1,4 @@
+mod Merging
+mod Faces
 mod Finding
 mod Constant

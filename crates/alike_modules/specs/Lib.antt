@@ -1,0 +1,2 @@
+pub mod Alike
+pub use Rattle.known_modules.specs.Known

@@ -1,2 +1,0 @@
-mod Merging
-mod Alike
