@@ -36,7 +36,7 @@ use Rattle.leveled_facts.specs.Modules.{Accepted, import_status, outside_by}
 use Rattle.family_levels.specs.declared.«module».Found.{Found}
 use Rattle.family_levels.specs.Leveling.{IsReady, face_count, faces_of}
 use Rattle.family_levels.specs.Versions.{AreNeedsAccepted, AreViewed, IsAcceptedOver, IsFaceLike, IsFoundOver, IsHeld, IsHeldFace, IsMadeWith, Over, Own, Shared, Shown, Told, given_over, leveled_over, named_faults, number_in, numbers_over, outsides_over, shown_in, status_told}
-use Rattle.family_levels.proofs.Laws.{AlikeLaws, FamilyLaws, KnownLaws}
+use Rattle.family_levels.specs.Laws.{AlikeLaws, FamilyLaws, KnownLaws}
 use Rattle.family_levels.proofs.Over.{made-over, over-viewed}
 
 -- ---- modules of which the same is kept

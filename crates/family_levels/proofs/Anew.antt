@@ -21,8 +21,10 @@ use Rattle.family_facts.specs.Family.{Member}
 use Rattle.family_facts.proofs.Lists.{among-or-not}
 use Rattle.family_tables.specs.Agreement.{AreFrom, accepted_face}
 use Rattle.family_tables.proofs.Bridging.{cyclic-map}
+use Rattle.family_tables.specs.Modules.{Entry}
 use Rattle.family_tables.specs.Outcomes.{ImportsOnly, IsMember, IsNeedTold, Matches, status_by}
 use Rattle.family_tables.specs.Plans as plans
+use Rattle.family_tables.specs.Plans.{IsPlan}
 use Rattle.family_tables.specs.Tables.{entry_of}
 use Rattle.family_tables.specs.declared.order.Plan.{Plan}
 use Rattle.family_tables.specs.declared.outcome.Outcome.{Outcome}
@@ -35,11 +37,12 @@ use Rattle.family_levels.specs.Judging.{HasFace, IsJudged}
 use Rattle.family_levels.specs.Leveling.{AreNumbers, IsNext, IsReady, face_count}
 use Rattle.family_levels.specs.Numbers.{number_by}
 use Rattle.family_levels.specs.Versions.{AreNeedsAccepted, IsAcceptedOver, IsFoundOver, IsHeld, IsHeldFace, IsNeedAccepted, Over, Own, Shared, given_over, number_in, numbers_over, shown_by, status_told}
-use Rattle.family_levels.proofs.Laws.{FamilyLaws, KnownLaws}
-use Rattle.family_levels.proofs.Judging.{made-found, names-made}
+use Rattle.family_levels.specs.Laws.{FamilyLaws, KnownLaws}
+use Rattle.family_levels.specs.Again.{IsFoundNext}
+use Rattle.family_levels.proofs.Judging.{made-found, names-made, next-found}
 use Rattle.family_levels.proofs.Over.{over-found, over-viewed}
 use Rattle.family_levels.proofs.Statuses.{given as given_to, status_with}
-use Rattle.family_levels.proofs.Steps.{files-below, judged-number}
+use Rattle.family_levels.proofs.Steps.{files-below, judged-agrees, judged-grows, judged-number, judged-numbered, tree-some}
 
 same-face : (a b : Face) → ◌≡◌ {A = Option Face} (Some a) (Some b) → a ≡ b
 same-face a b same = cc
@@ -141,3 +144,30 @@ module _ (known_laws : KnownLaws) (laws : FamilyLaws) (family : List Member) (pl
           made = names-made known_laws laws family plan outcomes numbers old new name ready unfound numbered was_ordered is_ordered tree needs member imports told only files are found judged over given-same numbers-same (files-below old imports numbers files numbered are);
           accepted = accepted-over;
         }
+
+-- ---- of whatever family
+
+module _ (known_laws : KnownLaws) (laws : FamilyLaws) (plan : Plan) (outcomes : List (List ℕ × Outcome)) (numbers : List (List ℕ × ℕ)) (old new : LevelTables) (name : List ℕ) (unfound : entry_of outcomes name ≡ None) (numbered : AreNumbers old numbers) (was_ordered : IsOrdered old.tables.state.flat) (is_ordered : IsOrdered new.tables.state.flat)
+    (tree : ModuleTree) (needs : List (List ℕ)) (imports : Imports) (told : (entries : List Entry) → IsPlan entries plan → ((need : List ℕ) → Contains needs need → plans.Needs entries name need) → (need : List ℕ) → Contains needs need → IsNeedTold entries outcomes name need (given_in imports need))
+    (only : ImportsOnly needs imports) (from : AreFrom outcomes imports) (files : List ℕ → Option ℕ) (are : (other : List ℕ) → files other ≡ number_by (import_of imports other) (entry_of numbers other)) (found : Found) (judged : IsJudged name tree imports files old new found) where
+  told-here : (family : List Member) (ready : IsReady family plan outcomes numbers old name) → IsMember family name (reading.Tree tree) needs → (need : List ℕ) → Contains needs need → IsNeedTold ready.entries outcomes name need (given_in imports need)
+  told-here family ready member = told ready.entries ready.planned (λ need there. ready.all name need (member.own need there))
+
+  next-here : (family : List Member) → IsReady family plan outcomes numbers old name → IsMember family name (reading.Tree tree) needs → IsNext family outcomes numbers name new found
+  next-here family ready member =
+      next-found known_laws laws family plan outcomes numbers old new name ready unfound numbered was_ordered is_ordered tree needs member imports (told-here family ready member) only files are found judged
+
+  so-here : (family : List Member) (over : Over) → IsReady family plan outcomes numbers old name → IsMember family name (reading.Tree tree) needs → AreNeedsAccepted family outcomes numbers name needs over → IsFoundOver new over (shown_by found.outcome found.number) name tree found
+  so-here family over ready member accepted =
+      anew-found known_laws laws family plan outcomes numbers old new name ready unfound numbered was_ordered is_ordered tree needs member imports (told-here family ready member) only from files are found judged over accepted (next-here family ready member)
+
+  pub judged-found : IsFoundNext plan outcomes numbers name (reading.Tree tree) needs old new found
+  judged-found = record {
+    number = judged-number name tree imports files old new found judged;
+    numbered = judged-numbered name tree imports files old new found judged;
+    agreed = judged-agrees name tree imports files old new found outcomes from judged;
+    grows = judged-grows name tree imports files old new found judged;
+    next = next-here;
+    so = λ family over other ready member same accepted.
+        subst (λ t. IsFoundOver new over (shown_by found.outcome found.number) name t found) (tree-some tree other same) (so-here family over ready member accepted);
+  }

@@ -32,7 +32,7 @@ use Rattle.family_levels.specs.declared.versions.Version.{Version}
 use Rattle.family_levels.specs.Leveling.{HasNumber, IsNext, IsReady, face_count}
 use Rattle.family_levels.specs.Versions.{AreNeedsAccepted, AreVersions, IsCopy, IsFoundOver, IsNeedAccepted, IsVersion, Over, Shown, Told, shown_by, shown_in, shown_over, version_in}
 use Rattle.family_levels.specs.Again.{AreNeeds, ArePlaced, IsFoundAgain, IsFoundAs, IsLike, IsNeed, IsNextLeveled, IsPlaced, IsPlacedNext, IsSameVersion, IsVersionAnew, IsVersionAs, shown_after, version_by}
-use Rattle.family_levels.proofs.Laws.{AlikeLaws, FamilyLaws, KnownLaws}
+use Rattle.family_levels.specs.Laws.{AlikeLaws, FamilyLaws, KnownLaws}
 use Rattle.family_levels.proofs.Across.{found-across}
 use Rattle.family_levels.proofs.Taking.{LookAlike, found-taken, taken-next}
 use Rattle.family_levels.proofs.Lasting.{found-copy, found-same, module-same, needs-same, shown-below, shown-here, shown-same, version-copy, version-shown}

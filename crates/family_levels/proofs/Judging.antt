@@ -56,7 +56,7 @@ use Rattle.family_levels.specs.Judging.{HasFace, HasFaults, IsFoundAccepted, IsF
 use Rattle.family_levels.specs.Leveling.{AreNumbers, HasNumber, IsNext, IsReady, face_count, faces_of, names_on}
 use Rattle.family_levels.specs.Versions.{IsFaceLike, IsMadeWith, Over, given_over, named_faults, numbers_over, outsides_over}
 use Rattle.family_levels.specs.Numbers.{number_by}
-use Rattle.family_levels.proofs.Laws.{FamilyLaws, KnownLaws}
+use Rattle.family_levels.specs.Laws.{FamilyLaws, KnownLaws}
 use Rattle.family_levels.proofs.Unleveled.{plain-uses, unleveled}
 use Rattle.family_levels.proofs.Statuses.{files-given, IsFileAbsent, IsFileThere, file-is, found-given, given as given_to, names-given, views-given}
 

@@ -85,6 +85,13 @@ KnownStay =
     (declares : Declarations) (flat more : FlatModule) (knowledge : Knowledge) (face : FlatFace) (file : Outside) → Extends flat more → IsOrdered flat
     → IsKnownFile declares flat knowledge face file → IsKnownFile declares more knowledge face file
 
+-- nothing more
+pub grows-none : (known : LevelTables) → Grows known known
+grows-none known = record {
+  nodes = record { nodes = λ i x at. at; definitions = λ i x at. at; instances = λ i x at. at };
+  faces = record { count = omega (arith); faces = λ number below. refl };
+}
+
 extends-more : (flat more most : FlatModule) → Extends flat more → Extends more most → Extends flat most
 extends-more flat more most first second = record {
   nodes = λ i x at. second.nodes i x (first.nodes i x at);

@@ -43,7 +43,7 @@ use Rattle.leveled_facts.specs.Modules.{Accepted, Leveled, leveled_by, outside_b
 use Rattle.family_levels.specs.declared.«module».Found.{Found}
 use Rattle.family_levels.specs.Leveling.{HasNumber, IsNext, IsReady, Says, faces_of, names_on}
 use Rattle.family_levels.specs.Versions.{AreNeedsAccepted, AreViewed, IsAcceptedOver, IsFoundOver, IsHeld, IsHeldFace, IsMadeWith, IsNeedAccepted, Over, Own, Shared, Shown, Told, given_over, leveled_over, number_in, numbers_over, outsides_over, status_told}
-use Rattle.family_levels.proofs.Laws.{AlikeLaws, FamilyLaws, KnownLaws}
+use Rattle.family_levels.specs.Laws.{AlikeLaws, FamilyLaws, KnownLaws}
 
 some-text : (a b : ℕ) → ◌≡◌ {A = Option ℕ} (Some a) (Some b) → a ≡ b
 some-text a b same = cc

@@ -30,7 +30,7 @@ use Rattle.leveled_facts.specs.Families.{IsStatus, accepted, cyclic, leveled, re
 use Rattle.leveled_facts.specs.Modules.{Accepted, Cyclic, Leveled, Refused, Status, Unknown, import_status, leveled_by, outside_by}
 use Rattle.family_levels.specs.Leveling.{IsReady, Says}
 use Rattle.family_levels.specs.Numbers.{number_by}
-use Rattle.family_levels.proofs.Laws.{FamilyLaws}
+use Rattle.family_levels.specs.Laws.{FamilyLaws}
 use Rattle.leveled_modules.specs.Leveled.{LevelTables}
 
 import-given : (import : Option Import) → import_outside import ≡ names.outside_by (given_by import)

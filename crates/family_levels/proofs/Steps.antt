@@ -1,4 +1,4 @@
--- What is found of one module, without a family.
+-- What is found of one module.
 use Rattle.std.proofs.Common.{◌≡◌, ◌<◌, ℕ, List, [], ◌∷◌, Option, Some, None, refl, sym, ap, subst, ◌∙◌, arith, is_some}
 use Rattle.std.specs.Prelude.{Contains, IfSome}
 use Rattle.std.specs.Arc.{arc_value}
@@ -38,7 +38,9 @@ use Rattle.family_levels.specs.Judging.{HasFace, HasFaults, IsFoundFrom, IsJudge
 use Rattle.family_levels.specs.Leveling.{AreNumbers, HasNumber, IsNext, IsReady, KeepsFaces, face_count}
 use Rattle.family_levels.specs.Versions.{Grows}
 use Rattle.family_levels.specs.Numbers.{number_by}
+use Rattle.family_levels.specs.Again.{IsFoundNext}
 use Rattle.family_levels.proofs.Judging.{refused-number, refused-says}
+use Rattle.family_levels.proofs.Lasting.{grows-none}
 use Rattle.family_levels.proofs.Statuses.{files-given}
 
 -- the face of a module that was checked is what it is to others, where nothing is at fault
@@ -76,13 +78,11 @@ module _ (name : List ℕ) (tree : ModuleTree) (imports : Imports) (files : List
       let made = leveled-some so.0 so.1 in
       let more : face_count old < face_count new = made.more_faces in
       record { count = omega (arith, more); faces = made.faces }
-  keeps-from checked (fault ∷ faults) so = subst (λ (t : LevelTables). KeepsFaces old t) (sym so.1) (record { count = omega (arith); faces = λ number below. refl })
+  keeps-from checked (fault ∷ faults) so = subst (λ (t : LevelTables). KeepsFaces old t) (sym so.1) (grows-none old).faces
 
   grows-from : (checked : CheckedModule) (faults : List Diagnostic) → IsJudgedFrom tree imports files old new checked faults found → Grows old new
   grows-from checked [] so = record { nodes = (leveled-some so.0 so.1).extends; faces = keeps-from checked [] so }
-  grows-from checked (fault ∷ faults) so =
-      subst (λ (t : LevelTables). Grows old t) (sym so.1)
-      (record { nodes = record { nodes = λ i x at. at; definitions = λ i x at. at; instances = λ i x at. at }; faces = record { count = omega (arith); faces = λ number below. refl } })
+  grows-from checked (fault ∷ faults) so = subst (λ (t : LevelTables). Grows old t) (sym so.1) (grows-none old)
 
   -- earlier nodes and faces stay
   pub judged-grows : IsJudged name tree imports files old new found → Grows old new
@@ -167,3 +167,19 @@ fault-next front family plan outcomes numbers known name ready fault needs membe
       itself = λ number at. let never : None ≡ Some number = sym number_is ∙ at in cc;
       foreign = λ title number later apart at. let never : None ≡ Some number = sym number_is ∙ at in cc;
     }
+
+pub tree-some : (one other : ModuleTree) → ◌≡◌ {A = reading.the_data} (reading.Tree one) (reading.Tree other) → one ≡ other
+tree-some one other same = cc
+
+-- the same of whatever family
+pub fault-found : (front : (family : List Member) (member : Member) (fault : Diagnostic) → AreMembersDistinct family → Contains family member → IsFront member.name member.bytes (Fault fault) → leveled (texts_of family) member.name ≡ front_refused fault)
+    → (plan : Plan) (outcomes : List (List ℕ × Outcome)) (numbers : List (List ℕ × ℕ)) (known : LevelTables) (name : List ℕ) (fault : Diagnostic) (needs : List (List ℕ))
+    → (faults : List Diagnostic) → faults ≡ fault ∷ [] → (found : Found) → found.outcome ≡ outcome.Refused faults → found.number ≡ None → found.names.uses ≡ [] → found.names.decls ≡ [] → IsFoundNext plan outcomes numbers name (reading.Fault fault) needs known known found
+fault-found front plan outcomes numbers known name fault needs faults lone found outcome_is number_is uses_is decls_is = record {
+  number = subst (λ n. IfSome n (λ number. number < face_count known)) (sym number_is) tt;
+  numbered = subst (λ o. HasNumber o found.number) (sym outcome_is) number_is;
+  agreed = subst (IsAgreed outcomes name) (sym outcome_is) tt;
+  grows = grows-none known;
+  next = λ family ready member. fault-next front family plan outcomes numbers known name ready fault needs member faults lone found outcome_is number_is uses_is decls_is;
+  so = λ family over tree ready member reads accepted. absurd (cc reads);
+}

@@ -23,7 +23,7 @@ use Rattle.family_levels.specs.declared.versions.Version.{Version}
 use Rattle.family_levels.specs.Leveling.{HasNumber, IsNext, face_count, faces_of}
 use Rattle.family_levels.specs.Versions.{IsAcceptedOver, IsFoundOver, IsHeldFace, IsVersion, Over, Shown, leveled_over, shown_by}
 use Rattle.family_levels.specs.Again.{IsFoundAs, IsLike, IsPlaced, IsPlacedNext, IsVersionAs, shown_after}
-use Rattle.family_levels.proofs.Laws.{AlikeLaws}
+use Rattle.family_levels.specs.Laws.{AlikeLaws}
 use Rattle.family_levels.proofs.Lasting.{shown-below}
 
 some-same : (a b : ℕ) → ◌≡◌ {A = Option ℕ} (Some a) (Some b) → a ≡ b

@@ -20,9 +20,10 @@ use Rattle.family_tables.specs.declared.reading.Reading.TheVariants as reading
 use Rattle.leveled_modules.specs.Leveled.{LevelTables}
 use Rattle.family_levels.specs.declared.«module».Found.{Found}
 use Rattle.family_levels.specs.declared.versions.Version.{Version}
-use Rattle.family_tables.specs.Outcomes.{faults_of}
-use Rattle.family_levels.specs.Leveling.{IsNext, face_count, faces_of}
-use Rattle.family_levels.specs.Versions.{IsCopy, IsVersion, Shown, shown_by}
+use Rattle.family_tables.specs.declared.reading.Reading.{Reading}
+use Rattle.family_tables.specs.Outcomes.{IsMember, faults_of}
+use Rattle.family_levels.specs.Leveling.{HasNumber, IsNext, IsReady, face_count, faces_of}
+use Rattle.family_levels.specs.Versions.{AreNeedsAccepted, AreVersions, Grows, IsCopy, IsFoundOver, IsVersion, Over, Shown, shown_by}
 
 -- the number of a version that was accepted
 abbrev pub version_by : Option Version → Option ℕ
@@ -95,6 +96,11 @@ pub record IsVersionAs (before anew : Version) (taken : Found) (version : Versio
   pub id : version.id ≡ before.id
   pub copy : IsCopy taken version.found
 
+-- what was found of a module, with its version: as they are, or in the place of the version before
+pub data IsInPlace (old : List (List ℕ × Version)) (name : List ℕ) (known : LevelTables) (found : Found) (anew : Version) (taken : Found) (version : Version) : Type 0 where
+  Anew : taken ≡ found → version ≡ anew → IsInPlace old name known found anew taken version
+  Taken : (before : Version) → entry_of old name ≡ Some before → IsLike known before found → IsFoundAs before found taken → IsVersionAs before anew taken version → IsInPlace old name known found anew taken version
+
 -- ---- what is kept
 
 -- with what is kept under the next number
@@ -134,3 +140,22 @@ pub record IsPlacedNext (outcomes : List (List ℕ × Outcome)) (shown : ℕ →
 pub record IsNextLeveled (family : List Member) (outcomes : List (List ℕ × Outcome)) (numbers : List (List ℕ × ℕ)) (shown : ℕ → Option Shown) (next : ℕ) (name : List ℕ) (known : LevelTables) (found : Found) (version : Option Version) : Type 0 where
   pub is : IsNext family outcomes numbers name known found
   pub held : IfSome version (IsVersion known (shown_after shown next found) (next + 1) name)
+
+-- this is found of the next module by a check, over those before it: of whatever family they are
+pub record IsFoundNext (plan : Plan) (outcomes : List (List ℕ × Outcome)) (numbers : List (List ℕ × ℕ)) (name : List ℕ) (read : Reading) (needs : List (List ℕ)) (known new : LevelTables) (found : Found) : Type 0 where
+  pub number : IfSome found.number (λ number. number < face_count new)
+  pub numbered : HasNumber found.outcome found.number
+  pub agreed : IsAgreed outcomes name found.outcome
+  pub grows : Grows known new
+  pub next : (family : List Member) → IsReady family plan outcomes numbers known name → IsMember family name read needs → IsNext family outcomes numbers name new found
+  pub so :
+      (family : List Member) (over : Over) (tree : ModuleTree) → IsReady family plan outcomes numbers known name → IsMember family name read needs → read ≡ reading.Tree tree
+      → AreNeedsAccepted family outcomes numbers name needs over → IsFoundOver new over (shown_by found.outcome found.number) name tree found
+
+-- this is made of the next module, by its version or by a check: whatever is kept of those before it, and of whatever family they are
+pub record IsMadeNext (plan : Plan) (old versions : List (List ℕ × Version)) (outcomes : List (List ℕ × Outcome)) (numbers : List (List ℕ × ℕ)) (next : ℕ) (name : List ℕ) («module» : Module) (known new : LevelTables) (found : Found) (version : Option Version) : Type 0 where
+  pub grows : Grows known new
+  pub placed : (shown : ℕ → Option Shown) → AreVersions known shown next old → ArePlaced outcomes numbers shown next versions → IsPlacedNext outcomes shown next name new found version
+  pub leveled :
+      (family : List Member) (shown : ℕ → Option Shown) → AreVersions known shown next old → ArePlaced outcomes numbers shown next versions → IsReady family plan outcomes numbers known name → IsMember family name «module».reading «module».needs
+      → IsNextLeveled family outcomes numbers shown next name new found version

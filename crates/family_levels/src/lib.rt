@@ -9,6 +9,7 @@
 mod changing;
 mod family;
 mod findings;
+mod laws;
 mod module;
 mod modules;
 mod names;

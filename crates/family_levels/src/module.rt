@@ -1,35 +1,28 @@
 // What is found of one module behind all that it needs.
 ghost use Rattle.std.specs.Prelude.{◌≡◌, ◌<◌, ◌∷◌, [], ℕ, List as ListOf, IfOk, IfSome, None};
-ghost use Rattle.family_facts.specs.Family.{Member};
 ghost use Rattle.family_facts.specs.Verdicts.{after_checks};
-ghost use Rattle.family_tables.specs.Agreement.{AreAgreed, IsAgreed};
+ghost use Rattle.family_tables.specs.Agreement.{AreAgreed};
 ghost use Rattle.family_tables.specs.Modules.{IsTreeOf, needs_of, tree_count};
-ghost use Rattle.family_tables.specs.Outcomes as outcomes_of;
+ghost use Rattle.family_tables.specs.Outcomes.{IsSomeModule};
 ghost use Rattle.family_tables.specs.Tables.{entry_of};
 ghost use Rattle.family_tables.specs.declared.reading.Reading.TheVariants as reading;
 ghost use Rattle.leveled_modules.specs.Leveled.{AreKept};
-ghost use Rattle.family_levels.specs.Leveling.{AreNumbers, HasNumber, IsNext, IsReady};
+ghost use Rattle.family_levels.specs.Leveling.{AreNumbers, face_count};
 ghost use Rattle.family_levels.specs.Judging.{IsFoundBy, IsJudged};
-ghost use Rattle.family_levels.specs.Leveling.{face_count};
 ghost use Rattle.family_tables.specs.declared.outcome.Outcome.TheVariants as outcome;
-ghost use Rattle.family_tables.specs.Outcomes.{IsMember};
 ghost use Rattle.indexmap.specs.IndexMap.{get_by_text};
 ghost use Rattle.module_model.specs.Given.{AreFaces};
-ghost use Rattle.family_levels.specs.Versions.{AreNeedsAccepted, Grows, IsCopy, IsFoundOver};
-ghost use Rattle.family_levels.specs.Versions.{Over, shown_by};
-ghost use Rattle.tla_tree.specs.declared.unit.ModuleTree.{ModuleTree as ModuleTreeOf};
+ghost use Rattle.family_levels.specs.Versions.{IsCopy};
+ghost use Rattle.family_levels.specs.Again.{IsFoundNext};
 
+use crate::laws::laws_below;
 use crate::names::{Names, SharedNames};
 use crate::numbers::numbers_of;
-use alike_modules::{
-    known_files_stay_known, made_modules_answer, made_modules_are_known, modules_are_foreign,
-};
 use check_core::{Checked, check_module};
 use family_tables::{Module, Outcome, Plan, Reading, Table, imports_of};
 use indexmap::IndexMap;
-use leveled_facts::{declarations_have_places, leveled_is};
+use leveled_facts::leveled_is;
 use leveled_modules::{LevelTables, ModuleLevels, level_module};
-use module_facts::{in_order as in_order_is_one, none_in_order};
 use module_model::{Imported, in_order};
 use std::alloc::Global;
 use step_count::Steps;
@@ -150,31 +143,11 @@ fn level_tree<L>(
     requires kept { AreKept known }
     requires numbers { AreNumbers known numbers.now }
     ensures kept { IfOk result (λ made. AreKept made.0) }
-    ensures number { IfOk result (λ made. IfSome made.1.number
-        (λ number. number < face_count made.0)) }
-    ensures numbered { IfOk result (λ made. HasNumber made.1.outcome made.1.number) }
-    ensures agreed { IfOk result (λ made. IsAgreed outcomes.now name.now made.1.outcome) }
-    ensures next { (family : ListOf Member)
-        → IsReady family plan.now outcomes.now numbers.now known name.now
-        → IsMember family name.now (reading.Tree tree.now) needs.now
-        → IfOk result (λ made. IsNext family outcomes.now numbers.now name.now made.0 made.1) }
-    ensures grows { IfOk result (λ made. Grows known made.0) }
-    ensures so { (family : ListOf Member) (over : Over)
-        → IsReady family plan.now outcomes.now numbers.now known name.now
-        → IsMember family name.now (reading.Tree tree.now) needs.now
-        → AreNeedsAccepted family outcomes.now numbers.now name.now needs.now over
-        → IfOk result (λ made. IsFoundOver made.0 over
-        (shown_by made.1.outcome made.1.number) name.now tree.now made.1) }
+    ensures next { IfOk result (λ made. IsFoundNext plan.now outcomes.now numbers.now name.now
+        (reading.Tree tree.now) needs.now known made.0 made.1) }
     ensures steps { IfOk result (λ _. steps.new ≡ after_checks 1 steps.old) }
 {
-    made_modules_answer();
-    made_modules_are_known();
-    known_files_stay_known();
-    modules_are_foreign();
-    leveled_is();
-    declarations_have_places();
-    in_order_is_one();
-    none_in_order();
+    laws_below();
     let imports = imports_of(alloc, plan, outcomes, name, needs)?;
     let files = numbers_of(alloc, &imports, numbers, needs)?;
     let made = judge(alloc, name, tree, &imports, &files, known, steps)?;
@@ -202,28 +175,14 @@ pub(crate) fn level_one<L>(
     known: LevelTables,
     steps: &mut Steps<L>,
 ) -> Result<(LevelTables, Found), Memory>
-    requires some { outcomes_of.IsSomeModule name.now module.now }
+    requires some { IsSomeModule name.now module.now }
     requires agreed { AreAgreed outcomes.now }
     requires unfound { entry_of outcomes.now name.now ≡ None }
     requires kept { AreKept known }
     requires numbers { AreNumbers known numbers.now }
     ensures kept { IfOk result (λ made. AreKept made.0) }
-    ensures number { IfOk result (λ made. IfSome made.1.number
-        (λ number. number < face_count made.0)) }
-    ensures numbered { IfOk result (λ made. HasNumber made.1.outcome made.1.number) }
-    ensures agreed { IfOk result (λ made. IsAgreed outcomes.now name.now made.1.outcome) }
-    ensures next { (family : ListOf Member)
-        → IsReady family plan.now outcomes.now numbers.now known name.now
-        → IsMember family name.now module.now.reading module.now.needs
-        → IfOk result (λ made. IsNext family outcomes.now numbers.now name.now made.0 made.1) }
-    ensures grows { IfOk result (λ made. Grows known made.0) }
-    ensures so { (family : ListOf Member) (over : Over) (tree : ModuleTreeOf)
-        → IsReady family plan.now outcomes.now numbers.now known name.now
-        → IsMember family name.now module.now.reading module.now.needs
-        → module.now.reading ≡ reading.Tree tree
-        → AreNeedsAccepted family outcomes.now numbers.now name.now module.now.needs over
-        → IfOk result (λ made. IsFoundOver made.0 over
-        (shown_by made.1.outcome made.1.number) name.now tree made.1) }
+    ensures next { IfOk result (λ made. IsFoundNext plan.now outcomes.now numbers.now name.now
+        module.now.reading module.now.needs known made.0 made.1) }
     ensures steps { IfOk result (λ _. steps.new
         ≡ after_checks (tree_count module.now.reading) steps.old) }
 {

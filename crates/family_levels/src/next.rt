@@ -1,41 +1,30 @@
 // The next module, by its version or by a check.
-ghost use Rattle.std.specs.Prelude.{◌≡◌, ◌≤◌, [], ℕ, List as ListOf, IfOk, IfSome, IsTrue};
-ghost use Rattle.std.specs.Prelude.{Option as OptionOf, Some};
+ghost use Rattle.std.specs.Prelude.{◌≡◌, ◌≤◌, [], IfOk, IfSome, IsTrue, Some};
 ghost use Rattle.std.specs.Bool.{OnTrue};
-ghost use Rattle.family_facts.specs.Family.{Member};
 ghost use Rattle.family_facts.specs.Verdicts.{after_checks};
 ghost use Rattle.family_tables.specs.Agreement.{AreAgreed};
 ghost use Rattle.family_tables.specs.Modules.{tree_count};
-ghost use Rattle.family_tables.specs.Outcomes.{IsMember, IsSomeModule};
+ghost use Rattle.family_tables.specs.Outcomes.{IsSomeModule};
 ghost use Rattle.family_tables.specs.Tables.{entry_of};
 ghost use Rattle.leveled_modules.specs.Leveled.{AreKept};
 ghost use Rattle.tree_numbers.specs.Numbered.{IsNumbered};
-ghost use Rattle.family_levels.specs.Leveling.{AreNumbers, IsReady};
-ghost use Rattle.family_levels.specs.Versions.{AreVersions, Grows, Shown};
-ghost use Rattle.family_levels.specs.Again.{AreNeeds, ArePlaced, IsFoundAgain, IsFoundAs};
-ghost use Rattle.family_levels.specs.Again.{IsLike, IsNextLeveled, IsPlacedNext, IsVersionAnew};
-ghost use Rattle.family_levels.specs.Again.{IsVersionOf, version_by};
+ghost use Rattle.family_levels.specs.Leveling.{AreNumbers};
+ghost use Rattle.family_levels.specs.Again.{AreNeeds, IsFoundAgain, IsFoundAs, IsInPlace, IsLike};
+ghost use Rattle.family_levels.specs.Again.{IsMadeNext, IsVersionAnew, IsVersionOf, version_by};
 
+use crate::laws::laws_below;
 use crate::module::{Found, level_one};
 use crate::versions::{Version, is_text_of};
-use alike_modules::{
-    faces_are_known_alike, faces_are_made_alike, known_files_stay_known, made_modules_answer,
-    made_modules_are_known, modules_are_foreign, modules_are_found_alike,
-    refused_modules_are_found_alike,
-};
 use face_views::{are_same, same_faces_look_alike};
 use family_tables::{Module, Outcome, Plan, Reading, Table};
 use growing_modules::made_modules_stay;
-use leveled_facts::{declarations_have_places, leveled_is};
 use leveled_modules::LevelTables;
-use module_facts::{in_order as in_order_is_one, none_in_order};
 use resolved_trees::trees_are_kept;
 use std::alloc::Global;
 use step_count::Steps;
 use tla_tree::ModuleTree;
 use tool_list::{Chars, List, Memory};
 use tree_numbers::{TreeNumbers, numbers_stay};
-use viewed_modules::made_modules_need_views;
 
 // The number of the version of a module, if it is accepted.
 fn version_of(versions: &Table<Version>, name: &str) -> Option<u64>
@@ -209,6 +198,73 @@ fn found_as(alloc: Global, version: &Version, found: Found) -> Result<Found, Mem
     })
 }
 
+// What was found of a module, with its version: in the place of the version before, where that was to others
+// what the module is.
+fn in_place(
+    alloc: Global,
+    old: &Table<Version>,
+    name: &str,
+    known: &LevelTables,
+    trees: &mut TreeNumbers,
+    found: Found,
+    anew: Version,
+) -> Result<(Found, Version), Memory>
+    requires kept { AreKept known.now }
+    requires numbered { IsNumbered known.now.tables.state.flat trees.old }
+    ensures numbered { IsNumbered known.now.tables.state.flat trees.new }
+    ensures placed { IfOk result (λ made. IsInPlace old.now name.now known.now found anew made.0
+        made.1) }
+{
+    let Some(before) = version_like(alloc, old, name, known, trees, &found)? else {
+        return Ok((found, anew));
+    };
+    let found = found_as(alloc, before, found)?;
+    let version = anew.in_place_of(alloc, before, &found)?;
+    Ok((found, version))
+}
+
+// What a check finds of a module over versions with these numbers, with its version.
+fn level_anew<L>(
+    alloc: Global,
+    plan: &Plan,
+    old: &Table<Version>,
+    versions: &Table<Version>,
+    outcomes: &Table<Outcome>,
+    numbers: &Table<usize>,
+    name: &str,
+    module: &Module,
+    needs: Option<List<u64>>,
+    known: LevelTables,
+    trees: &mut TreeNumbers,
+    next: u64,
+    steps: &mut Steps<L>,
+) -> Result<(LevelTables, Found, Option<Version>), Memory>
+    requires some { IsSomeModule name.now module.now }
+    requires agreed { AreAgreed outcomes.now }
+    requires unfound { entry_of outcomes.now name.now ≡ None }
+    requires needs { IfSome needs (AreNeeds plan.now versions.now name.now module.now.needs) }
+    requires kept { AreKept known }
+    requires numbered { IsNumbered known.tables.state.flat trees.old }
+    requires numbers { AreNumbers known numbers.now }
+    ensures kept { IfOk result (λ made. AreKept made.0) }
+    ensures numbered { IfOk result (λ made. IsNumbered made.0.tables.state.flat trees.new) }
+    ensures made { IfOk result (λ made. IsMadeNext plan.now old.now versions.now outcomes.now
+        numbers.now next name.now module.now known made.0 made.1 made.2) }
+    ensures steps { IfOk result (λ _. steps.new
+        ≡ after_checks (tree_count module.now.reading) steps.old) }
+{
+    laws_below();
+    made_modules_stay();
+    same_faces_look_alike();
+    numbers_stay();
+    let (known, found) = level_one(alloc, plan, outcomes, numbers, name, module, known, steps)?;
+    let Some(anew) = new_version(alloc, module, needs, next, &found)? else {
+        return Ok((known, found, None));
+    };
+    let (found, version) = in_place(alloc, old, name, &known, trees, found, anew)?;
+    Ok((known, found, Some(version)))
+}
+
 /// What is found of a module behind what it needs, and the version that it is, if it has a tree and
 /// all that it needs is accepted: what was found of it before over the same versions, or else what
 /// a check finds, which is one step if it has no front fault. A version that is found anew has the
@@ -235,18 +291,8 @@ pub(crate) fn level_next<L>(
     requires numbers { AreNumbers known numbers.now }
     ensures kept { IfOk result (λ made. AreKept made.0) }
     ensures numbered { IfOk result (λ made. IsNumbered made.0.tables.state.flat trees.new) }
-    ensures grows { IfOk result (λ made. Grows known made.0) }
-    ensures found { (shown : ℕ → OptionOf Shown) → AreVersions known shown next old.now
-        → ArePlaced outcomes.now numbers.now shown next versions.now
-        → IfOk result (λ made. IsPlacedNext outcomes.now shown next name.now made.0 made.1
-        made.2) }
-    ensures next { (family : ListOf Member) (shown : ℕ → OptionOf Shown)
-        → AreVersions known shown next old.now
-        → ArePlaced outcomes.now numbers.now shown next versions.now
-        → IsReady family plan.now outcomes.now numbers.now known name.now
-        → IsMember family name.now module.now.reading module.now.needs
-        → IfOk result (λ made. IsNextLeveled family outcomes.now numbers.now shown next name.now
-        made.0 made.1 made.2) }
+    ensures made { IfOk result (λ made. IsMadeNext plan.now old.now versions.now outcomes.now
+        numbers.now next name.now module.now known made.0 made.1 made.2) }
     ensures most { IfOk result (λ _. steps.new
         ≤ after_checks (tree_count module.now.reading) steps.old) }
     ensures all { old.now ≡ [] → IfOk result (λ _. steps.new
@@ -255,36 +301,16 @@ pub(crate) fn level_next<L>(
     // The proof needs that a count is below 2^64.
     let _count = steps.count();
     front_laws::one_front();
-    made_modules_answer();
-    made_modules_are_known();
-    known_files_stay_known();
-    modules_are_foreign();
-    leveled_is();
-    declarations_have_places();
-    in_order_is_one();
-    none_in_order();
-    faces_are_known_alike();
-    made_modules_need_views();
-    made_modules_stay();
-    modules_are_found_alike();
-    refused_modules_are_found_alike();
-    faces_are_made_alike();
-    same_faces_look_alike();
-    numbers_stay();
+    laws_below();
     let needs = needed_versions(alloc, plan, versions, name, module.needs.as_slice())?;
     if let Some(version) = found_version(old, name, module, &needs) {
         let found = version.found.copied(alloc)?;
         let version = version.copied(alloc)?;
         return Ok((known, found, Some(version)));
     }
-    let (known, found) = level_one(alloc, plan, outcomes, numbers, name, module, known, steps)?;
-    let Some(anew) = new_version(alloc, module, needs, next, &found)? else {
-        return Ok((known, found, None));
-    };
-    let Some(before) = version_like(alloc, old, name, &known, trees, &found)? else {
-        return Ok((known, found, Some(anew)));
-    };
-    let found = found_as(alloc, before, found)?;
-    let version = anew.in_place_of(alloc, before, &found)?;
-    Ok((known, found, Some(version)))
+    let made = level_anew(
+        alloc, plan, old, versions, outcomes, numbers, name, module, needs, known, trees, next,
+        steps,
+    )?;
+    Ok(made)
 }

@@ -123,12 +123,12 @@ loop-name-preserved g c =
     let outcomes_are = c.in_ok-add.ensures in
     let numbers_are = c.in_ok-keep.ensures in
     let versions_are = c.in_ok-keep-2.ensures in
-    let grows = c.in_ok-behind.ensures.grows in
-    let found_so = c.in_ok-behind.ensures.found inv.shown inv.before inv.placed in
+    let grows = c.in_ok-behind.ensures.made.grows in
+    let found_so = c.in_ok-behind.ensures.made.placed inv.shown inv.before inv.placed in
     let stay = c.made_modules_stay.ensures in
     let known_stay = c.known_files_stay_known.ensures.grows in
     let next : (family : List Member) → AreMembersDistinct family → AreModules family modules → IsNextLeveled family at.outcomes at.numbers inv.shown at.next name known found version =
-    (λ family distinct are. c.in_ok-behind.ensures.next family inv.shown inv.before inv.placed
+    (λ family distinct are. c.in_ok-behind.ensures.made.leveled family inv.shown inv.before inv.placed
     (ready-here modules plan c.requires.plan i d name within is one family distinct are at.outcomes inv.names at.numbers at.known (inv.leveled_so family distinct are))
     (member-here one family modules name module_here c.requires.once are there)) in
     record {

@@ -1,4 +1,4 @@
--- Laws on which proofs stand here, as types.
+-- Laws of crates below, together, as proofs here take them.
 use Rattle.std.specs.Prelude.{◌≡◌, ℕ, false, List, [], ◌∷◌, Option, Contains}
 use Rattle.std.specs.Str.{bytes_eq}
 use Rattle.unit_grammar.specs.Units.{ModuleUnits}
