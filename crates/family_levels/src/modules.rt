@@ -15,7 +15,7 @@ ghost use Rattle.family_levels.specs.Versions.{AreHeld, AreHeldWith};
 use crate::findings::Findings;
 use crate::module::Found;
 use crate::next::level_next;
-use crate::versions::{Nodes, Version, Versions};
+use crate::versions::{Nodes, Version, Versions, ids_needed};
 use alike_modules::{known_files_stay_known, made_modules_are_known};
 use family_tables::{Module, Plan, Table};
 use growing_modules::made_modules_stay;
@@ -102,6 +102,7 @@ pub(crate) fn level_all<L>(
     let mut numbers = Table::new(alloc);
     let mut names = Table::new(alloc);
     let mut versions = Table::new(alloc);
+    let needed = ids_needed(alloc, old)?;
     let Nodes {
         mut known,
         mut trees,
@@ -115,8 +116,8 @@ pub(crate) fn level_all<L>(
         };
         let checks = steps.count();
         let (behind, found, version) = level_next(
-            alloc, plan, old, &versions, &outcomes, &numbers, name, module, known, &mut trees,
-            next, steps,
+            alloc, plan, old, &needed, &versions, &outcomes, &numbers, name, module, known,
+            &mut trees, next, steps,
         )?;
         known = behind;
         made = made.saturating_add(size_anew(&version, steps.count() != checks));

@@ -18,6 +18,7 @@ use crate::versions::{Version, is_text_of};
 use face_views::{are_same, same_faces_look_alike};
 use family_tables::{Module, Outcome, Plan, Reading, Table};
 use growing_modules::made_modules_stay;
+use indexmap::IndexSet;
 use leveled_modules::LevelTables;
 use resolved_trees::trees_are_kept;
 use std::alloc::Global;
@@ -158,10 +159,11 @@ fn is_like(
 }
 
 // The version of a module that was to others what the module is of which this was found, if there
-// is one.
+// is one. It is compared where another version is over it.
 fn version_like<'a>(
     alloc: Global,
     old: &'a Table<Version>,
+    needed: &IndexSet<u64>,
     name: &str,
     known: &LevelTables,
     trees: &mut TreeNumbers,
@@ -176,7 +178,7 @@ fn version_like<'a>(
     let Some(version) = old.get(name) else {
         return Ok(None);
     };
-    if is_like(alloc, known, trees, version, found)? {
+    if needed.contains(&version.id) && is_like(alloc, known, trees, version, found)? {
         return Ok(Some(version));
     }
     Ok(None)
@@ -198,11 +200,12 @@ fn found_as(alloc: Global, version: &Version, found: Found) -> Result<Found, Mem
     })
 }
 
-// What was found of a module, with its version: in the place of the version before, where that was to others
-// what the module is.
+// What was found of a module, with its version: in the place of the version before, where another one is
+// over that and it was to others what the module is.
 fn in_place(
     alloc: Global,
     old: &Table<Version>,
+    needed: &IndexSet<u64>,
     name: &str,
     known: &LevelTables,
     trees: &mut TreeNumbers,
@@ -215,7 +218,7 @@ fn in_place(
     ensures placed { IfOk result (λ made. IsInPlace old.now name.now known.now found anew made.0
         made.1) }
 {
-    let Some(before) = version_like(alloc, old, name, known, trees, &found)? else {
+    let Some(before) = version_like(alloc, old, needed, name, known, trees, &found)? else {
         return Ok((found, anew));
     };
     let found = found_as(alloc, before, found)?;
@@ -228,6 +231,7 @@ fn level_anew<L>(
     alloc: Global,
     plan: &Plan,
     old: &Table<Version>,
+    needed: &IndexSet<u64>,
     versions: &Table<Version>,
     outcomes: &Table<Outcome>,
     numbers: &Table<usize>,
@@ -261,18 +265,20 @@ fn level_anew<L>(
     let Some(anew) = new_version(alloc, module, needs, next, &found)? else {
         return Ok((known, found, None));
     };
-    let (found, version) = in_place(alloc, old, name, &known, trees, found, anew)?;
+    let (found, version) = in_place(alloc, old, needed, name, &known, trees, found, anew)?;
     Ok((known, found, Some(version)))
 }
 
 /// What is found of a module behind what it needs, and the version that it is, if it has a tree and
 /// all that it needs is accepted: what was found of it before over the same versions, or else what
 /// a check finds, which is one step if it has no front fault. A version that is found anew has the
-/// number of the one before if it is to others what that was, or else the next one.
+/// number of the one before if that is needed and the module is to others what it was, or else the
+/// next one.
 pub(crate) fn level_next<L>(
     alloc: Global,
     plan: &Plan,
     old: &Table<Version>,
+    needed: &IndexSet<u64>,
     versions: &Table<Version>,
     outcomes: &Table<Outcome>,
     numbers: &Table<usize>,
@@ -309,8 +315,8 @@ pub(crate) fn level_next<L>(
         return Ok((known, found, Some(version)));
     }
     let made = level_anew(
-        alloc, plan, old, versions, outcomes, numbers, name, module, needs, known, trees, next,
-        steps,
+        alloc, plan, old, needed, versions, outcomes, numbers, name, module, needs, known, trees,
+        next, steps,
     )?;
     Ok(made)
 }

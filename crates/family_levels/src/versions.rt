@@ -10,6 +10,7 @@ ghost use Rattle.family_levels.specs.Versions.{AreHeldWith};
 
 use crate::module::Found;
 use family_tables::{Module, Reading, SharedTree, Table};
+use indexmap::IndexSet;
 use leveled_modules::LevelTables;
 use std::alloc::Global;
 use tla_tree::ModuleTree;
@@ -148,6 +149,21 @@ fn version_there<'a>(
         return None;
     }
     old.get(name)
+}
+
+/// The numbers of those versions that others are over.
+pub(crate) fn ids_needed(
+    alloc: Global,
+    versions: &Table<Version>,
+) -> Result<IndexSet<u64>, Memory> {
+    let mut needed = IndexSet::new(alloc);
+    for index in 0..versions.len() {
+        let (_, version) = versions.at(index);
+        for id in version.needs.as_slice() {
+            needed.insert(*id)?;
+        }
+    }
+    Ok(needed)
 }
 
 impl Versions {
