@@ -1,3 +1,5 @@
 pub mod Comparing
+pub mod Exactly
+pub mod Exporting
 pub mod Looking
 pub mod Views

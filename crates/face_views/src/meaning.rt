@@ -1,12 +1,12 @@
 // Whether names mean the same, in all that is told of it.
 ghost use Rattle.std.specs.Prelude.{◌≡◌};
-ghost use Rattle.std.specs.Bool.{OnTrue};
+ghost use Rattle.face_views.specs.Exact.{Tells};
 
 use tla_model::{Callee, Entity, Meaning, same_decl, same_units};
 
 // Whether callees are the same.
 fn is_same_callee(one: &Callee, other: &Callee) -> bool
-    ensures { OnTrue result (one.now ≡ other.now) }
+    ensures { Tells result (one.now ≡ other.now) }
 {
     if one.instance != other.instance {
         return false;
@@ -16,7 +16,7 @@ fn is_same_callee(one: &Callee, other: &Callee) -> bool
 
 // Whether entities are the same.
 fn is_same_entity(one: &Entity, other: &Entity) -> bool
-    ensures { OnTrue result (one.now ≡ other.now) }
+    ensures { Tells result (one.now ≡ other.now) }
 {
     match (one, other) {
         (Entity::Constant { arity }, Entity::Constant { arity: places }) => arity == places,
@@ -34,9 +34,10 @@ fn is_same_entity(one: &Entity, other: &Entity) -> bool
     }
 }
 
-/// Whether meanings are the same: what is declared, where and as what entity, and the units through which it came.
+/// Whether meanings are the same: what is declared, where and as what entity, and the units through
+/// which it came.
 pub fn is_same_meaning(one: &Meaning, other: &Meaning) -> bool
-    ensures { OnTrue result (one.now ≡ other.now) }
+    ensures { Tells result (one.now ≡ other.now) }
 {
     match (one, other) {
         (Meaning::BuiltIn, Meaning::BuiltIn) => true,

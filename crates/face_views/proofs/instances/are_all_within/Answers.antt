@@ -1,13 +1,22 @@
-use Rattle.std.proofs.Common.{sym, subst}
+use Rattle.std.proofs.Common.{ℕ, List, sym}
 use Rattle.std.specs.Arc.{arc_value}
 use Rattle.std.specs.Str.{bytes_eq}
-use Rattle.module_model.specs.Parts.{InText}
+use Rattle.list_laws.proofs.Texts.{same-text}
+use Rattle.module_model.specs.Parts.{ByText}
 use Rattle.tla_model.specs.Tables.{lookup}
 use Rattle.face_views.specs.Found.{AreWithin}
-use Rattle.face_views.proofs.Looking.{all-within-next}
+use Rattle.face_views.proofs.Looking.{holds-next, not-all-within}
 use Rattle.face_views.proofs.instances.are_all_within.Goals as goal
+
+pub returns-then-not-is_within : goal.returns-then-not-is_within
+returns-then-not-is_within c =
+    not-all-within c.args.parts.now c.args.others.now c.in-Some.title.now c.if-not-is_within.ensures
 
 pub loop-index-preserved : goal.loop-index-preserved
 loop-index-preserved c =
-    all-within-next c.loop-index.index c.args.parts.now c.in-Some.title.now (arc_value c.in-Some.part.now) c.args.others.now (sym c.in-Some.ensures)
-    (subst (λ (part : InText). AreWithin part (lookup bytes_eq c.args.others.now c.in-Some.title.now)) c.deref.ensures c.if-not-is_within.ensures) c.loop-index.invariant
+    let parts : ByText = c.args.parts.now in
+    let others : ByText = c.args.others.now in
+    holds-next bytes_eq same-text
+    (λ (title : List ℕ). AreWithin (lookup bytes_eq parts title) (lookup bytes_eq others title))
+    c.loop-index.index parts c.in-Some.title.now (arc_value c.in-Some.field-0-1.now)
+    (sym c.in-Some.ensures) c.if-not-is_within.ensures c.loop-index.invariant

@@ -1,6 +1,8 @@
 use Rattle.std.proofs.Common.{Some}
-use Rattle.face_views.proofs.Looking.{AreFoundBefore}
+use Rattle.std.specs.Prelude.{nat_eq}
+use Rattle.face_views.specs.Found.{IsFound}
+use Rattle.face_views.proofs.Looking.{HoldsBefore}
 use Rattle.face_views.proofs.instances.are_found.Given as goal
 
 abbrev pub invariant-loop-index : goal.invariant-loop-index
-invariant-loop-index l = AreFoundBefore l.index l.part (Some l.other)
+invariant-loop-index l = HoldsBefore nat_eq (IsFound (Some l.part) (Some l.other)) l.index l.part
