@@ -442,16 +442,33 @@ fn frames_of(alloc: Global, contents: &[&str]) -> Result<Vec<u8>, Memory> {
     Ok(bytes)
 }
 
-// Whether sessions over the folder `/w` answer what they should.
+// What a session over the folder `/w` with these files is answered.
+fn serve(alloc: Global, files: List<FileBytes>, input: Vec<u8>, room: u32) -> Result<Ran, Memory> {
+    let folder = folder_at(alloc, "/w", files, 0)?;
+    let output = MemorySink::new(alloc, room, 7, List::new(alloc))?;
+    run_with(alloc, &["serve"], folder, input, output)
+}
+
+// Whether a session over the folder `/w` with these modules is answered as it should be.
+fn answer_one(
+    rt: &impl Abort,
+    alloc: Global,
+    files: &[(&str, &str)],
+    session: &Session,
+) -> Result<(), Memory> {
+    let (contents, answers, status) = session;
+    let input = frames_of(alloc, *contents)?;
+    let ran = serve(alloc, modules_of(alloc, files)?, input, 4096)?;
+    let written = frames_of(alloc, *answers)?;
+    assert_eq!(rt; ran.output.bytes(), written.as_slice());
+    assert_eq!(rt; ran.status, *status);
+    Ok(())
+}
+
+// The same of each session over the modules that most of them have.
 fn answer(rt: &impl Abort, alloc: Global, rows: &[Session]) -> Result<(), Memory> {
-    for (contents, answers, status) in rows {
-        let folder = folder_at(alloc, "/w", modules_of(alloc, &sessions::FILES)?, 0)?;
-        let input = frames_of(alloc, *contents)?;
-        let output = MemorySink::new(alloc, 4096, 7, List::new(alloc))?;
-        let ran = run_with(alloc, &["serve"], folder, input, output)?;
-        let written = frames_of(alloc, *answers)?;
-        assert_eq!(rt; ran.output.bytes(), written.as_slice());
-        assert_eq!(rt; ran.status, *status);
+    for session in rows {
+        answer_one(rt, alloc, &sessions::FILES, session)?;
     }
     Ok(())
 }
@@ -491,13 +508,19 @@ fn tells_others_of_an_edit(rt: HostRuntime) -> Result<(), Fail> {
 }
 
 #[test]
+fn tells_others_of_an_instance(rt: HostRuntime) -> Result<(), Fail> {
+    for (files, session) in &sessions::instances::INSTANCES {
+        answer_one(&rt, rt.alloc(), *files, session)?;
+    }
+    Ok(())
+}
+
+#[test]
 fn checks_what_reaches_a_change(rt: HostRuntime) -> Result<(), Fail> {
     let alloc = rt.alloc();
     for (files, contents, ticks) in &sessions::counts::COUNTED {
-        let folder = folder_at(alloc, "/w", modules_of(alloc, *files)?, 0)?;
         let input = frames_of(alloc, *contents)?;
-        let output = MemorySink::new(alloc, 4096, 7, List::new(alloc))?;
-        let ran = run_with(alloc, &["serve"], folder, input, output)?;
+        let ran = serve(alloc, modules_of(alloc, *files)?, input, 4096)?;
         assert_eq!(rt; ran.ticks, *ticks);
     }
     Ok(())

@@ -3,6 +3,7 @@ pub mod changes;
 pub mod counts;
 pub mod edits;
 pub mod files;
+pub mod instances;
 pub mod names;
 pub mod outlines;
 pub mod phases;

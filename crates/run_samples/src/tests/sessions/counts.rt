@@ -1,5 +1,8 @@
 // How many modules are checked for a session: the eight built-in ones once, and else those that
 // change, and those to which one that they name is not what it was.
+use crate::tests::sessions::instances::{
+    LOCAL, MORE_IN_Q, NESTED, OPEN_D, OPEN_M, OPEN_O, OPEN_Q, OTHER_IN_M,
+};
 use crate::tests::sessions::{ASK_F, FILES, OPEN_B, OPEN_C, ROOT};
 
 const CHANGE_B: &str =
@@ -60,7 +63,7 @@ const CHAIN: [(&str, &str); 3] = [
 ];
 
 /// Sessions over folders.
-pub static COUNTED: [Counted; 16] = [
+pub static COUNTED: [Counted; 18] = [
     (&FILES, &[ROOT, OPEN_C], 10),
     // A document with the text of its file, and a change that changes nothing.
     (&FILES, &[ROOT, OPEN_C, OPEN_B, SAME_C], 10),
@@ -85,4 +88,8 @@ pub static COUNTED: [Counted; 16] = [
     (&CHAIN, &[ROOT, OPEN_LAST, OPEN_FIRST], 11),
     (&CHAIN, &[ROOT, OPEN_LAST, OPEN_FIRST, COMMENT_A], 12),
     (&CHAIN, &[ROOT, OPEN_LAST, OPEN_FIRST, COMMENT_A, SET_A], 15),
+    // Not C, to which B is what it was: there the instance is LOCAL.
+    (&LOCAL, &[ROOT, OPEN_D, OPEN_M, OTHER_IN_M], 17),
+    // Not N, to which P is what it was: of a nested module nothing is brought.
+    (&NESTED, &[ROOT, OPEN_O, OPEN_Q, MORE_IN_Q], 17),
 ];
