@@ -32,10 +32,10 @@ use Rattle.family_tables.specs.declared.outcome.Outcome.{Outcome}
 use Rattle.family_tables.specs.declared.reading.Reading.TheVariants as reading
 use Rattle.leveled_facts.specs.Families.{declares}
 use Rattle.alike_modules.specs.Alike.{AreFoundAlike}
-use Rattle.leveled_facts.specs.Modules.{Accepted, import_status, outside_by}
+use Rattle.leveled_facts.specs.Modules.{Accepted, Status, import_status, outside_by}
 use Rattle.family_levels.specs.declared.«module».Found.{Found}
 use Rattle.family_levels.specs.Leveling.{IsReady, face_count, faces_of}
-use Rattle.family_levels.specs.Versions.{AreNeedsAccepted, AreViewed, IsAcceptedOver, IsFaceLike, IsFoundOver, IsHeld, IsHeldFace, IsMadeWith, Over, Own, Shared, Shown, Told, given_over, leveled_over, named_faults, number_in, numbers_over, outsides_over, shown_in, status_told}
+use Rattle.family_levels.specs.Versions.{AreNeedsTold, AreViewed, IsAcceptedOver, IsFaceLike, IsFoundOver, IsHeld, IsHeldFace, IsMadeWith, Over, Own, Shared, Shown, Told, given_over, leveled_over, named_faults, number_in, numbers_over, outsides_over, shown_in, status_told}
 use Rattle.family_levels.specs.Laws.{AlikeLaws, FamilyLaws, KnownLaws}
 use Rattle.family_levels.proofs.Over.{made-over, over-viewed}
 
@@ -64,33 +64,33 @@ told-as None shown e = absurd (cc e)
 told-as (Some told) shown e = record { there = told; is = refl; same = shown-some told.shown shown e }
 
 -- where their views are those of their faces, they have the same views
-views-by : (one other : Option Told) → ((told : Told) → one ≡ Some told → told.outside.view ≡ face_outside told.shown.face) → ((told : Told) → other ≡ Some told → told.outside.view ≡ face_outside told.shown.face)
-    → shown_in one ≡ shown_in other → (outside_by (status_told one)).view ≡ (outside_by (status_told other)).view
-views-by None None first second same = refl
-views-by None (Some told) first second same = absurd (cc same)
-views-by (Some told) None first second same = absurd (cc same)
-views-by (Some one) (Some other) first second same = first one refl ∙ (ap (λ (s : Shown). face_outside s.face) (shown-some one.shown other.shown same) ∙ sym (second other refl))
+views-by : (lack less : Status) → lack ≡ less → (one other : Option Told) → ((told : Told) → one ≡ Some told → told.outside.view ≡ face_outside told.shown.face) → ((told : Told) → other ≡ Some told → told.outside.view ≡ face_outside told.shown.face)
+    → shown_in one ≡ shown_in other → (outside_by (status_told lack one)).view ≡ (outside_by (status_told less other)).view
+views-by lack less lacks None None first second same = ap (λ s. (outside_by s).view) lacks
+views-by lack less lacks None (Some told) first second same = absurd (cc same)
+views-by lack less lacks (Some told) None first second same = absurd (cc same)
+views-by lack less lacks (Some one) (Some other) first second same = first one refl ∙ (ap (λ (s : Shown). face_outside s.face) (shown-some one.shown other.shown same) ∙ sym (second other refl))
 
 -- and so the names of others are to them what they were
-statuses-by : (one other : Option Told) → ((told : Told) → one ≡ Some told → told.outside.view ≡ face_outside told.shown.face) → ((told : Told) → other ≡ Some told → told.outside.view ≡ face_outside told.shown.face)
-    → shown_in one ≡ shown_in other → import_status (status_told one) ≡ import_status (status_told other)
-statuses-by None None first second same = refl
-statuses-by None (Some told) first second same = absurd (cc same)
-statuses-by (Some told) None first second same = absurd (cc same)
-statuses-by (Some one) (Some other) first second same = ap (λ (v : ModuleView). import_status (Accepted (record one.outside { view = v }))) (views-by (Some one) (Some other) first second same)
+statuses-by : (lack less : Status) → lack ≡ less → (one other : Option Told) → ((told : Told) → one ≡ Some told → told.outside.view ≡ face_outside told.shown.face) → ((told : Told) → other ≡ Some told → told.outside.view ≡ face_outside told.shown.face)
+    → shown_in one ≡ shown_in other → import_status (status_told lack one) ≡ import_status (status_told less other)
+statuses-by lack less lacks None None first second same = ap import_status lacks
+statuses-by lack less lacks None (Some told) first second same = absurd (cc same)
+statuses-by lack less lacks (Some told) None first second same = absurd (cc same)
+statuses-by lack less lacks (Some one) (Some other) first second same = ap (λ (v : ModuleView). import_status (Accepted (record one.outside { view = v }))) (views-by lack less lacks (Some one) (Some other) first second same)
 
-module _ (once over : Over) (was_viewed : AreViewed once) (is_viewed : AreViewed over) (same : (other : List ℕ) → shown_in (once other) ≡ shown_in (over other)) where
+module _ (once over : Over) (was_viewed : AreViewed once) (is_viewed : AreViewed over) (same : (other : List ℕ) → shown_in (once.told other) ≡ shown_in (over.told other)) (lacks : (other : List ℕ) → once.lacks other ≡ over.lacks other) where
   numbers-same : numbers_over once ≡ numbers_over over
-  numbers-same = fun_ext (λ other. number-of (once other) ∙ (ap number_shown (same other) ∙ sym (number-of (over other))))
+  numbers-same = fun_ext (λ other. number-of (once.told other) ∙ (ap number_shown (same other) ∙ sym (number-of (over.told other))))
 
   views-same : (other : List ℕ) → (outsides_over once other).view ≡ (outsides_over over other).view
-  views-same other = views-by (once other) (over other) (was_viewed other) (is_viewed other) (same other)
+  views-same other = views-by (once.lacks other) (over.lacks other) (lacks other) (once.told other) (over.told other) (was_viewed other) (is_viewed other) (same other)
 
   all-views : ◌≡◌ {A = List ℕ → ModuleView} (λ other. (outsides_over once other).view) (λ other. (outsides_over over other).view)
   all-views = fun_ext views-same
 
   statuses-same : (other : List ℕ) → import_status (given_over once other) ≡ import_status (given_over over other)
-  statuses-same other = statuses-by (once other) (over other) (was_viewed other) (is_viewed other) (same other)
+  statuses-same other = statuses-by (once.lacks other) (over.lacks other) (lacks other) (once.told other) (over.told other) (was_viewed other) (is_viewed other) (same other)
 
   named-same : (source : List ℕ) (units : ModuleUnits) → named_faults (given_over once) source units ≡ named_faults (given_over over) source units
   named-same source units = ap (λ (g : List ℕ → ImportStatus). all_faults g source units) (fun_ext statuses-same)
@@ -105,14 +105,14 @@ module _ (once over : Over) (was_viewed : AreViewed once) (is_viewed : AreViewed
       by : (decl : DeclId) (entries : Exports) → IsHeld once title decl entries → IsHeld over title decl entries
       by decl entries (Own own) = Own own
       by decl entries (Shared name told there has) =
-          let as_told = told-as (over name) told.shown (sym (same name) ∙ ap shown_in there) in
+          let as_told = told-as (over.told name) told.shown (sym (same name) ∙ ap shown_in there) in
           Shared name as_told.there as_told.is (ap (λ (s : Shown). face_instances s.face decl) as_told.same ∙ has)
 
 -- ---- the next module
 
 module _ (laws : FamilyLaws) (family : List Member) (plan : Plan) (outcomes : List (List ℕ × Outcome)) (numbers : List (List ℕ × ℕ)) (known : LevelTables) (name : List ℕ) (ready : IsReady family plan outcomes numbers known name)
-    (tree : ModuleTree) (needs : List (List ℕ)) (member : IsMember family name (reading.Tree tree) needs) (over : Over) (told : AreNeedsAccepted family outcomes numbers name needs over) (known_laws : KnownLaws) (unfound : entry_of outcomes name ≡ None) (ordered : IsOrdered known.tables.state.flat)
-    (alike_laws : AlikeLaws) (once : Over) (same : (other : List ℕ) → shown_in (once other) ≡ shown_in (over other)) (own : Option Shown) (found : Found) (is : IsFoundOver known once own name tree found) where
+    (tree : ModuleTree) (needs : List (List ℕ)) (member : IsMember family name (reading.Tree tree) needs) (over : Over) (told : AreNeedsTold family outcomes numbers name needs over) (known_laws : KnownLaws) (unfound : entry_of outcomes name ≡ None) (ordered : IsOrdered known.tables.state.flat)
+    (alike_laws : AlikeLaws) (once : Over) (same : (other : List ℕ) → shown_in (once.told other) ≡ shown_in (over.told other)) (lacks : (other : List ℕ) → once.lacks other ≡ over.lacks other) (own : Option Shown) (found : Found) (is : IsFoundOver known once own name tree found) where
   abbrev source : List ℕ
   source = tree.source
 
@@ -132,10 +132,10 @@ module _ (laws : FamilyLaws) (family : List Member) (plan : Plan) (outcomes : Li
   viewed = over-viewed laws family plan outcomes numbers known name ready tree needs member over told
 
   abbrev all_views_same : ◌≡◌ {A = List ℕ → ModuleView} (λ other. (were other).view) (λ other. (outs other).view)
-  all_views_same = all-views once over is.viewed viewed same
+  all_views_same = all-views once over is.viewed viewed same lacks
 
   abbrev numbers_same : numbers_over once ≡ numbers_over over
-  numbers_same = numbers-same once over is.viewed viewed same
+  numbers_same = numbers-same once over is.viewed viewed same lacks
 
   -- ---- nodes
 
@@ -153,13 +153,13 @@ module _ (laws : FamilyLaws) (family : List Member) (plan : Plan) (outcomes : Li
         subst (λ (v : List ℕ → ModuleView). IsModuleMade flat (means_by (findings v source units)) (implied_by (findings v source units)) files outs source units (map (λ parameter. parameter.1) (outside_in v source units).parameters) was.last was.asked)
         all_views_same
         (alike_laws.views flat (means_by (found_over were source units)) (implied_by (found_over were source units)) files were outs source units (symbols_of (module_outside were source units)) was.last was.asked
-        (views-same once over is.viewed viewed same) was-made.made)
+        (views-same once over is.viewed viewed same lacks) was-made.made)
 
     found-none : faults (found_over outs source units) ≡ []
-    found-none = sym (ap faults (found-same once over is.viewed viewed same source units)) ∙ was-made.faultless.names
+    found-none = sym (ap faults (found-same once over is.viewed viewed same lacks source units)) ∙ was-made.faultless.names
 
     arity-none : arity_faults (found_over outs source units) units.units ≡ []
-    arity-none = sym (ap (λ f. arity_faults f units.units) (found-same once over is.viewed viewed same source units)) ∙ was-made.faultless.arities
+    arity-none = sym (ap (λ f. arity_faults f units.units) (found-same once over is.viewed viewed same lacks source units)) ∙ was-made.faultless.arities
 
     is-made : IsMadeOver (declares (texts_of family)) flat ready.leveled_so.knowledge files outs name source units (symbols_of (module_outside outs source units)) was.last was.asked
     is-made = made-over laws family plan outcomes numbers known name ready tree needs member over told known_laws unfound ordered was.last was.asked made-now found-none arity-none
@@ -183,12 +183,12 @@ module _ (laws : FamilyLaws) (family : List Member) (plan : Plan) (outcomes : Li
     made-alike : AreFoundAlike (leveled_over once tree) (leveled_over over tree)
     made-alike =
         alike_laws.found (given_over once) (given_over over) was.declares (declares (texts_of family)) flat was.knowledge ready.leveled_so.knowledge files name source units (symbols_of (module_outside were source units)) was.last was.asked
-        (statuses-same once over is.viewed viewed same) was-made is-made-as
+        (statuses-same once over is.viewed viewed same lacks) was-made is-made-as
 
     face-alike : face_of were source units was.last ≡ face_of outs source units was.last
     face-alike =
         alike_laws.faces (given_over once) (given_over over) was.declares (declares (texts_of family)) flat was.knowledge ready.leveled_so.knowledge files name source units (symbols_of (module_outside were source units)) was.last was.asked
-        (views-same once over is.viewed viewed same) was-made is-made-as
+        (views-same once over is.viewed viewed same lacks) was-made is-made-as
 
   -- ---- what is found
 
@@ -197,7 +197,7 @@ module _ (laws : FamilyLaws) (family : List Member) (plan : Plan) (outcomes : Li
     where
       by : (these : List Diagnostic) → named_faults (given_over once) source units ≡ these → AreFoundAlike (leveled_over once tree) (leveled_over over tree)
       by [] none = made-alike (is.made none)
-      by (fault ∷ rest) some = alike_laws.refused (given_over once) (given_over over) source units fault rest (statuses-same once over is.viewed viewed same) some
+      by (fault ∷ rest) some = alike_laws.refused (given_over once) (given_over over) source units fault rest (statuses-same once over is.viewed viewed same lacks) some
 
   accepted-across : (number : ℕ) → IsAcceptedOver known once own name tree found number → IsAcceptedOver known over own name tree found number
   unfolding now-made
@@ -207,7 +207,7 @@ module _ (laws : FamilyLaws) (family : List Member) (plan : Plan) (outcomes : Li
     is = a.is;
     number_is = a.number_is;
     face_is = a.face_is;
-    held = held-same once over is.viewed viewed same name a.shown.face a.held;
+    held = held-same once over is.viewed viewed same lacks name a.shown.face a.held;
     made = now-made a.made;
     like = subst (IsFaceLike flat (faces_of known number)) (face-alike a.made) a.like;
   }
@@ -222,6 +222,6 @@ module _ (laws : FamilyLaws) (family : List Member) (plan : Plan) (outcomes : Li
         says = subst (λ view. Matches (leveled_over over tree).faults view found.outcome) alike.view (subst (λ fs. Matches fs (leveled_over once tree).outside.view found.outcome) alike.faults is.says);
         numbered = is.numbered;
         names = is.names ∙ (λ i. record { uses = alike.uses i; decls = alike.decls i });
-        made = λ none. now-made (is.made (named-same once over is.viewed viewed same source units ∙ none));
+        made = λ none. now-made (is.made (named-same once over is.viewed viewed same lacks source units ∙ none));
         accepted = λ number at. accepted-across number (is.accepted number at);
       }

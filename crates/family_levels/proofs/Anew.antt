@@ -1,7 +1,7 @@
 -- What is found of a module anew is found of it over what its needs are.
 use mathlib.Core.Path.{fun_ext}
 use Rattle.std.proofs.Common.{◌≡◌, ◌<◌, ℕ, Bool, true, false, List, ◌⊎◌, inl, inr, Option, Some, None, refl, sym, ap, subst, ◌∙◌}
-use Rattle.std.specs.Prelude.{Contains, IfSome}
+use Rattle.std.specs.Prelude.{◌↔◌, Contains, IfSome, IsTrue}
 use Rattle.std.specs.Arc.{arc_value}
 use Rattle.tla_tree.specs.declared.unit.ModuleTree.{ModuleTree}
 use Rattle.tla_model.specs.declared.ids.DeclId.{DeclId}
@@ -17,7 +17,7 @@ use Rattle.kind_text.specs.FlatModule.{IsOrdered}
 use Rattle.leveled_modules.specs.Leveled.{LevelTables}
 use Rattle.family_facts.specs.Facts.{texts_of}
 use Rattle.family_facts.specs.Family as families
-use Rattle.family_facts.specs.Family.{Member}
+use Rattle.family_facts.specs.Family.{IsCyclic, Member}
 use Rattle.family_facts.proofs.Lists.{among-or-not}
 use Rattle.family_tables.specs.Agreement.{AreFrom, accepted_face}
 use Rattle.family_tables.proofs.Bridging.{cyclic-map}
@@ -31,21 +31,50 @@ use Rattle.family_tables.specs.declared.outcome.Outcome.{Outcome}
 use Rattle.family_tables.specs.declared.outcome.Outcome.TheVariants as outcome
 use Rattle.family_tables.specs.declared.reading.Reading.TheVariants as reading
 use Rattle.leveled_facts.specs.Families.{leveled}
-use Rattle.leveled_facts.specs.Modules.{Accepted, Leveled}
+use Rattle.leveled_facts.specs.Modules.{Accepted, Cyclic, Leveled, Refused, Status, Unknown, import_status}
 use Rattle.family_levels.specs.declared.«module».Found.{Found}
 use Rattle.family_levels.specs.Judging.{HasFace, IsJudged}
 use Rattle.family_levels.specs.Leveling.{AreNumbers, IsNext, IsReady, face_count}
 use Rattle.family_levels.specs.Numbers.{number_by}
-use Rattle.family_levels.specs.Versions.{AreNeedsAccepted, IsAcceptedOver, IsFoundOver, IsHeld, IsHeldFace, IsNeedAccepted, Over, Own, Shared, given_over, number_in, numbers_over, shown_by, status_told}
+use Rattle.family_levels.specs.Versions.{AreNeedsTold, IsAcceptedOver, IsFoundOver, IsHeld, IsHeldFace, IsLack, IsNeedAccepted, IsNeedLacking, Over, Own, Shared, given_over, number_in, numbers_over, shown_by, status_told}
 use Rattle.family_levels.specs.Laws.{FamilyLaws, KnownLaws}
 use Rattle.family_levels.specs.Again.{IsFoundNext}
 use Rattle.family_levels.proofs.Judging.{made-found, names-made, next-found}
 use Rattle.family_levels.proofs.Over.{over-found, over-viewed}
-use Rattle.family_levels.proofs.Statuses.{given as given_to, status_with}
+use Rattle.family_levels.proofs.Statuses.{given as given_to, lack-is, status_with, told-exactly}
 use Rattle.family_levels.proofs.Steps.{files-below, judged-agrees, judged-grows, judged-number, judged-numbered, tree-some}
 
 same-face : (a b : Face) → ◌≡◌ {A = Option Face} (Some a) (Some b) → a ≡ b
 same-face a b same = cc
+
+-- what two answers are to one question
+same-answer : (P : Type 0) (one other : Bool) → IsTrue one ↔ P → IsTrue other ↔ P → one ≡ other
+same-answer P true true first second = refl
+same-answer P true false first second = let never : false ≡ true = second.1 (first.0 refl) in cc
+same-answer P false true first second = let never : false ≡ true = first.1 (second.0 refl) in cc
+same-answer P false false first second = refl
+
+-- an import that is not accepted has no number
+lacking-number : (i : Option Import) (number : Option ℕ) (lack : Status) → IsLack lack → given_by i ≡ import_status lack → number_by i number ≡ None
+lacking-number None number lack lacks is = refl
+lacking-number (Some import.Unknown) number lack lacks is = refl
+lacking-number (Some import.Cyclic) number lack lacks is = refl
+lacking-number (Some import.Refused) number lack lacks is = refl
+lacking-number (Some (import.Module face)) number Unknown lacks is = absurd (cc is)
+lacking-number (Some (import.Module face)) number Cyclic lacks is = absurd (cc is)
+lacking-number (Some (import.Module face)) number Refused lacks is = absurd (cc is)
+lacking-number (Some (import.Module face)) number (Accepted outside) lacks is = absurd lacks
+
+-- and no face
+lacking-face : (i : Option Import) (face : Face) (lack : Status) → IsLack lack → given_by i ≡ import_status lack → face_of i ≡ Some face → ⊥
+lacking-face None face lack lacks is there = cc there
+lacking-face (Some import.Unknown) face lack lacks is there = cc there
+lacking-face (Some import.Cyclic) face lack lacks is there = cc there
+lacking-face (Some import.Refused) face lack lacks is there = cc there
+lacking-face (Some (import.Module own)) face Unknown lacks is there = cc is
+lacking-face (Some (import.Module own)) face Cyclic lacks is there = cc is
+lacking-face (Some (import.Module own)) face Refused lacks is there = cc is
+lacking-face (Some (import.Module own)) face (Accepted outside) lacks is there = absurd lacks
 
 -- an import that is accepted has its number
 module-number : (i : Option Import) (number : Option ℕ) (view : ModuleView) → given_by i ≡ names.Accepted view → number_by i number ≡ number
@@ -58,7 +87,7 @@ module-number (Some (import.Module face)) number view is = refl
 module _ (known_laws : KnownLaws) (laws : FamilyLaws) (family : List Member) (plan : Plan) (outcomes : List (List ℕ × Outcome)) (numbers : List (List ℕ × ℕ)) (old new : LevelTables) (name : List ℕ) (ready : IsReady family plan outcomes numbers old name) (unfound : entry_of outcomes name ≡ None)
     (numbered : AreNumbers old numbers) (was_ordered : IsOrdered old.tables.state.flat) (is_ordered : IsOrdered new.tables.state.flat) (tree : ModuleTree) (needs : List (List ℕ)) (member : IsMember family name (reading.Tree tree) needs) (imports : Imports)
     (told : (need : List ℕ) → Contains needs need → IsNeedTold ready.entries outcomes name need (given_in imports need)) (only : ImportsOnly needs imports) (from : AreFrom outcomes imports) (files : List ℕ → Option ℕ) (are : (other : List ℕ) → files other ≡ number_by (import_of imports other) (entry_of numbers other)) (found : Found)
-    (judged : IsJudged name tree imports files old new found) (over : Over) (accepted : AreNeedsAccepted family outcomes numbers name needs over) where
+    (judged : IsJudged name tree imports files old new found) (over : Over) (needed : AreNeedsTold family outcomes numbers name needs over) where
   -- a module that is needed is imported as accepted
   need-accepted : (need : List ℕ) → Contains needs need → (n : IsNeedAccepted family outcomes numbers name need over) → given_in imports need ≡ names.Accepted (face_outside n.told.shown.face)
   need-accepted need c n = (told need c).is ∙ by (told need c).is_cyclic refl (entry_of outcomes need) n.face
@@ -69,23 +98,37 @@ module _ (known_laws : KnownLaws) (laws : FamilyLaws) (family : List Member) (pl
       by false e (Some (outcome.Refused faults)) is = absurd (cc is)
       by false e (Some (outcome.Accepted face)) is = ap (λ (f : Face). names.Accepted (face_outside f)) (same-face (arc_value face) n.told.shown.face is)
 
+  -- one that is not accepted is imported so
+  need-lacking : (need : List ℕ) → Contains needs need → IsNeedLacking family outcomes name need over → given_in imports need ≡ import_status (over.lacks need)
+  need-lacking need c n =
+      (told need c).is
+      ∙ (ap (λ b. status_by b (entry_of outcomes need)) (same-answer (IsCyclic family name need) (told need c).is_cyclic n.cyclic (told-exactly family plan outcomes numbers old name ready tree needs member imports told only need c) n.exactly) ∙ sym n.status)
+
   given-same : given_to family plan outcomes numbers old name ready tree needs member imports told only ≡ given_over over
   given-same = fun_ext (λ other. by other (among-or-not needs other))
     where
-      by : (other : List ℕ) → Contains needs other ⊎ (Contains needs other → ⊥) → status_with (leveled (texts_of family) other).outside (given_in imports other) ≡ status_told (over other)
-      by other (inl c) =
-          let n = accepted.each other c in
-          ap (status_with (leveled (texts_of family) other).outside) (need-accepted other c n) ∙ (ap Accepted n.outside ∙ ap status_told (sym n.is))
-      by other (inr never) = ap (λ i. status_with (leveled (texts_of family) other).outside (given_by i)) (only other never) ∙ ap status_told (sym (accepted.others other never))
+      by : (other : List ℕ) → Contains needs other ⊎ (Contains needs other → ⊥) → status_with (leveled (texts_of family) other).outside (given_in imports other) ≡ given_over over other
+      by other (inl c) = by_need (needed.each other c)
+        where
+          by_need : IsNeedAccepted family outcomes numbers name other over ⊎ IsNeedLacking family outcomes name other over → status_with (leveled (texts_of family) other).outside (given_in imports other) ≡ given_over over other
+          by_need (inl n) = ap (status_with (leveled (texts_of family) other).outside) (need-accepted other c n) ∙ (ap Accepted n.outside ∙ ap (status_told (over.lacks other)) (sym n.is))
+          by_need (inr n) =
+              sym (lack-is (leveled (texts_of family) other).outside (over.lacks other) (over.are_lacks other) (given_in imports other) (sym (need-lacking other c n)))
+              ∙ ap (status_told (over.lacks other)) (sym n.is)
+      by other (inr never) =
+          ap (λ i. status_with (leveled (texts_of family) other).outside (given_by i)) (only other never)
+          ∙ sym (ap (status_told (over.lacks other)) (needed.others other never) ∙ needed.unknown other never)
 
   numbers-same : files ≡ numbers_over over
   numbers-same = fun_ext (λ other. are other ∙ by other (among-or-not needs other))
     where
-      by : (other : List ℕ) → Contains needs other ⊎ (Contains needs other → ⊥) → number_by (import_of imports other) (entry_of numbers other) ≡ number_in (over other)
-      by other (inl c) =
-          let n = accepted.each other c in
-          module-number (import_of imports other) (entry_of numbers other) (face_outside n.told.shown.face) (need-accepted other c n) ∙ (n.number ∙ ap number_in (sym n.is))
-      by other (inr never) = ap (λ i. number_by i (entry_of numbers other)) (only other never) ∙ ap number_in (sym (accepted.others other never))
+      by : (other : List ℕ) → Contains needs other ⊎ (Contains needs other → ⊥) → number_by (import_of imports other) (entry_of numbers other) ≡ numbers_over over other
+      by other (inl c) = by_need (needed.each other c)
+        where
+          by_need : IsNeedAccepted family outcomes numbers name other over ⊎ IsNeedLacking family outcomes name other over → number_by (import_of imports other) (entry_of numbers other) ≡ numbers_over over other
+          by_need (inl n) = module-number (import_of imports other) (entry_of numbers other) (face_outside n.told.shown.face) (need-accepted other c n) ∙ (n.number ∙ ap number_in (sym n.is))
+          by_need (inr n) = lacking-number (import_of imports other) (entry_of numbers other) (over.lacks other) (over.are_lacks other) (need-lacking other c n) ∙ ap number_in (sym n.is)
+      by other (inr never) = ap (λ i. number_by i (entry_of numbers other)) (only other never) ∙ ap number_in (sym (needed.others other never))
 
   -- its face is over theirs
   held-from : (decl : DeclId) (entries : Exports) → ComesFrom imports name decl entries → IsHeld over name decl entries
@@ -93,10 +136,13 @@ module _ (known_laws : KnownLaws) (laws : FamilyLaws) (family : List Member) (pl
   held-from decl entries (Reached other face there has) = by (among-or-not needs other)
     where
       by : Contains needs other ⊎ (Contains needs other → ⊥) → IsHeld over name decl entries
-      by (inl c) =
-          let n = accepted.each other c in
-          let same : face ≡ n.told.shown.face = same-face face n.told.shown.face (sym (from other face there) ∙ n.face) in
-          Shared other n.told n.is (ap (λ (f : Face). face_instances f decl) (sym same) ∙ has)
+      by (inl c) = by_need (needed.each other c)
+        where
+          by_need : IsNeedAccepted family outcomes numbers name other over ⊎ IsNeedLacking family outcomes name other over → IsHeld over name decl entries
+          by_need (inl n) =
+              let same : face ≡ n.told.shown.face = same-face face n.told.shown.face (sym (from other face there) ∙ n.face) in
+              Shared other n.told n.is (ap (λ (f : Face). face_instances f decl) (sym same) ∙ has)
+          by_need (inr n) = absurd (lacking-face (import_of imports other) face (over.lacks other) (over.are_lacks other) (need-lacking other c n) there)
       by (inr never) = let none : None ≡ Some face = sym (ap face_of (only other never)) ∙ there in cc
 
   held-face : IsHeldFace over name judged.checked.face
@@ -134,10 +180,10 @@ module _ (known_laws : KnownLaws) (laws : FamilyLaws) (family : List Member) (pl
     -- so it is found over them
     pub anew-found : IsFoundOver new over (shown_by found.outcome found.number) name tree found
     anew-found =
-        let is = over-found laws family plan outcomes numbers old name ready tree needs member over accepted in
+        let is = over-found laws family plan outcomes numbers old name ready tree needs member over needed in
         record {
           read = (member.member.bytes, member.is);
-          viewed = over-viewed laws family plan outcomes numbers old name ready tree needs member over accepted;
+          viewed = over-viewed laws family plan outcomes numbers old name ready tree needs member over needed;
           says = subst (λ (l : Leveled). Matches l.faults l.outside.view found.outcome) is next.says;
           numbered = next.numbered;
           names = next.names ∙ (λ i. record { uses = (is i).uses; decls = (is i).decls });
@@ -157,7 +203,7 @@ module _ (known_laws : KnownLaws) (laws : FamilyLaws) (plan : Plan) (outcomes : 
   next-here family ready member =
       next-found known_laws laws family plan outcomes numbers old new name ready unfound numbered was_ordered is_ordered tree needs member imports (told-here family ready member) only files are found judged
 
-  so-here : (family : List Member) (over : Over) → IsReady family plan outcomes numbers old name → IsMember family name (reading.Tree tree) needs → AreNeedsAccepted family outcomes numbers name needs over → IsFoundOver new over (shown_by found.outcome found.number) name tree found
+  so-here : (family : List Member) (over : Over) → IsReady family plan outcomes numbers old name → IsMember family name (reading.Tree tree) needs → AreNeedsTold family outcomes numbers name needs over → IsFoundOver new over (shown_by found.outcome found.number) name tree found
   so-here family over ready member accepted =
       anew-found known_laws laws family plan outcomes numbers old new name ready unfound numbered was_ordered is_ordered tree needs member imports (told-here family ready member) only from files are found judged over accepted (next-here family ready member)
 

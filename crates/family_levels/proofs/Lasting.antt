@@ -2,7 +2,7 @@
 use mathlib.Core.Path.{fun_ext}
 use Rattle.std.proofs.Common.{◌≡◌, ◌<◌, ◌≤◌, ℕ, Bool, true, false, List, [], ◌∷◌, Option, Some, None, refl, sym, ap, subst, ◌∙◌, arith, cond, map}
 use Rattle.std.proofs.lemmas.Bool.{eq-eqb, eqb-true}
-use Rattle.std.specs.Prelude.{IfSome, nat_eq, option_and_then}
+use Rattle.std.specs.Prelude.{IfSome, nat_eq}
 use Rattle.std.specs.List.{AllByRecursion}
 use Rattle.std.specs.Arc.{arc_value}
 use Rattle.std.specs.Str.{bytes_eq}
@@ -32,13 +32,14 @@ use Rattle.family_tables.specs.Agreement.{accepted_face}
 use Rattle.family_tables.specs.Keeping.{IsRead}
 use Rattle.family_tables.specs.Modules.{needs_of}
 use Rattle.family_tables.specs.Outcomes.{Matches, faults_of}
-use Rattle.family_tables.specs.declared.outcome.Outcome.{Outcome}
 use Rattle.family_tables.specs.declared.outcome.Outcome.TheVariants as outcome
 use Rattle.leveled_facts.specs.Modules.{Leveled, leveled_by}
 use Rattle.family_levels.specs.declared.«module».Found.{Found}
+use Rattle.family_levels.specs.declared.versions.Need.{Need}
+use Rattle.family_levels.specs.declared.versions.Need.TheVariants as need_as
 use Rattle.family_levels.specs.declared.versions.Version.{Version}
 use Rattle.family_levels.specs.Leveling.{HasNumber, face_count, faces_of}
-use Rattle.family_levels.specs.Versions.{AreVersions, Grows, IsAcceptedOver, IsCopy, IsFaceLike, IsFoundOver, IsMadeWith, IsVersion, Over, Shown, given_over, leveled_over, named_faults, numbers_over, outsides_over, shown_over, version_in}
+use Rattle.family_levels.specs.Versions.{AreVersions, Grows, IsAcceptedOver, IsCopy, IsFaceLike, IsFoundOver, IsMadeWith, IsNeedBelow, IsVersion, Over, Shown, given_over, leveled_over, named_faults, numbers_over, outsides_over, lack_need, need_in, shown_need, shown_over}
 use Rattle.family_levels.specs.Again.{IsSameVersion, shown_with}
 
 -- ---- copies
@@ -180,42 +181,54 @@ module _ (stay : MadeStay) (known_stay : KnownStay) (old new : LevelTables) (gro
   pub versions-grow : (shown : ℕ → Option Shown) (next : ℕ) (versions : List (List ℕ × Version)) → AreVersions old shown next versions → AreVersions new shown next versions
   versions-grow shown next versions are name version there =
       let is = are name version there in
-      record { needs = is.needs; itself = is.itself; over = is.over; shows = is.shows; found = found-grows is.over (shown version.id) name version.tree version.found is.found }
+      record { needs = is.needs; itself = is.itself; over = is.over; shows = is.shows; lacks = is.lacks; found = found-grows is.over (shown version.id) name version.tree version.found is.found }
 
 -- ---- further versions
 
-version-below : (next : ℕ) (needs : List (List ℕ)) (ids : List ℕ) (name : List ℕ) → AllByRecursion (λ id. id < next) ids → IfSome (version_in needs ids name) (λ id. id < next)
-version-below next [] ids name all = tt
+version-below : (next : ℕ) (needs : List (List ℕ)) (are : List Need) (name : List ℕ) → AllByRecursion (IsNeedBelow next) are → IfSome (need_in needs are name) (IsNeedBelow next)
+version-below next [] are name all = tt
 version-below next (need ∷ needs) [] name all = tt
-version-below next (need ∷ needs) (id ∷ ids) name all = by (bytes_eq name need) (version-below next needs ids name all.1)
+version-below next (need ∷ needs) (is ∷ rest) name all = by (bytes_eq name need) (version-below next needs rest name all.1)
   where
-    by : (b : Bool) → IfSome (version_in needs ids name) (λ i. i < next) → IfSome (cond b (Some id) (version_in needs ids name)) (λ i. i < next)
-    by true rest = all.0
-    by false rest = rest
+    by : (b : Bool) → IfSome (need_in needs rest name) (IsNeedBelow next) → IfSome (cond b (Some is) (need_in needs rest name)) (IsNeedBelow next)
+    by true below = all.0
+    by false below = below
+
+-- one that is below a number is below a greater one
+need-below : (next after : ℕ) → next ≤ after → (need : Need) → IsNeedBelow next need → IsNeedBelow after need
+need-below next after more_than need_as.Unknown less = tt
+need-below next after more_than need_as.Cyclic less = tt
+need-below next after more_than need_as.Refused less = tt
+need-below next after more_than (need_as.Version id) less = omega (arith, less, more_than)
+
+-- and so are all of them
+pub needs-below : (next after : ℕ) → next ≤ after → (needs : List Need) → AllByRecursion (IsNeedBelow next) needs → AllByRecursion (IsNeedBelow after) needs
+needs-below next after more_than [] all = tt
+needs-below next after more_than (need ∷ needs) all = (need-below next after more_than need all.0, needs-below next after more_than needs all.1)
 
 -- what is kept under numbers below the next one
 abbrev pub AgreeBelow : ℕ → (ℕ → Option Shown) → (ℕ → Option Shown) → Type 0
 AgreeBelow next shown more = (id : ℕ) → id < next → more id ≡ shown id
 
 module _ (shown more : ℕ → Option Shown) (next : ℕ) (agree : AgreeBelow next shown more) where
-  over-by : (found : Option ℕ) → IfSome found (λ id. id < next) → option_and_then shown found ≡ option_and_then more found
+  over-by : (found : Option Need) → IfSome found (IsNeedBelow next) → shown_need shown found ≡ shown_need more found
   over-by None less = refl
-  over-by (Some id) less = sym (agree id less)
+  over-by (Some need_as.Unknown) less = refl
+  over-by (Some need_as.Cyclic) less = refl
+  over-by (Some need_as.Refused) less = refl
+  over-by (Some (need_as.Version id)) less = sym (agree id less)
 
   -- the same is kept of the needs of a version
-  pub shown-same : (version : Version) → AllByRecursion (λ id. id < next) version.needs → (name : List ℕ) → shown_over shown version name ≡ shown_over more version name
-  shown-same version all name = over-by (version_in (needs_of version.tree) version.needs name) (version-below next (needs_of version.tree) version.needs name all)
-
-  all-below : (after : ℕ) → next ≤ after → (ids : List ℕ) → AllByRecursion (λ id. id < next) ids → AllByRecursion (λ id. id < after) ids
-  all-below after more_than [] all = tt
-  all-below after more_than (id ∷ ids) all = let less : id < next = all.0 in (omega (arith, less, more_than), all-below after more_than ids all.1)
+  pub shown-same : (version : Version) → AllByRecursion (IsNeedBelow next) version.needs → (name : List ℕ) → shown_over shown version name ≡ shown_over more version name
+  shown-same version all name = over-by (need_in (needs_of version.tree) version.needs name) (version-below next (needs_of version.tree) version.needs name all)
 
   pub version-shown : (known : LevelTables) (after : ℕ) → next ≤ after → (name : List ℕ) (version : Version) → IsVersion known shown next name version → IsVersion known more after name version
   version-shown known after more_than name version is = record {
-    needs = all-below after more_than version.needs is.needs;
+    needs = needs-below next after more_than version.needs is.needs;
     itself = let less : version.id < next = is.itself in omega (arith, less, more_than);
     over = is.over;
     shows = λ other. is.shows other ∙ shown-same version is.needs other;
+    lacks = is.lacks;
     found = subst (λ own. IsFoundOver known is.over own name version.tree version.found) (sym (agree version.id is.itself)) is.found;
   }
 
@@ -288,10 +301,11 @@ found-same known over own name one two found read source units is = record {
 -- a copy of a version is one
 pub version-copy : (known : LevelTables) (shown : ℕ → Option Shown) (next : ℕ) (name : List ℕ) (version copy : Version) → IsSameVersion version copy → IsVersion known shown next name version → IsVersion known shown next name copy
 version-copy known shown next name version copy same is = record {
-  needs = subst (AllByRecursion (λ id. id < next)) (sym same.needs) is.needs;
+  needs = subst (AllByRecursion (IsNeedBelow next)) (sym same.needs) is.needs;
   itself = subst (λ id. id < next) (sym same.id) is.itself;
   over = is.over;
-  shows = λ other. is.shows other ∙ (λ i. option_and_then shown (version_in (needs_of (sym same.tree i)) (sym same.needs i) other));
+  shows = λ other. is.shows other ∙ (λ i. shown_need shown (need_in (needs_of (sym same.tree i)) (sym same.needs i) other));
+  lacks = λ other. is.lacks other ∙ (λ i. lack_need (need_in (needs_of (sym same.tree i)) (sym same.needs i) other));
   found =
       subst (λ own. IsFoundOver known is.over (shown own) name copy.tree copy.found) (sym same.id)
       (subst (λ tree. IsFoundOver known is.over (shown version.id) name tree copy.found) (sym same.tree)

@@ -9,6 +9,7 @@ mod Across
 mod Anew
 mod Keeping
 mod Taking
+mod Needs
 mod Following
 mod Making
 mod Growing

@@ -1,5 +1,5 @@
 -- The next module, as a check finds it: of whatever family, and whatever is kept of those before it.
-use Rattle.std.proofs.Common.{◌≡◌, ℕ, List, Option, Some, None, sym, subst}
+use Rattle.std.proofs.Common.{◌≡◌, ℕ, List, Option, Some, sym, subst}
 use Rattle.std.specs.Prelude.{IfSome}
 use Rattle.kind_text.specs.FlatModule.{IsOrdered}
 use Rattle.leveled_modules.specs.Leveled.{LevelTables}
@@ -10,16 +10,17 @@ use Rattle.family_tables.specs.declared.order.Plan.{Plan}
 use Rattle.family_tables.specs.declared.outcome.Outcome.{Outcome}
 use Rattle.family_tables.specs.declared.reading.Module.{Module}
 use Rattle.family_levels.specs.declared.«module».Found.{Found}
+use Rattle.family_levels.specs.declared.versions.Need.{Need}
 use Rattle.family_levels.specs.declared.versions.Version.{Version}
 use Rattle.family_levels.specs.Laws.{AlikeLaws, FamilyLaws}
 use Rattle.family_levels.specs.Versions.{AreVersions, IsVersion, Shown}
 use Rattle.family_levels.specs.Again.{Anew, AreNeeds, IsFoundAs, IsFoundNext, IsInPlace, IsLike, IsMadeNext, IsVersionAnew, IsVersionAs, Taken}
-use Rattle.family_levels.proofs.Following.{anew-leveled, anew-placed, over_ids, taken-leveled}
+use Rattle.family_levels.proofs.Following.{anew-leveled, anew-placed, over_needs, taken-leveled}
 use Rattle.family_levels.proofs.Lasting.{KnownStay, MadeStay, versions-grow}
 use Rattle.family_levels.proofs.Taking.{LookAlike, taken-placed}
 
 module _ (stay : MadeStay) (known_stay : KnownStay) (look : LookAlike) (laws : FamilyLaws) (alike_laws : AlikeLaws) (plan : Plan) (old versions : List (List ℕ × Version)) (outcomes : List (List ℕ × Outcome)) (numbers : List (List ℕ × ℕ)) (next : ℕ) (name : List ℕ) (m : Module) (some : IsSomeModule name m)
-    (needs : Option (List ℕ)) (asked : IfSome needs (AreNeeds plan versions name m.needs)) (known new : LevelTables) (was_ordered : IsOrdered known.tables.state.flat) (is_ordered : IsOrdered new.tables.state.flat) (found : Found) (is : IsFoundNext plan outcomes numbers name m.reading m.needs known new found) where
+    (needs : Option (List Need)) (asked : IfSome needs (AreNeeds plan outcomes versions name m.needs)) (known new : LevelTables) (was_ordered : IsOrdered known.tables.state.flat) (is_ordered : IsOrdered new.tables.state.flat) (found : Found) (is : IsFoundNext plan outcomes numbers name m.reading m.needs known new found) where
   -- with the version that it is, if it is one
   pub made-anew : (version : Option Version) → IfSome version (IsVersionAnew m needs next found) → IsMadeNext plan old versions outcomes numbers next name m known new found version
   made-anew version anew = record {
@@ -41,7 +42,7 @@ module _ (stay : MadeStay) (known_stay : KnownStay) (look : LookAlike) (laws : F
       placed = λ shown are placed. taken-placed new before found taken like taking shown next name (was-version shown are before there) outcomes anew version in_place is.agreed;
       leveled = λ family shown are placed ready member.
           taken-leveled plan outcomes numbers shown next versions placed name m some needs known new asked found is.numbered anew is_anew laws family ready member
-          (λ accepted. is.so family (over_ids (texts_of family) shown m.needs anew.needs) anew.tree ready member is_anew.reads accepted)
+          (λ accepted. is.so family (over_needs (texts_of family) shown m.needs anew.needs) anew.tree ready member is_anew.reads accepted)
           look alike_laws before (was-version shown are before there) taken like taking version in_place (is.next family ready member);
     }
 

@@ -28,22 +28,23 @@ use Rattle.alike_modules.specs.Known.{IsForeignTo, IsKnownFile, IsMadeOver, Know
 use Rattle.fact_values.specs.Names.{Texts}
 use Rattle.family_facts.specs.Facts.{texts_of}
 use Rattle.family_facts.specs.Family as families
-use Rattle.family_facts.specs.Family.{IsCyclic, Member, is_there}
+use Rattle.family_facts.specs.Family.{Member, is_there}
 use Rattle.family_facts.proofs.Lists.{among-or-not}
 use Rattle.family_facts.proofs.Members.{member-there}
 use Rattle.family_tables.specs.Agreement.{IsAgreed, IsAgreedFace, IsTaken, Own as TakenOwn, Shared as TakenShared, accepted_face, found_face}
-use Rattle.family_tables.specs.Outcomes.{IsMember, Matches}
+use Rattle.family_tables.specs.Outcomes.{IsMember, Matches, status_by}
 use Rattle.family_tables.specs.Tables.{entry_of}
 use Rattle.family_tables.specs.declared.order.Plan.{Plan}
 use Rattle.family_tables.specs.declared.outcome.Outcome.{Outcome}
 use Rattle.family_tables.specs.declared.outcome.Outcome.TheVariants as outcome
 use Rattle.family_tables.specs.declared.reading.Reading.TheVariants as reading
 use Rattle.leveled_facts.specs.Families.{IsStatus, accepted, declares, leveled}
-use Rattle.leveled_facts.specs.Modules.{Accepted, Leveled, leveled_by, outside_by}
+use Rattle.leveled_facts.specs.Modules.{Accepted, Leveled, Unknown, leveled_by, outside_by}
 use Rattle.family_levels.specs.declared.«module».Found.{Found}
 use Rattle.family_levels.specs.Leveling.{HasNumber, IsNext, IsReady, Says, faces_of, names_on}
-use Rattle.family_levels.specs.Versions.{AreNeedsAccepted, AreViewed, IsAcceptedOver, IsFoundOver, IsHeld, IsHeldFace, IsMadeWith, IsNeedAccepted, Over, Own, Shared, Shown, Told, given_over, leveled_over, number_in, numbers_over, outsides_over, status_told}
+use Rattle.family_levels.specs.Versions.{AreNeedsTold, AreViewed, IsAcceptedOver, IsFoundOver, IsHeld, IsHeldFace, IsMadeWith, IsNeedAccepted, IsNeedLacking, Over, Own, Shared, Shown, Told, given_over, leveled_over, number_in, numbers_over, outsides_over, status_told}
 use Rattle.family_levels.specs.Laws.{AlikeLaws, FamilyLaws, KnownLaws}
+use Rattle.family_levels.proofs.Statuses.{lack-is, lack-nothing, status-given}
 
 some-text : (a b : ℕ) → ◌≡◌ {A = Option ℕ} (Some a) (Some b) → a ≡ b
 some-text a b same = cc
@@ -53,7 +54,7 @@ some-face a b same = cc
 
 -- ---- faces
 
-module _ (outcomes : List (List ℕ × Outcome)) (name : List ℕ) (over : Over) (faces : (need : List ℕ) (told : Told) → over need ≡ Some told → found_face outcomes need ≡ Some told.shown.face) where
+module _ (outcomes : List (List ℕ × Outcome)) (name : List ℕ) (over : Over) (faces : (need : List ℕ) (told : Told) → over.told need ≡ Some told → found_face outcomes need ≡ Some told.shown.face) where
   held-taken : (decl : DeclId) (entries : Exports) → IsHeld over name decl entries → IsTaken outcomes name decl entries
   held-taken decl entries (Own own) = TakenOwn own
   held-taken decl entries (Shared need told is has) = TakenShared need told.shown.face (faces need told is) has
@@ -80,7 +81,7 @@ module _ (outcomes : List (List ℕ × Outcome)) (name : List ℕ) (over : Over)
 -- ---- modules
 
 module _ (laws : FamilyLaws) (family : List Member) (plan : Plan) (outcomes : List (List ℕ × Outcome)) (numbers : List (List ℕ × ℕ)) (known : LevelTables) (name : List ℕ) (ready : IsReady family plan outcomes numbers known name)
-    (tree : ModuleTree) (needs : List (List ℕ)) (member : IsMember family name (reading.Tree tree) needs) (over : Over) (told : AreNeedsAccepted family outcomes numbers name needs over) where
+    (tree : ModuleTree) (needs : List (List ℕ)) (member : IsMember family name (reading.Tree tree) needs) (over : Over) (told : AreNeedsTold family outcomes numbers name needs over) where
   abbrev texts : Texts
   texts = texts_of family
 
@@ -96,15 +97,32 @@ module _ (laws : FamilyLaws) (family : List Member) (plan : Plan) (outcomes : Li
   abbrev outs : List ℕ → Outside
   outs = outsides_over over
 
-  need-status : (need : List ℕ) → Contains needs need → IsStatus family name need (given_over over need)
-  need-status need c = by (told.each need c) (entry_of outcomes need) refl
+  accepted-status : (need : List ℕ) → IsNeedAccepted family outcomes numbers name need over → IsStatus family name need (given_over over need)
+  accepted-status need n = by n (entry_of outcomes need) refl
     where
       by : (n : IsNeedAccepted family outcomes numbers name need over) (o : Option Outcome) → entry_of outcomes need ≡ o → IsStatus family name need (given_over over need)
       by n None e = let never : None ≡ Some n.told.shown.face = sym (ap accepted_face e) ∙ n.face in cc
       by n (Some (outcome.Refused faults)) e = let never : None ≡ Some n.told.shown.face = sym (ap accepted_face e) ∙ n.face in cc
       by n (Some (outcome.Accepted face)) e =
-          subst (IsStatus family name need) (ap Accepted n.outside ∙ ap status_told (sym n.is))
+          subst (IsStatus family name need) (ap Accepted n.outside ∙ ap (status_told (over.lacks need)) (sym n.is))
           (accepted (ready.leveled_so.there need (outcome.Accepted face) e) n.apart (ready.leveled_so.says need (outcome.Accepted face) e).0)
+
+  lacking-status : (need : List ℕ) → Contains needs need → IsNeedLacking family outcomes name need over → IsStatus family name need (given_over over need)
+  lacking-status need c n =
+      subst (λ t. IsStatus family name need (status_told (over.lacks need) t)) (sym n.is)
+      (subst (IsStatus family name need) (sym (lack-is (leveled texts need).outside (over.lacks need) (over.are_lacks need) (status_by n.cyclic (entry_of outcomes need)) n.status))
+      (status-given family plan outcomes numbers known name ready need (member.own need c) n.cyclic n.exactly (entry_of outcomes need) refl).is)
+
+  need-status : (need : List ℕ) → Contains needs need → IsStatus family name need (given_over over need)
+  need-status need c = by (told.each need c)
+    where
+      by : IsNeedAccepted family outcomes numbers name need over ⊎ IsNeedLacking family outcomes name need over → IsStatus family name need (given_over over need)
+      by (inl n) = accepted-status need n
+      by (inr n) = lacking-status need c n
+
+  -- another one is not there
+  unneeded : (need : List ℕ) → (Contains needs need → ⊥) → given_over over need ≡ Unknown
+  unneeded need never = ap (status_told (over.lacks need)) (told.others need never) ∙ told.unknown need never
 
   -- this is found of it
   pub over-found : leveled texts name ≡ leveled_over over tree
@@ -114,15 +132,19 @@ module _ (laws : FamilyLaws) (family : List Member) (plan : Plan) (outcomes : Li
       let is : leveled texts m.name ≡ leveled_by (given_over over) m.bytes units =
       laws.checked family m units (given_over over) ready.distinct member.there front
       (λ need n. subst (λ x. IsStatus family x need (given_over over need)) (sym member.named) (need-status need (member.all need (subst (λ x. families.Needs family x need) member.named n))))
-      (λ need never. ap status_told (told.others need (λ c. never (subst (λ x. families.Needs family x need) (sym member.named) (member.own need c))))) in
+      (λ need never. unneeded need (λ c. never (subst (λ x. families.Needs family x need) (sym member.named) (member.own need c)))) in
       subst (λ x. leveled texts x ≡ leveled_by (given_over over) m.bytes units) member.named is ∙ ap (λ bytes. leveled_by (given_over over) bytes units) (sym member.is.source)
 
   -- a module is one of those, or it is not there
-  pub any-told : (P : List ℕ → Type 0) → (other : List ℕ) → (IsNeedAccepted family outcomes numbers name other over → P other) → (over other ≡ None → P other) → P other
+  pub any-told : (P : List ℕ → Type 0) → (other : List ℕ) → (IsNeedAccepted family outcomes numbers name other over → P other) → (over.told other ≡ None → P other) → P other
   any-told P other there absent = by (among-or-not needs other)
     where
       by : Contains needs other ⊎ (Contains needs other → ⊥) → P other
-      by (inl c) = there (told.each other c)
+      by (inl c) = by_need (told.each other c)
+        where
+          by_need : IsNeedAccepted family outcomes numbers name other over ⊎ IsNeedLacking family outcomes name other over → P other
+          by_need (inl n) = there n
+          by_need (inr n) = absent n.is
       by (inr never) = absent (told.others other never)
 
   -- files are known
@@ -131,26 +153,28 @@ module _ (laws : FamilyLaws) (family : List Member) (plan : Plan) (outcomes : Li
     where
       there : IsNeedAccepted family outcomes numbers name other over → IsKnownFile (declares texts) known.tables.state.flat knowledge (file_faces (faces_of known) (numbers_over over) other) (outs other)
       there n =
-          subst (λ t. IsKnownFile (declares texts) known.tables.state.flat knowledge (face_at (faces_of known) (number_in t)) (outside_by (status_told t))) (sym n.is)
+          subst (λ t. IsKnownFile (declares texts) known.tables.state.flat knowledge (face_at (faces_of known) (number_in t)) (outside_by (status_told (over.lacks other) t))) (sym n.is)
           (subst (IsKnownFile (declares texts) known.tables.state.flat knowledge (faces_of known n.told.shown.number)) n.outside (ready.leveled_so.files other n.told.shown.number n.number))
 
-      absent : over other ≡ None → IsKnownFile (declares texts) known.tables.state.flat knowledge (file_faces (faces_of known) (numbers_over over) other) (outs other)
+      absent : over.told other ≡ None → IsKnownFile (declares texts) known.tables.state.flat knowledge (file_faces (faces_of known) (numbers_over over) other) (outs other)
       absent none =
-          subst (λ t. IsKnownFile (declares texts) known.tables.state.flat knowledge (face_at (faces_of known) (number_in t)) (outside_by (status_told t))) (sym none)
-          (known_laws.nothing (declares texts) known.tables.state.flat knowledge)
+          subst (λ t. IsKnownFile (declares texts) known.tables.state.flat knowledge (face_at (faces_of known) (number_in t)) (outside_by (status_told (over.lacks other) t))) (sym none)
+          (subst (IsKnownFile (declares texts) known.tables.state.flat knowledge (face_at (faces_of known) None)) (sym (lack-nothing (over.lacks other) (over.are_lacks other))) (known_laws.nothing (declares texts) known.tables.state.flat knowledge))
 
   over-foreign : KnownLaws → (title : List ℕ) → entry_of outcomes title ≡ None → (other : List ℕ) → IsForeignTo title (outs other)
   over-foreign known_laws title later other = any-told (λ o. IsForeignTo title (outs o)) other there absent
     where
       there : IsNeedAccepted family outcomes numbers name other over → IsForeignTo title (outs other)
-      there n = subst (λ t. IsForeignTo title (outside_by (status_told t))) (sym n.is) (subst (IsForeignTo title) n.outside (ready.leveled_so.foreign title other n.told.shown.number later n.number))
+      there n = subst (λ t. IsForeignTo title (outside_by (status_told (over.lacks other) t))) (sym n.is) (subst (IsForeignTo title) n.outside (ready.leveled_so.foreign title other n.told.shown.number later n.number))
 
-      absent : over other ≡ None → IsForeignTo title (outs other)
-      absent none = subst (λ t. IsForeignTo title (outside_by (status_told t))) (sym none) (known_laws.foreign_nothing title)
+      absent : over.told other ≡ None → IsForeignTo title (outs other)
+      absent none =
+          subst (λ t. IsForeignTo title (outside_by (status_told (over.lacks other) t))) (sym none)
+          (subst (IsForeignTo title) (sym (lack-nothing (over.lacks other) (over.are_lacks other))) (known_laws.foreign_nothing title))
 
   -- their views are those of their faces
   pub over-viewed : AreViewed over
-  over-viewed other t is = any-told (λ o. (u : Told) → over o ≡ Some u → u.outside.view ≡ face_outside u.shown.face) other there absent t is
+  over-viewed other t is = any-told (λ o. (u : Told) → over.told o ≡ Some u → u.outside.view ≡ face_outside u.shown.face) other there absent t is
     where
       told-some : (a b : Told) → ◌≡◌ {A = Option Told} (Some a) (Some b) → a ≡ b
       told-some a b e = cc
@@ -161,10 +185,10 @@ module _ (laws : FamilyLaws) (family : List Member) (plan : Plan) (outcomes : Li
       said n (Some (outcome.Accepted face)) e has =
           ap (λ (o : Outside). o.view) (sym n.outside) ∙ (sym (ready.leveled_so.says other (outcome.Accepted face) e).1 ∙ ap face_outside (some-face (arc_value face) n.told.shown.face has))
 
-      there : IsNeedAccepted family outcomes numbers name other over → (u : Told) → over other ≡ Some u → u.outside.view ≡ face_outside u.shown.face
+      there : IsNeedAccepted family outcomes numbers name other over → (u : Told) → over.told other ≡ Some u → u.outside.view ≡ face_outside u.shown.face
       there n u at = subst (λ (v : Told). v.outside.view ≡ face_outside v.shown.face) (told-some n.told u (sym n.is ∙ at)) (said n (entry_of outcomes other) refl n.face)
 
-      absent : over other ≡ None → (u : Told) → over other ≡ Some u → u.outside.view ≡ face_outside u.shown.face
+      absent : over.told other ≡ None → (u : Told) → over.told other ≡ Some u → u.outside.view ≡ face_outside u.shown.face
       absent none u at = let never : None ≡ Some u = sym none ∙ at in cc
 
   title-is : (text_of source units).file ≡ name

@@ -1,7 +1,7 @@
 -- What modules are to the next one, by what was found of those before it.
 use Rattle.std.proofs.Common.{◌≡◌, ℕ, Bool, true, false, List, ◌⊎◌, inl, inr, Option, Some, None, refl, sym, ap, subst, ◌∙◌}
 use mathlib.Core.Path.{fun_ext}
-use Rattle.std.specs.Prelude.{Contains, IsSome, is_some}
+use Rattle.std.specs.Prelude.{◌↔◌, Contains, IsSome, IsTrue, is_some}
 use Rattle.std.specs.Arc.{arc_value}
 use Rattle.std.proofs.lemmas.Bool.{both_ways}
 use Rattle.tla_tree.specs.declared.unit.ModuleTree.{ModuleTree}
@@ -30,6 +30,7 @@ use Rattle.leveled_facts.specs.Families.{IsStatus, accepted, cyclic, leveled, re
 use Rattle.leveled_facts.specs.Modules.{Accepted, Cyclic, Leveled, Refused, Status, Unknown, import_status, leveled_by, outside_by}
 use Rattle.family_levels.specs.Leveling.{IsReady, Says}
 use Rattle.family_levels.specs.Numbers.{number_by}
+use Rattle.family_levels.specs.Versions.{IsLack}
 use Rattle.family_levels.specs.Laws.{FamilyLaws}
 use Rattle.leveled_modules.specs.Leveled.{LevelTables}
 
@@ -70,37 +71,40 @@ view-same Cyclic = refl
 view-same Refused = refl
 view-same (Accepted outside) = refl
 
-module _ (family : List Member) (plan : Plan) (outcomes : List (List ℕ × Outcome)) (numbers : List (List ℕ × ℕ)) (known : LevelTables) (name : List ℕ) (ready : IsReady family plan outcomes numbers known name)
-    (tree : ModuleTree) (needs : List (List ℕ)) (member : IsMember family name (reading.Tree tree) needs) (imports : Imports) (told : (need : List ℕ) → Contains needs need → IsNeedTold ready.entries outcomes name need (given_in imports need)) (only : ImportsOnly needs imports) where
-  -- what is found of a name
-  abbrev pub found_of : List ℕ → Leveled
-  found_of other = leveled (texts_of family) other
+-- a status without a module behind it is told by what it is to names
+pub lack-is : (outside : Outside) (lack : Status) → IsLack lack → (status : ImportStatus) → import_status lack ≡ status → lack ≡ status_with outside status
+lack-is outside Unknown lacks status is = subst (λ s. Unknown ≡ status_with outside s) is refl
+lack-is outside Cyclic lacks status is = subst (λ s. Cyclic ≡ status_with outside s) is refl
+lack-is outside Refused lacks status is = subst (λ s. Refused ≡ status_with outside s) is refl
+lack-is outside (Accepted other) lacks status is = absurd lacks
 
-  -- what modules are to the next one
-  abbrev pub given : List ℕ → Status
-  given other = status_with (found_of other).outside (given_in imports other)
+-- behind it there is nothing
+pub lack-nothing : (lack : Status) → IsLack lack → outside_by lack ≡ nowhere
+lack-nothing Unknown lacks = refl
+lack-nothing Cyclic lacks = refl
+lack-nothing Refused lacks = refl
+lack-nothing (Accepted other) lacks = absurd lacks
 
-  -- what is so of a need
-  record IsNeedGiven (need : List ℕ) (status : ImportStatus) : Type 0 where
-    is : IsStatus family name need (status_with (found_of need).outside status)
-    view : HasView (found_of need).outside.view status
+-- what is so of a need
+pub record IsNeedGiven (family : List Member) (name need : List ℕ) (status : ImportStatus) : Type 0 where
+  pub is : IsStatus family name need (status_with (leveled (texts_of family) need).outside status)
+  pub view : HasView (leveled (texts_of family) need).outside.view status
 
-  needed : (need : List ℕ) → Contains needs need → families.Needs family name need
-  needed need c = member.own need c
-
-  by-outcome : (need : List ℕ) (c : Contains needs need) (answer : Bool) → answer ≡ (told need c).is_cyclic → (o : Option Outcome) → entry_of outcomes need ≡ o → IsNeedGiven need (status_by answer o)
-  by-outcome need c true e o there =
-      let cycle : IsCyclic family name need = cyclic-map (plans.Needs ready.entries) (families.Needs family) name need ready.own ((told need c).exactly.0 (sym e)) in
-      record { is = cyclic (cyclic-there family name need (needed need c) cycle) cycle; view = tt }
-  by-outcome need c false e o there = by o there
+-- it is so by whether the need leads back, and by its outcome
+module _ (family : List Member) (plan : Plan) (outcomes : List (List ℕ × Outcome)) (numbers : List (List ℕ × ℕ)) (known : LevelTables) (name : List ℕ) (ready : IsReady family plan outcomes numbers known name) where
+  pub status-given : (need : List ℕ) → families.Needs family name need → (answer : Bool) → IsTrue answer ↔ IsCyclic family name need → (o : Option Outcome) → entry_of outcomes need ≡ o → IsNeedGiven family name need (status_by answer o)
+  status-given need needs true exactly o there =
+      let cycle : IsCyclic family name need = exactly.0 refl in
+      record { is = cyclic (cyclic-there family name need needs cycle) cycle; view = tt }
+  status-given need needs false exactly o there = by o there
     where
       no-cycle : IsCyclic family name need → ⊥
-      no-cycle cycle = both_ways (told need c).is_cyclic (sym e) ((told need c).exactly.1 (cyclic-map (families.Needs family) (plans.Needs ready.entries) name need ready.all cycle))
+      no-cycle cycle = let never : false ≡ true = exactly.1 cycle in cc
 
       absent : is_there family need ≡ true → entry_of outcomes need ≡ None → ⊥
-      absent t none = both_ways (is_some (entry_of outcomes need)) (ap is_some none) (ready.before need (needed need c) no-cycle t)
+      absent t none = both_ways (is_some (entry_of outcomes need)) (ap is_some none) (ready.before need needs no-cycle t)
 
-      by : (o : Option Outcome) → entry_of outcomes need ≡ o → IsNeedGiven need (status_by false o)
+      by : (o : Option Outcome) → entry_of outcomes need ≡ o → IsNeedGiven family name need (status_by false o)
       by None there = record { is = unknown (by_there (is_there family need) refl); view = tt }
         where
           by_there : (b : Bool) → is_there family need ≡ b → b ≡ false
@@ -113,8 +117,30 @@ module _ (family : List Member) (plan : Plan) (outcomes : List (List ℕ × Outc
           let says : Says (texts_of family) need (outcome.Accepted face) = ready.leveled_so.says need (outcome.Accepted face) there in
           record { is = accepted (ready.leveled_so.there need (outcome.Accepted face) there) no-cycle says.0; view = says.1 }
 
-  need-given : (need : List ℕ) → Contains needs need → IsNeedGiven need (given_in imports need)
-  need-given need c = subst (IsNeedGiven need) (sym (told need c).is) (by-outcome need c (told need c).is_cyclic refl (entry_of outcomes need) refl)
+module _ (family : List Member) (plan : Plan) (outcomes : List (List ℕ × Outcome)) (numbers : List (List ℕ × ℕ)) (known : LevelTables) (name : List ℕ) (ready : IsReady family plan outcomes numbers known name)
+    (tree : ModuleTree) (needs : List (List ℕ)) (member : IsMember family name (reading.Tree tree) needs) (imports : Imports) (told : (need : List ℕ) → Contains needs need → IsNeedTold ready.entries outcomes name need (given_in imports need)) (only : ImportsOnly needs imports) where
+  -- what is found of a name
+  abbrev pub found_of : List ℕ → Leveled
+  found_of other = leveled (texts_of family) other
+
+  -- what modules are to the next one
+  abbrev pub given : List ℕ → Status
+  given other = status_with (found_of other).outside (given_in imports other)
+
+  needed : (need : List ℕ) → Contains needs need → families.Needs family name need
+  needed need c = member.own need c
+
+  -- whether a need leads back is told by the members as it is by the plan
+  pub told-exactly : (need : List ℕ) (c : Contains needs need) → IsTrue (told need c).is_cyclic ↔ IsCyclic family name need
+  told-exactly need c = (
+    λ answer. cyclic-map (plans.Needs ready.entries) (families.Needs family) name need ready.own ((told need c).exactly.0 answer),
+    λ cycle. (told need c).exactly.1 (cyclic-map (families.Needs family) (plans.Needs ready.entries) name need ready.all cycle),
+  )
+
+  need-given : (need : List ℕ) → Contains needs need → IsNeedGiven family name need (given_in imports need)
+  need-given need c =
+      subst (IsNeedGiven family name need) (sym (told need c).is)
+      (status-given family plan outcomes numbers known name ready need (needed need c) (told need c).is_cyclic (told-exactly need c) (entry_of outcomes need) refl)
 
   none-given : (need : List ℕ) → (Contains needs need → ⊥) → given_in imports need ≡ names.Unknown
   none-given need never = ap given_by (only need never)

@@ -1,5 +1,5 @@
 -- When a version of a module is the one that is asked for, and what is said of the next one.
-use Rattle.std.specs.Prelude.{◌≡◌, ◌<◌, ◌+◌, ℕ, List, Option, Some, None, IfSome, IsSome, is_some, nat_eq, if◌then◌else◌}
+use Rattle.std.specs.Prelude.{◌≡◌, ◌<◌, ◌+◌, ◌↔◌, ℕ, Bool, true, false, List, Option, Some, None, IfSome, IsSome, IsTrue, is_some, nat_eq, if◌then◌else◌}
 use Rattle.std.specs.List.{AllZip}
 use Rattle.tla_tree.specs.declared.unit.ModuleTree.{ModuleTree}
 use Rattle.index_graph.specs.Leading.{LeadsBack}
@@ -15,32 +15,44 @@ use Rattle.family_tables.specs.Plans.{IsPlan}
 use Rattle.family_tables.specs.Tables.{entry_of}
 use Rattle.family_tables.specs.declared.order.Plan.{Plan}
 use Rattle.family_tables.specs.declared.outcome.Outcome.{Outcome}
+use Rattle.family_tables.specs.declared.outcome.Outcome.TheVariants as outcome
 use Rattle.family_tables.specs.declared.reading.Module.{Module}
 use Rattle.family_tables.specs.declared.reading.Reading.TheVariants as reading
 use Rattle.leveled_modules.specs.Leveled.{LevelTables}
 use Rattle.family_levels.specs.declared.«module».Found.{Found}
+use Rattle.family_levels.specs.declared.versions.Need.{Need}
+use Rattle.family_levels.specs.declared.versions.Need.TheVariants as need_as
 use Rattle.family_levels.specs.declared.versions.Version.{Version}
 use Rattle.family_tables.specs.declared.reading.Reading.{Reading}
 use Rattle.family_tables.specs.Outcomes.{IsMember, faults_of}
 use Rattle.family_levels.specs.Leveling.{HasNumber, IsNext, IsReady, face_count, faces_of}
-use Rattle.family_levels.specs.Versions.{AreNeedsAccepted, AreVersions, Grows, IsCopy, IsFoundOver, IsVersion, Over, Shown, shown_by}
+use Rattle.family_levels.specs.Versions.{AreNeedsTold, AreVersions, Grows, IsCopy, IsFoundOver, IsVersion, Over, Shown, shown_by}
 
 -- the number of a version that was accepted
 abbrev pub version_by : Option Version → Option ℕ
 version_by None = None
 version_by (Some version) = if is_some version.found.number then Some version.id else None
 
--- a need does not lead back, and is of the version with this number
-pub record IsNeed (plan : Plan) (versions : List (List ℕ × Version)) (name need : List ℕ) (id : ℕ) : Type 0 where
-  pub accepted : version_by (entry_of versions need) ≡ Some id
-  pub apart : (modules : List Entry) → IsPlan modules plan → plans.Needs modules name need → LeadsBack (plans.Needs modules) name need → ⊥
+-- what a need is by whether it leads back, by its outcome, and by the number of its version
+abbrev pub need_by : Bool → Option Outcome → Option ℕ → Option Need
+need_by true found id = Some need_as.Cyclic
+need_by false None id = Some need_as.Unknown
+need_by false (Some (outcome.Refused faults)) id = Some need_as.Refused
+need_by false (Some (outcome.Accepted face)) None = None
+need_by false (Some (outcome.Accepted face)) (Some id) = Some (need_as.Version id)
 
--- so are all needs, with these numbers in their order
-abbrev pub AreNeeds : Plan → List (List ℕ × Version) → List ℕ → List (List ℕ) → List ℕ → Type 0
-AreNeeds plan versions name needs ids = AllZip (IsNeed plan versions name) needs ids
+-- a need is this
+pub record IsNeed (plan : Plan) (outcomes : List (List ℕ × Outcome)) (versions : List (List ℕ × Version)) (name need : List ℕ) (is : Need) : Type 0 where
+  pub cyclic : Bool
+  pub exactly : (modules : List Entry) → IsPlan modules plan → plans.Needs modules name need → IsTrue cyclic ↔ LeadsBack (plans.Needs modules) name need
+  pub itself : need_by cyclic (entry_of outcomes need) (version_by (entry_of versions need)) ≡ Some is
 
--- a version is that of a tree over versions with these numbers
-pub record IsVersionOf (version : Version) (tree : ModuleTree) (needs : List ℕ) : Type 0 where
+-- so are all needs, in their order
+abbrev pub AreNeeds : Plan → List (List ℕ × Outcome) → List (List ℕ × Version) → List ℕ → List (List ℕ) → List Need → Type 0
+AreNeeds plan outcomes versions name needs are = AllZip (IsNeed plan outcomes versions name) needs are
+
+-- a version is that of a tree over needs that are these
+pub record IsVersionOf (version : Version) (tree : ModuleTree) (needs : List Need) : Type 0 where
   pub same : version.tree.source ≡ tree.source
   pub over : version.needs ≡ needs
 
@@ -51,17 +63,17 @@ pub record IsSameVersion (version copy : Version) : Type 0 where
   pub id : copy.id ≡ version.id
   pub found : IsCopy version.found copy.found
 
--- a version of a module was found before, over versions with these numbers
-pub record IsFoundAgain (old : List (List ℕ × Version)) (name : List ℕ) («module» : Module) (needs : Option (List ℕ)) (version : Version) : Type 0 where
+-- a version of a module was found before, over needs that are these
+pub record IsFoundAgain (old : List (List ℕ × Version)) (name : List ℕ) («module» : Module) (needs : Option (List Need)) (version : Version) : Type 0 where
   pub tree : ModuleTree
   pub reads : «module».reading ≡ reading.Tree tree
-  pub ids : List ℕ
-  pub over : needs ≡ Some ids
+  pub needed : List Need
+  pub over : needs ≡ Some needed
   pub there : entry_of old name ≡ Some version
-  pub is : IsVersionOf version tree ids
+  pub is : IsVersionOf version tree needed
 
 -- a version of a module has just been found
-pub record IsVersionAnew («module» : Module) (needs : Option (List ℕ)) (id : ℕ) (found : Found) (version : Version) : Type 0 where
+pub record IsVersionAnew («module» : Module) (needs : Option (List Need)) (id : ℕ) (found : Found) (version : Version) : Type 0 where
   pub reads : «module».reading ≡ reading.Tree version.tree
   pub over : needs ≡ Some version.needs
   pub itself : version.id ≡ id
@@ -150,7 +162,7 @@ pub record IsFoundNext (plan : Plan) (outcomes : List (List ℕ × Outcome)) (nu
   pub next : (family : List Member) → IsReady family plan outcomes numbers known name → IsMember family name read needs → IsNext family outcomes numbers name new found
   pub so :
       (family : List Member) (over : Over) (tree : ModuleTree) → IsReady family plan outcomes numbers known name → IsMember family name read needs → read ≡ reading.Tree tree
-      → AreNeedsAccepted family outcomes numbers name needs over → IsFoundOver new over (shown_by found.outcome found.number) name tree found
+      → AreNeedsTold family outcomes numbers name needs over → IsFoundOver new over (shown_by found.outcome found.number) name tree found
 
 -- this is made of the next module, by its version or by a check: whatever is kept of those before it, and of whatever family they are
 pub record IsMadeNext (plan : Plan) (old versions : List (List ℕ × Version)) (outcomes : List (List ℕ × Outcome)) (numbers : List (List ℕ × ℕ)) (next : ℕ) (name : List ℕ) («module» : Module) (known new : LevelTables) (found : Found) (version : Option Version) : Type 0 where

@@ -1,5 +1,5 @@
 -- What was found of modules once, and over what: so that it is found again where that is the same.
-use Rattle.std.specs.Prelude.{◌≡◌, ◌<◌, ℕ, true, List, [], ◌∷◌, Option, Some, None, Contains, IfSome, if◌then◌else◌, option_and_then}
+use Rattle.std.specs.Prelude.{◌≡◌, ◌<◌, ◌⊎◌, ◌↔◌, ℕ, Bool, true, List, [], ◌∷◌, Option, Some, None, Contains, IfSome, IsTrue, if◌then◌else◌}
 use Rattle.std.specs.List.{AllByRecursion}
 use Rattle.std.specs.Arc.{arc_value}
 use Rattle.std.specs.Str.{bytes_eq}
@@ -28,13 +28,15 @@ use Rattle.family_facts.specs.Family.{IsCyclic, Member}
 use Rattle.family_tables.specs.Agreement.{accepted_face, found_face}
 use Rattle.family_tables.specs.Keeping.{IsRead}
 use Rattle.family_tables.specs.Modules.{needs_of}
-use Rattle.family_tables.specs.Outcomes.{Matches, faults_of}
+use Rattle.family_tables.specs.Outcomes.{Matches, faults_of, status_by}
 use Rattle.family_tables.specs.Tables.{entry_of}
 use Rattle.family_tables.specs.declared.outcome.Outcome.{Outcome}
 use Rattle.family_tables.specs.declared.outcome.Outcome.TheVariants as outcome
 use Rattle.leveled_facts.specs.Families.{leveled}
-use Rattle.leveled_facts.specs.Modules.{Accepted, Leveled, Status, Unknown, import_status, leveled_by, outside_by}
+use Rattle.leveled_facts.specs.Modules.{Accepted, Cyclic, Leveled, Refused, Status, Unknown, import_status, leveled_by, outside_by}
 use Rattle.family_levels.specs.declared.«module».Found.{Found}
+use Rattle.family_levels.specs.declared.versions.Need.{Need}
+use Rattle.family_levels.specs.declared.versions.Need.TheVariants as need_as
 use Rattle.family_levels.specs.declared.versions.Version.{Version}
 use Rattle.family_levels.specs.Leveling.{HasNumber, KeepsFaces, face_count, faces_of}
 
@@ -67,18 +69,27 @@ abbrev pub shown_in : Option Told → Option Shown
 shown_in None = None
 shown_in (Some told) = Some told.shown
 
--- the modules that a module needs, all of them accepted
-abbrev pub Over : Type 0
-Over = List ℕ → Option Told
+-- a status without a module behind it
+abbrev pub IsLack : Status → Type 0
+IsLack Unknown = Unit {0}
+IsLack Cyclic = Unit {0}
+IsLack Refused = Unit {0}
+IsLack (Accepted outside) = ⊥
 
--- a module that is needed, or another one, which is not there to the one that needs it
-abbrev pub status_told : Option Told → Status
-status_told None = Unknown
-status_told (Some told) = Accepted told.outside
+-- what modules are to one that needs them: those that are accepted, and the status of each other one
+pub record Over : Type 0 where
+  pub told : List ℕ → Option Told
+  pub lacks : List ℕ → Status
+  pub are_lacks : (name : List ℕ) → IsLack (lacks name)
+
+-- the status of a module that is accepted, or that of another one
+abbrev pub status_told : Status → Option Told → Status
+status_told lack None = lack
+status_told lack (Some told) = Accepted told.outside
 
 -- what modules are to one over these
 abbrev pub given_over : Over → List ℕ → Status
-given_over over name = status_told (over name)
+given_over over name = status_told (over.lacks name) (over.told name)
 
 -- the same of those that are accepted
 abbrev pub outsides_over : Over → List ℕ → Outside
@@ -91,11 +102,11 @@ number_in (Some told) = Some told.shown.number
 
 -- their numbers
 abbrev pub numbers_over : Over → List ℕ → Option ℕ
-numbers_over over name = number_in (over name)
+numbers_over over name = number_in (over.told name)
 
 -- their views are those of their faces
 abbrev pub AreViewed : Over → Type 0
-AreViewed over = (name : List ℕ) (told : Told) → over name ≡ Some told → told.outside.view ≡ face_outside told.shown.face
+AreViewed over = (name : List ℕ) (told : Told) → over.told name ≡ Some told → told.outside.view ≡ face_outside told.shown.face
 
 -- this is found of a text over them
 abbrev pub leveled_over : Over → ModuleTree → Leveled
@@ -108,16 +119,24 @@ named_faults given source units = names_faults (λ name. import_status (given na
 -- a module that is needed is told so among modules that were found
 pub record IsNeedAccepted (family : List Member) (outcomes : List (List ℕ × Outcome)) (numbers : List (List ℕ × ℕ)) (name need : List ℕ) (over : Over) : Type 0 where
   pub told : Told
-  pub is : over need ≡ Some told
+  pub is : over.told need ≡ Some told
   pub face : found_face outcomes need ≡ Some told.shown.face
   pub number : entry_of numbers need ≡ Some told.shown.number
   pub outside : (leveled (texts_of family) need).outside ≡ told.outside
   pub apart : IsCyclic family name need → ⊥
 
--- so are all that are needed, and no others
-pub record AreNeedsAccepted (family : List Member) (outcomes : List (List ℕ × Outcome)) (numbers : List (List ℕ × ℕ)) (name : List ℕ) (needs : List (List ℕ)) (over : Over) : Type 0 where
-  pub each : (need : List ℕ) → Contains needs need → IsNeedAccepted family outcomes numbers name need over
-  pub others : (other : List ℕ) → (Contains needs other → ⊥) → over other ≡ None
+-- or it has the status of one that is not accepted
+pub record IsNeedLacking (family : List Member) (outcomes : List (List ℕ × Outcome)) (name need : List ℕ) (over : Over) : Type 0 where
+  pub is : over.told need ≡ None
+  pub cyclic : Bool
+  pub exactly : IsTrue cyclic ↔ IsCyclic family name need
+  pub status : import_status (over.lacks need) ≡ status_by cyclic (entry_of outcomes need)
+
+-- so are all that are needed, and another one is not there
+pub record AreNeedsTold (family : List Member) (outcomes : List (List ℕ × Outcome)) (numbers : List (List ℕ × ℕ)) (name : List ℕ) (needs : List (List ℕ)) (over : Over) : Type 0 where
+  pub each : (need : List ℕ) → Contains needs need → IsNeedAccepted family outcomes numbers name need over ⊎ IsNeedLacking family outcomes name need over
+  pub others : (other : List ℕ) → (Contains needs other → ⊥) → over.told other ≡ None
+  pub unknown : (other : List ℕ) → (Contains needs other → ⊥) → over.lacks other ≡ Unknown
 
 -- what is kept of a module of which this was found, if it is accepted
 abbrev pub shown_by : Outcome → Option ℕ → Option Shown
@@ -129,7 +148,7 @@ shown_by _ _ = None
 -- where an instance of a face comes from: the text of its module, or the face of one that the module needs
 pub data IsHeld (over : Over) (title : List ℕ) (decl : DeclId) (entries : Exports) : Type 0 where
   Own : bytes_eq decl.«module» title ≡ true → IsHeld over title decl entries
-  Shared : (name : List ℕ) (told : Told) → over name ≡ Some told → face_instances told.shown.face decl ≡ Some entries → IsHeld over title decl entries
+  Shared : (name : List ℕ) (told : Told) → over.told name ≡ Some told → face_instances told.shown.face decl ≡ Some entries → IsHeld over title decl entries
 
 -- the face of a module over these holds what its exports reach, and nothing from elsewhere
 pub record IsHeldFace (over : Over) (title : List ℕ) (face : Face) : Type 0 where
@@ -177,21 +196,42 @@ pub record IsFoundOver (known : LevelTables) (over : Over) (own : Option Shown) 
 
 -- ---- versions
 
--- the number of the version of a need, if it is one
-abbrev pub version_in : List (List ℕ) → List ℕ → List ℕ → Option ℕ
-version_in (need ∷ needs) (id ∷ ids) name = if bytes_eq name need then Some id else version_in needs ids name
-version_in _ _ name = None
+-- what a need is, if it is one
+abbrev pub need_in : List (List ℕ) → List Need → List ℕ → Option Need
+need_in (need ∷ needs) (is ∷ rest) name = if bytes_eq name need then Some is else need_in needs rest name
+need_in _ _ name = None
 
--- what is kept of the needs of a version, by what is kept under each number
+-- what is kept of it, by what is kept under each number
+abbrev pub shown_need : (ℕ → Option Shown) → Option Need → Option Shown
+shown_need shown (Some (need_as.Version id)) = shown id
+shown_need shown _ = None
+
+-- its status, if it is not accepted
+abbrev pub lack_need : Option Need → Status
+lack_need (Some need_as.Cyclic) = Cyclic
+lack_need (Some need_as.Refused) = Refused
+lack_need _ = Unknown
+
+-- what is kept of the needs of a version
 abbrev pub shown_over : (ℕ → Option Shown) → Version → List ℕ → Option Shown
-shown_over shown version name = option_and_then shown (version_in (needs_of version.tree) version.needs name)
+shown_over shown version name = shown_need shown (need_in (needs_of version.tree) version.needs name)
 
--- this was found of a version, over modules of which that is kept which is kept under the numbers of its needs
+-- and the status of each that was not accepted
+abbrev pub lack_over : Version → List ℕ → Status
+lack_over version name = lack_need (need_in (needs_of version.tree) version.needs name)
+
+-- the number of a version that is needed is below another one
+abbrev pub IsNeedBelow : ℕ → Need → Type 0
+IsNeedBelow next (need_as.Version id) = id < next
+IsNeedBelow next _ = Unit {0}
+
+-- this was found of a version, over modules of which that is kept which is kept under the numbers of its needs, and the others as they were
 pub record IsVersion (known : LevelTables) (shown : ℕ → Option Shown) (next : ℕ) (name : List ℕ) (version : Version) : Type 0 where
-  pub needs : AllByRecursion (λ id. id < next) version.needs
+  pub needs : AllByRecursion (IsNeedBelow next) version.needs
   pub itself : version.id < next
   pub over : Over
-  pub shows : (other : List ℕ) → shown_in (over other) ≡ shown_over shown version other
+  pub shows : (other : List ℕ) → shown_in (over.told other) ≡ shown_over shown version other
+  pub lacks : (other : List ℕ) → over.lacks other ≡ lack_over version other
   pub found : IsFoundOver known over (shown version.id) name version.tree version.found
 
 -- so it was of each of these

@@ -1,5 +1,5 @@
 // The next module, by its version or by a check.
-ghost use Rattle.std.specs.Prelude.{◌≡◌, ◌≤◌, [], IfOk, IfSome, IsTrue, Some};
+ghost use Rattle.std.specs.Prelude.{◌≡◌, ◌≤◌, [], false, IfOk, IfSome, IsTrue, Some};
 ghost use Rattle.std.specs.Bool.{OnTrue};
 ghost use Rattle.family_facts.specs.Verdicts.{after_checks};
 ghost use Rattle.family_tables.specs.Agreement.{AreAgreed};
@@ -10,11 +10,12 @@ ghost use Rattle.leveled_modules.specs.Leveled.{AreKept};
 ghost use Rattle.tree_numbers.specs.Numbered.{IsNumbered};
 ghost use Rattle.family_levels.specs.Leveling.{AreNumbers};
 ghost use Rattle.family_levels.specs.Again.{AreNeeds, IsFoundAgain, IsFoundAs, IsInPlace, IsLike};
-ghost use Rattle.family_levels.specs.Again.{IsMadeNext, IsVersionAnew, IsVersionOf, version_by};
+ghost use Rattle.family_levels.specs.Again.{IsMadeNext, IsVersionAnew, IsVersionOf, need_by};
+ghost use Rattle.family_levels.specs.Again.{version_by};
 
 use crate::laws::laws_below;
 use crate::module::{Found, level_one};
-use crate::versions::{Version, is_text_of};
+use crate::versions::{Need, Version, is_text_of};
 use face_views::{are_same, same_faces_look_alike};
 use family_tables::{Module, Outcome, Plan, Reading, Table};
 use growing_modules::made_modules_stay;
@@ -37,44 +38,64 @@ fn version_of(versions: &Table<Version>, name: &str) -> Option<u64>
     }
 }
 
-// The numbers of the versions of what a module needs. There are none where it needs one that is not
-// accepted.
-fn needed_versions(
+// What a module is to one that needs it, by its outcome. There is none where it is accepted and
+// has no version.
+fn need_found(outcomes: &Table<Outcome>, versions: &Table<Version>, need: &str) -> Option<Need>
+    ensures { result ≡ need_by false (entry_of outcomes.now need.now)
+        (version_by (entry_of versions.now need.now)) }
+{
+    match outcomes.get(need) {
+        None => Some(Need::Unknown),
+        Some(Outcome::Refused(_)) => Some(Need::Refused),
+        Some(Outcome::Accepted(_)) => match version_of(versions, need) {
+            Some(id) => Some(Need::Version(id)),
+            None => None,
+        },
+    }
+}
+
+// What the modules are that a module needs. There are none where one is accepted and has no
+// version.
+fn needs_found(
     alloc: Global,
     plan: &Plan,
+    outcomes: &Table<Outcome>,
     versions: &Table<Version>,
     name: &str,
     needs: &[Chars],
-) -> Result<Option<List<u64>>, Memory>
-    ensures { IfOk result (λ ids. IfSome ids (AreNeeds plan.now versions.now name.now needs.now)) }
+) -> Result<Option<List<Need>>, Memory>
+    ensures { IfOk result (λ found. IfSome found (AreNeeds plan.now outcomes.now versions.now
+        name.now needs.now)) }
 {
-    let mut ids = List::new(alloc);
+    let mut found = List::new(alloc);
     for need in needs {
         let need = need.as_str();
-        if plan.is_cyclic(alloc, name, need)? {
-            return Ok(None);
+        let cyclic = plan.is_cyclic(alloc, name, need)?;
+        if cyclic {
+            found.push(Need::Cyclic)?;
+            continue;
         }
-        let Some(id) = version_of(versions, need) else {
+        let Some(need) = need_found(outcomes, versions, need) else {
             return Ok(None);
         };
-        ids.push(id)?;
+        found.push(need)?;
     }
-    Ok(Some(ids))
+    Ok(Some(found))
 }
 
-// Whether a version is that of a tree over versions with these numbers.
-fn is_version_of(version: &Version, tree: &ModuleTree, needs: &[u64]) -> bool
+// Whether a version is that of a tree whose needs are these.
+fn is_version_of(version: &Version, tree: &ModuleTree, needs: &[Need]) -> bool
     ensures { OnTrue result (IsVersionOf version.now tree.now needs.now) }
 {
     version.needs.as_slice() == needs && is_text_of(version, tree)
 }
 
-// The version of a tree over versions with these numbers, if it was found before.
+// The version of a tree whose needs are these, if it was found before.
 fn known_version<'a>(
     old: &'a Table<Version>,
     name: &str,
     tree: &ModuleTree,
-    needs: &[u64],
+    needs: &[Need],
 ) -> Option<&'a Version>
     ensures { IfSome result (λ version. (entry_of old.now name.now ≡ Some version.now)
         × IsVersionOf version.now tree.now needs.now) }
@@ -89,12 +110,12 @@ fn known_version<'a>(
     }
 }
 
-// The version of a module with these numbers of what it needs, if it was found before.
+// The version of a module whose needs are these, if it was found before.
 fn found_version<'a>(
     old: &'a Table<Version>,
     name: &str,
     module: &Module,
-    needs: &Option<List<u64>>,
+    needs: &Option<List<Need>>,
 ) -> Option<&'a Version>
     ensures { IfSome result (λ version. IsFoundAgain old.now name.now module.now needs.now
         version.now) }
@@ -105,12 +126,12 @@ fn found_version<'a>(
     known_version(old, name, tree.tree(), needs.as_slice())
 }
 
-// The version of a module of which this was found, if it has a tree and all that it needs has a
-// version.
+// The version of a module of which this was found, if it has a tree and it is known what its needs
+// are.
 fn new_version(
     alloc: Global,
     module: &Module,
-    needs: Option<List<u64>>,
+    needs: Option<List<Need>>,
     id: u64,
     found: &Found,
 ) -> Result<Option<Version>, Memory>
@@ -200,8 +221,8 @@ fn found_as(alloc: Global, version: &Version, found: Found) -> Result<Found, Mem
     })
 }
 
-// What was found of a module, with its version: in the place of the version before, where another one is
-// over that and it was to others what the module is.
+// What was found of a module, with its version: in the place of the version before, where another
+// one is over that and it was to others what the module is.
 fn in_place(
     alloc: Global,
     old: &Table<Version>,
@@ -226,7 +247,7 @@ fn in_place(
     Ok((found, version))
 }
 
-// What a check finds of a module over versions with these numbers, with its version.
+// What a check finds of a module whose needs are these, with its version.
 fn level_anew<L>(
     alloc: Global,
     plan: &Plan,
@@ -237,7 +258,7 @@ fn level_anew<L>(
     numbers: &Table<usize>,
     name: &str,
     module: &Module,
-    needs: Option<List<u64>>,
+    needs: Option<List<Need>>,
     known: LevelTables,
     trees: &mut TreeNumbers,
     next: u64,
@@ -246,7 +267,8 @@ fn level_anew<L>(
     requires some { IsSomeModule name.now module.now }
     requires agreed { AreAgreed outcomes.now }
     requires unfound { entry_of outcomes.now name.now ≡ None }
-    requires needs { IfSome needs (AreNeeds plan.now versions.now name.now module.now.needs) }
+    requires needs { IfSome needs (AreNeeds plan.now outcomes.now versions.now name.now
+        module.now.needs) }
     requires kept { AreKept known }
     requires numbered { IsNumbered known.tables.state.flat trees.old }
     requires numbers { AreNumbers known numbers.now }
@@ -269,11 +291,10 @@ fn level_anew<L>(
     Ok((known, found, Some(version)))
 }
 
-/// What is found of a module behind what it needs, and the version that it is, if it has a tree and
-/// all that it needs is accepted: what was found of it before over the same versions, or else what
-/// a check finds, which is one step if it has no front fault. A version that is found anew has the
-/// number of the one before if that is needed and the module is to others what it was, or else the
-/// next one.
+/// What is found of a module behind what it needs, and the version that it is, if it has a tree: what
+/// was found of it before where its needs were the same, or else what a check finds, which is one
+/// step if it has no front fault. A version that is found anew has the number of the one before if
+/// that is needed and the module is to others what it was, or else the next one.
 pub(crate) fn level_next<L>(
     alloc: Global,
     plan: &Plan,
@@ -308,7 +329,14 @@ pub(crate) fn level_next<L>(
     let _count = steps.count();
     front_laws::one_front();
     laws_below();
-    let needs = needed_versions(alloc, plan, versions, name, module.needs.as_slice())?;
+    let needs = needs_found(
+        alloc,
+        plan,
+        outcomes,
+        versions,
+        name,
+        module.needs.as_slice(),
+    )?;
     if let Some(version) = found_version(old, name, module, &needs) {
         let found = version.found.copied(alloc)?;
         let version = version.copied(alloc)?;

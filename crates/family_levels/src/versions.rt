@@ -17,11 +17,23 @@ use tla_tree::ModuleTree;
 use tool_list::{List, Memory, copied};
 use tree_numbers::TreeNumbers;
 
+/// What a module is to one that needs it.
+#[derive(Clone, Copy, PartialEq, Eq)]
+pub(crate) enum Need {
+    /// It is not there.
+    Unknown,
+    /// It is that one, or needs it.
+    Cyclic,
+    Refused,
+    /// It is accepted: the number of its version.
+    Version(u64),
+}
+
 /// A module as it was once, with what was found of it over others as they were.
 pub(crate) struct Version {
     pub tree: SharedTree,
-    /// The numbers of the versions of the modules that it needs, in the order of its text.
-    pub needs: List<u64>,
+    /// What the modules are that it needs, in the order of its text.
+    pub needs: List<Need>,
     /// Its own number, which it has from the version before where it is to others what that was, and
     /// else alone.
     pub id: u64,
@@ -159,8 +171,10 @@ pub(crate) fn ids_needed(
     let mut needed = IndexSet::new(alloc);
     for index in 0..versions.len() {
         let (_, version) = versions.at(index);
-        for id in version.needs.as_slice() {
-            needed.insert(*id)?;
+        for need in version.needs.as_slice() {
+            if let Need::Version(id) = need {
+                needed.insert(*id)?;
+            }
         }
     }
     Ok(needed)

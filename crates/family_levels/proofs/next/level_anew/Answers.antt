@@ -1,4 +1,4 @@
-use Rattle.std.proofs.Common.{None, Some, subst}
+use Rattle.std.proofs.Common.{None, subst}
 use Rattle.std.specs.Prelude.{IfSome}
 use Rattle.family_levels.specs.Again.{IsVersionAnew}
 use Rattle.family_levels.proofs.Making.{made-anew, made-placed}

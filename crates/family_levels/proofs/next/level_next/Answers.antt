@@ -7,7 +7,7 @@ use Rattle.family_levels.proofs.next.level_next.Goals as goal
 
 pub returns-in-Some-clause-made : goal.returns-in-Some-clause-made
 returns-in-Some-clause-made g c =
-    let asked = subst (λ needs. IfSome c.in_ok-needs.needs (AreNeeds c.args.plan.now c.args.versions.now c.args.name.now needs)) c.as_slice.ensures c.in_ok-needs.ensures in
+    let asked = subst (λ needs. IfSome c.in_ok-needs.needs (AreNeeds c.args.plan.now c.args.outcomes.now c.args.versions.now c.args.name.now needs)) c.as_slice.ensures c.in_ok-needs.ensures in
     record {
       grows = grows-none c.args.known;
       placed = λ shown are placed.
@@ -20,4 +20,4 @@ returns-in-Some-clause-made g c =
     }
 
 pub level_anew-requires-clause-needs : goal.level_anew-requires-clause-needs
-level_anew-requires-clause-needs g c = subst (λ needs. IfSome c.in_ok-needs.needs (AreNeeds c.args.plan.now c.args.versions.now c.args.name.now needs)) c.as_slice.ensures c.in_ok-needs.ensures
+level_anew-requires-clause-needs g c = subst (λ needs. IfSome c.in_ok-needs.needs (AreNeeds c.args.plan.now c.args.outcomes.now c.args.versions.now c.args.name.now needs)) c.as_slice.ensures c.in_ok-needs.ensures

@@ -48,6 +48,12 @@ const COMMENT_A: &str =
 const SET_A: &str =
     r#"{"method":"textDocument/didChange","params":{"textDocument":{"uri":"file:///w/A.tla"},"contentChanges":[{"range":{"start":{"line":3,"character":5},"end":{"line":3,"character":6}},"text":"{N}"}]}}"#;
 
+const OPEN_E: &str =
+    r#"{"method":"textDocument/didOpen","params":{"textDocument":{"uri":"file:///w/E.tla","text":"---- MODULE E ----\nH == 1\n====\n"}}}"#;
+
+const CHANGE_E: &str =
+    r#"{"method":"textDocument/didChange","params":{"textDocument":{"uri":"file:///w/E.tla"},"contentChanges":[{"range":{"start":{"line":1,"character":5},"end":{"line":1,"character":6}},"text":"2"}]}}"#;
+
 /// The files of a folder, the contents of the input's frames, and how many modules are checked.
 pub type Counted = (
     &'static [(&'static str, &'static str)],
@@ -62,8 +68,11 @@ const CHAIN: [(&str, &str); 3] = [
     ("C", "EXTENDS B\nH == G"),
 ];
 
+// One that extends a module which is not there, and one beside it.
+const LACKING: [(&str, &str); 2] = [("C", "EXTENDS B\nG == F"), ("E", "H == 1")];
+
 /// Sessions over folders.
-pub static COUNTED: [Counted; 18] = [
+pub static COUNTED: [Counted; 19] = [
     (&FILES, &[ROOT, OPEN_C], 10),
     // A document with the text of its file, and a change that changes nothing.
     (&FILES, &[ROOT, OPEN_C, OPEN_B, SAME_C], 10),
@@ -88,6 +97,8 @@ pub static COUNTED: [Counted; 18] = [
     (&CHAIN, &[ROOT, OPEN_LAST, OPEN_FIRST], 11),
     (&CHAIN, &[ROOT, OPEN_LAST, OPEN_FIRST, COMMENT_A], 12),
     (&CHAIN, &[ROOT, OPEN_LAST, OPEN_FIRST, COMMENT_A, SET_A], 15),
+    // A module whose import is at fault, while that is what it was.
+    (&LACKING, &[ROOT, OPEN_C, OPEN_E, CHANGE_E, CHANGE_E], 11),
     // Not C, to which B is what it was: there the instance is LOCAL.
     (&LOCAL, &[ROOT, OPEN_D, OPEN_M, OTHER_IN_M], 17),
     // Not N, to which P is what it was: of a nested module nothing is brought.
