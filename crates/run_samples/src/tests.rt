@@ -431,13 +431,19 @@ fn numbered(alloc: Global, count: u32) -> Result<List<FileBytes>, Memory> {
     Ok(files)
 }
 
+// Adds the frame of a content.
+fn add_frame(alloc: Global, bytes: &mut Vec<u8>, content: &str) -> Result<(), Memory> {
+    let length = content.len();
+    let frame = format!(in alloc; "Content-Length: {length}\r\n\r\n{content}")?;
+    bytes.extend_from_slice(frame.as_bytes())?;
+    Ok(())
+}
+
 // The frames of these contents, one behind the other.
 fn frames_of(alloc: Global, contents: &[&str]) -> Result<Vec<u8>, Memory> {
     let mut bytes = Vec::new(alloc);
     for content in contents {
-        let length = content.len();
-        let frame = format!(in alloc; "Content-Length: {length}\r\n\r\n{content}")?;
-        bytes.extend_from_slice(frame.as_bytes())?;
+        add_frame(alloc, &mut bytes, *content)?;
     }
     Ok(bytes)
 }

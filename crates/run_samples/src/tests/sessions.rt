@@ -4,6 +4,7 @@ pub mod counts;
 pub mod edits;
 pub mod files;
 pub mod instances;
+pub mod large;
 pub mod names;
 pub mod outlines;
 pub mod phases;
