@@ -1,5 +1,5 @@
--- Equal keys and equal contents are made of the same.
-use Rattle.std.proofs.Common.{◌≡◌, ℕ, Bool, true, List, [], ◌∷◌, Option, Some, None, refl, sym, ap, subst}
+-- Keys, and contents, are equal where they are made of the same, and there alone.
+use Rattle.std.proofs.Common.{◌≡◌, ℕ, Bool, true, ◌&&◌, List, [], ◌∷◌, Option, Some, None, refl, sym, ap, subst}
 use Rattle.std.specs.Prelude.{nat_eq}
 use mathlib.Core.Bool.{beq}
 use Rattle.std.specs.Cmp.{booleans_Decides}
@@ -16,8 +16,10 @@ use Rattle.tla_symbols.specs.contracts.level.KindPartialEq as kind_eq
 use Rattle.tla_symbols.specs.contracts.level.RulePartialEq as rule_eq
 use Rattle.tree_numbers.specs.contracts.keys.HeadPartialEq as head_eq
 use Rattle.tree_numbers.specs.contracts.keys.BodyPartialEq as body_eq
+use Rattle.tree_numbers.specs.contracts.keys.KeyEq.TheImpl.Laws as key_laws
 use Rattle.tree_numbers.specs.contracts.keys.KeyPartialEq as key_partial_eq
 use Rattle.tree_numbers.specs.contracts.keys.RootPartialEq as root_eq
+use Rattle.tree_numbers.specs.contracts.keys.ContentsEq.TheImpl.Laws as contents_laws
 use Rattle.tree_numbers.specs.contracts.keys.ContentsPartialEq as contents_partial_eq
 use Rattle.tree_numbers.specs.declared.keys.Body.{Body}
 use Rattle.tree_numbers.specs.declared.keys.Contents.{Contents}
@@ -96,7 +98,7 @@ abbrev pub key_eq : Key → Key → Bool
 key_eq = (key_partial_eq.TheImpl.eq-value).it
 
 -- what a key is made of
-abbrev made_of : Key → Head × List ℕ × Option Body × Option ℕ × List ℕ
+abbrev pub made_of : Key → Head × List ℕ × Option Body × Option ℕ × List ℕ
 made_of key = (key.head, key.path.items, key.body, key.places, key.parts.items)
 
 key-exact : (a b : Key) → key_eq a b ≡ true → made_of a ≡ made_of b
@@ -112,12 +114,20 @@ key-exact a b h =
     let parts = numbers-equal a.parts.items b.parts.items s.1 in
     λ i. (head i, path i, body i, places i, parts i)
 
+-- whether a key is made of this
+abbrev is_made_of : Key → Head × List ℕ × Option Body × Option ℕ × List ℕ → Bool
+is_made_of a m =
+    (head_eq.TheImpl.eq-value).it a.head m.0 && (pointwise nat_eq a.path.items m.1 && (option_eq (body_eq.TheImpl.eq-value).it a.body m.2 && (option_eq nat_eq a.places m.3 && pointwise nat_eq a.parts.items m.4)))
+
+pub key-same : (a b : Key) → made_of a ≡ made_of b → key_eq a b ≡ true
+key-same a b same = subst (λ m. is_made_of a m ≡ true) same (key_laws.laws-law.refl a)
+
 -- the test of contents
 abbrev pub contents_eq : Contents → Contents → Bool
 contents_eq = (contents_partial_eq.TheImpl.eq-value).it
 
 -- what contents hold
-abbrev held_in : Contents → ℕ × ℕ × Bool × List Root
+abbrev pub held_in : Contents → ℕ × ℕ × Bool × List Root
 held_in contents = (contents.outer, contents.parameters, contents.guards, contents.roots.items)
 
 contents-exact : (a b : Contents) → contents_eq a b ≡ true → held_in a ≡ held_in b
@@ -131,15 +141,16 @@ contents-exact a b h =
     let roots = list-exact (root_eq.TheImpl.eq-value).it root-exact a.roots.items b.roots.items r.1 in
     λ i. (outer i, parameters i, guards i, roots i)
 
-module _ (flat : FlatModule) where
-  pub key-there : (a b : Key) (n : ℕ) → key_eq a b ≡ true → IsKey flat a n → IsKey flat b n
-  key-there a b n h is = subst (λ m. IsMadeOf flat m.0 m.1 m.2 m.3 m.4 n) (key-exact a b h) is
+-- whether contents hold this
+abbrev is_held : Contents → ℕ × ℕ × Bool × List Root → Bool
+is_held a m = nat_eq a.outer m.0 && (nat_eq a.parameters m.1 && (beq a.guards m.2 && pointwise (root_eq.TheImpl.eq-value).it a.roots.items m.3))
 
+pub contents-same : (a b : Contents) → held_in a ≡ held_in b → contents_eq a b ≡ true
+contents-same a b same = subst (λ m. is_held a m ≡ true) same (contents_laws.laws-law.refl a)
+
+module _ (flat : FlatModule) where
   pub key-back : (a b : Key) (n : ℕ) → key_eq a b ≡ true → IsKey flat b n → IsKey flat a n
   key-back a b n h is = subst (λ m. IsMadeOf flat m.0 m.1 m.2 m.3 m.4 n) (sym (key-exact a b h)) is
-
-  pub contents-there : (a b : Contents) (n : ℕ) → contents_eq a b ≡ true → AreContents flat a n → AreContents flat b n
-  contents-there a b n h are = subst (λ m. Holds flat m.0 m.1 m.2 m.3 n) (contents-exact a b h) are
 
   pub contents-back : (a b : Contents) (n : ℕ) → contents_eq a b ≡ true → AreContents flat b n → AreContents flat a n
   contents-back a b n h are = subst (λ m. Holds flat m.0 m.1 m.2 m.3 n) (sym (contents-exact a b h)) are

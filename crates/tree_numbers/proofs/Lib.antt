@@ -1,6 +1,10 @@
 pub mod Entries
+pub mod Pieces
 pub mod Exactness
 pub mod Sharing
 pub mod Numbering
 pub mod Making
+pub mod Telling
+pub mod Growing
 pub mod Staying
+pub mod Finding

@@ -2,37 +2,38 @@
 use Rattle.std.proofs.Common.{◌≡◌, ◌⊎◌, ℕ, zero, suc, ◌<◌, List, [], ◌∷◌, ◌++◌, Option, Some, None, inl, inr, refl, sym, ap, ◌∙◌, subst, map, length}
 use Rattle.std.specs.Prelude.{IfSome, option_map, slice_get, slice_index_or}
 use Rattle.std.specs.List.{AllByRecursion}
-use Rattle.kind_text.specs.FlatModule.{FlatModule, Form, Instance, Replacement, UsesDefinition}
+use Rattle.kind_text.specs.FlatModule.{FlatModule, Form, Instance, Replacement, UsesDefinition, UsesInstance}
 use Rattle.kind_table.specs.declared.flat.Instance as table_instance
 use Rattle.kind_table.specs.declared.flat.Replacement as table_replacement
 use Rattle.kind_table.specs.Flattened.{instance_of, replacement_of}
 use Rattle.resolved_trees.specs.Resolved as trees
 use Rattle.resolved_trees.specs.Resolved.{Cons, Replace, Replaced, Through, definition_at, form_at, instance_at, parts_at, path_at, replacements_at, resolved}
-use Rattle.list_laws.proofs.Lists.{all-both, all-left, all-right}
+use Rattle.std.proofs.lemmas.Option.{slice_get-get_or}
+use Rattle.list_laws.proofs.Lists.{all-both, all-left, all-right, all-weaker, item-at}
 use Rattle.tree_numbers.specs.declared.keys.Contents.{Contents}
 use Rattle.tree_numbers.specs.declared.keys.Root.{Root}
-use Rattle.tree_numbers.specs.Keys.{HasContents, body_in, definition_by, definition_in, head_of, number_in, numbered_body, path_in, replacements_by, root_in, tree_by}
-use Rattle.tree_numbers.specs.Numbered.{AreContents, IsInstance, IsSameInstance, IsSameNode, IsSamePath, NumberNodes}
+use Rattle.tree_numbers.specs.Keys.{HasContents, body_in, definition_by, definition_in, head_of, number_in, numbered_body, path_in, pieces_of, replacements_by, root_in}
+use Rattle.tree_numbers.specs.Numbered.{AreContents, HasNumbers, IsInstance, IsNumber, IsSameInstance, IsSameNode, IsSamePath, NumberNodes}
 
 -- the definition that a form may name
 abbrev named_at : FlatModule → (ℕ → trees.Resolved) → Option ℕ → trees.Definition
 named_at flat f None = trees.Undefined
 named_at flat f (Some d) = definition_at flat f (slice_get flat.definitions d)
 
--- the tree of a form is that of its head over its path, its definition and its parts
-pub form-by-head : (flat : FlatModule) (f : ℕ → trees.Resolved) (form : Form) (places : Option ℕ) (parts : List ℕ)
-    → form_at flat f form places parts ≡ tree_by (head_of form) (path_at flat f (path_in form)) (named_at flat f (definition_in form)) places (parts_at flat f parts)
-form-by-head flat f (Form.Leaf kind) places parts = refl
-form-by-head flat f (Form.Parameter place) places parts = refl
-form-by-head flat f (Form.Call place) places parts = refl
-form-by-head flat f (Form.Operation rule) places parts = refl
-form-by-head flat f Form.Bounded places parts = refl
-form-by-head flat f Form.Old places parts = refl
-form-by-head flat f Form.Let places parts = refl
-form-by-head flat f (Form.Use path d) places parts = refl
-form-by-head flat f (Form.Name path d) places parts = refl
-form-by-head flat f (Form.Symbol rule) places parts = refl
-form-by-head flat f (Form.Lambda d) places parts = refl
+-- the pieces of a form's tree are its head, its path, its definition, its places and its parts
+pub form-pieces : (flat : FlatModule) (f : ℕ → trees.Resolved) (form : Form) (places : Option ℕ) (parts : List ℕ)
+    → pieces_of (form_at flat f form places parts) ≡ Some (head_of form, path_at flat f (path_in form), named_at flat f (definition_in form), places, parts_at flat f parts)
+form-pieces flat f (Form.Leaf kind) places parts = refl
+form-pieces flat f (Form.Parameter place) places parts = refl
+form-pieces flat f (Form.Call place) places parts = refl
+form-pieces flat f (Form.Operation rule) places parts = refl
+form-pieces flat f Form.Bounded places parts = refl
+form-pieces flat f Form.Old places parts = refl
+form-pieces flat f Form.Let places parts = refl
+form-pieces flat f (Form.Use path d) places parts = refl
+form-pieces flat f (Form.Name path d) places parts = refl
+form-pieces flat f (Form.Symbol rule) places parts = refl
+form-pieces flat f (Form.Lambda d) places parts = refl
 
 -- what is found at a place, or what stands for it
 found-or : (xs : List ℕ) (i d : ℕ) → ((n : ℕ) × (slice_get xs i ≡ Some n) × (slice_index_or xs i d ≡ n)) ⊎ (slice_index_or xs i d ≡ d)
@@ -100,6 +101,44 @@ module _ (flat : FlatModule) (numbers : List ℕ) (right : NumberNodes flat numb
   body-there None named = tt
   body-there (Some d) named =
       subst (λ x. IfSome (option_map (numbered_body numbers) x) (λ y. y.root < length flat.nodes)) (sym named.1) (number-same named.0.root named.2).there
+
+  -- what has a number is there
+  counted-there : (i : ℕ) → i < length numbers → i < length flat.nodes
+  counted-there i l = let number = item-at numbers i l in (right i number.0 number.1).here
+
+  pub instance-there : (j : ℕ) → UsesInstance flat (length numbers) j → IsInstance flat j
+  instance-there j u = (u.0, u.1, all-weaker (λ (r : Replacement). r.root < length numbers) (λ r. r.root < length flat.nodes) (λ r. counted-there r.root) u.0.replacements u.2)
+
+-- an instance that is used is there
+pub not-gone : (flat : FlatModule) (numbers : List ℕ) (j : ℕ) → UsesInstance flat (length numbers) j → slice_get flat.instances j ≡ None → ⊥
+not-gone flat numbers j u gone = let both : Some u.0 ≡ None = sym u.1 ∙ gone in cc
+
+-- ---- what has numbers is by numbers
+
+module _ (numbers : List ℕ) where
+  number-known : (i : ℕ) → i < length numbers → IsNumber numbers (number_in numbers i)
+  number-known i l = (i, slice_get-get_or numbers i i l)
+
+  pub parts-known : (is : List ℕ) → AllByRecursion (λ i. i < length numbers) is → AllByRecursion (IsNumber numbers) (map (number_in numbers) is)
+  parts-known [] all = tt
+  parts-known (i ∷ is) all = (number-known i all.0, parts-known is all.1)
+
+  roots-known : (rs : List table_replacement.Replacement) → AllByRecursion (λ r. r.root < length numbers) (map replacement_of rs) → AllByRecursion (λ r. IsNumber numbers r.root) (map (root_in numbers) rs)
+  roots-known [] all = tt
+  roots-known (r ∷ rs) all = (number-known r.root all.0, roots-known rs all.1)
+
+  pub body-known : (flat : FlatModule) (o : Option ℕ) → IfSome o (UsesDefinition flat (length numbers)) → IfSome (body_in flat numbers o) (λ x. IsNumber numbers x.root)
+  body-known flat None named = tt
+  body-known flat (Some d) named = subst (λ x. IfSome (option_map (numbered_body numbers) x) (λ y. IsNumber numbers y.root)) (sym named.1) (number-known named.0.root named.2)
+
+  -- what was read of an instance is by numbers
+  pub contents-known : (flat : FlatModule) (j : ℕ) (here : table_instance.Instance) (contents : Contents) → UsesInstance flat (length numbers) j → slice_get flat.instances j ≡ Some (instance_of here)
+      → HasContents numbers here contents → HasNumbers numbers contents
+  contents-known flat j here contents used at has =
+      let read : Some used.0 ≡ Some (instance_of here) = sym used.1 ∙ at in
+      let is : used.0 ≡ instance_of here = cc in
+      let all = subst (λ (x : Instance). AllByRecursion (λ (r : Replacement). r.root < length numbers) x.replacements) is used.2 in
+      subst (AllByRecursion (λ (r : Root). IsNumber numbers r.root)) (sym has.roots) (roots-known here.replacements.items all)
 
 -- ---- paths
 

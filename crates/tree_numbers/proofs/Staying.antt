@@ -13,8 +13,15 @@ use Rattle.tree_numbers.specs.declared.keys.Body.{Body}
 use Rattle.tree_numbers.specs.declared.keys.Head.{Head}
 use Rattle.tree_numbers.specs.declared.keys.Root.{Root}
 use Rattle.tree_numbers.specs.declared.numbers.TreeNumbers.{TreeNumbers}
-use Rattle.tree_numbers.specs.Keys.{definition_by, replacements_by, tree_by}
-use Rattle.tree_numbers.specs.Numbered.{AreContents, AreInstances, Holds, IsInstance, IsKey, IsMadeOf, IsNumbered, IsSameInstance, IsSameNode}
+use Rattle.tree_numbers.specs.Keys.{definition_by, pieces_of, replacements_by}
+use Rattle.tree_numbers.specs.declared.keys.Contents.{Contents}
+use Rattle.tree_numbers.specs.declared.keys.Key.{Key}
+use Rattle.tree_numbers.specs.Numbered.{AreApart, AreContents, AreInstances, AreKeys, AreKnown, Holds, IsFirst, IsInstance, IsKey, IsMadeOf, IsNumbered, IsSameInstance, IsSameNode, instance_tree}
+use Rattle.tree_numbers.proofs.Entries.{all-at}
+
+-- what is told apart stays so where it is seen as before
+apart-stays : {A : Type 0} (seen later : ℕ → A) (P : ℕ → Type 0) → ((n : ℕ) → P n → seen n ≡ later n) → AreApart seen P → AreApart later P
+apart-stays seen later P stays apart n m one other same = apart n m one other (stays n one ∙ same ∙ sym (stays m other))
 
 module _ (flat more : FlatModule) (extends : Extends flat more) (ordered : IsOrdered flat) where
   tree-stays : (i : ℕ) → i < length flat.nodes → resolved flat i ≡ resolved more i
@@ -72,7 +79,7 @@ module _ (flat more : FlatModule) (extends : Extends flat more) (ordered : IsOrd
         along = all-weaker (IsInstance flat) (IsInstance more) instance-there path h.along;
         root = body-there body h.root;
         made = all-weaker (λ part. part < length flat.nodes) (λ part. part < length more.nodes) node-there parts h.made;
-        tree = sym (tree-stays i h.here) ∙ h.tree ∙ (λ k. tree_by head (along k) (definition k) places (of_parts k));
+        pieces = ap pieces_of (sym (tree-stays i h.here)) ∙ h.pieces ∙ (λ k. Some (head, along k, definition k, places, of_parts k));
       }
 
   holds-stays : (outer parameters : ℕ) (guards : Bool) (roots : List Root) (j : ℕ) → Holds flat outer parameters guards roots j → Holds more outer parameters guards roots j
@@ -83,17 +90,37 @@ module _ (flat more : FlatModule) (extends : Extends flat more) (ordered : IsOrd
         is = sym (instance-stays j h.here) ∙ h.is ∙ ap (Replaced outer parameters guards) (roots-stay roots h.made);
       }
 
-  instances-stay : (instances : Instances) → AreInstances flat instances → AreInstances more instances
-  instances-stay instances h =
+  known-stays : (numbers : List ℕ) (known : List (Contents × ℕ)) → AreKnown flat numbers known → AreKnown more numbers known
+  known-stays numbers known h =
+      record {
+        each = all-weaker (λ e. AreContents flat e.0 e.1) (λ e. AreContents more e.0 e.1) (λ e. holds-stays e.0.outer e.0.parameters e.0.guards e.0.roots.items e.1) known h.each;
+        numbered = h.numbered;
+        apart = apart-stays (instance_tree flat) (instance_tree more) (IsFirst known)
+            (λ n first. instance-stays n (all-at (λ e. AreContents flat e.0 e.1) known first.0 (first.1, n) h.each first.2).here) h.apart;
+      }
+
+  keys-stay : (numbers : List ℕ) (known : List (Contents × ℕ)) (keys : List (Key × ℕ)) → AreKeys flat numbers known keys → AreKeys more numbers known keys
+  keys-stay numbers known keys h =
+      record {
+        each = all-weaker (λ e. IsKey flat e.0 e.1) (λ e. IsKey more e.0 e.1) (λ e. made-stays e.0.head e.0.path.items e.0.body e.0.places e.0.parts.items e.1) keys h.each;
+        numbered = h.numbered;
+        apart = apart-stays (resolved flat) (resolved more) (IsFirst keys)
+            (λ n first. tree-stays n (all-at (λ e. IsKey flat e.0 e.1) keys first.0 (first.1, n) h.each first.2).here) h.apart;
+      }
+
+  instances-stay : (numbers : List ℕ) (instances : Instances) → AreInstances flat numbers instances → AreInstances more numbers instances
+  instances-stay numbers instances h =
       record {
         firsts = all-weaker (λ e. IsSameInstance flat e.0 e.1) (λ e. IsSameInstance more e.0 e.1) (λ e. same-stays e.0 e.1) instances.firsts.entries h.firsts;
-        known = all-weaker (λ e. AreContents flat e.0 e.1) (λ e. AreContents more e.0 e.1) (λ e. holds-stays e.0.outer e.0.parameters e.0.guards e.0.roots.items e.1) instances.known.entries h.known;
+        met = h.met;
+        known = known-stays numbers instances.known.entries h.known;
       }
 
   pub numbers-stay : (numbers : TreeNumbers) → IsNumbered flat numbers → IsNumbered more numbers
   numbers-stay numbers h =
       record {
         nodes = λ i n at. node-stays i n (h.nodes i n at);
-        keys = all-weaker (λ e. IsKey flat e.0 e.1) (λ e. IsKey more e.0 e.1) (λ e. made-stays e.0.head e.0.path.items e.0.body e.0.places e.0.parts.items e.1) numbers.keys.entries h.keys;
-        instances = instances-stay numbers.instances h.instances;
+        firsts = h.firsts;
+        keys = keys-stay numbers.nodes.items numbers.instances.known.entries numbers.keys.entries h.keys;
+        instances = instances-stay numbers.nodes.items numbers.instances h.instances;
       }

@@ -5,7 +5,7 @@ use Rattle.kind_text.specs.FlatModule.{Definition, FlatModule, Form}
 use Rattle.kind_table.specs.declared.flat.Instance as table_instance
 use Rattle.kind_table.specs.declared.flat.Replacement as table_replacement
 use Rattle.resolved_trees.specs.Resolved as trees
-use Rattle.resolved_trees.specs.Resolved.{Parts, Path, Resolved}
+use Rattle.resolved_trees.specs.Resolved.{Parts, Path, Plain, Resolved}
 use Rattle.tree_numbers.specs.declared.keys.Body as body
 use Rattle.tree_numbers.specs.declared.keys.Contents.{Contents}
 use Rattle.tree_numbers.specs.declared.keys.Head.{Head}
@@ -77,19 +77,28 @@ body_in flat numbers (Some d) = body_at flat numbers d
 
 -- ---- the trees that they stand for
 
--- the tree of a head, over those of what it is made of
-abbrev pub tree_by : Head → Path → trees.Definition → Option ℕ → Parts → Resolved
-tree_by (head.Leaf kind) path definition places parts = trees.Node (trees.Leaf kind) places parts
-tree_by (head.Parameter place) path definition places parts = trees.Node (trees.Parameter place) places parts
-tree_by (head.Call place) path definition places parts = trees.Node (trees.Call place) places parts
-tree_by (head.Operation rule) path definition places parts = trees.Node (trees.Operation rule) places parts
-tree_by head.Bounded path definition places parts = trees.Node trees.Bounded places parts
-tree_by head.Old path definition places parts = trees.Node trees.Old places parts
-tree_by head.Let path definition places parts = trees.Node trees.Let places parts
-tree_by head.Use path definition places parts = trees.Use path definition places parts
-tree_by head.Name path definition places parts = trees.Name path definition places parts
-tree_by (head.Symbol rule) path definition places parts = trees.Node (trees.Symbol rule) places parts
-tree_by head.Lambda path definition places parts = trees.Lambda definition places parts
+-- what a tree is made of: its head, its path, its definition, its places and its parts
+abbrev pub Pieces : Type 0
+Pieces = Head × Path × trees.Definition × Option ℕ × Parts
+
+-- the head of a form that uses no definition
+abbrev pub plain_head : Plain → Head
+plain_head (trees.Leaf kind) = head.Leaf kind
+plain_head (trees.Parameter place) = head.Parameter place
+plain_head (trees.Call place) = head.Call place
+plain_head (trees.Operation rule) = head.Operation rule
+plain_head trees.Bounded = head.Bounded
+plain_head trees.Old = head.Old
+plain_head trees.Let = head.Let
+plain_head (trees.Symbol rule) = head.Symbol rule
+
+-- the pieces of a tree, where a node is there
+abbrev pub pieces_of : Resolved → Option Pieces
+pieces_of trees.Missing = None
+pieces_of (trees.Node form places parts) = Some (plain_head form, trees.End, trees.Undefined, places, parts)
+pieces_of (trees.Use path definition places parts) = Some (head.Use, path, definition, places, parts)
+pieces_of (trees.Name path definition places parts) = Some (head.Name, path, definition, places, parts)
+pieces_of (trees.Lambda definition places parts) = Some (head.Lambda, trees.End, definition, places, parts)
 
 -- the definition that a body stands for
 abbrev pub definition_by : (ℕ → Resolved) → Option body.Body → trees.Definition

@@ -1,9 +1,10 @@
 // Instances with the same contents, by the first of them.
-ghost use Rattle.std.specs.Prelude.{◌<◌, IfOk, length};
+ghost use Rattle.std.specs.Prelude.{ℕ, IfOk, List, length};
 ghost use Rattle.std.specs.List.{AllByRecursion};
-ghost use Rattle.kind_text.specs.FlatModule.{FlatModule as Flat};
+ghost use Rattle.kind_text.specs.FlatModule.{FlatModule as Flat, UsesInstance};
 ghost use Rattle.kind_table.specs.Flattened.{flat_of};
-ghost use Rattle.tree_numbers.specs.Numbered.{AreContents, AreInstances, AreKnown, IsInstance, IsSameInstance, IsSamePath, NumberNodes};
+ghost use Rattle.resolved_trees.specs.Resolved.{resolved};
+ghost use Rattle.tree_numbers.specs.Numbered.{AreApart, AreContents, AreInstances, AreKnown, IsFirst, IsNumber, IsSameInstance, IsSamePath, KeepsFirsts, KeepsKnown, NumberNodes};
 
 use crate::keys::{Contents, contents_of};
 use indexmap::IndexMap;
@@ -29,7 +30,7 @@ impl Drop for Instances {
 impl Instances {
     /// No instance was met.
     pub(crate) fn new(alloc: Global) -> Instances
-        ensures { (flat : Flat) → AreInstances flat result }
+        ensures { (flat : Flat) (numbers : List ℕ) → AreInstances flat numbers result }
     {
         Instances {
             firsts: IndexMap::new(alloc),
@@ -46,10 +47,13 @@ impl Instances {
         instance: usize,
     ) -> Result<usize, AllocError>
         requires numbers { NumberNodes (flat_of flat.now) numbers.now }
-        requires instances { AreInstances (flat_of flat.now) self.old }
-        requires instance { IsInstance (flat_of flat.now) instance }
-        ensures instances { AreInstances (flat_of flat.now) self.new }
-        ensures first { IfOk result (λ first. IsSameInstance (flat_of flat.now) instance first) }
+        requires apart { AreApart (resolved (flat_of flat.now)) (IsNumber numbers.now) }
+        requires instances { AreInstances (flat_of flat.now) numbers.now self.old }
+        requires instance { UsesInstance (flat_of flat.now) (length numbers.now) instance }
+        ensures instances { AreInstances (flat_of flat.now) numbers.now self.new }
+        ensures kept { KeepsFirsts self.old.known.entries self.new.known.entries }
+        ensures same { IfOk result (λ first. IsSameInstance (flat_of flat.now) instance first) }
+        ensures first { IfOk result (λ first. IsFirst self.new.known.entries first) }
     {
         if let Some(first) = self.firsts.get(&instance) {
             return Ok(*first);
@@ -68,10 +72,15 @@ impl Instances {
         path: &[usize],
     ) -> Result<Vec<usize>, AllocError>
         requires numbers { NumberNodes (flat_of flat.now) numbers.now }
-        requires instances { AreInstances (flat_of flat.now) self.old }
-        requires path { AllByRecursion (IsInstance (flat_of flat.now)) path.now }
-        ensures instances { AreInstances (flat_of flat.now) self.new }
-        ensures path { IfOk result (λ v. IsSamePath (flat_of flat.now) path.now v.items) }
+        requires apart { AreApart (resolved (flat_of flat.now)) (IsNumber numbers.now) }
+        requires instances { AreInstances (flat_of flat.now) numbers.now self.old }
+        requires path { AllByRecursion (UsesInstance (flat_of flat.now) (length numbers.now))
+            path.now }
+        ensures instances { AreInstances (flat_of flat.now) numbers.now self.new }
+        ensures kept { KeepsFirsts self.old.known.entries self.new.known.entries }
+        ensures same { IfOk result (λ v. IsSamePath (flat_of flat.now) path.now v.items) }
+        ensures firsts { IfOk result (λ v. AllByRecursion (IsFirst self.new.known.entries)
+            v.items) }
     {
         let mut firsts = Vec::with_capacity(alloc, path.len())?;
         for instance in path {
@@ -91,10 +100,13 @@ fn first_met(
     instance: usize,
 ) -> Result<usize, AllocError>
     requires numbers { NumberNodes (flat_of flat.now) numbers.now }
-    requires known { AreKnown (flat_of flat.now) known.old.entries }
-    requires instance { IsInstance (flat_of flat.now) instance }
-    ensures known { AreKnown (flat_of flat.now) known.new.entries }
-    ensures first { IfOk result (λ first. IsSameInstance (flat_of flat.now) instance first) }
+    requires apart { AreApart (resolved (flat_of flat.now)) (IsNumber numbers.now) }
+    requires known { AreKnown (flat_of flat.now) numbers.now known.old.entries }
+    requires instance { UsesInstance (flat_of flat.now) (length numbers.now) instance }
+    ensures known { AreKnown (flat_of flat.now) numbers.now known.new.entries }
+    ensures kept { KeepsFirsts known.old.entries known.new.entries }
+    ensures same { IfOk result (λ first. IsSameInstance (flat_of flat.now) instance first) }
+    ensures first { IfOk result (λ first. IsFirst known.new.entries first) }
 {
     match flat.instances.get(instance) {
         None => Ok(instance),
@@ -113,10 +125,13 @@ fn first_with(
     contents: Contents,
     instance: usize,
 ) -> Result<usize, AllocError>
-    requires known { AreKnown (flat_of flat.now) known.old.entries }
+    requires known { AllByRecursion (λ e. AreContents (flat_of flat.now) e.0 e.1)
+        known.old.entries }
     requires contents { AreContents (flat_of flat.now) contents instance }
-    ensures known { AreKnown (flat_of flat.now) known.new.entries }
-    ensures first { IfOk result (λ first. IsSameInstance (flat_of flat.now) instance first) }
+    ensures known { KeepsKnown (flat_of flat.now) contents known.old.entries known.new.entries }
+    ensures kept { KeepsFirsts known.old.entries known.new.entries }
+    ensures same { IfOk result (λ first. IsSameInstance (flat_of flat.now) instance first) }
+    ensures first { IfOk result (λ first. IsFirst known.new.entries first) }
 {
     if let Some(first) = known.get(&contents) {
         return Ok(*first);

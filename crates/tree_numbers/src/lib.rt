@@ -1,7 +1,8 @@
 //! Numbers of the nodes of a flat module, by their resolved trees.
 //!
-//! Nodes with one number have one tree: so trees are compared by comparing two numbers. Each node
-//! is numbered once, by what it is made of. Knows nothing of names, texts and kinds.
+//! Nodes have one number where they have one tree, and there alone: so trees are compared by
+//! comparing two numbers. Each node is numbered once, by what it is made of. Knows nothing of
+//! names, texts and kinds.
 #![tactic(auto)]
 
 mod instances;
@@ -11,6 +12,3 @@ mod same;
 
 pub use numbers::{TreeNumbers, numbers_stay};
 pub use same::{is_same_definition, is_same_instance};
-
-#[cfg(test)]
-mod tests;

@@ -1,8 +1,10 @@
 // Numbers of nodes, by what they are made of.
 ghost use Rattle.std.specs.Prelude.{◌≡◌, ◌<◌, ◌≤◌, IfOk, OnOk, length, take};
+ghost use Rattle.std.specs.List.{AllByRecursion};
 ghost use Rattle.kind_text.specs.FlatModule.{Extends, FlatModule as Flat, IsOrdered};
 ghost use Rattle.kind_table.specs.Flattened.{flat_of};
-ghost use Rattle.tree_numbers.specs.Numbered.{AreInstances, AreKeys, AreTold, IsKey, IsNumbered, IsSameNode, NumberNodes};
+ghost use Rattle.resolved_trees.specs.Resolved.{resolved};
+ghost use Rattle.tree_numbers.specs.Numbered.{AreApart, AreInstances, AreTold, IsByNumbers, IsFirst, IsKey, IsNumber, IsNumbered, IsSameNode, KeepsFirsts, KeepsKeys, NumberNodes, TellTrees};
 
 use crate::instances::Instances;
 use crate::keys::{Key, body_of, head_of, numbers_of, path_of};
@@ -10,8 +12,8 @@ use indexmap::IndexMap;
 use kind_table::FlatModule;
 use std::alloc::{AllocError, Global};
 
-/// Numbers of the nodes of a flat module that grows: nodes with one number have the same resolved
-/// tree.
+/// Numbers of the nodes of a flat module that grows: two nodes have one number if they have the
+/// same resolved tree, and else two.
 pub struct TreeNumbers {
     // For each node the first one that is made of the same.
     nodes: Vec<usize>,
@@ -62,7 +64,9 @@ impl TreeNumbers {
 
     /// The numbers, node by node.
     pub fn as_slice(&self) -> &[usize]
-        ensures { (flat : Flat) → IsNumbered flat self.now → AreTold flat result.now }
+        ensures told { (flat : Flat) → IsNumbered flat self.now → AreTold flat result.now }
+        ensures trees { (flat : Flat) → IsNumbered flat self.now → TellTrees flat result.now }
+        ensures numbers { result.now ≡ self.now.nodes.items }
     {
         &self.nodes
     }
@@ -84,10 +88,15 @@ fn key_of(
 ) -> Result<Key, AllocError>
     requires ordered { IsOrdered (flat_of flat.now) }
     requires numbers { NumberNodes (flat_of flat.now) numbers.now }
-    requires instances { AreInstances (flat_of flat.now) instances.old }
+    requires apart { AreApart (resolved (flat_of flat.now)) (IsNumber numbers.now) }
+    requires instances { AreInstances (flat_of flat.now) numbers.now instances.old }
     requires node { node < length flat.now.nodes.items }
-    ensures instances { AreInstances (flat_of flat.now) instances.new }
+    requires before { node ≤ length numbers.now }
+    ensures instances { AreInstances (flat_of flat.now) numbers.now instances.new }
+    ensures kept { KeepsFirsts instances.old.known.entries instances.new.known.entries }
     ensures key { IfOk result (λ key. IsKey (flat_of flat.now) key node) }
+    ensures by_numbers { IfOk result (λ key. IsByNumbers numbers.now instances.new.known.entries
+        key) }
 {
     let here = &flat.nodes[node];
     let path = instances.path(alloc, flat, numbers, path_of(flat, here.form))?;
@@ -108,10 +117,12 @@ fn first_with(
     key: Key,
     node: usize,
 ) -> Result<usize, AllocError>
-    requires keys { AreKeys (flat_of flat.now) keys.old.entries }
+    requires keys { AllByRecursion (λ e. IsKey (flat_of flat.now) e.0 e.1) keys.old.entries }
     requires key { IsKey (flat_of flat.now) key node }
-    ensures keys { AreKeys (flat_of flat.now) keys.new.entries }
-    ensures first { IfOk result (λ first. IsSameNode (flat_of flat.now) node first) }
+    ensures keys { KeepsKeys (flat_of flat.now) key keys.old.entries keys.new.entries }
+    ensures kept { KeepsFirsts keys.old.entries keys.new.entries }
+    ensures same { IfOk result (λ first. IsSameNode (flat_of flat.now) node first) }
+    ensures first { IfOk result (λ first. IsFirst keys.new.entries first) }
 {
     if let Some(first) = keys.get(&key) {
         return Ok(*first);
