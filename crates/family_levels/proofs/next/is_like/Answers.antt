@@ -14,7 +14,7 @@ returns-clause-like c same =
     let flat : FlatModule = known.tables.state.flat in
     let was : ℕ = c.in-Accepted-Some.was in
     let number : ℕ = c.in-Accepted-Some-2.number in
-    let told = c.as_slice.ensures flat (subst (λ f. IsNumbered f c.extend.new.self) c.as_flat.ensures.tables c.in_ok-extend.ensures.numbered) in
+    let told = c.as_slice.ensures.told flat (subst (λ f. IsNumbered f c.extend.new.self) c.as_flat.ensures.tables c.in_ok-extend.ensures.numbered) in
     let alike = c.in_ok-same.ensures same told in
     let within = c.requires.kept.between.within.faces in
     record {
