@@ -9,3 +9,4 @@ mod meaning;
 mod table;
 
 pub use face::{are_same, same_faces_look_alike};
+pub use meaning::is_same_meaning;

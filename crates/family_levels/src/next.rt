@@ -175,7 +175,7 @@ fn is_like(
         return Ok(false);
     }
     trees.extend(alloc, known.as_flat())?;
-    let same = known.are_alike(trees.as_slice(), was, number)?;
+    let same = known.are_alike(alloc, trees.as_slice(), was, number)?;
     Ok(same)
 }
 

@@ -7,8 +7,10 @@ pub mod Led
 mod Likeness
 mod Listing
 mod Numbered
+mod Pairing
 mod Placed
 mod Putting
 mod Said
 mod Tabled
+mod Telling
 mod Within

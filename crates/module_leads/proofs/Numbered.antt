@@ -1,9 +1,9 @@
 -- Faces by their numbers: those before a limit, and one more.
 use Rattle.std.proofs.Common.{◌≡◌, ℕ, zero, suc, ◌<◌, ◌≤◌, Bool, true, false, List, [], ◌∷◌, ◌++◌, Option, Some, None, refl, sym, ap, ◌∙◌, length, get_or, slice_get, if◌then◌else◌, arith, true≢false}
-use Rattle.std.specs.Prelude.{nat_eq}
-use Rattle.std.proofs.lemmas.Bool.{eq-eqb}
+use Rattle.std.specs.Prelude.{nat_eq, nat_lt}
+use Rattle.std.proofs.lemmas.Bool.{eq-eqb, ltb-false, ltb-true}
 use Rattle.std.proofs.lemmas.Bool.Decides.{Decides-eqb}
-use Rattle.std.proofs.lemmas.Option.{slice_get-get_or}
+use Rattle.std.proofs.lemmas.Option.{slice_get-get_or, slice_get_past, slice_get_within}
 use Rattle.list_laws.proofs.Lists.{at-end}
 use Rattle.flattened_trees.specs.Leads.{FlatFace, nowhere}
 use Rattle.flattened_units.specs.Units.{no_face}
@@ -48,6 +48,27 @@ face-listed listed (suc count) number below = by (nat_eq number count) refl (λ 
     by true e before = ap (λ (n : ℕ). listed_face (first_faces listed n) (slice_get listed n)) (sym ((Decides-eqb number count).0 e))
     by false e before = before (λ same. true≢false (sym (eq-eqb number count same) ∙ e))
 
+-- it is the same whatever the limit
+pub face-known : (listed : List ModuleFace) (limit number : ℕ) → number < limit → first_faces listed limit number ≡ faces_of listed number
+face-known listed limit number below = face-listed listed limit number below ∙ by (nat_lt number (length listed)) refl
+  where
+    by : (b : Bool) → nat_lt number (length listed) ≡ b → listed_face (first_faces listed number) (slice_get listed number) ≡ faces_of listed number
+    by true e = sym (face-listed listed (length listed) number (ltb-true number (length listed) e))
+    by false e =
+        let past : length listed ≤ number = ltb-false number (length listed) e in
+        ap (listed_face (first_faces listed number)) (slice_get_past listed number past) ∙ sym (face-past listed (length listed) number past)
+
+-- a face by its number
+pub face-is : (listed : List ModuleFace) (number : ℕ) (face : ModuleFace) → slice_get listed number ≡ Some face → faces_of listed number ≡ flat_face (first_faces listed number) face
+face-is listed number face at = face-listed listed (length listed) number (slice_get_within listed number face at) ∙ ap (listed_face (first_faces listed number)) at
+
+pub face-gone : (listed : List ModuleFace) (number : ℕ) → slice_get listed number ≡ None → faces_of listed number ≡ no_face
+face-gone listed number none = by (nat_lt number (length listed)) refl
+  where
+    by : (b : Bool) → nat_lt number (length listed) ≡ b → faces_of listed number ≡ no_face
+    by true e = face-listed listed (length listed) number (ltb-true number (length listed) e) ∙ ap (listed_face (first_faces listed number)) none
+    by false e = face-past listed (length listed) number (ltb-false number (length listed) e)
+
 pub face-beyond : (listed : List ModuleFace) (limit : ℕ) (face : Option ℕ) (number : ℕ) → face ≡ Some number → limit ≤ number → face_at (first_faces listed limit) face ≡ no_face
 face-beyond listed limit face number is past = ap (face_at (first_faces listed limit)) is ∙ face-past listed limit number past
 
@@ -55,6 +76,7 @@ pub face-before : (listed : List ModuleFace) (limit : ℕ) (face : Option ℕ) (
     → IsFaceBefore listed limit face number found
 face-before listed limit face number found is below within at = record {
   before = below;
+  numbered = is;
   is = ap (face_at (first_faces listed limit)) is ∙ face-listed listed limit number below
       ∙ ap (listed_face (first_faces listed number)) (slice_get-get_or listed number found (omega arith) ∙ ap Some (sym at));
 }

@@ -71,4 +71,5 @@ HasWays old new ways entries = (name : Named) → way_among new name ≡ option_
 -- a face among the first so many
 pub record IsFaceBefore (listed : List ModuleFace) (limit : ℕ) (face : Option ℕ) (number : ℕ) (found : ModuleFace) : Type 0 where
   pub before : number < limit
+  pub numbered : face ≡ Some number
   pub is : face_at (first_faces listed limit) face ≡ flat_face (first_faces listed number) found

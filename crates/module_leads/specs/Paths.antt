@@ -1,5 +1,5 @@
 -- Where paths lead in code, one name after another.
-use Rattle.std.specs.Prelude.{◌≡◌, ℕ, ◌<◌, List, [], ◌∷◌, ◌++◌, Option, map}
+use Rattle.std.specs.Prelude.{◌≡◌, ℕ, ◌<◌, List, [], ◌∷◌, ◌++◌, Option, Some, map}
 use Rattle.tla_model.specs.Tables.{Named}
 use Rattle.name_context.specs.AsTables.{meant_by}
 use Rattle.flattened_trees.specs.Leads.{FlatFace, Lead, nowhere, through}
@@ -21,6 +21,7 @@ along path lead = record { path = path ++ lead.path; end = lead.end }
 -- a name leads this way behind a face among the first so many, by the faces before it
 pub record IsWayBefore (listed : List ModuleFace) (limit : ℕ) (face : Option ℕ) (name : Named) (number : ℕ) (way : way.the_data) : Type 0 where
   pub before : number < limit
+  pub numbered : face ≡ Some number
   pub leads : (names : List Named) → (face_at (first_faces listed limit) face).leads (name ∷ names) ≡ way_lead (first_faces listed number) way names
 
 -- nothing is known of a name behind a face among the first so many

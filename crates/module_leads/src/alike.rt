@@ -1,124 +1,35 @@
 // Whether modules lead alike, as far as numbers of nodes tell.
-ghost use Rattle.std.specs.Prelude.{◌≡◌, ℕ, IfOk, IsTrue, option_map};
+ghost use Rattle.std.specs.Prelude.{◌≡◌, IfOk, IsTrue, None, OnOk, Some};
 ghost use Rattle.kind_table.specs.Flattened.{flat_of};
 ghost use Rattle.name_context.specs.AsTables.{meant_by};
-ghost use Rattle.flattened_trees.specs.Leads.{FlatFace};
-ghost use Rattle.module_leads.specs.Alike.{AreAllAlike, AreEndsAlike, AreFacesAlike, AreSameBelow, AreWaysAlike, IsNameAlike, IsSamePassage, LeadsAlike, MayLeadAlike, step_way, symbols_in, words_in};
-ghost use Rattle.module_leads.specs.Faces.{faces_of, flat_face};
-ghost use Rattle.module_leads.specs.Layers.{IsFaceWithin};
-ghost use Rattle.module_leads.specs.Ways.{found_way};
-ghost use Rattle.tla_model.specs.Tables as tables;
+ghost use Rattle.face_views.specs.Exact.{Tells};
+ghost use Rattle.tree_names.specs.Parameters.{entries_in};
+ghost use Rattle.module_leads.specs.declared.steps.Passage.{Passage};
+ghost use Rattle.module_leads.specs.declared.ways.Way.TheVariants as ways;
+ghost use Rattle.module_leads.specs.Alike.{AnswersAlike, AnswersEach, AnswersEither, AnswersEnds, AnswersInstances};
+ghost use Rattle.module_leads.specs.Alike.{AreFacesAlike, AreKnown, AreSameParts, FindsAlike, behind_name, known_face, module_at, names_at};
+ghost use Rattle.module_leads.specs.Faces.{faces_of, first_faces};
+ghost use Rattle.module_leads.specs.Ways.{found_way, name_as, way_lead};
 
-use crate::faces::ModuleFace;
-use crate::ways::{FoundWay, Way};
+use crate::faces::{ModuleFace, Sort, face_is_constant, face_outer};
+use crate::listed::{face_below, name_at, name_count};
+use crate::pairs::{are_known, keep};
+use crate::paths::way_before;
+use crate::same::{are_same_parameters, is_same_name};
+use crate::steps::{Passage, Step, leads_nowhere, step_of};
+use crate::ways::FoundWay;
 use flattened_trees::End;
+use indexmap::IndexSet;
 use kind_table::FlatModule;
 use name_context::Named;
-use tla_model::{Callee, Entity, Meaning, same_decl, same_units};
+use std::alloc::Global;
 use tool_list::Memory;
-use tree_names::{Name, Parameter};
+use tree_names::Parameter;
 use tree_numbers::{is_same_definition, is_same_instance};
 
-/// An instance, with the number of its module's face.
-#[derive(Clone, Copy)]
-pub struct Passage {
-    pub instance: usize,
-    pub face: Option<usize>,
-}
-
-/// A way as it is compared.
-#[derive(Clone, Copy)]
-pub enum Step<'a> {
-    To(End),
-    Behind(Passage),
-    Through(Passage, Named<'a>),
-}
-
-// Whether both are constants with so many places, or variables. Other entities are no symbols.
-fn is_same_entity(one: &Entity, other: &Entity) -> bool
-    ensures { IsTrue result → one.now ≡ other.now }
-{
-    match (one, other) {
-        (Entity::Constant { arity: one }, Entity::Constant { arity: other }) => one == other,
-        (Entity::Variable, Entity::Variable) => true,
-        _ => false,
-    }
-}
-
-// Whether both call the same in the same way.
-fn is_same_callee(one: &Callee, other: &Callee) -> bool
-    ensures { IsTrue result → one.now ≡ other.now }
-{
-    if one.instance != other.instance {
-        return false;
-    }
-    if !same_decl(&one.decl, &other.decl) {
-        return false;
-    }
-    same_units(one.via.as_slice(), other.via.as_slice())
-}
-
-// Whether both are the same symbol.
-fn is_same_meaning(one: &Meaning, other: &Meaning) -> bool
-    ensures { IsTrue result → one.now ≡ other.now }
-{
-    match (one, other) {
-        (
-            Meaning::Declared { entity, callee },
-            Meaning::Declared {
-                entity: other_entity,
-                callee: other_callee,
-            },
-        ) => is_same_entity(entity, other_entity) && is_same_callee(callee, other_callee),
-        _ => false,
-    }
-}
-
-// Whether both are the same name.
-fn is_same_name(one: Named<'_>, other: Named<'_>) -> bool
-    ensures { IsTrue result → meant_by one.entry ≡ meant_by other.entry }
-{
-    match (one, other) {
-        (Named::Word(one), Named::Word(other)) => one == other,
-        (Named::Symbol(one), Named::Symbol(other)) => one == other,
-        _ => false,
-    }
-}
-
-// The same of names that are held.
-fn is_same_held(one: &Name, other: &Name) -> bool
-    ensures { IsTrue result → one.now ≡ other.now }
-{
-    is_same_name(one.named(), other.named())
-}
-
-// Whether both are the same symbol with the same name.
-fn is_same_parameter(one: &Parameter, other: &Parameter) -> bool
-    ensures { IsTrue result → one.now ≡ other.now }
-{
-    is_same_held(&one.name, &other.name) && is_same_meaning(&one.meaning, &other.meaning)
-}
-
-// Whether both are the same symbols with the same names, in the same order.
-fn are_same_parameters(one: &[Parameter], other: &[Parameter]) -> bool
-    ensures { IsTrue result → one.now ≡ other.now }
-{
-    if one.len() != other.len() {
-        return false;
-    }
-    let mut index = one.len();
-    while index > 0 {
-        index -= 1;
-        if !is_same_parameter(&one[index], &other[index]) {
-            return false;
-        }
-    }
-    true
-}
-
-// Whether two ends are alike.
+// Whether two ends have the same trees.
 fn ends_alike(flat: &FlatModule, numbers: &[usize], one: End, other: End) -> bool
-    ensures { IsTrue result → AreEndsAlike (flat_of flat.now) numbers.now one other }
+    ensures { AnswersEnds (flat_of flat.now) numbers.now one other result }
 {
     match (one, other) {
         (End::Nowhere, End::Nowhere) => true,
@@ -137,264 +48,309 @@ fn ends_alike(flat: &FlatModule, numbers: &[usize], one: End, other: End) -> boo
     }
 }
 
-// Whether both are the same face, with a number below this one, or none.
-fn is_same_face(limit: usize, one: Option<usize>, other: Option<usize>) -> bool
-    ensures same { IsTrue result → one ≡ other }
-    ensures within { IsTrue result → IsFaceWithin limit one }
+// Whether two instances have the same trees.
+fn instances_alike(flat: &FlatModule, numbers: &[usize], one: usize, other: usize) -> bool
+    ensures { AnswersInstances (flat_of flat.now) numbers.now one other result }
 {
-    match (one, other) {
-        (None, None) => true,
-        (Some(one), Some(other)) => one == other && one < limit,
-        _ => false,
-    }
+    is_same_instance(flat, numbers, one, other)
 }
 
-// Whether both are instances with the same resolved trees, of the same module.
-fn is_same_passage(
-    flat: &FlatModule,
-    numbers: &[usize],
-    limit: usize,
-    one: Passage,
-    other: Passage,
+// Whether two modules have the same names of a sort, in the same order.
+fn are_same_names(
+    faces: &[ModuleFace],
+    sort: Sort,
+    one: Option<usize>,
+    other: Option<usize>,
 ) -> bool
-    ensures { IsTrue result → IsSamePassage (flat_of flat.now) numbers.now limit one other }
+    ensures { IsTrue result → names_at sort (module_at faces.now one)
+        ≡ names_at sort (module_at faces.now other) }
 {
-    is_same_face(limit, one.face, other.face)
-        && is_same_instance(flat, numbers, one.instance, other.instance)
-}
-
-// A way that was put, as it is compared.
-fn put_step(way: &Way) -> Step<'_>
-    ensures { step_way result ≡ way.now }
-{
-    match way {
-        Way::To(end) => Step::To(*end),
-        Way::Behind { instance, face } => Step::Behind(Passage {
-            instance: *instance,
-            face: *face,
-        }),
-        Way::Through {
-            instance,
-            face,
-            name,
-        } => Step::Through(
-            Passage {
-                instance: *instance,
-                face: *face,
-            },
-            name.named(),
-        ),
+    let count = name_count(faces, one, sort);
+    if count != name_count(faces, other, sort) {
+        return false;
     }
-}
-
-// A way as it is compared.
-fn step_of(way: FoundWay<'_>) -> Step<'_>
-    ensures { step_way result ≡ found_way way.entry }
-{
-    match way {
-        FoundWay::Put(way) => put_step(way),
-        FoundWay::To(end) => Step::To(end),
-        FoundWay::Through {
-            instance,
-            face,
-            name,
-        } => Step::Through(Passage { instance, face }, name),
-    }
-}
-
-// Whether two ways lead alike, by faces below a number.
-fn steps_alike(
-    flat: &FlatModule,
-    numbers: &[usize],
-    limit: usize,
-    one: Step<'_>,
-    other: Step<'_>,
-) -> bool
-    ensures { IsTrue result → AreWaysAlike (flat_of flat.now) numbers.now limit (step_way one.entry)
-        (step_way other.entry) }
-{
-    match (one, other) {
-        (Step::To(one), Step::To(other)) => ends_alike(flat, numbers, one, other),
-        (Step::Behind(one), Step::Behind(other)) => {
-            is_same_passage(flat, numbers, limit, one, other)
+    for index in 0..count {
+        let Some(first) = name_at(faces, one, sort, index) else {
+            unreachable!();
+        };
+        let Some(second) = name_at(faces, other, sort, index) else {
+            unreachable!();
+        };
+        if !is_same_name(first, second) {
+            return false;
         }
-        (Step::Through(one, name), Step::Through(other, other_name)) => {
-            is_same_passage(flat, numbers, limit, one, other) && is_same_name(name, other_name)
-        }
-        _ => false,
     }
+    true
 }
 
-// The same of ways as they are found, where there is none at both, or one at each.
-fn ways_alike(
-    flat: &FlatModule,
-    numbers: &[usize],
-    limit: usize,
-    one: Option<FoundWay<'_>>,
-    other: Option<FoundWay<'_>>,
-) -> bool
-    ensures { IsTrue result → MayLeadAlike (flat_of flat.now) numbers.now limit
-        (option_map found_way one.entry) (option_map found_way other.entry) }
-{
-    match (one, other) {
-        (None, None) => true,
-        (Some(one), Some(other)) => {
-            steps_alike(flat, numbers, limit, step_of(one), step_of(other))
-        }
-        _ => false,
-    }
-}
-
-// Whether a name leads alike in two modules.
+// Whether the names of two modules lead alike. Where they do, that is known from then on.
+#[cycle(alike)]
 fn leads_alike(
     flat: &FlatModule,
     numbers: &[usize],
-    limit: usize,
-    one: &ModuleFace,
-    other: &ModuleFace,
-    name: Named<'_>,
+    faces: &[ModuleFace],
+    known: &mut IndexSet<(usize, usize)>,
+    one: Option<usize>,
+    other: Option<usize>,
 ) -> Result<bool, Memory>
-    ensures { IfOk result (λ same. IsTrue same → LeadsAlike (flat_of flat.now) numbers.now limit
-        one.now other.now (meant_by name.entry)) }
+    requires { AreKnown (flat_of flat.now) numbers.now faces.now known.old.keys }
+    ensures known { OnOk result
+        (AreKnown (flat_of flat.now) numbers.now faces.now known.new.keys) }
+    ensures alike { IfOk result (AnswersAlike (flat_of flat.now) numbers.now
+        (known_face faces.now one).leads (known_face faces.now other).leads) }
 {
-    let first = one.way(name)?;
-    let second = other.way(name)?;
-    Ok(ways_alike(flat, numbers, limit, first, second))
-}
-
-// Whether both have a name at a place, and it leads alike.
-fn name_alike(
-    flat: &FlatModule,
-    numbers: &[usize],
-    limit: usize,
-    one: &ModuleFace,
-    other: &ModuleFace,
-    first: Option<Named<'_>>,
-    second: Option<Named<'_>>,
-) -> Result<bool, Memory>
-    ensures { IfOk result (λ same. IsTrue same → IsNameAlike
-        (LeadsAlike (flat_of flat.now) numbers.now limit one.now other.now)
-        (option_map meant_by first.entry) (option_map meant_by second.entry)) }
-{
-    let (Some(first), Some(second)) = (first, second) else {
-        return Ok(false);
-    };
-    if !is_same_name(first, second) {
+    if are_known(&*known, one, other) {
+        return Ok(true);
+    }
+    if !names_alike(flat, numbers, faces, known, Sort::Words, one, other)? {
         return Ok(false);
     }
-    leads_alike(flat, numbers, limit, one, other, first)
-}
-
-// Whether two modules have the same words, each of which leads alike.
-fn words_alike(
-    flat: &FlatModule,
-    numbers: &[usize],
-    limit: usize,
-    one: &ModuleFace,
-    other: &ModuleFace,
-) -> Result<bool, Memory>
-    ensures { IfOk result (λ same. IsTrue same → AreAllAlike
-        (LeadsAlike (flat_of flat.now) numbers.now limit one.now other.now)
-        (words_in one.now.names) (words_in other.now.names)) }
-{
-    if one.word_count() != other.word_count() {
+    if !names_alike(flat, numbers, faces, known, Sort::Symbols, one, other)? {
         return Ok(false);
     }
-    let mut index = one.word_count();
-    while index > 0 {
-        index -= 1;
-        let first = one.word_at(index);
-        let second = other.word_at(index);
-        if !name_alike(flat, numbers, limit, one, other, first, second)? {
-            return Ok(false);
-        }
-    }
+    keep(known, one, other)?;
     Ok(true)
 }
 
-// Whether two modules have the same symbols, each of which leads alike.
-fn symbols_alike(
-    flat: &FlatModule,
-    numbers: &[usize],
-    limit: usize,
-    one: &ModuleFace,
-    other: &ModuleFace,
-) -> Result<bool, Memory>
-    ensures { IfOk result (λ same. IsTrue same → AreAllAlike
-        (LeadsAlike (flat_of flat.now) numbers.now limit one.now other.now)
-        (symbols_in one.now.names) (symbols_in other.now.names)) }
-{
-    if one.symbol_count() != other.symbol_count() {
-        return Ok(false);
-    }
-    let mut index = one.symbol_count();
-    while index > 0 {
-        index -= 1;
-        let first = one.symbol_at(index);
-        let second = other.symbol_at(index);
-        if !name_alike(flat, numbers, limit, one, other, first, second)? {
-            return Ok(false);
-        }
-    }
-    Ok(true)
-}
-
-// Whether each name leads alike in two modules.
+// Whether each name of a sort that one of two modules has leads alike in both.
+#[cycle(alike)]
 fn names_alike(
     flat: &FlatModule,
     numbers: &[usize],
-    limit: usize,
-    one: &ModuleFace,
-    other: &ModuleFace,
+    faces: &[ModuleFace],
+    known: &mut IndexSet<(usize, usize)>,
+    sort: Sort,
+    one: Option<usize>,
+    other: Option<usize>,
 ) -> Result<bool, Memory>
-    ensures { IfOk result (λ same. IsTrue same → (name : tables.Named)
-        → LeadsAlike (flat_of flat.now) numbers.now limit one.now other.now name) }
+    requires { AreKnown (flat_of flat.now) numbers.now faces.now known.old.keys }
+    ensures known { OnOk result
+        (AreKnown (flat_of flat.now) numbers.now faces.now known.new.keys) }
+    ensures alike { IfOk result (AnswersEither (flat_of flat.now) numbers.now
+        (known_face faces.now one) (known_face faces.now other)
+        (names_at sort (module_at faces.now one)) (names_at sort (module_at faces.now other))) }
 {
-    if !words_alike(flat, numbers, limit, one, other)? {
+    if !each_alike(flat, numbers, faces, known, sort, one, one, other)? {
         return Ok(false);
     }
-    symbols_alike(flat, numbers, limit, one, other)
+    if are_same_names(faces, sort, one, other) {
+        return Ok(true);
+    }
+    let same = each_alike(flat, numbers, faces, known, sort, other, one, other)?;
+    Ok(same)
 }
 
-// Whether two modules lead alike, by faces below a number.
-fn modules_alike(
+// Whether each name of a sort that a module has leads alike in two modules.
+#[cycle(alike)]
+fn each_alike(
     flat: &FlatModule,
     numbers: &[usize],
-    limit: usize,
-    one: &ModuleFace,
-    other: &ModuleFace,
+    faces: &[ModuleFace],
+    known: &mut IndexSet<(usize, usize)>,
+    sort: Sort,
+    named: Option<usize>,
+    one: Option<usize>,
+    other: Option<usize>,
 ) -> Result<bool, Memory>
-    ensures { IfOk result (λ same. IsTrue same → (first second : ℕ → FlatFace)
-        → AreSameBelow limit first second → AreFacesAlike (flat_of flat.now) numbers.now
-        (flat_face first one.now) (flat_face second other.now)) }
+    requires { AreKnown (flat_of flat.now) numbers.now faces.now known.old.keys }
+    ensures known { OnOk result
+        (AreKnown (flat_of flat.now) numbers.now faces.now known.new.keys) }
+    ensures alike { IfOk result (AnswersEach (flat_of flat.now) numbers.now
+        (known_face faces.now one) (known_face faces.now other)
+        (names_at sort (module_at faces.now named))) }
 {
-    if one.outer != other.outer || one.is_constant != other.is_constant {
+    for index in 0..name_count(faces, named, sort) {
+        let Some(name) = name_at(faces, named, sort, index) else {
+            unreachable!();
+        };
+        if !name_alike(flat, numbers, faces, known, one, name, other, name)? {
+            return Ok(false);
+        }
+    }
+    Ok(true)
+}
+
+// Whether a name leads in a module as another one does in another module.
+#[cycle(alike)]
+fn name_alike(
+    flat: &FlatModule,
+    numbers: &[usize],
+    faces: &[ModuleFace],
+    known: &mut IndexSet<(usize, usize)>,
+    one: Option<usize>,
+    name: Named<'_>,
+    other: Option<usize>,
+    word: Named<'_>,
+) -> Result<bool, Memory>
+    requires { AreKnown (flat_of flat.now) numbers.now faces.now known.old.keys }
+    ensures known { OnOk result
+        (AreKnown (flat_of flat.now) numbers.now faces.now known.new.keys) }
+    ensures alike { IfOk result (AnswersAlike (flat_of flat.now) numbers.now
+        (behind_name (known_face faces.now one) (meant_by name.entry))
+        (behind_name (known_face faces.now other) (meant_by word.entry))) }
+{
+    let first = way_before(faces, faces.len(), one, name)?;
+    let second = way_before(faces, faces.len(), other, word)?;
+    match (first, second) {
+        (Some((one, first)), Some((other, second))) => {
+            let same = ways_alike(flat, numbers, faces, known, one, first, other, second)?;
+            Ok(same)
+        }
+        (Some((_, first)), None) => Ok(leads_nowhere(first)),
+        (None, Some((_, second))) => Ok(leads_nowhere(second)),
+        (None, None) => Ok(true),
+    }
+}
+
+// Whether two ways lead alike, each behind modules below a number.
+#[cycle(alike)]
+fn ways_alike(
+    flat: &FlatModule,
+    numbers: &[usize],
+    faces: &[ModuleFace],
+    known: &mut IndexSet<(usize, usize)>,
+    one: usize,
+    first: FoundWay<'_>,
+    other: usize,
+    second: FoundWay<'_>,
+) -> Result<bool, Memory>
+    requires { AreKnown (flat_of flat.now) numbers.now faces.now known.old.keys }
+    ensures known { OnOk result
+        (AreKnown (flat_of flat.now) numbers.now faces.now known.new.keys) }
+    ensures alike { IfOk result (AnswersAlike (flat_of flat.now) numbers.now
+        (way_lead (first_faces faces.now one) (found_way first.entry))
+        (way_lead (first_faces faces.now other) (found_way second.entry))) }
+{
+    let second = step_of(second);
+    match step_of(first) {
+        Step::To(first) => {
+            let Step::To(second) = second else {
+                return Ok(false);
+            };
+            Ok(ends_alike(flat, numbers, first, second))
+        }
+        Step::Behind(first) => {
+            let Step::Behind(second) = second else {
+                return Ok(false);
+            };
+            let same = behind_alike(flat, numbers, faces, known, one, first, other, second)?;
+            Ok(same)
+        }
+        Step::Through(first, name) => {
+            let Step::Through(second, word) = second else {
+                return Ok(false);
+            };
+            let same = through_alike(
+                flat, numbers, faces, known, one, first, name, other, second, word,
+            )?;
+            Ok(same)
+        }
+    }
+}
+
+// Whether names lead alike behind two instances.
+#[cycle(alike)]
+fn behind_alike(
+    flat: &FlatModule,
+    numbers: &[usize],
+    faces: &[ModuleFace],
+    known: &mut IndexSet<(usize, usize)>,
+    one: usize,
+    first: Passage,
+    other: usize,
+    second: Passage,
+) -> Result<bool, Memory>
+    requires { AreKnown (flat_of flat.now) numbers.now faces.now known.old.keys }
+    ensures known { OnOk result
+        (AreKnown (flat_of flat.now) numbers.now faces.now known.new.keys) }
+    ensures alike { IfOk result (AnswersAlike (flat_of flat.now) numbers.now
+        (way_lead (first_faces faces.now one) (ways.Behind first.instance first.face))
+        (way_lead (first_faces faces.now other) (ways.Behind second.instance second.face))) }
+{
+    if !instances_alike(flat, numbers, first.instance, second.instance) {
         return Ok(false);
     }
-    if !are_same_parameters(one.parameters.as_slice(), other.parameters.as_slice()) {
+    let first = face_below(one, first.face);
+    let second = face_below(other, second.face);
+    let same = leads_alike(flat, numbers, faces, known, first, second)?;
+    Ok(same)
+}
+
+// Whether names of two modules lead alike, each through an instance of its module.
+#[cycle(alike)]
+fn through_alike(
+    flat: &FlatModule,
+    numbers: &[usize],
+    faces: &[ModuleFace],
+    known: &mut IndexSet<(usize, usize)>,
+    one: usize,
+    first: Passage,
+    name: Named<'_>,
+    other: usize,
+    second: Passage,
+    word: Named<'_>,
+) -> Result<bool, Memory>
+    requires { AreKnown (flat_of flat.now) numbers.now faces.now known.old.keys }
+    ensures known { OnOk result
+        (AreKnown (flat_of flat.now) numbers.now faces.now known.new.keys) }
+    ensures alike { IfOk result (AnswersAlike (flat_of flat.now) numbers.now
+        (way_lead (first_faces faces.now one) (ways.Through first.instance first.face
+        (name_as (meant_by name.entry)))) (way_lead (first_faces faces.now other)
+        (ways.Through second.instance second.face (name_as (meant_by word.entry))))) }
+{
+    if !instances_alike(flat, numbers, first.instance, second.instance) {
         return Ok(false);
     }
-    names_alike(flat, numbers, limit, one, other)
+    let first = face_below(one, first.face);
+    let second = face_below(other, second.face);
+    if is_same_name(name, word) && are_known(&*known, first, second) {
+        return Ok(true);
+    }
+    let same = name_alike(flat, numbers, faces, known, first, name, second, word)?;
+    Ok(same)
+}
+
+// The symbols of a module that INSTANCE replaces, in their order.
+fn parameters_in(faces: &[ModuleFace], number: usize) -> &[Parameter]
+    ensures { entries_in result.now ≡ (faces_of faces.now number).parameters }
+{
+    match faces.get(number) {
+        Some(face) => face.parameters.as_slice(),
+        None => &[],
+    }
+}
+
+// Whether two modules have the same symbols, with as many round them, and both are constant or
+// neither.
+fn are_same_parts(faces: &[ModuleFace], one: usize, other: usize) -> bool
+    ensures { Tells result (AreSameParts (faces_of faces.now one) (faces_of faces.now other)) }
+{
+    face_outer(faces, Some(one)) == face_outer(faces, Some(other))
+        && face_is_constant(faces, Some(one)) == face_is_constant(faces, Some(other))
+        && are_same_parameters(parameters_in(faces, one), parameters_in(faces, other))
 }
 
 /// Whether two modules of a table lead alike.
 pub(crate) fn faces_alike(
+    alloc: Global,
     flat: &FlatModule,
     numbers: &[usize],
     faces: &[ModuleFace],
     one: usize,
     other: usize,
 ) -> Result<bool, Memory>
-    ensures { IfOk result (λ same. IsTrue same → AreFacesAlike (flat_of flat.now) numbers.now
+    ensures same { IfOk result (λ same. IsTrue same → AreFacesAlike (flat_of flat.now) numbers.now
         (faces_of faces.now one) (faces_of faces.now other)) }
+    ensures found { IfOk result (FindsAlike (flat_of flat.now) numbers.now (faces_of faces.now one)
+        (faces_of faces.now other)) }
 {
     if one == other {
         return Ok(true);
     }
-    match (faces.get(one), faces.get(other)) {
-        (Some(first), Some(second)) => {
-            modules_alike(flat, numbers, one.min(other), first, second)
-        }
-        _ => Ok(false),
+    if !are_same_parts(faces, one, other) {
+        return Ok(false);
     }
+    let mut known = IndexSet::new(alloc);
+    let same = leads_alike(flat, numbers, faces, &mut known, Some(one), Some(other))?;
+    Ok(same)
 }

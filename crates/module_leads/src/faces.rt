@@ -5,7 +5,7 @@ ghost use Rattle.name_context.specs.AsTables.{meant_by};
 ghost use Rattle.tla_model.specs.Tables as tables;
 ghost use Rattle.tree_names.specs.Parameters.{entries_in};
 ghost use Rattle.flattened_units.specs.Units.{no_face};
-ghost use Rattle.module_leads.specs.Alike.{listed_words, symbols_in, symbols_of, words_in, words_of};
+ghost use Rattle.module_leads.specs.Alike.{listed_words, names_in, symbols_in, symbols_of, words_in, words_of};
 ghost use Rattle.module_leads.specs.Faces.{IsFaceBefore, faces_of, first_faces, table_way, way_among, way_of};
 ghost use Rattle.module_leads.specs.Ways.{face_at, found_way};
 
@@ -65,6 +65,13 @@ impl Drop for FaceNames {
             FaceNames::Listed(_) | FaceNames::Table(_) => {}
         }
     }
+}
+
+/// Which names of a module.
+#[derive(Clone, Copy)]
+pub enum Sort {
+    Words,
+    Symbols,
 }
 
 /// What a module is to those that name it.
@@ -219,8 +226,8 @@ impl TableNames {
 }
 
 impl ModuleFace {
-    /// How many words the module has.
-    pub(crate) fn word_count(&self) -> usize
+    // How many words the module has.
+    fn word_count(&self) -> usize
         ensures { result ≡ length (words_in self.now.names) }
     {
         match &self.names {
@@ -229,8 +236,8 @@ impl ModuleFace {
         }
     }
 
-    /// How many symbols it has.
-    pub(crate) fn symbol_count(&self) -> usize
+    // How many symbols it has.
+    fn symbol_count(&self) -> usize
         ensures { result ≡ length (symbols_in self.now.names) }
     {
         match &self.names {
@@ -239,8 +246,8 @@ impl ModuleFace {
         }
     }
 
-    /// The word at an index.
-    pub(crate) fn word_at(&self, index: usize) -> Option<Named<'_>>
+    // The word at an index.
+    fn word_at(&self, index: usize) -> Option<Named<'_>>
         ensures { option_map meant_by result ≡ slice_get (words_in self.now.names) index }
     {
         match &self.names {
@@ -249,13 +256,33 @@ impl ModuleFace {
         }
     }
 
-    /// The symbol at an index.
-    pub(crate) fn symbol_at(&self, index: usize) -> Option<Named<'_>>
+    // The symbol at an index.
+    fn symbol_at(&self, index: usize) -> Option<Named<'_>>
         ensures { option_map meant_by result ≡ slice_get (symbols_in self.now.names) index }
     {
         match &self.names {
             FaceNames::Listed(names) => names.symbol_at(index),
             FaceNames::Table(names) => names.symbol_at(index),
+        }
+    }
+
+    /// How many names of a sort it has.
+    pub(crate) fn name_count(&self, sort: Sort) -> usize
+        ensures { result ≡ length (names_in sort self.now.names) }
+    {
+        match sort {
+            Sort::Words => self.word_count(),
+            Sort::Symbols => self.symbol_count(),
+        }
+    }
+
+    /// The name of a sort at an index.
+    pub(crate) fn name_at(&self, sort: Sort, index: usize) -> Option<Named<'_>>
+        ensures { option_map meant_by result ≡ slice_get (names_in sort self.now.names) index }
+    {
+        match sort {
+            Sort::Words => self.word_at(index),
+            Sort::Symbols => self.symbol_at(index),
         }
     }
 

@@ -7,7 +7,7 @@ ghost use Rattle.flattened_trees.specs.Leads.{behind_instance, only, with_leads}
 ghost use Rattle.flattened_units.specs.Units.{face_by, with_brought};
 ghost use Rattle.tree_flattener.specs.Found.{lead_in};
 ghost use Rattle.kind_table.specs.Flattened.{flat_of};
-ghost use Rattle.module_leads.specs.Alike.{AreFacesAlike};
+ghost use Rattle.module_leads.specs.Alike.{AreFacesAlike, FindsAlike};
 ghost use Rattle.module_leads.specs.Ways.{face_at, found_way};
 ghost use Rattle.module_leads.specs.Faces.{HasWays, faces_of};
 ghost use Rattle.module_leads.specs.Layers.{ArePut, IsBrought, IsFaceWithin, way_by};
@@ -489,15 +489,18 @@ impl ModuleLeads {
     /// with as many round them, both are constant or neither, and their names lead to the same resolved trees.
     pub fn are_alike(
         &self,
+        alloc: Global,
         flat: &FlatModule,
         numbers: &[usize],
         one: usize,
         other: usize,
     ) -> Result<bool, Memory>
-        ensures { IfOk result (λ same. IsTrue same → AreFacesAlike (flat_of flat.now) numbers.now
+        ensures same { IfOk result (λ same. IsTrue same → AreFacesAlike (flat_of flat.now)
+            numbers.now ((leading_in self.now).faces one) ((leading_in self.now).faces other)) }
+        ensures found { IfOk result (FindsAlike (flat_of flat.now) numbers.now
             ((leading_in self.now).faces one) ((leading_in self.now).faces other)) }
     {
-        faces_alike(flat, numbers, &self.faces, one, other)
+        faces_alike(alloc, flat, numbers, &self.faces, one, other)
     }
 
     /// The symbols of a module that INSTANCE replaces, in their order.

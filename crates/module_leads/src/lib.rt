@@ -11,7 +11,11 @@ mod faces;
 mod keys;
 mod layer;
 mod leads;
+mod listed;
+mod pairs;
 mod paths;
+mod same;
+mod steps;
 mod ways;
 
 pub use entries::{brought_entries, nested_entries, table_entries};

@@ -106,8 +106,8 @@ fn next_of<'a>(way: FoundWay<'a>, names: &'a [Named<'a>]) -> Next<'a>
     }
 }
 
-// The way of a name behind a face among the first so many, and the number of the face.
-fn way_before<'a>(
+/// The way of a name behind a face among the first so many, and the number of the face.
+pub(crate) fn way_before<'a>(
     faces: &'a [ModuleFace],
     limit: usize,
     face: Option<usize>,

@@ -3,7 +3,7 @@ ghost use Rattle.std.specs.Prelude.{◌≡◌, IfOk, IsTrue};
 ghost use Rattle.kind_text.specs.FlatModule.{IsOrdered};
 ghost use Rattle.kind_table.specs.Flattened.{flat_of};
 ghost use Rattle.flat_builder.specs.Building.{empty};
-ghost use Rattle.module_leads.specs.Alike.{AreFacesAlike};
+ghost use Rattle.module_leads.specs.Alike.{AreFacesAlike, FindsAlike};
 ghost use Rattle.module_leads.specs.Leading.{leading_in, nothing_led};
 ghost use Rattle.module_levels.specs.Kept.{AreKept};
 
@@ -55,13 +55,23 @@ impl LevelTables {
 
     /// Whether two modules lead alike, as far as numbers of all nodes tell: whether they are the same to
     /// their instances, up to resolved trees.
-    pub fn are_alike(&self, numbers: &[usize], one: usize, other: usize) -> Result<bool, Memory>
-        ensures { IfOk result (λ same. IsTrue same → AreFacesAlike self.now.tables.state.flat
-            numbers.now ((leading_in self.now.tables.leads).faces one)
+    pub fn are_alike(
+        &self,
+        alloc: Global,
+        numbers: &[usize],
+        one: usize,
+        other: usize,
+    ) -> Result<bool, Memory>
+        ensures same { IfOk result (λ same. IsTrue same
+            → AreFacesAlike self.now.tables.state.flat numbers.now
+            ((leading_in self.now.tables.leads).faces one)
+            ((leading_in self.now.tables.leads).faces other)) }
+        ensures found { IfOk result (FindsAlike self.now.tables.state.flat numbers.now
+            ((leading_in self.now.tables.leads).faces one)
             ((leading_in self.now.tables.leads).faces other)) }
     {
         self.tables
             .leads
-            .are_alike(self.as_flat(), numbers, one, other)
+            .are_alike(alloc, self.as_flat(), numbers, one, other)
     }
 }

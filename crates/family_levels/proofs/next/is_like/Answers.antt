@@ -15,7 +15,7 @@ returns-clause-like c same =
     let was : ℕ = c.in-Accepted-Some.was in
     let number : ℕ = c.in-Accepted-Some-2.number in
     let told = c.as_slice.ensures.told flat (subst (λ f. IsNumbered f c.extend.new.self) c.as_flat.ensures.tables c.in_ok-extend.ensures.numbered) in
-    let alike = c.in_ok-same.ensures same told in
+    let alike = c.in_ok-same.ensures.same same told in
     let within = c.requires.kept.between.within.faces in
     record {
       face = arc_value c.in-Accepted-Some-2.face;
