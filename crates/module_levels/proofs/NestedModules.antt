@@ -10,7 +10,7 @@ use Rattle.front_laws.specs.Fronts as fronts
 use Rattle.tla_model.specs.Entities.{Meaning, Text}
 use Rattle.module_model.specs.Exports.{ModuleView}
 use Rattle.module_model.specs.Resolution.{ReadState, after, read_all}
-use Rattle.unit_flattener.specs.Ahead.{own_ahead}
+use Rattle.own_symbols.specs.Ahead.{own_ahead}
 
 -- a module that is the front of some bytes is derived
 pub front-derives : (name bytes : List ℕ) (units : ModuleUnits) → fronts.IsFront name bytes (fronts.Tree units) → (a : List Lexeme) × u.DerivesModule units a

@@ -9,7 +9,8 @@ use Rattle.unit_grammar.specs.Units.{UnitTree, Variables, Constants, OperatorDef
 use Rattle.tla_model.specs.Entities.{Meaning, Text}
 use Rattle.module_model.specs.Exports.{ModuleView}
 use Rattle.module_model.specs.Resolution.{ReadState, after}
-use Rattle.unit_flattener.specs.Ahead.{Taken, begins, ends_ahead, own_ahead, own_at, taken_at, taken_by}
+use Rattle.own_symbols.specs.Ahead.{own_ahead, own_at}
+use Rattle.unit_flattener.specs.Ahead.{Taken, begins, ends_ahead, taken_at, taken_by}
 
 module _ (text : Text) (files : List ℕ → ModuleView) (words : List ℕ) where
   -- what is taken before units, by all that is at their ends and by more

@@ -22,7 +22,8 @@ use Rattle.unit_scope.specs.Readings.{Over, files_over}
 use Rattle.unit_scope.specs.Steps.{Leads, behind_unit, behind_units}
 use Rattle.unit_scope.specs.declared.reader.Outer.{Outer}
 use Rattle.unit_scope.specs.declared.reader.ModuleReader.{ModuleReader}
-use Rattle.unit_flattener.specs.Ahead.{AppendsEnds, ends_ahead, own_at}
+use Rattle.own_symbols.specs.Ahead.{own_at}
+use Rattle.unit_flattener.specs.Ahead.{AppendsEnds, ends_ahead}
 
 -- ---- units, one after another
 

@@ -27,7 +27,8 @@ use Rattle.module_leads.specs.There.{AllLeadWithin}
 use Rattle.module_leads.proofs.Led.{entered-there}
 use Rattle.unit_scope.specs.Readings.{files_over}
 use Rattle.unit_scope.specs.Steps.{Leads as LeadsOn, behind_unit}
-use Rattle.unit_flattener.specs.Ahead.{AreOwned, first_own, own_ahead}
+use Rattle.own_symbols.specs.Ahead.{first_own, own_ahead}
+use Rattle.unit_flattener.specs.Ahead.{AreOwned}
 use Rattle.unit_flattener.specs.Numbers.{AreBelow, KeepsFaces, file_faces, scope_faces}
 use Rattle.unit_flattener.specs.Scopes.{IsKept}
 use Rattle.unit_flattener.specs.Walked.{Enters, IsBegin, IsEntered, entered}

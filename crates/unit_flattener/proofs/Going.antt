@@ -19,7 +19,8 @@ use Rattle.module_leads.specs.There.{AllLeadWithin}
 use Rattle.unit_scope.specs.EnclosingReadings.{IsAt}
 use Rattle.unit_scope.specs.Readings.{files_over}
 use Rattle.unit_scope.specs.Steps.{Leads as LeadsOn, behind_unit}
-use Rattle.unit_flattener.specs.Ahead.{AreOwned, own_ahead}
+use Rattle.own_symbols.specs.Ahead.{own_ahead}
+use Rattle.unit_flattener.specs.Ahead.{AreOwned}
 use Rattle.unit_flattener.specs.Numbers.{AreBelow, KeepsFaces, file_faces, scope_faces}
 use Rattle.unit_flattener.specs.Scopes.{IsKept}
 use Rattle.unit_flattener.specs.Walked.{leading_with}

@@ -30,7 +30,8 @@ use Rattle.unit_scope.specs.EnclosingReadings.{IsAt}
 use Rattle.unit_scope.specs.Readings.{files_over}
 use Rattle.unit_scope.specs.Steps.{Leads as LeadsOn, behind_unit}
 use Rattle.unit_scope.specs.declared.reader.ModuleReader.{ModuleReader}
-use Rattle.unit_flattener.specs.Ahead.{AreOwned, own_ahead, own_at}
+use Rattle.own_symbols.specs.Ahead.{own_ahead, own_at}
+use Rattle.unit_flattener.specs.Ahead.{AreOwned}
 use Rattle.unit_flattener.specs.Numbers.{AreBelow, KeepsFaces, file_faces, scope_faces}
 use Rattle.unit_flattener.specs.Scopes.{IsKept}
 use Rattle.unit_flattener.specs.Walked.{AreFramesThere, IsFrameLeft, IsUnitWalked, LeavesFrame}

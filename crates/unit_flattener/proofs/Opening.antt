@@ -23,7 +23,8 @@ use Rattle.module_leads.proofs.Led.{entered-there}
 use Rattle.unit_scope.specs.EnclosingReadings.{IsAt}
 use Rattle.unit_scope.specs.Steps.{IsFirst, over_for}
 use Rattle.unit_scope.specs.declared.reader.ModuleReader.{ModuleReader}
-use Rattle.unit_flattener.specs.Ahead.{AreOwned, own_ahead}
+use Rattle.own_symbols.specs.Ahead.{own_ahead}
+use Rattle.unit_flattener.specs.Ahead.{AreOwned}
 use Rattle.unit_flattener.specs.Modules.{AreOwnOf, EndsAreBegun, IsBetween, IsModuleBegun}
 use Rattle.unit_flattener.specs.Numbers.{AreBelow, KeepsFaces, file_faces}
 use Rattle.unit_flattener.specs.Walking.{AreNumbered, AreSettingsOf, IsSettingOf, IsWalking, IsWithinUnits, Walk, ahead, files_in, state_at}

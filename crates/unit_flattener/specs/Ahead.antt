@@ -1,57 +1,24 @@
--- Own symbols of nested modules, by the units that are ahead: a module that begins has those that it turns out to have at its end.
+-- Own symbols of nested modules, as code comes to them.
 use Rattle.std.specs.Prelude.{◌≡◌, ⊤, ℕ, Bool, true, false, List, [], ◌∷◌, ◌++◌, drop, length, reverse}
 use Rattle.tla_tree.specs.Arena.{Node}
 use Rattle.tla_tree.specs.declared.unit.Unit.TheVariants as unit
 use Rattle.unit_grammar.specs.Units.{UnitTree, ModuleBegin, ModuleEnd}
 use Rattle.unit_grammar.specs.UnitNodes.{unit_at}
 use Rattle.tla_model.specs.Entities.{Meaning, Text}
-use Rattle.module_model.specs.Exports.{ModuleView, exports_of}
-use Rattle.module_model.specs.Instances.{nested_view}
-use Rattle.module_model.specs.Modules.{Reading}
+use Rattle.module_model.specs.Exports.{ModuleView}
 use Rattle.module_model.specs.Resolution.{ReadState, after}
 use Rattle.flattened_trees.specs.Leads.{Setting}
-use Rattle.flattened_units.specs.Units.{meanings_of}
+use Rattle.own_symbols.specs.Ahead.{Owned, before_begin, before_end, own_ahead, own_at}
 use Rattle.unit_scope.specs.EnclosingReadings.{IsAt}
 use Rattle.unit_scope.specs.Readings.{Over, files_over}
 use Rattle.unit_scope.specs.declared.reader.ModuleReader.{ModuleReader}
-
--- own symbols of the nested modules that begin ahead, in the order in which they begin; and of those round the place that end ahead,
--- the innermost first
-pub record Owned : Type 0 where
-  pub begun : List (List Meaning)
-  pub round : List (List Meaning)
 
 -- a nested module begins
 abbrev pub begins : unit.the_data → Bool
 begins (unit.ModuleBegin dashes name extends) = true
 begins x = false
 
--- the first of these, or no symbols
-abbrev pub first_own : List (List Meaning) → List Meaning
-first_own [] = []
-first_own (own ∷ round) = own
-
--- before a module begins: its symbols are those of the first one that ends behind it
-abbrev pub before_begin : Owned → Owned
-before_begin owned = record { begun = first_own owned.round ∷ owned.begun; round = drop 1 owned.round }
-
--- before a module ends
-abbrev pub before_end : List Meaning → Owned → Owned
-before_end own owned = record { begun = owned.begun; round = own ∷ owned.round }
-
--- own symbols of the nested module that is read, as if it ended here
-abbrev pub own_at : ReadState → List Reading → List Meaning
-own_at state [] = []
-own_at state (outer ∷ round) = meanings_of (nested_view state.known outer.context (exports_of state.place.here.exports)).parameters
-
 module _ (text : Text) (files : List ℕ → ModuleView) (words : List ℕ) where
-  -- own symbols by the units from a place on
-  abbrev pub own_ahead : ReadState → List UnitTree → Owned
-  own_ahead state [] = record { begun = []; round = [] }
-  own_ahead state (ModuleBegin dashes name extends ∷ units) = before_begin (own_ahead (after text files words state (ModuleBegin dashes name extends)) units)
-  own_ahead state (ModuleEnd closing ∷ units) = before_end (own_at state state.place.round) (own_ahead (after text files words state (ModuleEnd closing)) units)
-  own_ahead state (unit ∷ units) = own_ahead (after text files words state unit) units
-
   -- own symbols at the ends of nested modules, in their order
   abbrev pub ends_ahead : ReadState → List UnitTree → List (List Meaning)
   ends_ahead state [] = []

@@ -20,7 +20,7 @@ use Rattle.module_leads.specs.Leading.{face_over, leading_in}
 use Rattle.module_leads.specs.Leading as known
 use Rattle.module_leads.specs.There.{AllLeadWithin}
 use Rattle.unit_scope.specs.declared.reader.ModuleReader.{ModuleReader}
-use Rattle.unit_flattener.specs.Ahead.{own_ahead}
+use Rattle.own_symbols.specs.Ahead.{own_ahead}
 use Rattle.unit_flattener.specs.Scopes.{IsKept}
 use Rattle.unit_flattener.specs.declared.flattener.UnitFlattener.{UnitFlattener}
 use Rattle.unit_flattener.specs.declared.modules.Tables.{Tables}

@@ -21,7 +21,8 @@ use Rattle.module_leads.specs.There.{AllLeadWithin}
 use Rattle.unit_scope.specs.EnclosingReadings.{IsAt}
 use Rattle.unit_scope.specs.Readings.{Over, files_over}
 use Rattle.unit_scope.specs.Steps.{over_for}
-use Rattle.unit_flattener.specs.Ahead.{AreOwned, Owned, own_ahead}
+use Rattle.own_symbols.specs.Ahead.{Owned, own_ahead}
+use Rattle.unit_flattener.specs.Ahead.{AreOwned}
 use Rattle.unit_flattener.specs.Numbers.{AreBelow, KeepsFaces, faces_in, file_faces, number_of, scope_faces}
 use Rattle.unit_flattener.specs.Scopes.{IsKept}
 use Rattle.unit_flattener.specs.declared.flattener.UnitFlattener.{UnitFlattener}

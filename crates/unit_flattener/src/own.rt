@@ -13,7 +13,8 @@ ghost use Rattle.unit_grammar.specs.Units.{ModuleEnd};
 ghost use Rattle.unit_scope.specs.EnclosingReadings.{IsSomewhere};
 ghost use Rattle.unit_scope.specs.Steps.{IsUnread, Leads, behind_unit};
 ghost use Rattle.unit_flattener.specs.Ahead as in_ahead;
-ghost use Rattle.unit_flattener.specs.Ahead.{AppendsEnds, AreBegun, IsTakenAt, first_own};
+ghost use Rattle.own_symbols.specs.Ahead.{first_own};
+ghost use Rattle.unit_flattener.specs.Ahead.{AppendsEnds, AreBegun, IsTakenAt};
 ghost use Rattle.unit_flattener.specs.Ahead.{taken_by, taken_in};
 ghost use Rattle.unit_flattener.specs.Modules.{AreOwnOf};
 

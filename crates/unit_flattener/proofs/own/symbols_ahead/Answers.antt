@@ -5,7 +5,7 @@ use Rattle.module_model.specs.Exports.{files_of}
 use Rattle.module_model.specs.Resolution.{words_of, first as first_read}
 use Rattle.unit_scope.specs.Steps.{over_for}
 use Rattle.unit_scope.proofs.Onward.{units-lie}
-use Rattle.unit_flattener.specs.Ahead.{own_ahead}
+use Rattle.own_symbols.specs.Ahead.{own_ahead}
 use Rattle.unit_flattener.proofs.own.symbols_ahead.Goals as goal
 
 pub own_symbols-requires-clause-lie : goal.own_symbols-requires-clause-lie
