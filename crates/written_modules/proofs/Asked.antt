@@ -1,5 +1,5 @@
 -- What is asked of each unit is told by its text.
-use Rattle.std.proofs.Common.{◌≡◌, ℕ, false, List, [], ◌∷◌, ◌++◌, Option, refl, ap, ◌∙◌, length}
+use Rattle.std.proofs.Common.{◌≡◌, ℕ, false, List, [], ◌∷◌, ◌++◌, Option, refl, sym, ap, ◌∙◌, length}
 use Rattle.std.specs.List.{AllByRecursion}
 use Rattle.tla_symbols.specs.declared.lexeme.Lexeme.{Lexeme}
 use Rattle.tla_tree.specs.declared.form.Form.TheVariants as Form
@@ -11,7 +11,7 @@ use Rattle.module_model.specs.Modules.{text_of}
 use Rattle.module_model.specs.Resolution.{words_of}
 use Rattle.kind_text.specs.FlatModule.{FlatModule, IsOrdered}
 use Rattle.tree_kinds.specs.Standing.{Outside}
-use Rattle.module_kinds.specs.ModuleKinds.{KindState, after, first}
+use Rattle.module_kinds.specs.ModuleKinds.{KindState, after, first, views}
 use Rattle.flattened_trees.specs.Answers as flat_answers
 use Rattle.flattened_trees.specs.Leads as flat_leads
 use Rattle.flattened_trees.specs.Questions as flat_questions
@@ -27,9 +27,11 @@ use Rattle.written_questions.specs.Questions.{IsConstant, IsShallowTree, Questio
 use Rattle.written_questions.proofs.Answered.{depths-answered, levels-told}
 use Rattle.written_questions.proofs.Asks.{definition-asked, each-asked, instance-asked, nodes-asked, rights-asked}
 use Rattle.written_questions.proofs.AtTrees.{both}
+use Rattle.own_symbols.specs.Ahead.{own_each}
+use Rattle.own_symbols.proofs.Owning.{units-owned}
 use Rattle.written_modules.specs.Asking.{brought_asks, claim_asks, module_asks, unit_asks, units_asks}
 use Rattle.written_modules.specs.Faces.{reader_in, scope_in}
-use Rattle.written_modules.specs.Modules.{UnitHolds, behind_units, extended, face_in, module_reader, with_symbols}
+use Rattle.written_modules.specs.Modules.{UnitHolds, behind_unit, behind_units, extended, face_in, module_reader, owns_of, with_symbols}
 use Rattle.written_modules.proofs.Behind.{extended-told, faces-told, flat_face, unit-told, written_files}
 use Rattle.written_modules.proofs.Placing.{none-told, symbols-told}
 
@@ -97,26 +99,31 @@ module _ (flat : FlatModule) (ordered : IsOrdered flat) (text : Text) (means : �
   unit-asks (ModuleEnd closing) state reader next asked holds is = ap (questions_in flat) is.1
   unit-asks unit state reader next asked holds is = ap (questions_in flat) is.1
 
-  -- names lead behind units as their text tells, and that is asked which it tells, with the same symbols for each nested module
-  pub units-known : (list : List UnitTree) (state : KindState) (reader next : units.Reader) (asked : List flat_questions.Question) → AllByRecursion UnitHolds list → units.AreUnitsMade flat text means implied files outsides words state reader list next asked
-      → (owns : List (List Meaning)) × (reader_in flat next ≡ behind_units text means implied by_trees outsides words state (reader_in flat reader) owns list)
-      × (questions_in flat asked ≡ units_asks text means implied by_trees outsides words state (reader_in flat reader) owns list)
-  units-known [] state reader next asked holds is = ([], ap (reader_in flat) is.0, ap (questions_in flat) is.1)
-  units-known (unit ∷ list) state reader next asked holds (mid, a, b, is, more, asks) =
-      let first = unit-told flat ordered text means implied files outsides words unit state reader mid a holds.0 is in
-      let rest = units-known list (after text outsides words state unit) mid next b holds.1 more in
-      let here = unit-asks unit state reader mid a holds.0 is in (
-        first.0 ∷ rest.0,
-        rest.1 ∙ ap (λ r. behind_units text means implied by_trees outsides words (after text outsides words state unit) r rest.0 list) first.1,
+  -- what the units from a place on own
+  abbrev owns : KindState → List UnitTree → List (List Meaning)
+  owns state list = own_each text (views text outsides words) words state.read list
+
+  -- names lead behind units as their text tells, and that is asked which it tells
+  pub units-known : (list : List UnitTree) (state : KindState) (reader next : units.Reader) (asked : List flat_questions.Question) → AllByRecursion UnitHolds list → units.AreUnitsMade flat text means implied files outsides words state reader list next asked → next.round ≡ []
+      → (reader_in flat next ≡ behind_units text means implied by_trees outsides words state (reader_in flat reader) (owns state list) list)
+      × (questions_in flat asked ≡ units_asks text means implied by_trees outsides words state (reader_in flat reader) (owns state list) list)
+  units-known [] state reader next asked holds is ends = (ap (reader_in flat) is.0, ap (questions_in flat) is.1)
+  units-known (unit ∷ list) state reader next asked holds (mid, a, b, is, more, asks) ends =
+      let owned = units-owned flat text means implied files outsides words list (after text outsides words state unit) mid next b more ends in
+      let first = unit-told flat ordered text means implied files outsides words unit state reader mid a holds.0 is _ owned in
+      let rest = units-known list (after text outsides words state unit) mid next b holds.1 more ends in
+      let here = unit-asks unit state reader mid a holds.0 is in
+      let others = owns (after text outsides words state unit) list in (
+        rest.0 ∙ ap (λ r. behind_units text means implied by_trees outsides words (after text outsides words state unit) r others list) first,
         ap (questions_in flat) asks ∙ both flat a b
-            ∙ (λ i. here i ++ (rest.2 ∙ ap (λ r. units_asks text means implied by_trees outsides words (after text outsides words state unit) r rest.0 list) first.1) i),
+            ∙ (λ i. here i ++ (rest.1 ∙ ap (λ r. units_asks text means implied by_trees outsides words (after text outsides words state unit) r others list) first) i),
       )
 
 pub module-known : (flat : FlatModule) (ordered : IsOrdered flat) (means : ℕ → Option Meaning) (implied : ℕ → List Meaning) (files : List ℕ → flat_leads.FlatFace) (outsides : List ℕ → Outside) (source : List ℕ) (module_units : ModuleUnits) (symbols : List Meaning) (last : units.Reader) (asked : List flat_questions.Question)
-    → AllByRecursion UnitHolds module_units.units → units.IsModuleMade flat means implied files outsides source module_units symbols last asked
-    → (owns : List (List Meaning)) × (reader_in flat last ≡ module_reader means implied (λ name. leading.face_in flat (files name)) outsides source module_units symbols owns)
-    × (questions_in flat asked ≡ module_asks means implied (λ name. leading.face_in flat (files name)) outsides source module_units symbols owns)
-module-known flat ordered means implied files outsides source module_units symbols last asked holds (leads, extension, made) =
+    → AllByRecursion UnitHolds module_units.units → units.IsModuleMade flat means implied files outsides source module_units symbols last asked → last.round ≡ []
+    → (reader_in flat last ≡ module_reader means implied (λ name. leading.face_in flat (files name)) outsides source module_units symbols)
+    × (questions_in flat asked ≡ module_asks means implied (λ name. leading.face_in flat (files name)) outsides source module_units symbols)
+module-known flat ordered means implied files outsides source module_units symbols last asked holds (leads, extension, made) ends =
     let text = text_of source module_units in
     let words = words_of module_units in
     let setting = units.symbol_setting flat means implied files outsides source module_units symbols in
@@ -124,18 +131,18 @@ module-known flat ordered means implied files outsides source module_units symbo
     let told = extended-told flat ordered text means implied files outsides words module_units.extends (first_scope text.file) (first_scope text.file) setting setting.leads leads extension
     ∙ (λ i. extended text means implied (λ name. leading.face_in flat (files name)) outsides words (first_scope text.file) (first_scope text.file) (record { leads = start i; frame = symbols; olds = Nil }) (start i) module_units.extends) in
     let all = units-known flat ordered text means implied files outsides words module_units.units (first outsides source module_units)
-    (record { setting = record { leads = leads; frame = symbols; olds = [] }; round = []; faces = first_scope text.file }) last asked holds made in (
-      all.0,
-      all.1 ∙ (λ i. behind_units text means implied (λ name. leading.face_in flat (files name)) outsides words (first outsides source module_units)
-          (record { setting = record { leads = told i; frame = symbols; olds = Nil }; round = []; faces = first_scope text.file }) all.0 module_units.units),
-      all.2 ∙ (λ i. units_asks text means implied (λ name. leading.face_in flat (files name)) outsides words (first outsides source module_units)
-          (record { setting = record { leads = told i; frame = symbols; olds = Nil }; round = []; faces = first_scope text.file }) all.0 module_units.units),
+    (record { setting = record { leads = leads; frame = symbols; olds = [] }; round = []; faces = first_scope text.file }) last asked holds made ends in
+    let others = owns_of outsides source module_units in (
+      all.0 ∙ (λ i. behind_units text means implied (λ name. leading.face_in flat (files name)) outsides words (first outsides source module_units)
+          (record { setting = record { leads = told i; frame = symbols; olds = Nil }; round = []; faces = first_scope text.file }) others module_units.units),
+      all.1 ∙ (λ i. units_asks text means implied (λ name. leading.face_in flat (files name)) outsides words (first outsides source module_units)
+          (record { setting = record { leads = told i; frame = symbols; olds = Nil }; round = []; faces = first_scope text.file }) others module_units.units),
     )
 
 pub findings-known : (flat : FlatModule) (ordered : IsOrdered flat) (means : ℕ → Option Meaning) (implied : ℕ → List Meaning) (files : List ℕ → flat_leads.FlatFace) (outsides : List ℕ → Outside) (source : List ℕ) (module_units : ModuleUnits) (symbols : List Meaning) (last : units.Reader) (asked : List flat_questions.Question)
-    → AllByRecursion UnitHolds module_units.units → units.IsModuleMade flat means implied files outsides source module_units symbols last asked
-    → (owns : List (List Meaning)) × (flat_answers.level_answers flat asked ≡ level_answers (module_asks means implied (λ name. leading.face_in flat (files name)) outsides source module_units symbols owns))
-    × (flat_answers.deep_answers flat asked ≡ deep_answers (module_asks means implied (λ name. leading.face_in flat (files name)) outsides source module_units symbols owns))
-findings-known flat ordered means implied files outsides source module_units symbols last asked holds made =
-    let known = module-known flat ordered means implied files outsides source module_units symbols last asked holds made in
-    (known.0, levels-told flat ordered asked ∙ ap level_answers known.2, depths-answered flat asked ∙ ap deep_answers known.2)
+    → AllByRecursion UnitHolds module_units.units → units.IsModuleMade flat means implied files outsides source module_units symbols last asked → last.round ≡ []
+    → (flat_answers.level_answers flat asked ≡ level_answers (module_asks means implied (λ name. leading.face_in flat (files name)) outsides source module_units symbols))
+    × (flat_answers.deep_answers flat asked ≡ deep_answers (module_asks means implied (λ name. leading.face_in flat (files name)) outsides source module_units symbols))
+findings-known flat ordered means implied files outsides source module_units symbols last asked holds made ends =
+    let known = module-known flat ordered means implied files outsides source module_units symbols last asked holds made ends in
+    (levels-told flat ordered asked ∙ ap level_answers known.1, depths-answered flat asked ∙ ap deep_answers known.1)

@@ -24,6 +24,8 @@ use Rattle.written_trees.specs.Leading as leading
 use Rattle.written_trees.specs.Written.{HoldsInstances, defined_lead, instance_of, rights_of}
 use Rattle.written_trees.proofs.Instances.{instance-told}
 use Rattle.written_trees.proofs.Told.{definition-place, each-told, inner-hold, rights-told}
+use Rattle.own_symbols.specs.Ahead.{AreAllOwned, first_own}
+use Rattle.own_symbols.proofs.Owning.{begun-owned}
 use Rattle.written_modules.specs.Faces.{reader_in, scope_in}
 use Rattle.written_modules.specs.Modules.{UnitHolds, behind_begin, behind_definition, behind_end, behind_instance, behind_unit, entries_in, extended, extension_of, face_in, nested_face, with_brought}
 use Rattle.written_modules.proofs.Placing.{brought-told, exported-told, extension-told, symbols-told}
@@ -85,21 +87,21 @@ module _ (flat : FlatModule) (ordered : IsOrdered flat) (text : Text) (means : �
   instance-unit (TreeNode form s parts) state reader next asked holds is = ap (reader_in flat) is.0
 
   begin-told : (state : KindState) (reader next : units.Reader) (name : Lexeme) (extends : List Lexeme) → units.IsBegun flat text means implied files outsides words state reader name extends next
-      → (own : List Meaning) × (reader_in flat next ≡ behind_begin text means implied written_files outsides words state (reader_in flat reader) name extends own)
-  begin-told state reader next name extends (own, leads, both) =
+      → (owns : List (List Meaning)) → AreAllOwned owns next.setting next.round → reader_in flat next ≡ behind_begin text means implied written_files outsides words state (reader_in flat reader) name extends (first_own owns)
+  begin-told state reader next name extends (own, leads, both) owns are =
       let title = spelled text.source name in
       let inner : flat_leads.Setting = record { leads = units.with_symbols reader.setting.leads own (length reader.setting.frame); frame = reader.setting.frame ++ own; olds = [] } in
       let symbols = symbols-told flat own reader.setting.leads (length reader.setting.frame) in
       let scope = begun-told flat reader.faces title in
       let told = extended-told extends (begun state.modules title) (begun reader.faces title) inner inner.leads leads both.0
-      ∙ (λ i. extended text means implied written_files outsides words (begun state.modules title) (scope i) (record { leads = symbols i; frame = reader.setting.frame ++ own; olds = Nil }) (symbols i) extends) in (
-        own,
-        ap (reader_in flat) both.1 ∙ (λ i. record {
-          setting = record { leads = told i; frame = reader.setting.frame ++ own; olds = Nil };
-          round = setting_in flat reader.setting ∷ map (setting_in flat) reader.round;
-          faces = scope i;
-        }),
-      )
+      ∙ (λ i. extended text means implied written_files outsides words (begun state.modules title) (scope i) (record { leads = symbols i; frame = reader.setting.frame ++ own; olds = Nil }) (symbols i) extends) in
+      ap (reader_in flat) both.1 ∙ (λ i. record {
+        setting = record { leads = told i; frame = reader.setting.frame ++ own; olds = Nil };
+        round = setting_in flat reader.setting ∷ map (setting_in flat) reader.round;
+        faces = scope i;
+      })
+      ∙ ap (behind_begin text means implied written_files outsides words state (reader_in flat reader) name extends)
+      (sym (begun-owned flat text means implied files outsides words owns state next reader name extends (own, leads, both) are))
 
   end-told : (readings : List Reading) (state : KindState) (reader next : units.Reader) (round : List flat_leads.Setting) → units.IsEnded flat text means implied files outsides words state readings reader round next
       → reader_in flat next ≡ behind_end text means implied written_files outsides words state readings (reader_in flat reader) (map (setting_in flat) round)
@@ -123,13 +125,13 @@ module _ (flat : FlatModule) (ordered : IsOrdered flat) (text : Text) (means : �
       scope_ended f = ended f (scope_in flat reader.faces).here (scope_in flat reader.faces).round
 
   pub unit-told : (unit : UnitTree) (state : KindState) (reader next : units.Reader) (asked : List Question) → UnitHolds unit → units.IsUnitMade flat text means implied files outsides words state reader unit next asked
-      → (own : List Meaning) × (reader_in flat next ≡ behind_unit text means implied written_files outsides words state (reader_in flat reader) own unit)
-  unit-told (OperatorDefinition local x) state reader next asked holds is = ([], definition-told reader next x asked holds is)
-  unit-told (FunctionDefinition local x) state reader next asked holds is = ([], definition-told reader next x asked holds is)
-  unit-told (ModuleDefinition local x) state reader next asked holds is = ([], definition-told reader next x asked holds is)
-  unit-told (UnitInstance local x) state reader next asked holds is = ([], instance-unit x state reader next asked holds is)
-  unit-told (Assumption word name x) state reader next asked holds (i, a, made, next_is, asks) = ([], ap (reader_in flat) next_is)
-  unit-told (Theorem word name x) state reader next asked holds (i, a, made, next_is, asks) = ([], ap (reader_in flat) next_is)
-  unit-told (ModuleBegin dashes name extends) state reader next asked holds is = begin-told state reader next name extends is.0
-  unit-told (ModuleEnd closing) state reader next asked holds is = ([], end-told state.read.place.round state reader next reader.round is.0)
-  unit-told unit state reader next asked holds is = ([], ap (reader_in flat) is.0)
+      → (owns : List (List Meaning)) → AreAllOwned owns next.setting next.round → reader_in flat next ≡ behind_unit text means implied written_files outsides words state (reader_in flat reader) (first_own owns) unit
+  unit-told (OperatorDefinition local x) state reader next asked holds is owns are = definition-told reader next x asked holds is
+  unit-told (FunctionDefinition local x) state reader next asked holds is owns are = definition-told reader next x asked holds is
+  unit-told (ModuleDefinition local x) state reader next asked holds is owns are = definition-told reader next x asked holds is
+  unit-told (UnitInstance local x) state reader next asked holds is owns are = instance-unit x state reader next asked holds is
+  unit-told (Assumption word name x) state reader next asked holds (i, a, made, next_is, asks) owns are = ap (reader_in flat) next_is
+  unit-told (Theorem word name x) state reader next asked holds (i, a, made, next_is, asks) owns are = ap (reader_in flat) next_is
+  unit-told (ModuleBegin dashes name extends) state reader next asked holds is owns are = begin-told state reader next name extends is.0 owns are
+  unit-told (ModuleEnd closing) state reader next asked holds is owns are = end-told state.read.place.round state reader next reader.round is.0
+  unit-told unit state reader next asked holds is owns are = ap (reader_in flat) is.0

@@ -1,4 +1,4 @@
-mod Placing
+pub mod Placing
 mod Scopes
 mod Behind
-mod Asked
+pub mod Asked

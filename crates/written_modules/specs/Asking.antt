@@ -15,7 +15,7 @@ use Rattle.written_trees.specs.Leading.{Face}
 use Rattle.written_trees.specs.Written.{rights_of, tree_of}
 use Rattle.written_questions.specs.Asking.{asks_of, definition_asks, instance_asks, right_asks}
 use Rattle.written_questions.specs.Questions.{IsConstant, IsShallowTree, Question, over}
-use Rattle.written_modules.specs.Modules.{Reader, behind_unit, extended, face_in, symbol_setting}
+use Rattle.written_modules.specs.Modules.{Reader, behind_unit, extended, face_in, owns_of, symbol_setting}
 
 module _ (text : Text) (means : ℕ → Option Meaning) (implied : ℕ → List Meaning) (files : List ℕ → Face) (outsides : List ℕ → Outside) (words : List ℕ) where
   -- of an INSTANCE without a name: what is written for parameters, and then what stands for each
@@ -51,8 +51,8 @@ module _ (text : Text) (means : ℕ → Option Meaning) (implied : ℕ → List 
       unit_asks reader unit ++ units_asks (after text outsides words state unit) (behind_unit text means implied files outsides words state reader own unit) owns units
 
 -- of a module with these symbols, over what it names
-abbrev pub module_asks : (ℕ → Option Meaning) → (ℕ → List Meaning) → (List ℕ → Face) → (List ℕ → Outside) → List ℕ → ModuleUnits → List Meaning → List (List Meaning) → List Question
-module_asks means implied files outsides source units symbols owns =
+abbrev pub module_asks : (ℕ → Option Meaning) → (ℕ → List Meaning) → (List ℕ → Face) → (List ℕ → Outside) → List ℕ → ModuleUnits → List Meaning → List Question
+module_asks means implied files outsides source units symbols =
     units_asks (text_of source units) means implied files outsides (words_of units) (first outsides source units)
     (record {
       setting = record {
@@ -62,4 +62,4 @@ module_asks means implied files outsides source units symbols owns =
       };
       round = [];
       faces = first_scope (text_of source units).file;
-    }) owns units.units
+    }) (owns_of outsides source units) units.units

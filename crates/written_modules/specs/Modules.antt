@@ -17,6 +17,7 @@ use Rattle.module_model.specs.Instances.{nested_view}
 use Rattle.module_model.specs.Resolution.{instance_brings, words_of}
 use Rattle.tree_kinds.specs.Standing.{Outside, name_among, operator_places}
 use Rattle.module_kinds.specs.ModuleKinds.{KindState, after, first, named_in, views}
+use Rattle.own_symbols.specs.Ahead.{own_each}
 use Rattle.flat_trees.specs.Layouts.{order_of}
 use Rattle.flat_kinds.specs.Symbols.{same_symbol}
 use Rattle.resolved_trees.specs.Resolved.{Instance, Nil, Over, Replace, Replaced, Replacements}
@@ -156,7 +157,7 @@ module _ (text : Text) (means : ℕ → Option Meaning) (implied : ℕ → List 
   behind_unit state reader own (ModuleEnd closing) = behind_end state state.read.place.round reader reader.round
   behind_unit state reader own unit = reader
 
-  -- behind units, one after another; for each of them symbols are given, which count where a nested module begins
+  -- behind units, one after another; for each of them its own symbols are given, which count where a nested module begins
   abbrev pub behind_units : KindState → Reader → List (List Meaning) → List UnitTree → Reader
   behind_units state reader owns [] = reader
   behind_units state reader [] (unit ∷ units) = behind_units (after text outsides words state unit) (behind_unit state reader [] unit) [] units
@@ -168,9 +169,13 @@ module _ (text : Text) (means : ℕ → Option Meaning) (implied : ℕ → List 
 abbrev pub symbol_setting : List Meaning → Setting
 symbol_setting symbols = record { leads = with_symbols no_leads symbols 0; frame = symbols; olds = Nil }
 
+-- own symbols of the nested modules of a module, for each of its units
+abbrev pub owns_of : (List ℕ → Outside) → List ℕ → ModuleUnits → List (List Meaning)
+owns_of outsides source units = own_each (text_of source units) (views (text_of source units) outsides (words_of units)) (words_of units) (first outsides source units).read units.units
+
 -- a module with these symbols behind its units, over what it names
-abbrev pub module_reader : (ℕ → Option Meaning) → (ℕ → List Meaning) → (List ℕ → Face) → (List ℕ → Outside) → List ℕ → ModuleUnits → List Meaning → List (List Meaning) → Reader
-module_reader means implied files outsides source units symbols owns =
+abbrev pub module_reader : (ℕ → Option Meaning) → (ℕ → List Meaning) → (List ℕ → Face) → (List ℕ → Outside) → List ℕ → ModuleUnits → List Meaning → Reader
+module_reader means implied files outsides source units symbols =
     behind_units (text_of source units) means implied files outsides (words_of units) (first outsides source units)
     (record {
       setting = record {
@@ -180,7 +185,7 @@ module_reader means implied files outsides source units symbols owns =
       };
       round = [];
       faces = first_scope (text_of source units).file;
-    }) owns units.units
+    }) (owns_of outsides source units) units.units
 
 -- ---- what is asked of units
 
