@@ -1,0 +1,4 @@
+pub mod Exact
+pub mod Found
+pub mod Kept
+pub mod Searching

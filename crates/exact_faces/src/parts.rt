@@ -1,0 +1,130 @@
+// The parts of a face that hold exactly what its exports reach.
+ghost use Rattle.std.specs.Prelude.{◌≡◌, ℕ, IfOk, IsTrue, None, OnOk, Some, if◌then◌else◌, is_some};
+ghost use Rattle.std.specs.Prelude.{nat_eq, true};
+ghost use Rattle.std.specs.Option.{option_or};
+ghost use Rattle.tla_model.specs.declared.ids.DeclId.{DeclId};
+ghost use Rattle.tla_model.specs.Tables as tables;
+ghost use Rattle.module_model.specs.Parts.{reached};
+ghost use Rattle.exact_faces.specs.Found.{decl_of};
+ghost use Rattle.exact_faces.specs.Kept.{AreKept, IsKeptPart, IsPlain, StandIn, kept_of};
+
+use crate::found::Found;
+use crate::kept::{is_kept, kept};
+use module_model::{Part, Parts};
+use std::alloc::Global;
+use tool_list::Memory;
+
+// Puts the instance at a place of a text, if it is found, with what is kept of it.
+fn put_found(
+    alloc: Global,
+    new: &mut Part,
+    found: &Found<'_>,
+    title: &str,
+    place: u32,
+) -> Result<(), Memory>
+    ensures { OnOk result ((other : ℕ) → tables.lookup nat_eq new.new other
+        ≡ option_or (tables.lookup nat_eq new.old other)
+        (if nat_eq other place then kept_of found.now (decl_of title.now place) else None)) }
+{
+    let Some(table) = found.get(title, place) else {
+        return Ok(());
+    };
+    let table = kept(alloc, table)?;
+    new.put(place, table)?;
+    Ok(())
+}
+
+// The instances of a text that are found, with what is kept of them.
+fn kept_part(alloc: Global, found: &Found<'_>, title: &str, part: &Part) -> Result<Part, Memory>
+    ensures { IfOk result (λ new. IsKeptPart found.now title.now part.now new) }
+{
+    let mut new = Part::new(alloc);
+    for index in 0..part.len() {
+        let Some((place, _)) = part.at(index) else {
+            unreachable!();
+        };
+        put_found(alloc, &mut new, found, title, place)?;
+    }
+    Ok(new)
+}
+
+// The instances that are found, with what is kept of them.
+fn kept_parts(alloc: Global, found: &Found<'_>, parts: &Parts) -> Result<Parts, Memory>
+    requires { StandIn found.now parts.now }
+    ensures { IfOk result (λ new. AreKept found.now new) }
+{
+    let mut new = Parts::new(alloc);
+    for index in 0..parts.len() {
+        let Some((title, part)) = parts.at(index) else {
+            unreachable!();
+        };
+        let part = kept_part(alloc, found, title, part)?;
+        new.add(alloc, title, part)?;
+    }
+    Ok(new)
+}
+
+// Whether the instance at a place of a text is found, and all of its table is kept.
+fn is_plain(found: &Found<'_>, title: &str, place: u32) -> bool
+    ensures { IsTrue result → IsPlain found.now (decl_of title.now place) }
+{
+    match found.get(title, place) {
+        Some(table) => is_kept(table),
+        None => false,
+    }
+}
+
+// Whether all instances of a text are found, and all of their tables are kept.
+fn are_plain(found: &Found<'_>, title: &str, part: &Part) -> bool
+    ensures { IsTrue result → (place : ℕ) → is_some (tables.lookup nat_eq part.now place) ≡ true
+        → IsPlain found.now (decl_of title.now place) }
+{
+    for index in 0..part.len() {
+        let Some((place, _)) = part.at(index) else {
+            unreachable!();
+        };
+        if !is_plain(found, title, place) {
+            return false;
+        }
+    }
+    true
+}
+
+// Whether all instances are found, and all of their tables are kept.
+fn are_all_plain(found: &Found<'_>, parts: &Parts) -> bool
+    ensures { IsTrue result → (decl : DeclId) → is_some (reached parts.now decl) ≡ true
+        → IsPlain found.now decl }
+{
+    for index in 0..parts.len() {
+        let Some((title, part)) = parts.at(index) else {
+            unreachable!();
+        };
+        if !are_plain(found, title, part) {
+            return false;
+        }
+    }
+    true
+}
+
+// The same instances. Their parts are shared.
+fn shared(alloc: Global, parts: &Parts) -> Result<Parts, Memory>
+    ensures { IfOk result (λ new. (decl : DeclId) → reached new decl ≡ reached parts.now decl) }
+{
+    let mut new = Parts::new(alloc);
+    new.join(alloc, parts)?;
+    Ok(new)
+}
+
+/// The instances that are found, with what of their tables can be named behind an instance. The
+/// parts are shared where they have nothing else.
+pub fn exact_parts(alloc: Global, found: &Found<'_>, parts: &Parts) -> Result<Parts, Memory>
+    requires { StandIn found.now parts.now }
+    ensures { IfOk result (λ new. AreKept found.now new) }
+{
+    if are_all_plain(found, parts) {
+        let same = shared(alloc, parts)?;
+        return Ok(same);
+    }
+    let made = kept_parts(alloc, found, parts)?;
+    Ok(made)
+}
