@@ -33,13 +33,14 @@ use Rattle.family_levels.specs.declared.«module».Found.{Found}
 use Rattle.family_levels.specs.declared.versions.Need.{Need}
 use Rattle.family_levels.specs.declared.versions.Need.TheVariants as need_as
 use Rattle.family_levels.specs.declared.versions.Version.{Version}
+use Rattle.family_levels.specs.Exactness.{IsExactOutcome}
 use Rattle.family_levels.specs.Leveling.{HasNumber, IsNext, IsReady, face_count}
 use Rattle.family_levels.specs.Versions.{AreNeedsTold, AreVersions, IsCopy, IsFoundOver, IsLack, IsNeedAccepted, IsNeedBelow, IsNeedLacking, IsVersion, Over, Shown, Told, lack_need, lack_over, need_in, shown_by, shown_in, shown_need, shown_over}
 use Rattle.family_levels.specs.Again.{AreNeeds, ArePlaced, IsFoundAgain, IsFoundAs, IsLike, IsNeed, IsNextLeveled, IsPlaced, IsPlacedNext, IsSameVersion, IsVersionAnew, IsVersionAs, need_by, shown_after, version_by}
 use Rattle.family_levels.specs.Laws.{AlikeLaws, FamilyLaws, KnownLaws}
 use Rattle.family_levels.proofs.Across.{found-across}
 use Rattle.family_levels.proofs.Taking.{LookAlike, found-taken, taken-next}
-use Rattle.family_levels.proofs.Lasting.{found-copy, found-same, module-same, needs-below, needs-same, shown-below, shown-here, shown-same, version-copy, version-shown}
+use Rattle.family_levels.proofs.Lasting.{exact-copy, found-copy, found-same, module-same, needs-below, needs-same, shown-below, shown-here, shown-same, version-copy, version-shown}
 use Rattle.family_levels.proofs.Over.{again-next, found-agrees}
 
 -- ---- what needs are
@@ -314,6 +315,7 @@ module _ (no_other : HasNoOther) (plan : Plan) (outcomes : List (List ℕ × Out
   pub again-placed : IsPlacedNext outcomes shown next name known found (Some copy)
   again-placed = record {
     agreed = found-agrees outcomes name was.over faces-are known (shown version.id) again.tree found again-found;
+    exact = exact-copy version.found.outcome found.outcome taken.face was.exact;
     number = below-by found.number refl;
     below = let less : copy.id < next = subst (λ id. id < next) (sym same.id) was.itself in omega (arith, less);
     placed = λ has. subst (IsPlaced (Some found.outcome) found.number) (sym after-is) (placed-by found.number refl (number-same has));
@@ -349,7 +351,7 @@ shown-placed (outcome.Accepted face) None has some = absurd (cc some)
 shown-placed (outcome.Accepted face) (Some number) has some = record { shown = record { face = arc_value face; number = number }; is = refl; face = refl; at = refl }
 
 module _ (plan : Plan) (outcomes : List (List ℕ × Outcome)) (numbers : List (List ℕ × ℕ)) (shown : ℕ → Option Shown) (next : ℕ) (versions : List (List ℕ × Version)) (placed : ArePlaced outcomes numbers shown next versions) (name : List ℕ) (m : Module) (some : IsSomeModule name m)
-    (needs : Option (List Need)) (known new : LevelTables) (asked : IfSome needs (AreNeeds plan outcomes versions name m.needs)) (found : Found) (numbered : HasNumber found.outcome found.number) where
+    (needs : Option (List Need)) (known new : LevelTables) (asked : IfSome needs (AreNeeds plan outcomes versions name m.needs)) (found : Found) (numbered : HasNumber found.outcome found.number) (exact : IsExactOutcome found.outcome) where
   module _ (version : Version) (anew : IsVersionAnew m needs next found version) where
     here-anew : IsTreeHere name m version.tree
     here-anew = tree-here name m version.tree some anew.reads
@@ -398,6 +400,7 @@ module _ (plan : Plan) (outcomes : List (List ℕ × Outcome)) (numbers : List (
         over = over-anew;
         shows = shows-anew;
         lacks = lacks-anew;
+        exact = exact-copy found.outcome version.found.outcome anew.copy.face exact;
         found = subst (λ own. IsFoundOver new over-anew own name version.tree version.found) (sym after-anew) (found-copy new over-anew own-anew name version.tree found version.found anew.copy found-anew);
       }
 
@@ -420,6 +423,7 @@ module _ (plan : Plan) (outcomes : List (List ℕ × Outcome)) (numbers : List (
           over = over-anew;
           shows = shows-taken;
           lacks = λ other. lacks-anew other ∙ (λ i. lack_need (need_in (needs_of (sym in_place.tree i)) (sym in_place.needs i) other));
+          exact = exact-copy taken.outcome copy.found.outcome in_place.copy.face (exact-copy before.found.outcome taken.outcome taking.face was.exact);
           found =
               subst (λ own. IsFoundOver new over-anew own name copy.tree copy.found) (sym (ap (shown_after shown next taken) in_place.id ∙ kept-shown))
               (subst (λ t. IsFoundOver new over-anew (shown before.id) name t copy.found) (sym in_place.tree)
@@ -435,8 +439,8 @@ module _ (plan : Plan) (outcomes : List (List ℕ × Outcome)) (numbers : List (
     anew-placed = by version anew
       where
         by : (v : Option Version) → IfSome v (IsVersionAnew m needs next found) → IsPlacedNext outcomes shown next name new found v
-        by None is = record { agreed = agreed; number = number; below = tt; placed = tt }
-        by (Some v) is = record { agreed = agreed; number = number; below = below-anew v is; placed = placed-anew v is }
+        by None is = record { agreed = agreed; exact = exact; number = number; below = tt; placed = tt }
+        by (Some v) is = record { agreed = agreed; exact = exact; number = number; below = below-anew v is; placed = placed-anew v is }
 
     pub anew-leveled : FamilyLaws → (family : List Member) → IsReady family plan outcomes numbers known name → IsMember family name m.reading m.needs → IsNext family outcomes numbers name new found
         → ((over : Over) (tree : ModuleTree) → m.reading ≡ reading.Tree tree → AreNeedsTold family outcomes numbers name m.needs over → IsFoundOver new over (shown_by found.outcome found.number) name tree found)

@@ -38,6 +38,7 @@ use Rattle.family_levels.specs.declared.«module».Found.{Found}
 use Rattle.family_levels.specs.declared.versions.Need.{Need}
 use Rattle.family_levels.specs.declared.versions.Need.TheVariants as need_as
 use Rattle.family_levels.specs.declared.versions.Version.{Version}
+use Rattle.family_levels.specs.Exactness.{IsExactOutcome}
 use Rattle.family_levels.specs.Leveling.{HasNumber, face_count, faces_of}
 use Rattle.family_levels.specs.Versions.{AreVersions, Grows, IsAcceptedOver, IsCopy, IsFaceLike, IsFoundOver, IsMadeWith, IsNeedBelow, IsVersion, Over, Shown, given_over, leveled_over, named_faults, numbers_over, outsides_over, lack_need, need_in, shown_need, shown_over}
 use Rattle.family_levels.specs.Again.{IsSameVersion, shown_with}
@@ -58,6 +59,10 @@ number-copy number (outcome.Refused these) (outcome.Refused those) face has = ha
 number-copy number (outcome.Refused these) (outcome.Accepted shared) face has = absurd (cc face)
 number-copy number (outcome.Accepted one) (outcome.Refused those) face has = absurd (cc face)
 number-copy number (outcome.Accepted one) (outcome.Accepted shared) face has = has
+
+-- a copy has an exact face too
+pub exact-copy : (o copy : outcome.the_data) → accepted_face (Some copy) ≡ accepted_face (Some o) → IsExactOutcome o → IsExactOutcome copy
+exact-copy o copy same is face has = is face (sym same ∙ has)
 
 -- a copy was found of it too
 pub found-copy : (known : LevelTables) (over : Over) (own : Option Shown) (name : List ℕ) (tree : ModuleTree) (found copy : Found) → IsCopy found copy → IsFoundOver known over own name tree found → IsFoundOver known over own name tree copy
@@ -181,7 +186,7 @@ module _ (stay : MadeStay) (known_stay : KnownStay) (old new : LevelTables) (gro
   pub versions-grow : (shown : ℕ → Option Shown) (next : ℕ) (versions : List (List ℕ × Version)) → AreVersions old shown next versions → AreVersions new shown next versions
   versions-grow shown next versions are name version there =
       let is = are name version there in
-      record { needs = is.needs; itself = is.itself; over = is.over; shows = is.shows; lacks = is.lacks; found = found-grows is.over (shown version.id) name version.tree version.found is.found }
+      record { needs = is.needs; itself = is.itself; over = is.over; shows = is.shows; lacks = is.lacks; exact = is.exact; found = found-grows is.over (shown version.id) name version.tree version.found is.found }
 
 -- ---- further versions
 
@@ -229,6 +234,7 @@ module _ (shown more : ℕ → Option Shown) (next : ℕ) (agree : AgreeBelow ne
     over = is.over;
     shows = λ other. is.shows other ∙ shown-same version is.needs other;
     lacks = is.lacks;
+    exact = is.exact;
     found = subst (λ own. IsFoundOver known is.over own name version.tree version.found) (sym (agree version.id is.itself)) is.found;
   }
 
@@ -306,6 +312,7 @@ version-copy known shown next name version copy same is = record {
   over = is.over;
   shows = λ other. is.shows other ∙ (λ i. shown_need shown (need_in (needs_of (sym same.tree i)) (sym same.needs i) other));
   lacks = λ other. is.lacks other ∙ (λ i. lack_need (need_in (needs_of (sym same.tree i)) (sym same.needs i) other));
+  exact = exact-copy version.found.outcome copy.found.outcome same.found.face is.exact;
   found =
       subst (λ own. IsFoundOver known is.over (shown own) name copy.tree copy.found) (sym same.id)
       (subst (λ tree. IsFoundOver known is.over (shown version.id) name tree copy.found) (sym same.tree)

@@ -2,6 +2,7 @@ mod Statuses
 mod Unleveled
 mod Judging
 mod Numbering
+mod Exactly
 mod Lasting
 mod Steps
 mod Over

@@ -14,20 +14,21 @@ use Rattle.family_levels.specs.declared.versions.Need.{Need}
 use Rattle.family_levels.specs.declared.versions.Version.{Version}
 use Rattle.family_levels.specs.Laws.{AlikeLaws, FamilyLaws}
 use Rattle.family_levels.specs.Versions.{AreVersions, IsVersion, Shown}
+use Rattle.family_levels.specs.Exactness.{IsExactOutcome}
 use Rattle.family_levels.specs.Again.{Anew, AreNeeds, IsFoundAs, IsFoundNext, IsInPlace, IsLike, IsMadeNext, IsVersionAnew, IsVersionAs, Taken}
 use Rattle.family_levels.proofs.Following.{anew-leveled, anew-placed, over_needs, taken-leveled}
 use Rattle.family_levels.proofs.Lasting.{KnownStay, MadeStay, versions-grow}
 use Rattle.family_levels.proofs.Taking.{LookAlike, taken-placed}
 
 module _ (stay : MadeStay) (known_stay : KnownStay) (look : LookAlike) (laws : FamilyLaws) (alike_laws : AlikeLaws) (plan : Plan) (old versions : List (List ℕ × Version)) (outcomes : List (List ℕ × Outcome)) (numbers : List (List ℕ × ℕ)) (next : ℕ) (name : List ℕ) (m : Module) (some : IsSomeModule name m)
-    (needs : Option (List Need)) (asked : IfSome needs (AreNeeds plan outcomes versions name m.needs)) (known new : LevelTables) (was_ordered : IsOrdered known.tables.state.flat) (is_ordered : IsOrdered new.tables.state.flat) (found : Found) (is : IsFoundNext plan outcomes numbers name m.reading m.needs known new found) where
+    (needs : Option (List Need)) (asked : IfSome needs (AreNeeds plan outcomes versions name m.needs)) (known new : LevelTables) (was_ordered : IsOrdered known.tables.state.flat) (is_ordered : IsOrdered new.tables.state.flat) (found : Found) (is : IsFoundNext plan outcomes numbers name m.reading m.needs known new found) (exact : IsExactOutcome found.outcome) where
   -- with the version that it is, if it is one
   pub made-anew : (version : Option Version) → IfSome version (IsVersionAnew m needs next found) → IsMadeNext plan old versions outcomes numbers next name m known new found version
   made-anew version anew = record {
     grows = is.grows;
-    placed = λ shown are placed. anew-placed plan outcomes numbers shown next versions placed name m some needs known new asked found is.numbered version anew is.agreed is.number;
+    placed = λ shown are placed. anew-placed plan outcomes numbers shown next versions placed name m some needs known new asked found is.numbered exact version anew is.agreed is.number;
     leveled = λ family shown are placed ready member.
-        anew-leveled plan outcomes numbers shown next versions placed name m some needs known new asked found is.numbered version anew is.agreed is.number laws family ready member (is.next family ready member)
+        anew-leveled plan outcomes numbers shown next versions placed name m some needs known new asked found is.numbered exact version anew is.agreed is.number laws family ready member (is.next family ready member)
         (λ over tree reads accepted. is.so family over tree ready member reads accepted);
   }
 
@@ -41,7 +42,7 @@ module _ (stay : MadeStay) (known_stay : KnownStay) (look : LookAlike) (laws : F
       grows = is.grows;
       placed = λ shown are placed. taken-placed new before found taken like taking shown next name (was-version shown are before there) outcomes anew version in_place is.agreed;
       leveled = λ family shown are placed ready member.
-          taken-leveled plan outcomes numbers shown next versions placed name m some needs known new asked found is.numbered anew is_anew laws family ready member
+          taken-leveled plan outcomes numbers shown next versions placed name m some needs known new asked found is.numbered exact anew is_anew laws family ready member
           (λ accepted. is.so family (over_needs (texts_of family) shown m.needs anew.needs) anew.tree ready member is_anew.reads accepted)
           look alike_laws before (was-version shown are before there) taken like taking version in_place (is.next family ready member);
     }

@@ -24,7 +24,7 @@ use Rattle.family_levels.specs.Leveling.{HasNumber, IsNext, face_count, faces_of
 use Rattle.family_levels.specs.Versions.{IsAcceptedOver, IsFoundOver, IsHeldFace, IsVersion, Over, Shown, leveled_over, shown_by}
 use Rattle.family_levels.specs.Again.{IsFoundAs, IsLike, IsPlaced, IsPlacedNext, IsVersionAs, shown_after}
 use Rattle.family_levels.specs.Laws.{AlikeLaws}
-use Rattle.family_levels.proofs.Lasting.{shown-below}
+use Rattle.family_levels.proofs.Lasting.{exact-copy, shown-below}
 
 some-same : (a b : ℕ) → ◌≡◌ {A = Option ℕ} (Some a) (Some b) → a ≡ b
 some-same a b e = cc
@@ -100,6 +100,7 @@ module _ (known : LevelTables) (version : Version) (found taken : Found) (like :
     pub taken-placed : (outcomes : List (List ℕ × Outcome)) (anew copy : Version) → IsVersionAs version anew taken copy → IsAgreed outcomes name found.outcome → IsPlacedNext outcomes shown next name known taken (Some copy)
     taken-placed outcomes anew copy in_place agreed = record {
       agreed = agrees-as outcomes name found.outcome taken.outcome like.face_is taken-face agreed;
+      exact = exact-copy version.found.outcome taken.outcome taking.face is.exact;
       number = subst (λ n. IfSome n (λ m. m < face_count known)) (sym taken-number) was-accepted.there;
       below = let less : copy.id < next = subst (λ id. id < next) (sym in_place.id) is.itself in omega (arith, less);
       placed = λ has. subst (λ id. IsPlaced (Some taken.outcome) taken.number (shown_after shown next taken id)) (sym in_place.id) placed-as;

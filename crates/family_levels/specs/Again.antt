@@ -4,9 +4,12 @@ use Rattle.std.specs.List.{AllZip}
 use Rattle.tla_tree.specs.declared.unit.ModuleTree.{ModuleTree}
 use Rattle.index_graph.specs.Leading.{LeadsBack}
 use Rattle.family_facts.specs.Family.{Member}
+use Rattle.exact_faces.specs.Exact.{IsExact}
 use Rattle.face_views.specs.Same.{IsSameFace}
 use Rattle.kind_text.specs.FlatModule.{Extends, FlatModule}
 use Rattle.module_model.specs.declared.face.Face.{Face}
+use Rattle.module_model.specs.Exports.{face_outside}
+use Rattle.module_model.specs.Given.{IsWhole}
 use Rattle.written_trees.specs.Leading.{face_in}
 use Rattle.family_tables.specs.Agreement.{IsAgreed, accepted_face}
 use Rattle.family_tables.specs.Modules.{Entry}
@@ -25,6 +28,7 @@ use Rattle.family_levels.specs.declared.versions.Need.TheVariants as need_as
 use Rattle.family_levels.specs.declared.versions.Version.{Version}
 use Rattle.family_tables.specs.declared.reading.Reading.{Reading}
 use Rattle.family_tables.specs.Outcomes.{IsMember, faults_of}
+use Rattle.family_levels.specs.Exactness.{IsExactOutcome}
 use Rattle.family_levels.specs.Leveling.{HasNumber, IsNext, IsReady, face_count, faces_of}
 use Rattle.family_levels.specs.Versions.{AreNeedsTold, AreVersions, Grows, IsCopy, IsFoundOver, IsVersion, Over, Shown, shown_by}
 
@@ -94,6 +98,25 @@ pub record IsLike (known : LevelTables) (version : Version) (found : Found) : Ty
   pub same : IsSameFace before face
   pub alike : (more : FlatModule) → Extends known.tables.state.flat more → face_in more (faces_of known was) ≡ face_in more (faces_of known number)
 
+-- a version was to others what a module is of which this was found: both have exact faces, which are the same to names, and which lead to the
+-- same resolved trees
+pub record IsSameTo (known : LevelTables) (version : Version) (found : Found) : Type 0 where
+  pub face : Face
+  pub before : Face
+  pub number : ℕ
+  pub was : ℕ
+  pub face_is : accepted_face (Some found.outcome) ≡ Some face
+  pub before_is : accepted_face (Some version.found.outcome) ≡ Some before
+  pub number_is : found.number ≡ Some number
+  pub was_is : version.found.number ≡ Some was
+  pub exact : IsExact face
+  pub exact_before : IsExact before
+  pub whole : IsWhole face
+  pub whole_before : IsWhole before
+  pub named : before.«module» ≡ face.«module»
+  pub view : face_outside before ≡ face_outside face
+  pub trees : face_in known.tables.state.flat (faces_of known was) ≡ face_in known.tables.state.flat (faces_of known number)
+
 -- this was found, with the face and the number of a version
 pub record IsFoundAs (version : Version) (found taken : Found) : Type 0 where
   pub faults : faults_of (Some taken.outcome) ≡ faults_of (Some version.found.outcome)
@@ -141,9 +164,10 @@ ArePlaced outcomes numbers shown next versions = (name : List ℕ) (version : Ve
 
 -- ---- the next module
 
--- the face of the next module goes with those before it, it has the number of a face, and its version is what was found of it
+-- the face of the next module goes with those before it and is exact, it has the number of a face, and its version is what was found of it
 pub record IsPlacedNext (outcomes : List (List ℕ × Outcome)) (shown : ℕ → Option Shown) (next : ℕ) (name : List ℕ) (known : LevelTables) (found : Found) (version : Option Version) : Type 0 where
   pub agreed : IsAgreed outcomes name found.outcome
+  pub exact : IsExactOutcome found.outcome
   pub number : IfSome found.number (λ number. number < face_count known)
   pub below : IfSome version (λ v. v.id < next + 1)
   pub placed : IfSome version (λ v. IsSome v.found.number → IsPlaced (Some found.outcome) found.number (shown_after shown next found v.id))

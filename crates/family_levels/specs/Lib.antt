@@ -4,6 +4,7 @@ pub mod Leveling
 pub mod Judging
 pub mod Findings
 pub mod Telling
+pub mod Exactness
 pub mod Versions
 pub mod Again
 pub mod Holding

@@ -38,6 +38,7 @@ use Rattle.family_levels.specs.declared.«module».Found.{Found}
 use Rattle.family_levels.specs.declared.versions.Need.{Need}
 use Rattle.family_levels.specs.declared.versions.Need.TheVariants as need_as
 use Rattle.family_levels.specs.declared.versions.Version.{Version}
+use Rattle.family_levels.specs.Exactness.{IsExactOutcome}
 use Rattle.family_levels.specs.Leveling.{HasNumber, KeepsFaces, face_count, faces_of}
 
 -- what is found is the same
@@ -225,13 +226,15 @@ abbrev pub IsNeedBelow : ℕ → Need → Type 0
 IsNeedBelow next (need_as.Version id) = id < next
 IsNeedBelow next _ = Unit {0}
 
--- this was found of a version, over modules of which that is kept which is kept under the numbers of its needs, and the others as they were
+-- this was found of a version, with an exact face, over modules of which that is kept which is kept under the numbers of its needs, and the
+-- others as they were
 pub record IsVersion (known : LevelTables) (shown : ℕ → Option Shown) (next : ℕ) (name : List ℕ) (version : Version) : Type 0 where
   pub needs : AllByRecursion (IsNeedBelow next) version.needs
   pub itself : version.id < next
   pub over : Over
   pub shows : (other : List ℕ) → shown_in (over.told other) ≡ shown_over shown version other
   pub lacks : (other : List ℕ) → over.lacks other ≡ lack_over version other
+  pub exact : IsExactOutcome version.found.outcome
   pub found : IsFoundOver known over (shown version.id) name version.tree version.found
 
 -- so it was of each of these

@@ -12,8 +12,10 @@ use Rattle.family_tables.proofs.Agreeing.{agreed-more}
 use Rattle.family_tables.proofs.Ordered.{entries-all, found-more, member-here, module-here, ordered-fresh, ordered-names, ordered-there, steps-more, steps-most, trees-all}
 use Rattle.leveled_facts.specs.Families.{declares}
 use Rattle.family_levels.specs.Again.{IsNextLeveled}
+use Rattle.family_levels.specs.Exactness.{AreExact}
 use Rattle.family_levels.specs.Leveling.{AreLeveled, Says, names_on}
 use Rattle.family_levels.proofs.Adding.{none-more, old-more, placed-more, versions-more}
+use Rattle.family_levels.proofs.Exactly.{exact-more}
 use Rattle.family_levels.proofs.Growing.{agreed-none, leveled-more, leveled-none, numbers-more, ready-here}
 use Rattle.family_levels.proofs.modules.level_all.Goals as goal
 
@@ -25,6 +27,7 @@ loop-name-init g c =
       names = ap names_in c.new-outcomes.ensures;
       listed = ap names_in c.new-names.ensures;
       agreed = subst AreAgreed (sym c.new-outcomes.ensures) agreed-none;
+      exact = subst AreExact (sym c.new-outcomes.ensures) (λ name face found. absurd (cc found));
       kept = c.requires.kept;
       numbered = c.requires.numbered;
       numbers = λ name number at. absurd (cc (sym (ap (λ z. entry_of z name) c.new-numbers.ensures) ∙ at));
@@ -135,6 +138,7 @@ loop-name-preserved g c =
       names = ordered-names modules plan c.requires.plan i d name within is at.outcomes outcomes found.outcome inv.names outcomes_are;
       listed = ordered-names modules plan c.requires.plan i d name within is at.names c.add-in-loop-name.new.self found.names inv.listed c.in_ok-add-2.ensures;
       agreed = agreed-more at.outcomes name inv.agreed fresh outcomes found.outcome outcomes_are found_so.agreed;
+      exact = exact-more at.outcomes inv.exact name found.outcome outcomes fresh outcomes_are found_so.exact;
       kept = c.in_ok-behind.ensures.kept;
       numbered = c.in_ok-behind.ensures.numbered;
       numbers = numbers-more at.outcomes at.numbers numbers at.known known name found.number unnumbered numbers_are inv.numbers grows.faces found_so.number;

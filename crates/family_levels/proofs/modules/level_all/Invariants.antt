@@ -9,6 +9,7 @@ use Rattle.family_tables.specs.Outcomes.{trees_of}
 use Rattle.family_tables.specs.Tables.{entry_of, names_in}
 use Rattle.leveled_modules.specs.Leveled.{AreKept}
 use Rattle.tree_numbers.specs.Numbered.{IsNumbered}
+use Rattle.family_levels.specs.Exactness.{AreExact}
 use Rattle.family_levels.specs.Again.{ArePlaced}
 use Rattle.family_levels.specs.Leveling.{AreLeveled, AreNumbers, names_on}
 use Rattle.family_levels.specs.Versions.{AreVersions, Shown}
@@ -20,6 +21,7 @@ invariant-loop-name g l = record {
   names : names_in l.outcomes ≡ take l.name-index l.plan.order;
   listed : names_in l.names ≡ take l.name-index l.plan.order;
   agreed : AreAgreed l.outcomes;
+  exact : AreExact l.outcomes;
   kept : AreKept l.known;
   numbered : IsNumbered l.known.tables.state.flat l.trees;
   numbers : AreNumbers l.known l.numbers;

@@ -1,7 +1,8 @@
 // How many modules are checked for a session: the eight built-in ones once, and else those that
 // change, and those to which one that they name is not what it was.
 use crate::tests::sessions::instances::{
-    LOCAL, MORE_IN_Q, NESTED, OPEN_D, OPEN_M, OPEN_O, OPEN_Q, OTHER_IN_M,
+    BROUGHT, LOCAL, MORE_IN_OTHER_Q, MORE_IN_Q, NESTED, OPEN_D, OPEN_M, OPEN_O, OPEN_OTHER_Q,
+    OPEN_Q, OPEN_Z, OTHER_IN_M,
 };
 use crate::tests::sessions::{ASK_F, FILES, OPEN_B, OPEN_C, ROOT};
 
@@ -72,7 +73,7 @@ const CHAIN: [(&str, &str); 3] = [
 const LACKING: [(&str, &str); 2] = [("C", "EXTENDS B\nG == F"), ("E", "H == 1")];
 
 /// Sessions over folders.
-pub static COUNTED: [Counted; 19] = [
+pub static COUNTED: [Counted; 20] = [
     (&FILES, &[ROOT, OPEN_C], 10),
     // A document with the text of its file, and a change that changes nothing.
     (&FILES, &[ROOT, OPEN_C, OPEN_B, SAME_C], 10),
@@ -103,4 +104,6 @@ pub static COUNTED: [Counted; 19] = [
     (&LOCAL, &[ROOT, OPEN_D, OPEN_M, OTHER_IN_M], 17),
     // Not N, to which P is what it was: of a nested module nothing is brought.
     (&NESTED, &[ROOT, OPEN_O, OPEN_Q, MORE_IN_Q], 17),
+    // Not Z, to which M is what it was: what it exports does not reach the instance of Q.
+    (&BROUGHT, &[ROOT, OPEN_Z, OPEN_OTHER_Q, MORE_IN_OTHER_Q], 17),
 ];

@@ -58,6 +58,26 @@ const CLEAN_O: &str =
 const CLEAN_Q: &str =
     r#"{"jsonrpc":"2.0","method":"textDocument/publishDiagnostics","params":{"diagnostics":[],"uri":"file:///w/Q.tla"}}"#;
 
+/// An instance that a module brings on, and another one that its nested module alone extends.
+pub const BROUGHT: [(&str, &str); 6] = [
+    ("P", "G == 1"),
+    ("Q", "H == 1"),
+    ("Y", "J == INSTANCE P"),
+    ("X", "EXTENDS Y\nK == INSTANCE Q"),
+    ("M", "---- MODULE Inner ----\nEXTENDS X\n====\nINSTANCE Y"),
+    ("Z", "EXTENDS M\nU == J!G"),
+];
+
+pub const OPEN_Z: &str =
+    r#"{"method":"textDocument/didOpen","params":{"textDocument":{"uri":"file:///w/Z.tla","text":"---- MODULE Z ----\nEXTENDS M\nU == J!G\n====\n"}}}"#;
+
+pub const OPEN_OTHER_Q: &str =
+    r#"{"method":"textDocument/didOpen","params":{"textDocument":{"uri":"file:///w/Q.tla","text":"---- MODULE Q ----\nH == 1\n====\n"}}}"#;
+
+/// `Q` defines one name more.
+pub const MORE_IN_OTHER_Q: &str =
+    r#"{"method":"textDocument/didChange","params":{"textDocument":{"uri":"file:///w/Q.tla"},"contentChanges":[{"range":{"start":{"line":2,"character":0},"end":{"line":2,"character":0}},"text":"F == 1\n"}]}}"#;
+
 /// Sessions, each over a folder of its own.
 pub static INSTANCES: [Placed; 2] = [
     // The instance becomes that of a module without the name.
