@@ -1,3 +1,4 @@
 mod Holding
 mod Written
 mod Projecting
+mod Changing

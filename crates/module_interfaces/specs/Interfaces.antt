@@ -1,5 +1,5 @@
 -- What a module of some texts is to those that name it, as a value that is told by the texts alone.
-use Rattle.std.specs.Prelude.{◌≡◌, ℕ, Bool, IsTrue, List, [], ◌∷◌, if◌then◌else◌}
+use Rattle.std.specs.Prelude.{◌≡◌, ℕ, Bool, true, List, [], ◌∷◌, if◌then◌else◌, map}
 use Rattle.std.specs.Str.{bytes_eq}
 use Rattle.unit_grammar.specs.Units.{ModuleUnits}
 use Rattle.front_laws.specs.Fronts.{Front, Tree, Fault}
@@ -101,10 +101,22 @@ import_state (fact found) = import_by found.leveled.faults (record { view = foun
 
 -- facts that this says to be the same are the same to those that need their modules
 abbrev pub TellsImports : (Fact → Fact → Bool) → Type 0
-TellsImports same = (one other : Fact) → IsTrue (same one other) → import_state (fact one) ≡ import_state (fact other)
+TellsImports same = (one other : Fact) → same one other ≡ true → import_state (fact one) ≡ import_state (fact other)
+
+-- and it says so of all that are
+abbrev pub FindsImports : (Fact → Fact → Bool) → Type 0
+FindsImports same = (one other : Fact) → import_state (fact one) ≡ import_state (fact other) → same one other ≡ true
 
 -- ---- what changes
 
--- how many modules of the later texts are dirty: the text is another one than before, or what a module is that it needs, as far as this tells
+-- what the modules are to a module that it needs, under their names, in the order of its text
+abbrev pub imports_in : Texts → List ℕ → List (List ℕ × ImportState)
+imports_in texts name = map (λ need. (need.0, import_state need.1)) (values.given_in own_of needs_of fact_of texts name)
+
+-- whether a module is dirty: its text is another one than before, or what a module is that it needs, as far as this tells
+abbrev pub is_dirty : (Fact → Fact → Bool) → Texts → Texts → List ℕ → Bool
+is_dirty = values.is_dirty own_of needs_of fact_of
+
+-- how many modules of the later texts are dirty
 abbrev pub dirty : (Fact → Fact → Bool) → Texts → Texts → ℕ
 dirty = values.dirty own_of needs_of fact_of
