@@ -1,8 +1,9 @@
 // How many modules are checked for a session: the eight built-in ones once, and else those that
 // change, and those to which one that they name is not what it was.
 use crate::tests::sessions::instances::{
-    BROUGHT, LOCAL, MORE_IN_OTHER_Q, MORE_IN_Q, NESTED, OPEN_D, OPEN_M, OPEN_O, OPEN_OTHER_Q,
-    OPEN_Q, OPEN_Z, OTHER_IN_M,
+    BROUGHT, COMMENT_IN_INNER, INNER, LOCAL, MORE_IN_OTHER_Q, MORE_IN_Q, NESTED, OPEN_D, OPEN_M,
+    OPEN_O, OPEN_OTHER_Q, OPEN_OVER_INNER, OPEN_Q, OPEN_ROUND_INNER, OPEN_Z, OTHER_IN_M,
+    SET_IN_INNER,
 };
 use crate::tests::sessions::{ASK_F, FILES, OPEN_B, OPEN_C, ROOT};
 
@@ -73,7 +74,7 @@ const CHAIN: [(&str, &str); 3] = [
 const LACKING: [(&str, &str); 2] = [("C", "EXTENDS B\nG == F"), ("E", "H == 1")];
 
 /// Sessions over folders.
-pub static COUNTED: [Counted; 20] = [
+pub static COUNTED: [Counted; 22] = [
     (&FILES, &[ROOT, OPEN_C], 10),
     // A document with the text of its file, and a change that changes nothing.
     (&FILES, &[ROOT, OPEN_C, OPEN_B, SAME_C], 10),
@@ -106,4 +107,15 @@ pub static COUNTED: [Counted; 20] = [
     (&NESTED, &[ROOT, OPEN_O, OPEN_Q, MORE_IN_Q], 17),
     // Not Z, to which M is what it was: what it exports does not reach the instance of Q.
     (&BROUGHT, &[ROOT, OPEN_Z, OPEN_OTHER_Q, MORE_IN_OTHER_Q], 17),
+    // Not Z, while an instance of a nested module leads where it led.
+    (
+        &INNER,
+        &[ROOT, OPEN_OVER_INNER, OPEN_ROUND_INNER, COMMENT_IN_INNER],
+        11,
+    ),
+    (
+        &INNER,
+        &[ROOT, OPEN_OVER_INNER, OPEN_ROUND_INNER, SET_IN_INNER],
+        12,
+    ),
 ];

@@ -78,6 +78,28 @@ pub const OPEN_OTHER_Q: &str =
 pub const MORE_IN_OTHER_Q: &str =
     r#"{"method":"textDocument/didChange","params":{"textDocument":{"uri":"file:///w/Q.tla"},"contentChanges":[{"range":{"start":{"line":2,"character":0},"end":{"line":2,"character":0}},"text":"F == 1\n"}]}}"#;
 
+/// An instance of a nested module, which another module has by the one round it.
+pub const INNER: [(&str, &str); 2] = [
+    (
+        "M",
+        "---- MODULE Inner ----\nF == 1\n====\nI == INSTANCE Inner",
+    ),
+    ("Z", "EXTENDS M\nU == I!F"),
+];
+
+pub const OPEN_OVER_INNER: &str =
+    r#"{"method":"textDocument/didOpen","params":{"textDocument":{"uri":"file:///w/Z.tla","text":"---- MODULE Z ----\nEXTENDS M\nU == I!F\n====\n"}}}"#;
+
+pub const OPEN_ROUND_INNER: &str =
+    r#"{"method":"textDocument/didOpen","params":{"textDocument":{"uri":"file:///w/M.tla","text":"---- MODULE M ----\n---- MODULE Inner ----\nF == 1\n====\nI == INSTANCE Inner\n====\n"}}}"#;
+
+/// The nested module has a comment, and then `F` there has another level.
+pub const COMMENT_IN_INNER: &str =
+    r#"{"method":"textDocument/didChange","params":{"textDocument":{"uri":"file:///w/M.tla"},"contentChanges":[{"range":{"start":{"line":2,"character":6},"end":{"line":2,"character":6}},"text":" \\* one"}]}}"#;
+
+pub const SET_IN_INNER: &str =
+    r#"{"method":"textDocument/didChange","params":{"textDocument":{"uri":"file:///w/M.tla"},"contentChanges":[{"range":{"start":{"line":2,"character":5},"end":{"line":2,"character":6}},"text":"{1}"}]}}"#;
+
 /// Sessions, each over a folder of its own.
 pub static INSTANCES: [Placed; 2] = [
     // The instance becomes that of a module without the name.
