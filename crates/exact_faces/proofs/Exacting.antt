@@ -17,7 +17,7 @@ use Rattle.module_model.specs.Given.{AreReached, IsWhole}
 use Rattle.module_model.specs.Parts.{reached}
 use Rattle.module_model.specs.declared.face.Face.{Face}
 use Rattle.face_views.proofs.Exporting.{standing-told}
-use Rattle.exact_faces.specs.Exact.{Behind, First, IsBehindOf, IsExact, IsNamed, IsReached}
+use Rattle.exact_faces.specs.Exact.{Behind, First, IsBehindOf, IsExact, IsExactOf, IsNamed, IsReached}
 use Rattle.exact_faces.specs.Found.{AreAllFound, AreFound, AreOnce, Tables, told}
 use Rattle.exact_faces.specs.Kept.{AreKept, StandIn, kept}
 use Rattle.exact_faces.proofs.Keeping.{table-kept}
@@ -198,22 +198,25 @@ module _ (face made : Face) (found : Tables) (known : AreFound face (told found)
   same-exports : face_exports made ≡ face_exports face
   same-exports = ap (λ (table : Table Meaning). exports_of table) tables
 
-  pub made-exact : IsExact made
+  made-exact : IsExact made
   made-exact = record {
     reached = λ decl entries is. subst (λ z. IsReached (face_instances made) z decl) (sym same-exports) (made-reached face (told found) (face_instances made) known all keeps comes decl entries is);
     behind = made-plain face (told found) (face_instances made) known all keeps comes;
   }
 
-  pub made-whole : IsWhole made
+  made-whole : IsWhole made
   made-whole = record {
     exports = subst (AreReached (face_instances made)) (sym same-exports) (made-roots face (told found) (face_instances made) known all keeps comes);
     behind = made-behind face (told found) (face_instances made) known all keeps comes;
   }
 
-  pub made-outside : face_outside made ≡ face_outside face
+  made-outside : face_outside made ≡ face_outside face
   made-outside =
       let along = fun_ext (λ path. ap (λ (z : Exports). entries_along (face_instances made) z path) same-exports ∙ made-along face (told found) (face_instances made) known all keeps comes path) in
       λ i. record { entries = along i; parameters = parameters_in (same-exports i) }
 
-  pub made-comes : (decl : DeclId) (entries : Exports) → face_instances made decl ≡ Some entries → IsBehindOf (face_instances face decl) entries
+  made-comes : (decl : DeclId) (entries : Exports) → face_instances made decl ≡ Some entries → IsBehindOf (face_instances face decl) entries
   made-comes = made-from face (told found) (face_instances made) known all keeps comes
+
+  pub made-exact-of : made.«module» ≡ face.«module» → IsExactOf face made
+  made-exact-of named = record { exact = made-exact; whole = made-whole; named = named; outside = made-outside; from = made-comes }

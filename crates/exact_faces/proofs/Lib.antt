@@ -1,4 +1,5 @@
 pub mod Exacting
+pub mod Exactly
 pub mod Keeping
 pub mod Keys
 pub mod Named

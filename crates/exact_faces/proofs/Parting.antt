@@ -6,7 +6,7 @@ use Rattle.std.specs.Str.{bytes_eq}
 use Rattle.std.proofs.lemmas.Bool.{eqb-true}
 use Rattle.std.proofs.lemmas.List.{take_all}
 use Rattle.list_laws.proofs.Options.{some-there}
-use Rattle.list_laws.proofs.Texts.{same-text}
+use Rattle.list_laws.proofs.Texts.{same-text, text-itself}
 use Rattle.tla_model.specs.declared.ids.DeclId.{DeclId}
 use Rattle.tla_model.specs.Entities.{Meaning, same_decl}
 use Rattle.tla_model.specs.Tables.{Table, added, lookup}
@@ -184,3 +184,24 @@ texts-all found parts i end before decl some =
     let stands = in-parts parts decl there.0 there.1 in
     let all : AreAllPlain found parts = subst (λ z. AreAllPlain found z) (take_all i parts end) before in
     all decl.«module» stands.part stands.text decl.place (ap is_some stands.stands)
+
+-- ---- the instances of one text
+
+abbrev pub AreOwnPlain : Tables → List ℕ → ByText → Type 0
+AreOwnPlain found title parts = (part : InText) → lookup bytes_eq parts title ≡ Some part → ArePlain found title part
+
+pub own-next : (found : Tables) (mine : List ℕ) (parts : ByText) (i : ℕ) (title : List ℕ) (part : InText) → slice_get parts i ≡ Some (title, part) → (bytes_eq title mine ≡ true → ArePlain found title part) → AreOwnPlain found mine (take i parts) → AreOwnPlain found mine (take (i + 1) parts)
+own-next found mine parts i title part at plain before one is = ⊎_elim
+    (λ (old : lookup bytes_eq (take i parts) mine ≡ Some one). before one old)
+    (λ (last : (bytes_eq mine title ≡ true) × (part ≡ one)).
+    let same : mine ≡ title = same-text mine title last.0 in
+    subst (λ p. ArePlain found mine p) last.1 (subst (λ name. ArePlain found name part) (sym same) (plain (text-itself title mine (sym same)))))
+    (found-next bytes_eq parts i title part mine one at is)
+
+pub own-all : (found : Tables) (mine : List ℕ) (parts : ByText) (i : ℕ) → length parts ≤ i → AreOwnPlain found mine (take i parts) → (decl : DeclId) → bytes_eq decl.«module» mine ≡ true → is_some (reached parts decl) ≡ true → IsPlain found decl
+own-all found mine parts i end before decl text some =
+    let there = some-there (reached parts decl) some in
+    let stands = in-parts parts decl there.0 there.1 in
+    let same : decl.«module» ≡ mine = same-text decl.«module» mine text in
+    let all : AreOwnPlain found mine parts = subst (λ z. AreOwnPlain found mine z) (take_all i parts end) before in
+    subst (λ title. IsPlain found (decl_of title decl.place)) (sym same) (all stands.part (ap (lookup bytes_eq parts) (sym same) ∙ stands.text) decl.place (ap is_some stands.stands))

@@ -18,7 +18,7 @@ use Rattle.module_model.specs.declared.face.Face.{Face}
 use Rattle.exact_faces.specs.declared.reached.Search.{Search}
 use Rattle.exact_faces.specs.Exact.{Behind, First, IsNamed, IsReached}
 use Rattle.exact_faces.specs.Found.{AreAllFound, AreFound, AreOnce, HasMore, Tables, told}
-use Rattle.exact_faces.specs.Searching.{CanFind, HasFound, HasGrown, IsSearch, OfAll, OfDecl, instances_among, of_symbols, of_words}
+use Rattle.exact_faces.specs.Searching.{CanFind, HasFound, HasGrown, IsFound, IsSearch, OfAll, OfDecl, instances_among, of_symbols, of_words}
 use Rattle.exact_faces.proofs.Named.{among-named, named-among}
 use Rattle.exact_faces.proofs.Tables.{at-grown, each-added, entry-at, more-added, more-more, stands-at, there-added, there-more, told-added, told-more, told-table, work-added}
 
@@ -120,6 +120,24 @@ named-found old new entries meanings same grown inside found name entity callee 
     let there = named-among entries name (Declared entity callee) is leads in
     found there.0 (Declared entity callee) (ap (λ z. slice_get z there.0) same ∙ there.1)
     (ap (λ (f : Rattle.std.specs.Borrow.Bor Face). is_some (face_instances f.now callee.decl)) grown.face ∙ inside name entity callee is leads)
+
+-- so it is with a table of which all instances are found
+pub all-found : (found : Tables) (entries : Exports) (meanings : List Meaning) → meanings ≡ instances_among entries → OfAll (IsFound found) meanings → AreReached (told found) entries
+all-found found entries meanings same all name entity callee is leads =
+    let there = named-among entries name (Declared entity callee) is leads in
+    all there.0 (Declared entity callee) (ap (λ z. slice_get z there.0) same ∙ there.1)
+
+pub found-next : (found : Tables) (meanings : List Meaning) (count : ℕ) (meaning : Meaning) → slice_get meanings count ≡ Some meaning → OfDecl (IsFound found) meaning → OfFirst (IsFound found) meanings count → OfFirst (IsFound found) meanings (count + 1)
+found-next found meanings count meaning at here before index one within is = by (nat_eq index count) refl
+  where
+    some-same : (a b : Meaning) → Some a ≡ Some b → a ≡ b
+    some-same a b e = cc
+
+    by : (b : Bool) → nat_eq index count ≡ b → OfDecl (IsFound found) one
+    by true same =
+        let equal : index ≡ count = grind (arith, nat_tests, same) in
+        subst (OfDecl (IsFound found)) (some-same meaning one (sym at ∙ ap (slice_get meanings) (sym equal) ∙ is)) here
+    by false apart = before index one (grind (arith, nat_tests, apart, within)) is
 
 -- among words, and among symbols
 among-symbols : (symbols : List (Op × Meaning)) → instances_among (exports.of_symbols symbols) ≡ of_symbols symbols

@@ -13,7 +13,7 @@ use Rattle.tla_model.specs.Tables.{Table, added, lookup}
 use Rattle.tla_model.proofs.Stretching.{found-first, found-next}
 use Rattle.module_model.specs.Exports.{Exports, Instances, exports_of, standing}
 use Rattle.module_model.specs.Parts.{ByText, InText, in_part, reached}
-use Rattle.exact_faces.specs.Found.{HasMore, Tables, decl_of, told}
+use Rattle.exact_faces.specs.Found.{HasMore, Tables, decl_of, of_text, told}
 use Rattle.exact_faces.specs.Searching.{listed, missing, work}
 
 -- ---- one more
@@ -126,6 +126,15 @@ stands-at (entry ∷ rest) decl table is = by (same_decl decl entry.0) is (stand
 pub entry-at : (found : Option (DeclId × Table Meaning)) (table : Table Meaning) → option_map (λ (entry : DeclId × Table Meaning). entry.1) found ≡ Some table → (decl : DeclId) × (found ≡ Some (decl, table))
 entry-at None table is = cc
 entry-at (Some entry) table is = let same : entry.1 ≡ table = cc in (entry.0, ap (λ (t : Table Meaning). Some (entry.0, t)) same)
+
+-- the table of an entry of a text is that of the entry
+pub text-at : (title : List ℕ) (found : Option (DeclId × Table Meaning)) (table : Table Meaning) → Some table ≡ of_text title found → Some table ≡ option_map (λ (entry : DeclId × Table Meaning). entry.1) found
+text-at title None table is = is
+text-at title (Some entry) table is = by (bytes_eq entry.0.«module» title) is
+  where
+    by : (b : Bool) → Some table ≡ cond b (Some entry.1) None → Some table ≡ Some entry.1
+    by true same = same
+    by false none = cc
 
 -- ---- the work that is left
 

@@ -7,7 +7,8 @@ use Rattle.tla_model.specs.declared.ids.Callee.{Callee}
 use Rattle.tla_model.specs.declared.ids.DeclId.{DeclId}
 use Rattle.tla_model.specs.declared.names.Meaning.TheVariants.{Declared}
 use Rattle.module_model.specs.Exports.{Exports, Instances, entry_of, face_exports, face_instances}
-use Rattle.module_model.specs.Exports.{instantiable}
+use Rattle.module_model.specs.Exports.{face_outside, instantiable}
+use Rattle.module_model.specs.Given.{IsWhole}
 use Rattle.module_model.specs.declared.face.Face.{Face}
 
 -- one of these entries names the instance of a declaration
@@ -34,3 +35,11 @@ pub record IsBehindOf (was : Option Exports) (entries : Exports) : Type 0 where
   pub exported : Exports
   pub stands : was ≡ Some exported
   pub is : entries ≡ instantiable exported
+
+-- a face is that of the same module, it is the same to those that name the module, and it holds exactly what its exports reach
+pub record IsExactOf (face made : Face) : Type 0 where
+  pub exact : IsExact made
+  pub whole : IsWhole made
+  pub named : made.«module» ≡ face.«module»
+  pub outside : face_outside made ≡ face_outside face
+  pub from : (decl : DeclId) (entries : Exports) → face_instances made decl ≡ Some entries → IsBehindOf (face_instances face decl) entries

@@ -1,7 +1,8 @@
 -- Instances that are found, each with the table of what its module exports.
-use Rattle.std.specs.Prelude.{◌≡◌, ◌++◌, ℕ, List, Some, map, slice_get}
+use Rattle.std.specs.Prelude.{◌≡◌, ◌++◌, ℕ, List, Option, None, Some, if◌then◌else◌, map, slice_get}
 use Rattle.std.specs.Arc.{arc_value}
 use Rattle.std.specs.Borrow.{Bor}
+use Rattle.std.specs.Str.{bytes_eq}
 use Rattle.std.specs.declared.sync.Arc.{Arc}
 use Rattle.tla_model.specs.declared.ids.DeclId.{DeclId}
 use Rattle.tla_model.specs.Entities.{Meaning, same_decl}
@@ -27,6 +28,11 @@ tables_of entries = map (λ entry. (decl_of entry.0.0.now entry.0.1, arc_value e
 -- what the modules of instances export
 abbrev pub told : Tables → Instances
 told found decl = standing (lookup same_decl found decl)
+
+-- the table of an instance, if its name is declared in the text of this module
+abbrev pub of_text : List ℕ → Option (DeclId × Table Meaning) → Option (Table Meaning)
+of_text title None = None
+of_text title (Some entry) = if bytes_eq entry.0.«module» title then Some entry.1 else None
 
 -- some were found, and then others
 pub record HasMore (new old : Tables) : Type 0 where

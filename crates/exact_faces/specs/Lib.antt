@@ -1,4 +1,5 @@
 pub mod Exact
 pub mod Found
+pub mod Importing
 pub mod Kept
 pub mod Searching

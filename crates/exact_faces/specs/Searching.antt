@@ -67,6 +67,10 @@ CanFind s decl = IsReached (told s.found) (face_exports s.face.now) decl
 abbrev pub HasFound : Search → DeclId → Type 0
 HasFound s decl = is_some (face_instances s.face.now decl) ≡ true → is_some (told s.found decl) ≡ true
 
+-- an instance is among those that are found
+abbrev pub IsFound : Tables → DeclId → Type 0
+IsFound found decl = is_some (told found decl) ≡ true
+
 -- this holds of each declaration that is meant
 abbrev pub OfAll : (DeclId → Type 0) → List Meaning → Type 0
 OfAll P meanings = (index : ℕ) (meaning : Meaning) → slice_get meanings index ≡ Some meaning → OfDecl P meaning

@@ -1,33 +1,25 @@
 // Faces that hold exactly what their exports reach.
-ghost use Rattle.std.specs.Prelude.{◌≡◌, IfOk, Some};
+ghost use Rattle.std.specs.Prelude.{◌≡◌, IfOk};
 ghost use Rattle.std.specs.Arc.{arc_value};
-ghost use Rattle.tla_model.specs.declared.ids.DeclId.{DeclId};
-ghost use Rattle.module_model.specs.Exports as exports;
-ghost use Rattle.module_model.specs.Exports.{face_instances, face_outside};
-ghost use Rattle.module_model.specs.Given.{IsWhole};
+ghost use Rattle.module_model.specs.Exports.{face_outside};
+ghost use Rattle.module_model.specs.Given.{AreFaces, IsFaceOver, IsWhole};
 ghost use Rattle.module_model.specs.declared.face.Face.{Face as FaceOf};
 ghost use Rattle.face_views.specs.Same.{IsSameFace};
-ghost use Rattle.exact_faces.specs.Exact.{IsBehindOf, IsExact};
+ghost use Rattle.exact_faces.specs.Exact.{IsExact, IsExactOf};
+ghost use Rattle.exact_faces.specs.Importing.{AreExactImports, AreNames};
 
+use crate::already::is_exact;
 use crate::parts::exact_parts;
 use crate::reached::reached;
-use module_model::Face;
+use module_model::{Face, Imported};
 use std::alloc::Global;
-use tool_list::Memory;
+use std::sync::Arc;
+use tool_list::{Chars, Memory};
 
-/// A face of the same module with the same exports, which holds of each instance that these reach
-/// what stands behind it, and nothing else.
-pub fn exact(alloc: Global, face: &Face) -> Result<Face, Memory>
+// A face of what the exports of one reach.
+fn cut(alloc: Global, face: &Face) -> Result<Face, Memory>
     requires whole { IsWhole face.now }
-    ensures exact { IfOk result (λ made. IsExact made) }
-    ensures whole { IfOk result (λ made. IsWhole made) }
-    ensures named { IfOk result (λ made. made.«module» ≡ face.now.«module») }
-    ensures exports { IfOk result (λ made. arc_value made.exports
-        ≡ arc_value face.now.exports) }
-    ensures outside { IfOk result (λ made. face_outside made ≡ face_outside face.now) }
-    ensures from { IfOk result (λ made. (decl : DeclId) → (entries : exports.Exports)
-        → face_instances made decl ≡ Some entries
-        → IsBehindOf (face_instances face.now decl) entries) }
+    ensures { IfOk result (IsExactOf face.now) }
 {
     let found = reached(alloc, face)?;
     let parts = exact_parts(alloc, &found, &face.parts)?;
@@ -38,6 +30,30 @@ pub fn exact(alloc: Global, face: &Face) -> Result<Face, Memory>
         exports,
         parts,
     })
+}
+
+/// Of a face over imports of these names, whose faces are exact, one of the same module with the same
+/// exports, which holds of each instance that these reach what stands behind it, and nothing else. It
+/// is shared where it is exact already.
+pub fn exact(
+    alloc: Global,
+    imports: &Imported,
+    names: &[Chars],
+    face: &Arc<Face>,
+) -> Result<Arc<Face>, Memory>
+    requires over { IsFaceOver imports.now (arc_value face.now).«module» (arc_value face.now) }
+    requires faces { AreFaces imports.now (arc_value face.now).«module» }
+    requires exact { AreExactImports imports.now }
+    requires names { AreNames names.now imports.now }
+    ensures { IfOk result (λ made. IsExactOf (arc_value face.now) (arc_value made)) }
+{
+    if is_exact(alloc, imports, names, face)? {
+        let shared = face.clone()?;
+        return Ok(shared);
+    }
+    let face = cut(alloc, face)?;
+    let made = Arc::new(alloc, face)?;
+    Ok(made)
 }
 
 /// Faces that hold exactly what their exports reach are the same where the modules are to those

@@ -4,7 +4,7 @@ ghost use Rattle.std.specs.Arc.{arc_value};
 ghost use Rattle.tla_model.specs.Entities.{same_decl};
 ghost use Rattle.tla_model.specs.Tables as tables;
 ghost use Rattle.module_model.specs.Parts.{table_shown};
-ghost use Rattle.exact_faces.specs.Found.{decl_of};
+ghost use Rattle.exact_faces.specs.Found.{decl_of, of_text};
 
 use indexmap::IndexMap;
 use std::alloc::Global;
@@ -57,6 +57,22 @@ impl<'f> Found<'f> {
     {
         match self.entries.get_index(index) {
             Some((_, table)) => Some(*table),
+            None => None,
+        }
+    }
+
+    /// The table of the instance at a place of the order, if its name is declared in the text of this
+    /// module.
+    pub fn at_text(&self, index: usize, module: &str) -> Option<&'f Arc<NameTable>>
+        ensures { table_shown result ≡ of_text «module».now (slice_get self.now index) }
+    {
+        match self.entries.get_index(index) {
+            Some(((text, _), table)) => {
+                if *text == module {
+                    return Some(*table);
+                }
+                None
+            }
             None => None,
         }
     }

@@ -3,6 +3,7 @@
 //! Makes one of a face, and knows nothing of texts, and of how faces come about.
 #![tactic(auto)]
 
+mod already;
 mod face;
 mod found;
 mod kept;

@@ -2,6 +2,7 @@
 ghost use Rattle.std.specs.Prelude.{◌≡◌, ℕ, IfOk, IsTrue, None, OnOk, Some, if◌then◌else◌, is_some};
 ghost use Rattle.std.specs.Prelude.{nat_eq, true};
 ghost use Rattle.std.specs.Option.{option_or};
+ghost use Rattle.std.specs.Str.{bytes_eq};
 ghost use Rattle.tla_model.specs.declared.ids.DeclId.{DeclId};
 ghost use Rattle.tla_model.specs.Tables as tables;
 ghost use Rattle.module_model.specs.Parts.{reached};
@@ -85,6 +86,25 @@ fn are_plain(found: &Found<'_>, title: &str, part: &Part) -> bool
         };
         if !is_plain(found, title, place) {
             return false;
+        }
+    }
+    true
+}
+
+/// Whether all instances that the text of a module declares are found, and all of their tables are
+/// kept.
+pub fn are_own_plain(found: &Found<'_>, title: &str, parts: &Parts) -> bool
+    ensures { IsTrue result → (decl : DeclId) → bytes_eq decl.«module» title.now ≡ true
+        → is_some (reached parts.now decl) ≡ true → IsPlain found.now decl }
+{
+    for index in 0..parts.len() {
+        let Some((text, part)) = parts.at(index) else {
+            unreachable!();
+        };
+        if text == title {
+            if !are_plain(found, text, part) {
+                return false;
+            }
         }
     }
     true

@@ -1,11 +1,11 @@
 // Which instances of a face its exports reach.
-ghost use Rattle.std.specs.Prelude.{◌≡◌, ◌++◌, IfOk, OnOk};
+ghost use Rattle.std.specs.Prelude.{◌≡◌, ◌++◌, IfOk, IsTrue, OnOk};
 ghost use Rattle.tla_model.specs.declared.ids.DeclId.{DeclId};
 ghost use Rattle.module_model.specs.Exports.{exports_of, face_exports, face_instances};
 ghost use Rattle.module_model.specs.Given.{AreReached, IsWhole};
 ghost use Rattle.exact_faces.specs.Exact.{IsNamed};
 ghost use Rattle.exact_faces.specs.Found.{AreAllFound, AreFound, told};
-ghost use Rattle.exact_faces.specs.Searching.{CanFind, HasFound, HasGrown, IsSearch, OfAll};
+ghost use Rattle.exact_faces.specs.Searching.{CanFind, HasFound, HasGrown, IsFound, IsSearch, OfAll};
 ghost use Rattle.exact_faces.specs.Searching.{OfDecl, instances_among, of_symbols, of_words, shown};
 
 use crate::found::Found;
@@ -65,6 +65,32 @@ fn instances_in<'f>(alloc: Global, table: &'f NameTable) -> Result<Vec<&'f Meani
     let mut found = words_in(alloc, table)?;
     push_symbols(&mut found, table.symbols())?;
     Ok(found)
+}
+
+// Whether an instance is found, if one is meant.
+fn is_found(found: &Found<'_>, meaning: &Meaning) -> bool
+    ensures { IsTrue result → OfDecl (IsFound found.now) meaning.now }
+{
+    match meaning {
+        Meaning::BuiltIn => true,
+        Meaning::Declared { callee, .. } => {
+            found
+                .get(callee.decl.module.as_str(), callee.decl.place)
+                .is_some()
+        }
+    }
+}
+
+// Whether all instances are found that are meant.
+fn are_found(found: &Found<'_>, meanings: &[&Meaning]) -> bool
+    ensures { IsTrue result → OfAll (IsFound found.now) (shown meanings.now) }
+{
+    for index in 0..meanings.len() {
+        if !is_found(found, meanings[index]) {
+            return false;
+        }
+    }
+    true
 }
 
 impl<'f> Search<'f> {
@@ -141,6 +167,24 @@ impl<'f> Search<'f> {
         Ok(())
     }
 
+    // Looks through those that the module's own text declares, and finds those that they name.
+    fn run_own(&mut self, alloc: Global) -> Result<(), Memory>
+        requires search { IsSearch self.old }
+        requires whole { IsWhole self.old.face.now }
+        ensures search { OnOk result (IsSearch self.new) }
+        ensures grown { OnOk result (HasGrown self.old self.new) }
+    {
+        let face = self.face;
+        let mut next = 0;
+        while next < self.found.len() {
+            if let Some(table) = self.found.at_text(next, face.module.as_str()) {
+                self.find_named(alloc, table)?;
+            }
+            next += 1;
+        }
+        Ok(())
+    }
+
     // What is found.
     fn into_found(self) -> Found<'f>
         ensures { result ≡ self.entry.found }
@@ -163,4 +207,29 @@ pub fn reached<'f>(alloc: Global, face: &'f Face) -> Result<Found<'f>, Memory>
     search.find_named(alloc, &face.exports)?;
     search.run(alloc)?;
     Ok(search.into_found())
+}
+
+/// Those instances of a face that its exports reach through its own text: which they name, or an
+/// instance that the text declares and that is found so. No instance of an import is looked through.
+pub fn reached_by_text<'f>(alloc: Global, face: &'f Face) -> Result<Found<'f>, Memory>
+    requires whole { IsWhole face.now }
+    ensures found { IfOk result (λ found. AreFound face.entry.now (told found)) }
+{
+    let mut search = Search {
+        face,
+        found: Found::new(alloc),
+    };
+    search.find_named(alloc, &face.exports)?;
+    search.run_own(alloc)?;
+    Ok(search.into_found())
+}
+
+/// Whether all instances are found that the names of a table mean.
+pub fn names_found(alloc: Global, found: &Found<'_>, table: &NameTable) -> Result<bool, Memory>
+    ensures { IfOk result (λ are. IsTrue are → AreReached (told found.now) (exports_of table.now)) }
+{
+    // The proof needs that no name of the table is there twice.
+    let _len = table.len();
+    let meanings = instances_in(alloc, table)?;
+    Ok(are_found(found, meanings.as_slice()))
 }

@@ -8,15 +8,17 @@ use Rattle.tla_model.specs.declared.Diagnostic.{Diagnostic}
 use Rattle.tla_model.specs.declared.ids.DeclId.{DeclId}
 use Rattle.module_model.specs.declared.face.Face.{Face}
 use Rattle.module_model.specs.Exports.{Exports, ModuleView, face_instances, instantiable}
-use Rattle.module_model.specs.Given.{IsWhole}
-use Rattle.exact_faces.specs.Exact.{IsBehindOf, IsExact}
+use Rattle.module_model.specs.Given.{IsWhole, face_of}
+use Rattle.module_model.specs.Imports.{Imports}
+use Rattle.exact_faces.specs.Exact.{IsBehindOf, IsExact, IsExactOf}
+use Rattle.exact_faces.specs.Importing.{AreExactImports, AreNames}
 use Rattle.leveled_modules.specs.Leveled.{LevelTables}
 use Rattle.alike_modules.specs.Known.{IsKnownFile}
 use Rattle.family_facts.specs.Facts.{texts_of}
 use Rattle.family_facts.specs.Family.{Member}
 use Rattle.family_facts.proofs.Lists.{among-or-not}
-use Rattle.family_tables.specs.Agreement.{IsAgreed, IsAgreedFace, IsTaken, Own, Shared, accepted_face, found_face}
-use Rattle.family_tables.specs.Outcomes.{Matches}
+use Rattle.family_tables.specs.Agreement.{AreFrom, IsAgreed, IsAgreedFace, IsTaken, Own, Shared, accepted_face, found_face}
+use Rattle.family_tables.specs.Outcomes.{ImportsOnly, Matches}
 use Rattle.family_tables.specs.Tables.{entry_of}
 use Rattle.family_tables.specs.declared.order.Plan.{Plan}
 use Rattle.family_tables.specs.declared.outcome.Outcome.{Outcome}
@@ -25,7 +27,7 @@ use Rattle.family_tables.specs.declared.reading.Reading.{Reading}
 use Rattle.family_tables.proofs.Tabling.{entry-append}
 use Rattle.leveled_facts.specs.Families.{declares, leveled}
 use Rattle.family_levels.specs.declared.«module».Found.{Found}
-use Rattle.family_levels.specs.Exactness.{AreExact, IsExactOf, IsExactOutcome, IsExactly, IsExactlyAs}
+use Rattle.family_levels.specs.Exactness.{AreExact, IsExactOutcome, IsExactly, IsExactlyAs}
 use Rattle.family_levels.specs.Leveling.{HasNumber, IsNext, face_count}
 use Rattle.family_levels.specs.Versions as versions
 use Rattle.family_levels.specs.Versions.{AreNeedsTold, IsAcceptedOver, IsFoundOver, IsHeld, IsHeldFace, IsNeedAccepted, IsNeedLacking, Over, Shown, Told, leveled_over, shown_by}
@@ -86,10 +88,23 @@ module _ (outcomes : List (List ℕ × Outcome)) (exact : AreExact outcomes) whe
       by true same has = is face has
       by false apart has = exact other face has
 
--- the face of a module that goes with those before it is whole
-pub whole-found : (outcomes : List (List ℕ × Outcome)) (name : List ℕ) (o : outcome.the_data) → IsAgreed outcomes name o → (face : Face) → accepted_face (Some o) ≡ Some face → IsWhole face
-whole-found outcomes name (outcome.Refused faults) is face has = absurd (cc has)
-whole-found outcomes name (outcome.Accepted shared) is face has = subst IsWhole (face-some (arc_value shared) face has) is.whole
+-- a module with faults has no face
+pub refused-exact : (o : outcome.the_data) (faults : List Diagnostic) → o ≡ outcome.Refused faults → IsExactOutcome o
+refused-exact o faults is face has = let never : None ≡ Some face = sym (ap (λ z. accepted_face (Some z)) is) ∙ has in absurd (cc never)
+
+-- ---- imports
+
+-- imports have exact faces if all that was found has
+pub imports-exact : (outcomes : List (List ℕ × Outcome)) (imports : Imports) → AreExact outcomes → AreFrom outcomes imports → AreExactImports imports
+imports-exact outcomes imports exact from name face at = exact name face (from name face at)
+
+-- the imports that are accepted are among the needs if nothing else is imported
+pub imports-named : (needs : List (List ℕ)) (imports : Imports) → ImportsOnly needs imports → AreNames needs imports
+imports-named needs imports only name face at = by (among-or-not needs name)
+  where
+    by : Contains needs name ⊎ (Contains needs name → ⊥) → Contains needs name
+    by (inl c) = c
+    by (inr never) = let none : None ≡ Some face = sym (ap face_of (only name never)) ∙ at in absurd (cc none)
 
 -- ---- over what is needed
 

@@ -23,7 +23,7 @@ use Rattle.leveled_modules.specs.Leveled.{IsModuleLeveled, faces_by}
 use Rattle.family_facts.specs.Facts.{texts_of}
 use Rattle.family_facts.specs.Family.{AreMembersDistinct, Member}
 use Rattle.family_facts.proofs.Members.{member-there}
-use Rattle.family_tables.specs.Agreement.{AreFrom, IsAgreed}
+use Rattle.family_tables.specs.Agreement.{AreFrom, IsAgreed, accepted_face}
 use Rattle.family_tables.specs.Outcomes.{IsMember}
 use Rattle.family_tables.specs.Tables.{entry_of}
 use Rattle.family_tables.specs.declared.order.Plan.{Plan}
@@ -140,6 +140,34 @@ module _ (name : List ℕ) (tree : ModuleTree) (imports : Imports) (files : List
     -- its face goes with those before it
     pub judged-agrees : IsJudged name tree imports files old new found → IsAgreed outcomes name found.outcome
     judged-agrees judged = agrees-from judged.checked judged.checked.faults judged.face judged.so
+
+-- ---- the face of a module that was checked
+
+module _ (name : List ℕ) (tree : ModuleTree) (imports : Imports) (files : List ℕ → Option ℕ) (old new : LevelTables) (found : Found) where
+  abbrev IsOver : outcome.the_data → Type 0
+  IsOver o = (face : Face) → accepted_face (Some o) ≡ Some face → IsFaceOver imports name face
+
+  refused-over : (Are : List Diagnostic → Type 0) (o : outcome.the_data) → HasFaults Are o → IsOver o
+  refused-over Are (outcome.Refused all) has face is = absurd (cc is)
+  refused-over Are (outcome.Accepted shared) has face is = absurd has
+
+  accepted-over : (checked : Face) (o : outcome.the_data) → IsFaceOver imports name checked → HasFace checked o → IsOver o
+  accepted-over checked (outcome.Refused all) over has face is = absurd has
+  accepted-over checked (outcome.Accepted shared) over has face is = subst (IsFaceOver imports name) (sym has ∙ some-same (arc_value shared) face is) over
+    where
+      some-same : (a b : Face) → ◌≡◌ {A = Option Face} (Some a) (Some b) → a ≡ b
+      some-same a b e = cc
+
+  over-by : (levels : ModuleLevels) (checked : CheckedModule) (faults : List Diagnostic) → IsFaceOver imports name checked.face → IsFoundFrom checked levels faults found → IsOver found.outcome
+  over-by levels checked [] over accepts = accepted-over checked.face found.outcome over accepts.outcome
+  over-by levels checked (fault ∷ faults) over refused = refused-over _ found.outcome refused.outcome
+
+  over-from : (checked : CheckedModule) (faults : List Diagnostic) → IsFaceOver imports name checked.face → IsJudgedFrom tree imports files old new checked faults found → IsOver found.outcome
+  over-from checked [] over so = over-by so.0 checked so.0.faults over so.2
+  over-from checked (fault ∷ faults) over so = refused-over _ found.outcome so.0.outcome
+
+  pub judged-over : IsJudged name tree imports files old new found → IsOver found.outcome
+  judged-over judged = over-from judged.checked judged.checked.faults judged.face judged.so
 
 -- ---- front faults
 

@@ -5,7 +5,7 @@ use Rattle.tla_model.specs.declared.ids.DeclId.{DeclId}
 use Rattle.module_model.specs.declared.face.Face.{Face}
 use Rattle.module_model.specs.Exports.{Exports, face_instances, face_outside}
 use Rattle.module_model.specs.Given.{IsWhole}
-use Rattle.exact_faces.specs.Exact.{IsBehindOf, IsExact}
+use Rattle.exact_faces.specs.Exact.{IsExact, IsExactOf}
 use Rattle.family_tables.specs.Agreement.{accepted_face, found_face}
 use Rattle.family_tables.specs.declared.outcome.Outcome.{Outcome}
 use Rattle.family_tables.specs.declared.outcome.Outcome.TheVariants as outcome
@@ -19,15 +19,7 @@ IsExactOutcome outcome = (face : Face) → accepted_face (Some outcome) ≡ Some
 abbrev pub AreExact : List (List ℕ × Outcome) → Type 0
 AreExact outcomes = (name : List ℕ) (face : Face) → found_face outcomes name ≡ Some face → IsExact face
 
--- a face is that of the same module, it is the same to those that name the module, and it holds exactly what its exports reach
-pub record IsExactOf (face made : Face) : Type 0 where
-  pub exact : IsExact made
-  pub whole : IsWhole made
-  pub named : made.«module» ≡ face.«module»
-  pub outside : face_outside made ≡ face_outside face
-  pub from : (decl : DeclId) (entries : Exports) → face_instances made decl ≡ Some entries → IsBehindOf (face_instances face decl) entries
-
--- an outcome with such a face, or with the same faults
+-- an outcome with such a face of one, or with the same faults
 abbrev pub IsExactlyAs : outcome.the_data → outcome.the_data → Type 0
 IsExactlyAs (outcome.Refused faults) other = other ≡ outcome.Refused faults
 IsExactlyAs (outcome.Accepted face) (outcome.Refused faults) = ⊥

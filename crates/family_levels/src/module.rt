@@ -1,7 +1,8 @@
 // What is found of one module behind all that it needs.
-ghost use Rattle.std.specs.Prelude.{◌≡◌, ◌<◌, ◌∷◌, [], ℕ, List as ListOf, IfOk, IfSome, None};
+ghost use Rattle.std.specs.Prelude.{◌≡◌, ◌<◌, ◌∷◌, [], ℕ, List as ListOf, IfOk, IfSome, None, Some};
+ghost use Rattle.exact_faces.specs.Importing.{AreExactImports, AreNames};
 ghost use Rattle.family_facts.specs.Verdicts.{after_checks};
-ghost use Rattle.family_tables.specs.Agreement.{AreAgreed};
+ghost use Rattle.family_tables.specs.Agreement.{AreAgreed, accepted_face};
 ghost use Rattle.family_tables.specs.Modules.{IsTreeOf, needs_of, tree_count};
 ghost use Rattle.family_tables.specs.Outcomes.{IsSomeModule};
 ghost use Rattle.family_tables.specs.Tables.{entry_of};
@@ -11,7 +12,9 @@ ghost use Rattle.family_levels.specs.Leveling.{AreNumbers, face_count};
 ghost use Rattle.family_levels.specs.Judging.{IsFoundBy, IsJudged};
 ghost use Rattle.family_tables.specs.declared.outcome.Outcome.TheVariants as outcome;
 ghost use Rattle.indexmap.specs.IndexMap.{get_by_text};
-ghost use Rattle.module_model.specs.Given.{AreFaces};
+ghost use Rattle.module_model.specs.Given.{AreFaces, IsFaceOver};
+ghost use Rattle.module_model.specs.declared.face.Face.{Face as FaceOf};
+ghost use Rattle.family_levels.specs.Exactness.{AreExact, IsExactOutcome, IsExactly};
 ghost use Rattle.family_levels.specs.Versions.{IsCopy};
 ghost use Rattle.family_levels.specs.Again.{IsFoundNext};
 
@@ -19,6 +22,7 @@ use crate::laws::laws_below;
 use crate::names::{Names, SharedNames};
 use crate::numbers::numbers_of;
 use check_core::{Checked, check_module};
+use exact_faces::exact;
 use family_tables::{Module, Outcome, Plan, Reading, Table, imports_of};
 use indexmap::IndexMap;
 use leveled_facts::leveled_is;
@@ -124,6 +128,41 @@ fn judge<L>(
     Ok((known, found))
 }
 
+// What was found, with a face that holds exactly what its exports reach.
+fn exactly(
+    alloc: Global,
+    imports: &Imported,
+    names: &[Chars],
+    title: &str,
+    found: Found,
+) -> Result<Found, Memory>
+    requires over { (face : FaceOf) → accepted_face (Some found.outcome) ≡ Some face
+        → IsFaceOver imports.now title.now face }
+    requires faces { AreFaces imports.now title.now }
+    requires exact { AreExactImports imports.now }
+    requires names { AreNames names.now imports.now }
+    ensures { IfOk result (IsExactly found) }
+{
+    let Found {
+        outcome,
+        number,
+        names: shown,
+    } = found;
+    let Outcome::Accepted(face) = &outcome else {
+        return Ok(Found {
+            outcome,
+            number,
+            names: shown,
+        });
+    };
+    let face = exact(alloc, imports, names, face)?;
+    Ok(Found {
+        outcome: Outcome::Accepted(face),
+        number,
+        names: shown,
+    })
+}
+
 // What is found of a module without front fault behind what it needs.
 fn level_tree<L>(
     alloc: Global,
@@ -139,19 +178,22 @@ fn level_tree<L>(
     requires tree { (bytes : ListOf ℕ) × IsTreeOf name.now bytes tree.now }
     requires needs { needs.now ≡ needs_of tree.now }
     requires agreed { AreAgreed outcomes.now }
+    requires exact { AreExact outcomes.now }
     requires unfound { entry_of outcomes.now name.now ≡ None }
     requires kept { AreKept known }
     requires numbers { AreNumbers known numbers.now }
     ensures kept { IfOk result (λ made. AreKept made.0) }
     ensures next { IfOk result (λ made. IsFoundNext plan.now outcomes.now numbers.now name.now
         (reading.Tree tree.now) needs.now known made.0 made.1) }
+    ensures exact { IfOk result (λ made. IsExactOutcome made.1.outcome) }
     ensures steps { IfOk result (λ _. steps.new ≡ after_checks 1 steps.old) }
 {
     laws_below();
     let imports = imports_of(alloc, plan, outcomes, name, needs)?;
     let files = numbers_of(alloc, &imports, numbers, needs)?;
-    let made = judge(alloc, name, tree, &imports, &files, known, steps)?;
-    Ok(made)
+    let (known, judged) = judge(alloc, name, tree, &imports, &files, known, steps)?;
+    let found = exactly(alloc, &imports, needs, name, judged)?;
+    Ok((known, found))
 }
 
 fn lone_fault(alloc: Global, fault: Diagnostic) -> Result<List<Diagnostic>, Memory>
@@ -162,8 +204,9 @@ fn lone_fault(alloc: Global, fault: Diagnostic) -> Result<List<Diagnostic>, Memo
     Ok(faults)
 }
 
-/// What is found of a module behind what it needs. It becomes nodes of the flat module of those
-/// before it, if its names and arities have no fault. It is checked once, which is one step, if it
+/// What is found of a module behind what it needs: with a face that holds exactly what its exports
+/// reach, if it is accepted. It becomes nodes of the flat module of those before it, if its names and
+/// arities have no fault. It is checked once, which is one step, if it
 /// has no front fault.
 pub(crate) fn level_one<L>(
     alloc: Global,
@@ -177,12 +220,14 @@ pub(crate) fn level_one<L>(
 ) -> Result<(LevelTables, Found), Memory>
     requires some { IsSomeModule name.now module.now }
     requires agreed { AreAgreed outcomes.now }
+    requires exact { AreExact outcomes.now }
     requires unfound { entry_of outcomes.now name.now ≡ None }
     requires kept { AreKept known }
     requires numbers { AreNumbers known numbers.now }
     ensures kept { IfOk result (λ made. AreKept made.0) }
     ensures next { IfOk result (λ made. IsFoundNext plan.now outcomes.now numbers.now name.now
         module.now.reading module.now.needs known made.0 made.1) }
+    ensures exact { IfOk result (λ made. IsExactOutcome made.1.outcome) }
     ensures steps { IfOk result (λ _. steps.new
         ≡ after_checks (tree_count module.now.reading) steps.old) }
 {

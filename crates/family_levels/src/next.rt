@@ -2,15 +2,13 @@
 ghost use Rattle.std.specs.Prelude.{◌≡◌, ◌≤◌, [], false, IfOk, IfSome, IsTrue, Some};
 ghost use Rattle.std.specs.Bool.{OnTrue};
 ghost use Rattle.family_facts.specs.Verdicts.{after_checks};
-ghost use Rattle.module_model.specs.Given.{IsWhole};
-ghost use Rattle.module_model.specs.declared.face.Face.{Face as FaceOf};
-ghost use Rattle.family_tables.specs.Agreement.{AreAgreed, accepted_face};
+ghost use Rattle.family_tables.specs.Agreement.{AreAgreed};
 ghost use Rattle.family_tables.specs.Modules.{tree_count};
 ghost use Rattle.family_tables.specs.Outcomes.{IsSomeModule};
 ghost use Rattle.family_tables.specs.Tables.{entry_of};
 ghost use Rattle.leveled_modules.specs.Leveled.{AreKept};
 ghost use Rattle.tree_numbers.specs.Numbered.{IsNumbered};
-ghost use Rattle.family_levels.specs.Exactness.{AreExact, IsExactly};
+ghost use Rattle.family_levels.specs.Exactness.{AreExact};
 ghost use Rattle.family_levels.specs.Leveling.{AreNumbers};
 ghost use Rattle.family_levels.specs.Again.{AreNeeds, IsFoundAgain, IsFoundAs, IsInPlace, IsLike};
 ghost use Rattle.family_levels.specs.Again.{IsMadeNext, IsSameTo, IsVersionAnew, IsVersionOf};
@@ -20,7 +18,7 @@ ghost use Rattle.family_levels.specs.Again.{version_by};
 use crate::laws::laws_below;
 use crate::module::{Found, level_one};
 use crate::versions::{Need, Version, is_text_of};
-use exact_faces::{exact, exact_faces_are_told};
+use exact_faces::exact_faces_are_told;
 use face_views::{are_same, same_faces_look_alike};
 use family_tables::{Module, Outcome, Plan, Reading, Table};
 use growing_modules::made_modules_stay;
@@ -28,7 +26,6 @@ use indexmap::IndexSet;
 use leveled_modules::LevelTables;
 use resolved_trees::trees_are_kept;
 use std::alloc::Global;
-use std::sync::Arc;
 use step_count::Steps;
 use tla_tree::ModuleTree;
 use tool_list::{Chars, List, Memory};
@@ -255,32 +252,6 @@ fn in_place(
     Ok((found, version))
 }
 
-// What was found, with a face that holds exactly what its exports reach.
-fn exactly(alloc: Global, found: Found) -> Result<Found, Memory>
-    requires whole { (face : FaceOf) → accepted_face (Some found.outcome) ≡ Some face
-        → IsWhole face }
-    ensures { IfOk result (IsExactly found) }
-{
-    let Found {
-        outcome,
-        number,
-        names,
-    } = found;
-    let Outcome::Accepted(face) = &outcome else {
-        return Ok(Found {
-            outcome,
-            number,
-            names,
-        });
-    };
-    let face = exact(alloc, face)?;
-    Ok(Found {
-        outcome: Outcome::Accepted(Arc::new(alloc, face)?),
-        number,
-        names,
-    })
-}
-
 // What a check finds of a module whose needs are these, with its version.
 fn level_anew<L>(
     alloc: Global,
@@ -318,8 +289,7 @@ fn level_anew<L>(
     made_modules_stay();
     same_faces_look_alike();
     numbers_stay();
-    let (known, checked) = level_one(alloc, plan, outcomes, numbers, name, module, known, steps)?;
-    let found = exactly(alloc, checked)?;
+    let (known, found) = level_one(alloc, plan, outcomes, numbers, name, module, known, steps)?;
     let Some(anew) = new_version(alloc, module, needs, next, &found)? else {
         return Ok((known, found, None));
     };
