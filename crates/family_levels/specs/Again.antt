@@ -1,6 +1,6 @@
 -- When a version of a module is the one that is asked for, and what is said of the next one.
-use Rattle.std.specs.Prelude.{◌≡◌, ◌<◌, ◌+◌, ◌↔◌, ℕ, Bool, true, false, List, Option, Some, None, IfSome, IsSome, IsTrue, is_some, nat_eq, if◌then◌else◌}
-use Rattle.std.specs.List.{AllZip}
+use Rattle.std.specs.Prelude.{◌≡◌, ◌<◌, ◌+◌, ◌↔◌, ℕ, Bool, true, false, List, Contains, Option, Some, None, IfSome, IsSome, IsTrue, is_some, nat_eq, if◌then◌else◌}
+use Rattle.std.specs.List.{AllZip, list_any}
 use Rattle.tla_tree.specs.declared.unit.ModuleTree.{ModuleTree}
 use Rattle.index_graph.specs.Leading.{LeadsBack}
 use Rattle.family_facts.specs.Family.{Member}
@@ -76,6 +76,19 @@ pub record IsFoundAgain (old : List (List ℕ × Version)) (name : List ℕ) («
   pub there : entry_of old name ≡ Some version
   pub is : IsVersionOf version tree needed
 
+-- these modules need all that is needed
+abbrev pub NeedAll : List Entry → List ℕ → List (List ℕ) → Type 0
+NeedAll modules name needs = (need : List ℕ) → Contains needs need → plans.Needs modules name need
+
+-- the version of a module is current: it is that of its text, and what it was found over is what its needs are
+pub record IsCurrent (plan : Plan) (old versions : List (List ℕ × Version)) (outcomes : List (List ℕ × Outcome)) (name : List ℕ) («module» : Module) : Type 0 where
+  pub tree : ModuleTree
+  pub reads : «module».reading ≡ reading.Tree tree
+  pub version : Version
+  pub there : entry_of old name ≡ Some version
+  pub same : version.tree.source ≡ tree.source
+  pub needed : AreNeeds plan outcomes versions name «module».needs version.needs
+
 -- a version of a module has just been found
 pub record IsVersionAnew («module» : Module) (needs : Option (List Need)) (id : ℕ) (found : Found) (version : Version) : Type 0 where
   pub reads : «module».reading ≡ reading.Tree version.tree
@@ -130,6 +143,30 @@ pub record IsVersionAs (before anew : Version) (taken : Found) (version : Versio
   pub needs : version.needs ≡ anew.needs
   pub id : version.id ≡ before.id
   pub copy : IsCopy taken version.found
+
+-- whether a number is among these
+abbrev pub has_id : List ℕ → ℕ → Bool
+has_id ids id = list_any (nat_eq id) ids
+
+-- all numbers of some are among these
+abbrev pub HasMoreIds : List ℕ → List ℕ → Type 0
+HasMoreIds new old = (id : ℕ) → has_id old id ≡ true → has_id new id ≡ true
+
+-- the numbers of all versions among needs are among these
+abbrev pub HasIdsOf : List Need → List ℕ → Type 0
+HasIdsOf needs ids = (id : ℕ) → Contains needs (need_as.Version id) → has_id ids id ≡ true
+
+-- the numbers of all versions are among these that one of some is over
+abbrev pub AreIdsNeeded : List (List ℕ × Version) → List ℕ → Type 0
+AreIdsNeeded versions ids = (name : List ℕ) (version : Version) → entry_of versions name ≡ Some version → HasIdsOf version.needs ids
+
+-- the number of the version before stays: one is over it, and it was to others what the module is of which this was found
+pub record Stays (old : List (List ℕ × Version)) (needed : List ℕ) (name : List ℕ) (known : LevelTables) (found : Found) (id : ℕ) : Type 0 where
+  pub before : Version
+  pub there : entry_of old name ≡ Some before
+  pub itself : before.id ≡ id
+  pub over : has_id needed id ≡ true
+  pub same : IsSameTo known before found
 
 -- what was found of a module, with its version: as they are, or in the place of the version before
 pub data IsInPlace (old : List (List ℕ × Version)) (name : List ℕ) (known : LevelTables) (found : Found) (anew : Version) (taken : Found) (version : Version) : Type 0 where

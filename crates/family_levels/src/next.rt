@@ -1,10 +1,12 @@
 // The next module, by its version or by a check.
-ghost use Rattle.std.specs.Prelude.{◌≡◌, ◌≤◌, [], false, IfOk, IfSome, IsTrue, Some};
+ghost use Rattle.std.specs.Prelude.{◌≡◌, ◌≤◌, ℕ, [], false, IfOk, IfSome, IsTrue, List as ListOf};
+ghost use Rattle.std.specs.Prelude.{OnOk, Some, is_some, true};
 ghost use Rattle.std.specs.Bool.{OnTrue};
 ghost use Rattle.family_facts.specs.Verdicts.{after_checks};
 ghost use Rattle.family_tables.specs.Agreement.{AreAgreed};
-ghost use Rattle.family_tables.specs.Modules.{tree_count};
+ghost use Rattle.family_tables.specs.Modules.{Entry, tree_count};
 ghost use Rattle.family_tables.specs.Outcomes.{IsSomeModule};
+ghost use Rattle.family_tables.specs.Plans.{IsPlan};
 ghost use Rattle.family_tables.specs.Tables.{entry_of};
 ghost use Rattle.leveled_modules.specs.Leveled.{AreKept};
 ghost use Rattle.tree_numbers.specs.Numbered.{IsNumbered};
@@ -12,8 +14,9 @@ ghost use Rattle.family_levels.specs.Exactness.{AreExact};
 ghost use Rattle.family_levels.specs.Leveling.{AreNumbers};
 ghost use Rattle.family_levels.specs.Again.{AreNeeds, IsFoundAgain, IsFoundAs, IsInPlace, IsLike};
 ghost use Rattle.family_levels.specs.Again.{IsMadeNext, IsSameTo, IsVersionAnew, IsVersionOf};
-ghost use Rattle.family_levels.specs.Again.{need_by};
-ghost use Rattle.family_levels.specs.Again.{version_by};
+ghost use Rattle.family_levels.specs.Again.{IsCurrent, NeedAll, Stays, need_by, version_by};
+ghost use Rattle.family_levels.specs.declared.versions.Need.{Need as NeedOf};
+ghost use Rattle.family_levels.specs.declared.versions.Version.{Version as VersionOf};
 
 use crate::laws::laws_below;
 use crate::module::{Found, level_one};
@@ -67,8 +70,12 @@ fn needs_found(
     name: &str,
     needs: &[Chars],
 ) -> Result<Option<List<Need>>, Memory>
-    ensures { IfOk result (λ found. IfSome found (AreNeeds plan.now outcomes.now versions.now
+    ensures are { IfOk result (λ found. IfSome found (AreNeeds plan.now outcomes.now versions.now
         name.now needs.now)) }
+    ensures all { (modules : ListOf Entry) → IsPlan modules plan.now
+        → NeedAll modules name.now needs.now → (needed : ListOf NeedOf)
+        → AreNeeds plan.now outcomes.now versions.now name.now needs.now needed
+        → IfOk result (λ found. found ≡ Some needed) }
 {
     let mut found = List::new(alloc);
     for need in needs {
@@ -88,7 +95,8 @@ fn needs_found(
 
 // Whether a version is that of a tree whose needs are these.
 fn is_version_of(version: &Version, tree: &ModuleTree, needs: &[Need]) -> bool
-    ensures { OnTrue result (IsVersionOf version.now tree.now needs.now) }
+    ensures is { OnTrue result (IsVersionOf version.now tree.now needs.now) }
+    ensures found { IsVersionOf version.now tree.now needs.now → result ≡ true }
 {
     version.needs.as_slice() == needs && is_text_of(version, tree)
 }
@@ -100,8 +108,10 @@ fn known_version<'a>(
     tree: &ModuleTree,
     needs: &[Need],
 ) -> Option<&'a Version>
-    ensures { IfSome result (λ version. (entry_of old.now name.now ≡ Some version.now)
+    ensures is { IfSome result (λ version. (entry_of old.now name.now ≡ Some version.now)
         × IsVersionOf version.now tree.now needs.now) }
+    ensures found { (version : VersionOf) → entry_of old.now name.now ≡ Some version
+        → IsVersionOf version tree.now needs.now → is_some result ≡ true }
 {
     let Some(version) = old.get(name) else {
         return None;
@@ -120,13 +130,18 @@ fn found_version<'a>(
     module: &Module,
     needs: &Option<List<Need>>,
 ) -> Option<&'a Version>
-    ensures { IfSome result (λ version. IsFoundAgain old.now name.now module.now needs.now
+    ensures is { IfSome result (λ version. IsFoundAgain old.now name.now module.now needs.now
         version.now) }
+    ensures found { (version : VersionOf)
+        → IsFoundAgain old.now name.now module.now needs.now version → is_some result ≡ true }
 {
-    let (Reading::Tree(tree), Some(needs)) = (&module.reading, needs) else {
-        return None;
-    };
-    known_version(old, name, tree.tree(), needs.as_slice())
+    match &module.reading {
+        Reading::Tree(tree) => match needs {
+            Some(needs) => known_version(old, name, tree.tree(), needs.as_slice()),
+            None => None,
+        },
+        Reading::Fault(_) => None,
+    }
 }
 
 // The version of a module of which this was found, if it has a tree and it is known what its needs
@@ -200,6 +215,8 @@ fn version_like<'a>(
     ensures numbered { IsNumbered known.now.tables.state.flat trees.new }
     ensures like { IfOk result (λ version. IfSome version (λ v.
         (entry_of old.now name.now ≡ Some v.now) × IsLike known.now v.now found.now)) }
+    ensures stays { (id : ℕ) → Stays old.now needed.now.keys name.now known.now found.now id
+        → IfOk result (λ version. is_some version ≡ true) }
 {
     let Some(version) = old.get(name) else {
         return Ok(None);
@@ -243,6 +260,8 @@ fn in_place(
     ensures numbered { IsNumbered known.now.tables.state.flat trees.new }
     ensures placed { IfOk result (λ made. IsInPlace old.now name.now known.now found anew made.0
         made.1) }
+    ensures stays { (id : ℕ) → Stays old.now needed.now.keys name.now known.now found id
+        → IfOk result (λ made. made.1.id ≡ id) }
 {
     let Some(before) = version_like(alloc, old, needed, name, known, trees, &found)? else {
         return Ok((found, anew));
@@ -331,6 +350,10 @@ pub(crate) fn level_next<L>(
         ≤ after_checks (tree_count module.now.reading) steps.old) }
     ensures all { old.now ≡ [] → IfOk result (λ _. steps.new
         ≡ after_checks (tree_count module.now.reading) steps.old) }
+    ensures again { (modules : ListOf Entry) → IsPlan modules plan.now
+        → NeedAll modules name.now module.now.needs
+        → IsCurrent plan.now old.now versions.now outcomes.now name.now module.now
+        → OnOk result (steps.new ≡ steps.old) }
 {
     // The proof needs that a count is below 2^64.
     let _count = steps.count();

@@ -1,10 +1,12 @@
 // What was found of modules once, and over what.
-ghost use Rattle.std.specs.Prelude.{◌≡◌, [], IfOk, IfSome, Some};
+ghost use Rattle.std.specs.Prelude.{◌≡◌, ℕ, [], IfOk, IfSome, OnOk, Some, true};
 ghost use Rattle.std.specs.Bool.{OnTrue};
 ghost use Rattle.family_tables.specs.Tables.{entry_of};
 ghost use Rattle.leveled_modules.specs.Leveled.{AreKept};
 ghost use Rattle.tree_numbers.specs.Numbered.{IsNumbered};
-ghost use Rattle.family_levels.specs.Again.{IsSameVersion, IsVersionAs};
+ghost use Rattle.family_levels.specs.Again.{AreIdsNeeded, HasIdsOf, HasMoreIds, IsSameVersion};
+ghost use Rattle.family_levels.specs.Again.{IsVersionAs, has_id};
+ghost use Rattle.family_levels.specs.declared.versions.Need.TheVariants as need_as;
 ghost use Rattle.family_levels.specs.Holding.{HoldVersions};
 ghost use Rattle.family_levels.specs.Versions.{AreHeldWith};
 
@@ -119,7 +121,8 @@ const SPARE: u64 = 1 << 16;
 
 /// Whether the text of a version is that of a tree.
 pub(crate) fn is_text_of(version: &Version, tree: &ModuleTree) -> bool
-    ensures { OnTrue result (version.now.tree.source ≡ tree.now.source) }
+    ensures is { OnTrue result (version.now.tree.source ≡ tree.now.source) }
+    ensures found { version.now.tree.source ≡ tree.now.source → result ≡ true }
 {
     version.tree.tree().source.as_str().as_bytes() == tree.source.as_str().as_bytes()
 }
@@ -163,21 +166,39 @@ fn version_there<'a>(
     old.get(name)
 }
 
+// Puts the number of a version that is needed.
+fn put_id(ids: &mut IndexSet<u64>, need: &Need) -> Result<(), Memory>
+    ensures kept { OnOk result (HasMoreIds ids.new.keys ids.old.keys) }
+    ensures put { OnOk result ((id : ℕ) → need.now ≡ need_as.Version id
+        → has_id ids.new.keys id ≡ true) }
+{
+    if let Need::Version(id) = need {
+        ids.insert(*id)?;
+    }
+    Ok(())
+}
+
+// Puts the numbers of all versions that are needed.
+fn put_ids(ids: &mut IndexSet<u64>, needs: &[Need]) -> Result<(), Memory>
+    ensures kept { OnOk result (HasMoreIds ids.new.keys ids.old.keys) }
+    ensures put { OnOk result (HasIdsOf needs.now ids.new.keys) }
+{
+    for index in 0..needs.len() {
+        put_id(ids, &needs[index])?;
+    }
+    Ok(())
+}
+
 /// The numbers of those versions that others are over.
-pub(crate) fn ids_needed(
-    alloc: Global,
-    versions: &Table<Version>,
-) -> Result<IndexSet<u64>, Memory> {
-    let mut needed = IndexSet::new(alloc);
+pub(crate) fn ids_needed(alloc: Global, versions: &Table<Version>) -> Result<IndexSet<u64>, Memory>
+    ensures { IfOk result (λ ids. AreIdsNeeded versions.now ids.keys) }
+{
+    let mut ids = IndexSet::new(alloc);
     for index in 0..versions.len() {
         let (_, version) = versions.at(index);
-        for need in version.needs.as_slice() {
-            if let Need::Version(id) = need {
-                needed.insert(*id)?;
-            }
-        }
+        put_ids(&mut ids, version.needs.as_slice())?;
     }
-    Ok(needed)
+    Ok(ids)
 }
 
 impl Versions {
