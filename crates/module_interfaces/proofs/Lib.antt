@@ -2,3 +2,4 @@ mod Holding
 mod Written
 mod Projecting
 mod Changing
+mod Found

@@ -33,11 +33,11 @@ module _ (texts : Texts) where
       by true = refl
       by false = refl
 
-  given-part : (f : List ℕ → State Fact) (name : List ℕ) (needs : List (List ℕ)) → leveled_states (values.all_given own_of needs_of fact_of texts f name needs) ≡ values.all_given own_of needs_of leveled.fact_of texts (λ n. leveled_state (f n)) name needs
+  pub given-part : (f : List ℕ → State Fact) (name : List ℕ) (needs : List (List ℕ)) → leveled_states (values.all_given own_of needs_of fact_of texts f name needs) ≡ values.all_given own_of needs_of leveled.fact_of texts (λ n. leveled_state (f n)) name needs
   given-part f name [] = refl
   given-part f name (need ∷ needs) = λ i. (need, gives-part f name need i) ∷ given-part f name needs i
 
-  front-part : (own : Own) (given : List (List ℕ × State Fact)) → (fact_of [] own given).leveled ≡ leveled.fact_of [] own (leveled_states given)
+  pub front-part : (own : Own) (given : List (List ℕ × State Fact)) → (fact_of [] own given).leveled ≡ leveled.fact_of [] own (leveled_states given)
   front-part own given = by own.front
     where
       by : (front : Front) → (fact_front own.bytes front (leveled.status_by_states (leveled_states given)) (faces_by_states given)).leveled ≡ leveled.leveled_front own.bytes front (leveled.status_by_states (leveled_states given))

@@ -17,7 +17,7 @@ use Rattle.fact_values.specs.States.{State, no_text, cyclic, broken, fact}
 use Rattle.fact_values.specs.Values as values
 use Rattle.family_facts.specs.Facts.{Own, needs_of, own_of}
 use Rattle.leveled_facts.specs.Families.{status_by_states}
-use Rattle.leveled_facts.specs.Modules.{Leveled, Status, front_refused, leveled_by, outsides}
+use Rattle.leveled_facts.specs.Modules.{Accepted as AcceptedStatus, Leveled, Status, front_refused, leveled_by, outsides}
 
 -- where the names of a module lead outside of it, by what the modules are that it names
 abbrev pub written_face : (List ℕ → Face) → (List ℕ → Outside) → List ℕ → ModuleUnits → Face
@@ -44,9 +44,14 @@ abbrev pub leveled_states : List (List ℕ × State Fact) → List (List ℕ × 
 leveled_states [] = []
 leveled_states (need ∷ needs) = (need.0, leveled_state need.1) ∷ leveled_states needs
 
--- where the names of a need lead, if there is a fact of it
+-- where the names of a module lead for those that need it: nowhere, if it has faults
+abbrev pub face_by_faults : List Diagnostic → Face → Face
+face_by_faults [] face = face
+face_by_faults (fault ∷ faults) face = no_face
+
+-- the same by its state
 abbrev pub face_by_state : State Fact → Face
-face_by_state (fact found) = found.face
+face_by_state (fact found) = face_by_faults found.leveled.faults found.face
 face_by_state state = no_face
 
 -- where those of the needs of a module lead, under their names
@@ -66,6 +71,11 @@ fact_of name own given = fact_front own.bytes own.front (status_by_states (level
 -- the state of each name
 abbrev pub state_of : Texts → List ℕ → State Fact
 state_of texts = values.value own_of needs_of fact_of texts
+
+-- where the names of a need lead, by what it is: nowhere, if it is not accepted
+abbrev pub face_by_status : Status → Face → Face
+face_by_status (AcceptedStatus outside) face = face
+face_by_status status face = no_face
 
 -- ---- import states
 
