@@ -1,6 +1,6 @@
 -- Faces of which all is kept that their exports reach, and nothing else.
 use Rattle.std.proofs.Common.{◌≡◌, ◌⊎◌, ⊎_elim, Bool, true, false, cond, filter, List, [], ◌∷◌, Option, Some, None, is_some, refl, ap, inl, inr, sym, subst, ◌∙◌}
-use Rattle.std.specs.Prelude.{option_map, slice_get, unwrap_or}
+use Rattle.std.specs.Prelude.{option_map, unwrap_or}
 use Rattle.std.specs.Arc.{arc_value}
 use mathlib.Core.Path.{fun_ext}
 use Rattle.list_laws.proofs.Options.{some-there}
@@ -59,17 +59,34 @@ named-kept entries decl named = record {
   is = named.is;
 }
 
+-- no name stands twice among entries, or all of them are kept
+abbrev pub IsSafe : Exports → Type 0
+IsSafe entries = AreOnce entries ⊎ (instantiable entries ≡ entries)
+
+-- then what is found among those that are kept is found among all
+safe-found : (entries : Exports) (name : Named) (meaning : Meaning) → IsSafe entries → entry_of (instantiable entries) name ≡ Some meaning → entry_of entries name ≡ Some meaning
+safe-found entries name meaning safe found = ⊎_elim
+    (λ (once : AreOnce entries). kept-found entries name meaning once found)
+    (λ (plain : instantiable entries ≡ entries). ap (λ (z : Exports). entry_of z name) (sym plain) ∙ found)
+    safe
+
 -- among those that are kept a name means what it means among all, or nothing
-kept-or-none : (entries : Exports) (name : Named) → AreOnce entries → (entry_of (instantiable entries) name ≡ None) ⊎ (entry_of (instantiable entries) name ≡ entry_of entries name)
-kept-or-none entries name once = by (entry_of (instantiable entries) name) refl
+kept-or-none : (entries : Exports) (name : Named) → IsSafe entries → (entry_of (instantiable entries) name ≡ None) ⊎ (entry_of (instantiable entries) name ≡ entry_of entries name)
+kept-or-none entries name safe = by (entry_of (instantiable entries) name) refl
   where
     by : (found : Option Meaning) → entry_of (instantiable entries) name ≡ found → (entry_of (instantiable entries) name ≡ None) ⊎ (entry_of (instantiable entries) name ≡ entry_of entries name)
     by None is = inl is
-    by (Some meaning) is = inr (is ∙ sym (kept-found entries name meaning once is))
+    by (Some meaning) is = inr (is ∙ sym (safe-found entries name meaning safe is))
 
 -- ---- instances of which that is kept
 
-module _ (face : Face) (found new : Instances) (known : AreFound face found) (all : AreAllFound face found)
+-- instances of a face which its exports reach; of what their modules export names can be kept
+pub record AreSafe (face : Face) (found : Instances) : Type 0 where
+  pub stands : (decl : DeclId) (entries : Exports) → found decl ≡ Some entries → face_instances face decl ≡ Some entries
+  pub reached : (decl : DeclId) (entries : Exports) → found decl ≡ Some entries → IsReached found (face_exports face) decl
+  pub safe : (decl : DeclId) (entries : Exports) → found decl ≡ Some entries → IsSafe entries
+
+module _ (face : Face) (found new : Instances) (known : AreSafe face found) (all : AreAllFound face found)
     (keeps : (decl : DeclId) (was : Exports) → found decl ≡ Some was → new decl ≡ Some (instantiable was))
     (comes : (decl : DeclId) (entries : Exports) → new decl ≡ Some entries → IsBehindOf (found decl) entries) where
   still : (decl : DeclId) → is_some (found decl) ≡ true → is_some (new decl) ≡ true
@@ -92,25 +109,22 @@ module _ (face : Face) (found new : Instances) (known : AreFound face found) (al
   made-behind decl entries is name entity callee named leads =
       let from = comes decl entries is in
       still callee.decl (all.behind decl from.exported from.stands name entity callee
-      (kept-found from.exported name (Declared entity callee) (known.once decl from.exported from.stands) (ap (λ (z : Exports). entry_of z name) (sym from.is) ∙ named)) leads)
+      (safe-found from.exported name (Declared entity callee) (known.safe decl from.exported from.stands) (ap (λ (z : Exports). entry_of z name) (sym from.is) ∙ named)) leads)
 
   pub made-from : (decl : DeclId) (entries : Exports) → new decl ≡ Some entries → IsBehindOf (face_instances face decl) entries
   made-from decl entries is =
       let from = comes decl entries is in
       record { exported = from.exported; stands = known.stands decl from.exported from.stands; is = from.is }
 
-  -- these are kept of others, no name of which stands twice, and whose instances are found
+  -- these are kept of others, whose instances are found
   record AreKeptOf (entries was : Exports) : Type 0 where
     is : entries ≡ instantiable was
-    once : AreOnce was
+    safe : IsSafe was
     inside : AreReached found was
 
   no-entries : AreKeptOf [] []
-  no-entries = record { is = refl; once = λ index entry at. none index entry at; inside = λ name entity callee is leads. nothing name entity callee is }
+  no-entries = record { is = refl; safe = inr refl; inside = λ name entity callee is leads. nothing name entity callee is }
     where
-      none : (index : Rattle.std.proofs.Common.ℕ) (entry : Named × Meaning) → slice_get [] index ≡ Some entry → entry_of [] entry.0 ≡ Some entry.1
-      none index entry at = cc
-
       nothing : (name : Named) (entity : Entity) (callee : Callee) → entry_of [] name ≡ Some (Declared entity callee) → is_some (found callee.decl) ≡ true
       nothing name entity callee is = cc
 
@@ -128,7 +142,7 @@ module _ (face : Face) (found new : Instances) (known : AreFound face found) (al
           let was : unwrap_or (face_instances face callee.decl) [] ≡ one.0 = ap (λ (z : Option Exports). unwrap_or z []) (known.stands callee.decl one.0 one.1) in
           record {
             is = mine ∙ ap (λ (z : Exports). instantiable z) (sym was);
-            once = subst AreOnce (sym was) (known.once callee.decl one.0 one.1);
+            safe = subst IsSafe (sym was) (known.safe callee.decl one.0 one.1);
             inside = subst (AreReached found) (sym was) (all.behind callee.decl one.0 one.1);
           }
 
@@ -148,8 +162,8 @@ module _ (face : Face) (found new : Instances) (known : AreFound face found) (al
           let wrong : None ≡ Some (Declared entity callee) = sym none ∙ there in cc
       by false other = refl
 
-  next-kept : (was : Exports) (name : Named) → AreOnce was → AreReached found was → AreKeptOf (found_behind new (entry_of (instantiable was) name)) (found_behind (face_instances face) (entry_of was name))
-  next-kept was name once inside = ⊎_elim
+  next-kept : (was : Exports) (name : Named) → IsSafe was → AreReached found was → AreKeptOf (found_behind new (entry_of (instantiable was) name)) (found_behind (face_instances face) (entry_of was name))
+  next-kept was name safe inside = ⊎_elim
       (λ (none : entry_of (instantiable was) name ≡ None).
       let mine : found_behind new (entry_of (instantiable was) name) ≡ [] = ap (found_behind new) none in
       let others : found_behind (face_instances face) (entry_of was name) ≡ [] = none-behind was name none (entry_of was name) refl in
@@ -157,13 +171,13 @@ module _ (face : Face) (found new : Instances) (known : AreFound face found) (al
       (λ (same : entry_of (instantiable was) name ≡ entry_of was name).
       subst (λ z. AreKeptOf (found_behind new z) (found_behind (face_instances face) (entry_of was name))) (sym same)
       (meaning-kept (entry_of was name) (λ entity callee is leads. inside name entity callee is leads)))
-      (kept-or-none was name once)
+      (kept-or-none was name safe)
 
   behind-kept : (path : Path) (entries was : Exports) → AreKeptOf entries was → behind_along new entries path ≡ behind_along (face_instances face) was path
   behind-kept [] entries was of = ap (λ (z : Exports). instantiable z) of.is ∙ kept-twice was
   behind-kept (name ∷ path) entries was of =
       ap (λ (z : Exports). behind_along new (found_behind new (entry_of z name)) path) of.is
-      ∙ behind-kept path (found_behind new (entry_of (instantiable was) name)) (found_behind (face_instances face) (entry_of was name)) (next-kept was name of.once of.inside)
+      ∙ behind-kept path (found_behind new (entry_of (instantiable was) name)) (found_behind (face_instances face) (entry_of was name)) (next-kept was name of.safe of.inside)
 
   -- at each path stands what stood there
   pub made-along : (path : Path) → entries_along new (face_exports face) path ≡ entries_along (face_instances face) (face_exports face) path
@@ -172,51 +186,67 @@ module _ (face : Face) (found new : Instances) (known : AreFound face found) (al
       let meaning = entry_of (face_exports face) name in
       behind-kept path (found_behind new meaning) (found_behind (face_instances face) meaning) (meaning-kept meaning (λ entity callee is leads. all.exports name entity callee is leads))
 
--- ---- what is kept of what is found
+-- ---- a face of these
 
-pub stand-in : (face : Face) (found : Tables) → AreFound face (told found) → StandIn found face.parts
-stand-in face found known decl table is = standing-told (reached face.parts decl) (Some table) (known.stands decl (exports_of table) (ap standing is))
-
-module _ (face made : Face) (found : Tables) (known : AreFound face (told found)) (all : AreAllFound face (told found)) (parts : AreKept found made.parts) (tables : arc_value made.exports ≡ arc_value face.exports) where
-  keeps : (decl : DeclId) (was : Exports) → told found decl ≡ Some was → face_instances made decl ≡ Some (instantiable was)
-  keeps decl was is =
-      let there = told-table (lookup same_decl found decl) was is in
-      ap standing (parts decl ∙ ap (option_map kept) there.1) ∙ ap Some (table-kept there.0 ∙ ap (λ (z : Exports). instantiable z) there.2)
-
-  comes : (decl : DeclId) (entries : Exports) → face_instances made decl ≡ Some entries → IsBehindOf (told found decl) entries
-  comes decl entries is = by (lookup same_decl found decl) refl (sym (ap standing (parts decl)) ∙ is)
-    where
-      by : (table : Option (Table Meaning)) → lookup same_decl found decl ≡ table → standing (option_map kept (lookup same_decl found decl)) ≡ Some entries → IsBehindOf (told found decl) entries
-      by None none there = let wrong : None ≡ Some entries = sym (ap (λ (z : Option (Table Meaning)). standing (option_map kept z)) none) ∙ there in cc
-      by (Some table) some there =
-          let kept_is : exports_of (kept table) ≡ entries = some-same (exports_of (kept table)) entries (sym (ap (λ (z : Option (Table Meaning)). standing (option_map kept z)) some) ∙ there) in
-          record { exported = exports_of table; stands = ap standing some; is = sym kept_is ∙ table-kept table }
-        where
-          some-same : (a b : Exports) → Some a ≡ Some b → a ≡ b
-          some-same a b e = cc
-
+module _ (face made : Face) (found : Instances) (known : AreSafe face found) (all : AreAllFound face found)
+    (keeps : (decl : DeclId) (was : Exports) → found decl ≡ Some was → face_instances made decl ≡ Some (instantiable was))
+    (comes : (decl : DeclId) (entries : Exports) → face_instances made decl ≡ Some entries → IsBehindOf (found decl) entries)
+    (tables : arc_value made.exports ≡ arc_value face.exports) where
   same-exports : face_exports made ≡ face_exports face
   same-exports = ap (λ (table : Table Meaning). exports_of table) tables
 
   made-exact : IsExact made
   made-exact = record {
-    reached = λ decl entries is. subst (λ z. IsReached (face_instances made) z decl) (sym same-exports) (made-reached face (told found) (face_instances made) known all keeps comes decl entries is);
-    behind = made-plain face (told found) (face_instances made) known all keeps comes;
+    reached = λ decl entries is. subst (λ z. IsReached (face_instances made) z decl) (sym same-exports) (made-reached face found (face_instances made) known all keeps comes decl entries is);
+    behind = made-plain face found (face_instances made) known all keeps comes;
   }
 
   made-whole : IsWhole made
   made-whole = record {
-    exports = subst (AreReached (face_instances made)) (sym same-exports) (made-roots face (told found) (face_instances made) known all keeps comes);
-    behind = made-behind face (told found) (face_instances made) known all keeps comes;
+    exports = subst (AreReached (face_instances made)) (sym same-exports) (made-roots face found (face_instances made) known all keeps comes);
+    behind = made-behind face found (face_instances made) known all keeps comes;
   }
 
   made-outside : face_outside made ≡ face_outside face
   made-outside =
-      let along = fun_ext (λ path. ap (λ (z : Exports). entries_along (face_instances made) z path) same-exports ∙ made-along face (told found) (face_instances made) known all keeps comes path) in
+      let along = fun_ext (λ path. ap (λ (z : Exports). entries_along (face_instances made) z path) same-exports ∙ made-along face found (face_instances made) known all keeps comes path) in
       λ i. record { entries = along i; parameters = parameters_in (same-exports i) }
 
-  made-comes : (decl : DeclId) (entries : Exports) → face_instances made decl ≡ Some entries → IsBehindOf (face_instances face decl) entries
-  made-comes = made-from face (told found) (face_instances made) known all keeps comes
+  pub kept-exact-of : made.«module» ≡ face.«module» → IsExactOf face made
+  kept-exact-of named = record { exact = made-exact; whole = made-whole; named = named; outside = made-outside; from = made-from face found (face_instances made) known all keeps comes }
+
+-- ---- what is kept of what is found
+
+pub stand-in : (face : Face) (found : Tables) → AreFound face (told found) → StandIn found face.parts
+stand-in face found known decl table is = standing-told (reached face.parts decl) (Some table) (known.stands decl (exports_of table) (ap standing is))
+
+-- what is found is so, for no name stands twice there
+found-safe : (face : Face) (found : Instances) → AreFound face found → AreSafe face found
+found-safe face found known = record { stands = known.stands; reached = known.reached; safe = λ decl entries is. inl (known.once decl entries is) }
+
+-- what is kept of a table that stands at an instance
+pub kept-stands : (new was : Option (Table Meaning)) (entries : Exports) → new ≡ option_map kept was → standing was ≡ Some entries → standing new ≡ Some (instantiable entries)
+kept-stands new was entries is told =
+    let there = told-table was entries told in
+    ap standing (is ∙ ap (option_map kept) there.1) ∙ ap Some (table-kept there.0 ∙ ap (λ (z : Exports). instantiable z) there.2)
+
+-- it comes from what stood there
+pub kept-comes : (new was : Option (Table Meaning)) (entries : Exports) → new ≡ option_map kept was → standing new ≡ Some entries → IsBehindOf (standing was) entries
+kept-comes new was entries is told = by was (sym (ap standing is) ∙ told)
+  where
+    some-same : (a b : Exports) → Some a ≡ Some b → a ≡ b
+    some-same a b e = cc
+
+    by : (table : Option (Table Meaning)) → standing (option_map kept table) ≡ Some entries → IsBehindOf (standing table) entries
+    by None there = cc
+    by (Some table) there = record { exported = exports_of table; stands = refl; is = sym (some-same (exports_of (kept table)) entries there) ∙ table-kept table }
+
+module _ (face made : Face) (found : Tables) (known : AreFound face (told found)) (all : AreAllFound face (told found)) (parts : AreKept found made.parts) (tables : arc_value made.exports ≡ arc_value face.exports) where
+  keeps : (decl : DeclId) (was : Exports) → told found decl ≡ Some was → face_instances made decl ≡ Some (instantiable was)
+  keeps decl was is = kept-stands (reached made.parts decl) (lookup same_decl found decl) was (parts decl) is
+
+  comes : (decl : DeclId) (entries : Exports) → face_instances made decl ≡ Some entries → IsBehindOf (told found decl) entries
+  comes decl entries is = kept-comes (reached made.parts decl) (lookup same_decl found decl) entries (parts decl) is
 
   pub made-exact-of : made.«module» ≡ face.«module» → IsExactOf face made
-  made-exact-of named = record { exact = made-exact; whole = made-whole; named = named; outside = made-outside; from = made-comes }
+  made-exact-of named = kept-exact-of face made (told found) (found-safe face (told found) known) all keeps comes tables named

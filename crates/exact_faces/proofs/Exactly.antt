@@ -1,24 +1,22 @@
--- Faces that hold exactly what their exports reach as they are.
-use Rattle.std.proofs.Common.{◌≡◌, ℕ, ◌+◌, ◌<◌, ◌≤◌, Bool, true, false, List, Option, Some, is_some, length, refl, ap, sym, subst, ◌∙◌, arith}
+-- Faces over imports, all of whose instances their exports reach.
+use Rattle.std.proofs.Common.{◌≡◌, ℕ, ◌+◌, ◌<◌, ◌≤◌, Bool, true, false, List, Some, is_some, length, refl, ap, sym, subst, ◌∙◌, arith}
 use Rattle.std.specs.Prelude.{Contains, nat_eq, slice_get}
-use Rattle.std.specs.Arc.{arc_value}
 use Rattle.std.specs.Str.{bytes_eq}
 use Rattle.std.proofs.lemmas.Bool.Decides.{nat_tests}
 use Rattle.std.proofs.lemmas.Option.{slice_get-get_or}
 use Rattle.list_laws.proofs.Options.{some-there}
 use Rattle.tla_model.specs.declared.ids.DeclId.{DeclId}
-use Rattle.tla_model.specs.Entities.{Meaning, same_decl}
-use Rattle.tla_model.specs.Tables.{Table, lookup}
+use Rattle.tla_model.specs.Entities.{same_decl}
+use Rattle.tla_model.specs.Tables.{lookup}
 use Rattle.module_model.specs.Exports.{Exports, Instances, exports_of, face_exports, face_instances, instantiable, standing}
-use Rattle.module_model.specs.Given.{AreFaces, AreReached, ComesFrom, IsFaceOver, Reached, Text, imported}
+use Rattle.module_model.specs.Given.{AreFaces, ComesFrom, IsFaceOver, Reached, Text, imported}
 use Rattle.module_model.specs.Imports.{Imports}
 use Rattle.module_model.specs.Parts.{reached}
 use Rattle.module_model.specs.declared.face.Face.{Face}
 use Rattle.exact_faces.specs.Exact.{Behind, First, IsExact, IsExactOf, IsReached}
 use Rattle.exact_faces.specs.Found.{AreFound, Tables, told}
 use Rattle.exact_faces.specs.Importing.{AreExactImports, AreNames, IsImportReached}
-use Rattle.exact_faces.specs.Kept.{IsPlain, kept}
-use Rattle.exact_faces.proofs.Keeping.{table-kept}
+use Rattle.exact_faces.specs.Kept.{AreOwnFound, AreReachedAll}
 use Rattle.exact_faces.proofs.Searching.{reached-more}
 use Rattle.exact_faces.proofs.Tables.{told-table}
 
@@ -47,7 +45,7 @@ first-all found imports names count end first name (index, within, is) = first i
 
 module _ (face : Face) (imports : Imports) (names : List (List ℕ)) (found : Tables) (over : IsFaceOver imports face.«module» face) (faces : AreFaces imports face.«module») (exact : AreExactImports imports) (all : AreNames names imports)
     (known : AreFound face (told found))
-    (own : (decl : DeclId) → bytes_eq decl.«module» face.«module» ≡ true → is_some (reached face.parts decl) ≡ true → IsPlain found decl)
+    (own : AreOwnFound found face.«module» face.parts)
     (roots : (name : List ℕ) → Contains names name → IsImportReached (told found) imports name) where
   abbrev IsIn : DeclId → Type 0
   IsIn decl = IsReached (face_instances face) (face_exports face) decl
@@ -80,35 +78,25 @@ module _ (face : Face) (imports : Imports) (names : List (List ℕ)) (found : Ta
         let first = import-in from before in
         Behind {from = from} behind first (same-behind from behind is first) named
 
-  -- an instance of the text, with its table
-  record IsOwn (decl : DeclId) (entries : Exports) : Type 0 where
-    told_is : told found decl ≡ Some entries
-    plain : instantiable entries ≡ entries
-
-  own-found : (decl : DeclId) (entries : Exports) → face_instances face decl ≡ Some entries → bytes_eq decl.«module» face.«module» ≡ true → IsOwn decl entries
-  own-found decl entries is mine =
+  own-in : (decl : DeclId) (entries : Exports) → face_instances face decl ≡ Some entries → bytes_eq decl.«module» face.«module» ≡ true → IsIn decl
+  own-in decl entries is mine =
       let there = told-table (reached face.parts decl) entries is in
-      let plain = own decl mine (ap is_some there.1) in
-      let finds : told found decl ≡ Some (exports_of plain.table) = ap standing plain.stands in
-      let same : exports_of plain.table ≡ entries = some-same (exports_of plain.table) entries (sym (known.stands decl (exports_of plain.table) finds) ∙ is) in
-      let whole : instantiable (exports_of plain.table) ≡ exports_of plain.table = sym (table-kept plain.table) ∙ ap exports_of plain.whole in
-      record { told_is = finds ∙ ap (λ (es : Exports). Some es) same; plain = subst (λ (es : Exports). instantiable es ≡ es) same whole }
-    where
-      some-same : (a b : Exports) → Some a ≡ Some b → a ≡ b
-      some-same a b e = cc
+      let one = some-there (lookup same_decl found decl) (own decl mine (ap is_some there.1)) in
+      found-in decl (exports_of one.0) (ap standing one.1)
 
   all-in : (decl : DeclId) (entries : Exports) → face_instances face decl ≡ Some entries → ComesFrom imports face.«module» decl entries → IsIn decl
-  all-in decl entries is (Text mine) = found-in decl entries (own-found decl entries is mine).told_is
+  all-in decl entries is (Text mine) = own-in decl entries is mine
   all-in decl entries is (Reached name import at has) = import-in name import at decl ((exact name import at).reached decl entries has)
 
-  all-plain : (decl : DeclId) (entries : Exports) → face_instances face decl ≡ Some entries → ComesFrom imports face.«module» decl entries → instantiable entries ≡ entries
-  all-plain decl entries is (Text mine) = (own-found decl entries is mine).plain
-  all-plain decl entries is (Reached name import at has) = (exact name import at).behind decl entries has
+  others-plain : (decl : DeclId) (entries : Exports) → bytes_eq decl.«module» face.«module» ≡ false → ComesFrom imports face.«module» decl entries → instantiable entries ≡ entries
+  others-plain decl entries apart (Text mine) = let never : true ≡ false = sym mine ∙ apart in absurd (cc never)
+  others-plain decl entries apart (Reached name import at has) = (exact name import at).behind decl entries has
 
-  pub already-exact : IsExact face
-  already-exact = record {
+  pub reached-all : AreReachedAll face found
+  reached-all = record {
     reached = λ decl entries is. all-in decl entries is (over.from decl entries is);
-    behind = λ decl entries is. all-plain decl entries is (over.from decl entries is);
+    own = own;
+    others = λ decl entries apart is. others-plain decl entries apart (over.from decl entries is);
   }
 
 -- a face that is exact is so of itself

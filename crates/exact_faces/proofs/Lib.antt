@@ -3,6 +3,7 @@ pub mod Exactly
 pub mod Keeping
 pub mod Keys
 pub mod Named
+pub mod Owning
 pub mod Parting
 pub mod Searching
 pub mod Tables

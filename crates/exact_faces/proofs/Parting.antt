@@ -6,7 +6,7 @@ use Rattle.std.specs.Str.{bytes_eq}
 use Rattle.std.proofs.lemmas.Bool.{eqb-true}
 use Rattle.std.proofs.lemmas.List.{take_all}
 use Rattle.list_laws.proofs.Options.{some-there}
-use Rattle.list_laws.proofs.Texts.{same-text, text-itself}
+use Rattle.list_laws.proofs.Texts.{same-text}
 use Rattle.tla_model.specs.declared.ids.DeclId.{DeclId}
 use Rattle.tla_model.specs.Entities.{Meaning, same_decl}
 use Rattle.tla_model.specs.Tables.{Table, added, lookup}
@@ -161,13 +161,25 @@ put-all found parts new i end stand put decl = by (lookup same_decl found decl) 
 abbrev pub ArePlain : Tables → List ℕ → InText → Type 0
 ArePlain found title part = (place : ℕ) → is_some (lookup nat_eq part place) ≡ true → IsPlain found (decl_of title place)
 
-pub plain-next : (found : Tables) (title : List ℕ) (part : InText) (i place : ℕ) (table : Table Meaning) → slice_get part i ≡ Some (place, table) → IsPlain found (decl_of title place) → ArePlain found title (take i part) → ArePlain found title (take (i + 1) part)
-plain-next found title part i place table at plain before other some =
+-- what holds at each place of the first so many holds at one more, if it holds there
+pub places-next : (P : DeclId → Type 0) (title : List ℕ) (part : InText) (i place : ℕ) (table : Table Meaning) → slice_get part i ≡ Some (place, table) → P (decl_of title place) →
+    ((other : ℕ) → is_some (lookup nat_eq (take i part) other) ≡ true → P (decl_of title other)) → (other : ℕ) → is_some (lookup nat_eq (take (i + 1) part) other) ≡ true → P (decl_of title other)
+places-next P title part i place table at here before other some =
     let there = some-there (lookup nat_eq (take (i + 1) part) other) some in
     ⊎_elim
     (λ (old : lookup nat_eq (take i part) other ≡ Some there.0). before other (ap is_some old))
-    (λ (last : (nat_eq other place ≡ true) × (table ≡ there.0)). subst (λ (p : ℕ). IsPlain found (decl_of title p)) (sym (eqb-true other place last.0)) plain)
+    (λ (last : (nat_eq other place ≡ true) × (table ≡ there.0)). subst (λ (p : ℕ). P (decl_of title p)) (sym (eqb-true other place last.0)) here)
     (found-next nat_eq part i place table other there.0 at there.1)
+
+pub plain-next : (found : Tables) (title : List ℕ) (part : InText) (i place : ℕ) (table : Table Meaning) → slice_get part i ≡ Some (place, table) → IsPlain found (decl_of title place) → ArePlain found title (take i part) → ArePlain found title (take (i + 1) part)
+plain-next found title part i place table at plain before = places-next (IsPlain found) title part i place table at plain before
+
+-- the instances of a text are found
+abbrev pub AreThere : Tables → List ℕ → InText → Type 0
+AreThere found title part = (place : ℕ) → is_some (lookup nat_eq part place) ≡ true → is_some (lookup same_decl found (decl_of title place)) ≡ true
+
+pub there-next : (found : Tables) (title : List ℕ) (part : InText) (i place : ℕ) (table : Table Meaning) → slice_get part i ≡ Some (place, table) → is_some (lookup same_decl found (decl_of title place)) ≡ true → AreThere found title (take i part) → AreThere found title (take (i + 1) part)
+there-next found title part i place table at is before = places-next (λ decl. is_some (lookup same_decl found decl) ≡ true) title part i place table at is before
 
 abbrev pub AreAllPlain : Tables → ByText → Type 0
 AreAllPlain found parts = (title : List ℕ) (part : InText) → lookup bytes_eq parts title ≡ Some part → ArePlain found title part
@@ -184,24 +196,3 @@ texts-all found parts i end before decl some =
     let stands = in-parts parts decl there.0 there.1 in
     let all : AreAllPlain found parts = subst (λ z. AreAllPlain found z) (take_all i parts end) before in
     all decl.«module» stands.part stands.text decl.place (ap is_some stands.stands)
-
--- ---- the instances of one text
-
-abbrev pub AreOwnPlain : Tables → List ℕ → ByText → Type 0
-AreOwnPlain found title parts = (part : InText) → lookup bytes_eq parts title ≡ Some part → ArePlain found title part
-
-pub own-next : (found : Tables) (mine : List ℕ) (parts : ByText) (i : ℕ) (title : List ℕ) (part : InText) → slice_get parts i ≡ Some (title, part) → (bytes_eq title mine ≡ true → ArePlain found title part) → AreOwnPlain found mine (take i parts) → AreOwnPlain found mine (take (i + 1) parts)
-own-next found mine parts i title part at plain before one is = ⊎_elim
-    (λ (old : lookup bytes_eq (take i parts) mine ≡ Some one). before one old)
-    (λ (last : (bytes_eq mine title ≡ true) × (part ≡ one)).
-    let same : mine ≡ title = same-text mine title last.0 in
-    subst (λ p. ArePlain found mine p) last.1 (subst (λ name. ArePlain found name part) (sym same) (plain (text-itself title mine (sym same)))))
-    (found-next bytes_eq parts i title part mine one at is)
-
-pub own-all : (found : Tables) (mine : List ℕ) (parts : ByText) (i : ℕ) → length parts ≤ i → AreOwnPlain found mine (take i parts) → (decl : DeclId) → bytes_eq decl.«module» mine ≡ true → is_some (reached parts decl) ≡ true → IsPlain found decl
-own-all found mine parts i end before decl text some =
-    let there = some-there (reached parts decl) some in
-    let stands = in-parts parts decl there.0 there.1 in
-    let same : decl.«module» ≡ mine = same-text decl.«module» mine text in
-    let all : AreOwnPlain found mine parts = subst (λ z. AreOwnPlain found mine z) (take_all i parts end) before in
-    subst (λ title. IsPlain found (decl_of title decl.place)) (sym same) (all stands.part (ap (lookup bytes_eq parts) (sym same) ∙ stands.text) decl.place (ap is_some stands.stands))

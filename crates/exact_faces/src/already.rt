@@ -1,13 +1,13 @@
-// Faces that hold exactly what their exports reach as they are.
+// Faces all of whose instances their exports reach.
 ghost use Rattle.std.specs.Prelude.{ℕ, Contains, IfOk, IsTrue, List as ListOf};
 ghost use Rattle.module_model.specs.Given.{AreFaces, IsFaceOver};
-ghost use Rattle.exact_faces.specs.Exact.{IsExact};
-ghost use Rattle.exact_faces.specs.Found.{told};
+ghost use Rattle.exact_faces.specs.Found.{AreFound, told};
 ghost use Rattle.exact_faces.specs.Importing.{AreExactImports, AreNames, IsImportReached};
+ghost use Rattle.exact_faces.specs.Kept.{AreReachedAll};
 
 use crate::found::Found;
-use crate::parts::are_own_plain;
-use crate::reached::{names_found, reached_by_text};
+use crate::parts::are_own_found;
+use crate::reached::names_found;
 use module_model::{Face, Import, Imported};
 use std::alloc::Global;
 use tool_list::{Chars, Memory};
@@ -49,25 +49,26 @@ fn are_reached(
     Ok(true)
 }
 
-/// Whether a face over imports of these names holds exactly what its exports reach: where that is seen
-/// by its own text. So it is where they reach each instance of the text, and each that an import
-/// exports: for the faces of imports are exact.
-pub fn is_exact(
+/// Whether the exports of a face over imports of these names reach all of its instances, where that
+/// is seen by those that are found by its own text. So it is where each instance of the text is
+/// found, and each that an import exports: for the faces of imports are exact.
+pub fn are_reached_all(
     alloc: Global,
     imports: &Imported,
     names: &[Chars],
+    found: &Found<'_>,
     face: &Face,
 ) -> Result<bool, Memory>
     requires over { IsFaceOver imports.now face.now.«module» face.now }
     requires faces { AreFaces imports.now face.now.«module» }
     requires exact { AreExactImports imports.now }
     requires names { AreNames names.now imports.now }
-    ensures { IfOk result (λ is. IsTrue is → IsExact face.now) }
+    requires found { AreFound face.now (told found.now) }
+    ensures { IfOk result (λ are. IsTrue are → AreReachedAll face.now found.now) }
 {
-    let found = reached_by_text(alloc, face)?;
-    if !are_own_plain(&found, face.module.as_str(), &face.parts) {
+    if !are_own_found(found, face.module.as_str(), &face.parts) {
         return Ok(false);
     }
-    let are = are_reached(alloc, &found, imports, names)?;
+    let are = are_reached(alloc, found, imports, names)?;
     Ok(are)
 }

@@ -1,5 +1,5 @@
 // Instances that are found, each with the table of what its module exports.
-ghost use Rattle.std.specs.Prelude.{◌≡◌, [], OnOk, length, option_map, slice_get};
+ghost use Rattle.std.specs.Prelude.{◌≡◌, [], OnOk, is_some, length, option_map, slice_get};
 ghost use Rattle.std.specs.Arc.{arc_value};
 ghost use Rattle.tla_model.specs.Entities.{same_decl};
 ghost use Rattle.tla_model.specs.Tables as tables;
@@ -87,6 +87,13 @@ impl<'f> Found<'f> {
             Some(table) => Some(*table),
             None => None,
         }
+    }
+
+    /// Whether the instance whose name is declared at this place of a module's text is found.
+    pub fn has(&self, module: &str, place: u32) -> bool
+        ensures { result ≡ is_some (tables.lookup same_decl self.now (decl_of «module».now place)) }
+    {
+        self.get(module, place).is_some()
     }
 
     /// Puts the instance of a declaration behind the others, unless it is there.

@@ -4,15 +4,19 @@ ghost use Rattle.std.specs.Prelude.{nat_eq, true};
 ghost use Rattle.std.specs.Option.{option_or};
 ghost use Rattle.std.specs.Str.{bytes_eq};
 ghost use Rattle.tla_model.specs.declared.ids.DeclId.{DeclId};
+ghost use Rattle.tla_model.specs.Entities.{same_decl};
 ghost use Rattle.tla_model.specs.Tables as tables;
 ghost use Rattle.module_model.specs.Parts.{reached};
+ghost use Rattle.face_views.specs.Found.{text_shown};
 ghost use Rattle.exact_faces.specs.Found.{decl_of};
-ghost use Rattle.exact_faces.specs.Kept.{AreKept, IsKeptPart, IsPlain, StandIn, kept_of};
+ghost use Rattle.exact_faces.specs.Kept.{AreKept, AreOwnFound, AreOwnKept, AreOwnPlain, IsKeptPart};
+ghost use Rattle.exact_faces.specs.Kept.{IsOwnPart, IsPlain, StandIn, kept_of};
 
 use crate::found::Found;
 use crate::kept::{is_kept, kept};
 use module_model::{Part, Parts};
 use std::alloc::Global;
+use std::sync::Arc;
 use tool_list::Memory;
 
 // Puts the instance at a place of a text, if it is found, with what is kept of it.
@@ -91,23 +95,56 @@ fn are_plain(found: &Found<'_>, title: &str, part: &Part) -> bool
     true
 }
 
-/// Whether all instances that the text of a module declares are found, and all of their tables are
-/// kept.
-pub fn are_own_plain(found: &Found<'_>, title: &str, parts: &Parts) -> bool
-    ensures { IsTrue result → (decl : DeclId) → bytes_eq decl.«module» title.now ≡ true
-        → is_some (reached parts.now decl) ≡ true → IsPlain found.now decl }
+// Whether all instances of a text are found.
+fn are_found(found: &Found<'_>, title: &str, part: &Part) -> bool
+    ensures { IsTrue result → (place : ℕ) → is_some (tables.lookup nat_eq part.now place) ≡ true
+        → is_some (tables.lookup same_decl found.now (decl_of title.now place)) ≡ true }
+{
+    for index in 0..part.len() {
+        let Some((place, _)) = part.at(index) else {
+            unreachable!();
+        };
+        if !found.has(title, place) {
+            return false;
+        }
+    }
+    true
+}
+
+// The instances of a text, if there are some.
+fn part_of<'p>(parts: &'p Parts, title: &str) -> Option<&'p Arc<Part>>
+    ensures { text_shown result ≡ tables.lookup bytes_eq parts.now title.now }
 {
     for index in 0..parts.len() {
         let Some((text, part)) = parts.at(index) else {
             unreachable!();
         };
-        if text == title {
-            if !are_plain(found, text, part) {
-                return false;
-            }
+        if title.as_bytes() == text.as_bytes() {
+            return Some(part);
         }
     }
-    true
+    None
+}
+
+/// Whether all instances that the text of a module declares are found.
+pub fn are_own_found(found: &Found<'_>, title: &str, parts: &Parts) -> bool
+    ensures { IsTrue result → AreOwnFound found.now title.now parts.now }
+{
+    match part_of(parts, title) {
+        Some(part) => are_found(found, title, part),
+        None => true,
+    }
+}
+
+/// Whether all instances that the text of a module declares are found, and all of their tables are
+/// kept.
+pub fn are_own_plain(found: &Found<'_>, title: &str, parts: &Parts) -> bool
+    ensures { IsTrue result → AreOwnPlain found.now title.now parts.now }
+{
+    match part_of(parts, title) {
+        Some(part) => are_plain(found, title, part),
+        None => true,
+    }
 }
 
 // Whether all instances are found, and all of their tables are kept.
@@ -147,4 +184,33 @@ pub fn exact_parts(alloc: Global, found: &Found<'_>, parts: &Parts) -> Result<Pa
     }
     let made = kept_parts(alloc, found, parts)?;
     Ok(made)
+}
+
+// The instances of a text in parts that are found, with what is kept of them.
+fn own_part(alloc: Global, found: &Found<'_>, title: &str, parts: &Parts) -> Result<Part, Memory>
+    ensures { IfOk result (IsOwnPart found.now title.now parts.now) }
+{
+    match part_of(parts, title) {
+        Some(part) => kept_part(alloc, found, title, part),
+        None => Ok(Part::new(alloc)),
+    }
+}
+
+/// The instances of a module's text, all of which are found, with what of their tables can be named
+/// behind an instance, and the others as they are: the parts of these are shared.
+pub fn own_kept(
+    alloc: Global,
+    found: &Found<'_>,
+    title: &str,
+    parts: &Parts,
+) -> Result<Parts, Memory>
+    requires stand { StandIn found.now parts.now }
+    requires own { AreOwnFound found.now title.now parts.now }
+    ensures { IfOk result (AreOwnKept found.now title.now parts.now) }
+{
+    let part = own_part(alloc, found, title, parts)?;
+    let mut new = Parts::new(alloc);
+    new.add(alloc, title, part)?;
+    new.join(alloc, parts)?;
+    Ok(new)
 }
