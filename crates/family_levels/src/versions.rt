@@ -124,7 +124,7 @@ pub(crate) fn is_text_of(version: &Version, tree: &ModuleTree) -> bool
     ensures is { OnTrue result (version.now.tree.source ≡ tree.now.source) }
     ensures found { version.now.tree.source ≡ tree.now.source → result ≡ true }
 {
-    version.tree.tree().source.as_str().as_bytes() == tree.source.as_str().as_bytes()
+    version.tree.tree().source.as_str() == tree.source.as_str()
 }
 
 // Whether a module has the text of a version.

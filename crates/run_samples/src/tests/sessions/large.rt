@@ -7,10 +7,10 @@ use tool_io::FileBytes;
 use tool_list::{List, Memory};
 
 // How many uses of a name each large module has.
-const USES: usize = 2_000;
+const USES: usize = 200_000;
 
 // How often the small module is changed.
-const CHANGES: usize = 20;
+const CHANGES: usize = 500;
 
 const OPEN_S: &str =
     r#"{"method":"textDocument/didOpen","params":{"textDocument":{"uri":"file:///w/S.tla","text":"---- MODULE S ----\nEXTENDS B0, B1, B2, B3\nU == F0\n====\n"}}}"#;
