@@ -10,7 +10,7 @@ use tool_list::{List, Memory};
 const USES: usize = 200_000;
 
 // How often the small module is changed.
-const CHANGES: usize = 500;
+const CHANGES: usize = 2_000;
 
 const OPEN_S: &str =
     r#"{"method":"textDocument/didOpen","params":{"textDocument":{"uri":"file:///w/S.tla","text":"---- MODULE S ----\nEXTENDS B0, B1, B2, B3\nU == F0\n====\n"}}}"#;
